@@ -1,0 +1,21 @@
+-- What is known of a device: the octets that it has yet to tell or has taken, and how often it failed.
+use Rattle.std.specs.Prelude.{◌≡◌, ℕ, ◌+◌, ◌-◌, ◌^◌, min, List, [], Option, Some, None, Result, Ok, Err, take, MatchResult, ⊤}
+use Rattle.std.specs.Io.KnownBytes.{Appends, Consumes, Keeps, IsAtEnd}
+use Rattle.tcap_ber.specs.declared.device.Failed.{Failed}
+
+-- one failure more; at its greatest value the count stays
+abbrev pub one_more : ℕ → ℕ
+one_more count = min (count + 1) (2 ^ 64 - 1)
+
+-- a failure is counted exactly where the call failed
+abbrev pub CountsFailure : {A : Type 0} → ℕ → ℕ → Result A Failed → Type 0
+CountsFailure old new result = MatchResult result (λ _. new ≡ old) (λ _. new ≡ one_more old)
+
+-- A read told the first n octets of the buffer at Ok n, and no octet only at the end or with no room;
+-- a failed one told none.
+abbrev pub Tells : Option (List ℕ) → Option (List ℕ) → Result ℕ Failed → List ℕ → Type 0
+Tells old new result buffer = MatchResult result (λ n. Consumes old new (take n buffer)) (λ _. Keeps old new)
+
+-- A write took all the octets; a failed one took a beginning of them that isn't said.
+abbrev pub Takes : Option (List ℕ) → Option (List ℕ) → Result (Unit {0}) Failed → List ℕ → Type 0
+Takes old new result octets = MatchResult result (λ _. Appends old new octets) (λ _. (n : ℕ) × Appends old new (take n octets))

@@ -1,0 +1,70 @@
+//! What is wrong with octets, and where.
+
+ghost use Rattle.std.specs.Prelude.{◌≡◌};
+ghost use Rattle.tcap_ber.specs.Fault.{number_of};
+
+/// Why octets are refused. Reading goes from left to right, and the first fault is the answer.
+#[derive(Clone, Copy, Debug, PartialEq, Eq)]
+pub enum Reason {
+    /// The octets end before the outer element does.
+    Cut,
+    /// A length octet of 85 to FF (X.690 8.1.3.5; 85 to FE are this profile's limit).
+    LengthForm,
+    /// A content of over 65,535 octets, this profile's limit.
+    TooLong,
+    /// A tag of over five octets, this profile's limit (X.690 8.1.2.4).
+    TagForm,
+    /// A header or a content goes past the window that it stands in.
+    Overrun,
+    /// An INTEGER that is empty or has a needless leading octet (X.690 8.3).
+    BadInteger,
+    /// A required element's place holds another tag.
+    UnexpectedTag,
+    /// A required element's place is the end of its window.
+    Missing,
+    /// Octets stand after the last element of a structure.
+    Trailing,
+    /// A component portion without a component (Q.773 4.2.2.1).
+    EmptyComponents,
+    /// A one-octet integer with more octets.
+    BadSize,
+    /// A transaction ID of no octets or of over four (Q.773 4.2.1.3).
+    BadTransactionId,
+    /// The indefinite length form (X.690 8.1.3.6), which this profile leaves out.
+    Indefinite,
+    /// A local code of over four octets, this profile's limit.
+    CodeTooWide,
+}
+
+impl Reason {
+    /// The number that a line of output gives for this reason.
+    pub fn number(self) -> u8
+        ensures { result ≡ number_of self }
+    {
+        match self {
+            Reason::Cut => 1,
+            Reason::LengthForm => 2,
+            Reason::TooLong => 3,
+            Reason::TagForm => 4,
+            Reason::Overrun => 5,
+            Reason::BadInteger => 6,
+            Reason::UnexpectedTag => 8,
+            Reason::Missing => 9,
+            Reason::Trailing => 10,
+            Reason::EmptyComponents => 11,
+            Reason::BadSize => 14,
+            Reason::BadTransactionId => 15,
+            Reason::Indefinite => 16,
+            Reason::CodeTooWide => 17,
+        }
+    }
+}
+
+/// A refusal: the reason and the place of the octet that it names, counted from 0.
+#[derive(Clone, Copy, Debug, PartialEq, Eq)]
+pub struct Fault {
+    /// Why the octets are refused.
+    pub reason: Reason,
+    /// The octet that the reason names, counted from the first octet that was given.
+    pub place: u64,
+}

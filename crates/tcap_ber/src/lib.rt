@@ -1,0 +1,10 @@
+//! The basic encoding rules (X.690) as far as TCAP needs them: elements with definite lengths, and
+//! the devices that octets come from and go to.
+#![tactic(auto)]
+
+mod device;
+mod fault;
+mod header;
+
+pub use device::{Failed, Read, Write};
+pub use fault::{Fault, Reason};
