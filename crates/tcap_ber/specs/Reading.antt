@@ -1,9 +1,13 @@
 -- Reading elements from left to right, up to the first fault.
-use Rattle.std.specs.Prelude.{◌≡◌, ℕ, zero, suc, ◌+◌, ◌-◌, ◌%◌, List, [], ◌∷◌, length, take, drop, Option, Some, None, Result, Ok, Err, nat_lt, ◌==◌, if◌then◌else◌}
+use Rattle.std.specs.Prelude.{Bool, true, false, ◌≡◌, ℕ, zero, suc, ◌+◌, ◌-◌, ◌%◌, List, [], ◌∷◌, length, take, drop, Option, Some, None, Result, Ok, Err, nat_lt, ◌==◌, if◌then◌else◌}
 use Rattle.tcap_ber.specs.declared.fault.Fault.{Fault}
 use Rattle.tcap_ber.specs.declared.fault.Reason.{Reason}
 use Rattle.tcap_ber.specs.declared.fault.Reason.TheVariants.{LengthForm, TooLong, TagForm, Overrun, Missing, UnexpectedTag, Indefinite}
 use Rattle.tcap_ber.specs.declared.header.Header.{Header}
+use Rattle.tcap_ber.specs.declared.element.Window.{Window}
+use Rattle.tcap_ber.specs.declared.element.Tlv.{Tlv}
+use Rattle.tcap_ber.specs.declared.element.Outer.{Outer}
+use Rattle.tcap_ber.specs.declared.element.Outer.TheVariants.{Whole, Need}
 use Rattle.tcap_ber.specs.Element.{number, content_limit}
 
 abbrev pub fault : Reason → ℕ → Fault
@@ -19,40 +23,112 @@ abbrev pub Gives : {X Y : Type 0} → (X → Y) → Result X Fault → Result Y 
 Gives view (Ok x) read = read ≡ Ok (view x)
 Gives view (Err f) read = read ≡ Err f
 
+-- octets of a window, and the place of their first
+pub record Span : Type 0 where
+  pub octets : List ℕ
+  pub place : ℕ
+
+abbrev pub span : Window → Span
+span w = record { octets = w.octets.now; place = w.place }
+
+-- what is left of a window behind its first n octets
+abbrev pub behind : ℕ → Span → Span
+behind n s = record { octets = drop n s.octets; place = s.place + n }
+
 -- the count of a tag's octets, where len have come and left more may come
-abbrev pub tag_rest : ℕ → ℕ → List ℕ → Result (Option ℕ) Fault
-tag_rest zero len octets = Err (fault TagForm 0)
-tag_rest (suc left) len [] = Ok None
-tag_rest (suc left) len (octet ∷ octets) =
-    if nat_lt octet 128 then Ok (Some (len + 1)) else tag_rest left (len + 1) octets
+abbrev pub tag_rest : ℕ → ℕ → ℕ → List ℕ → Result (Option ℕ) Fault
+tag_rest place zero len octets = Err (fault TagForm place)
+tag_rest place (suc left) len [] = Ok None
+tag_rest place (suc left) len (octet ∷ octets) =
+    if nat_lt octet 128 then Ok (Some (len + 1)) else tag_rest place left (len + 1) octets
 
 -- the count of the octets of the tag at the front; None where the octets end before it does
-unfoldable pub tag_at : List ℕ → Result (Option ℕ) Fault
-tag_at [] = Ok None
-tag_at (first ∷ more) = if first % 32 == 31 then tag_rest 4 1 more else Ok (Some 1)
+abbrev pub tag_in : ℕ → List ℕ → Result (Option ℕ) Fault
+tag_in place [] = Ok None
+tag_in place (first ∷ more) = if first % 32 == 31 then tag_rest place 4 1 more else Ok (Some 1)
+
+unfoldable pub tag_at : Span → Result (Option ℕ) Fault
+tag_at s = tag_in s.place s.octets
 
 -- the count of the octets of the length at the front, and its number
-unfoldable pub length_at : List ℕ → Result (Option (ℕ × ℕ)) Fault
-length_at [] = Ok None
-length_at (first ∷ more) =
+abbrev pub length_in : ℕ → List ℕ → Result (Option (ℕ × ℕ)) Fault
+length_in place [] = Ok None
+length_in place (first ∷ more) =
     if nat_lt first 128 then Ok (Some (1, first))
-    else (if first == 128 then Err (fault Indefinite 0)
-    else (if nat_lt 132 first then Err (fault LengthForm 0)
+    else (if first == 128 then Err (fault Indefinite place)
+    else (if nat_lt 132 first then Err (fault LengthForm place)
     else (if nat_lt (length more) (first - 128) then Ok None
     else Ok (Some (first - 127, number (take (first - 128) more))))))
 
--- the same fault, counted from by octets before
-abbrev pub moved : ℕ → Fault → Fault
-moved by f = fault f.reason (by + f.place)
+unfoldable pub length_at : Span → Result (Option (ℕ × ℕ)) Fault
+length_at s = length_in s.place s.octets
 
-abbrev pub shifted : {A : Type 0} → ℕ → Result A Fault → Result A Fault
-shifted by (Ok x) = Ok x
-shifted by (Err f) = Err (moved by f)
+-- A content's count is known: it must be within the limit.
+abbrev pub header_of : ℕ → ℕ → Option (ℕ × ℕ) → Result (Option Header) Fault
+header_of place tag None = Ok None
+header_of place tag (Some found) =
+    if nat_lt content_limit found.1 then Err (fault TooLong place)
+    else Ok (Some (record { tag_len = tag; len = tag + found.0; content_len = found.1 }))
+
+-- the length behind a tag of so many octets
+abbrev pub behind_tag : Span → Option ℕ → Result (Option Header) Fault
+behind_tag s None = Ok None
+behind_tag s (Some tag) = length_at (behind tag s) >>= header_of s.place tag
 
 -- the header at the front; None where the octets end before it does
-unfoldable pub header_at : List ℕ → Result (Option Header) Fault
-header_at octets = tag_at octets >>= λ tag. header_after octets tag
-  where
-    header_after : List ℕ → Option ℕ → Result (Option Header) Fault
-    header_after octets None = Ok None
-    header_after octets (Some tag_len) = Ok None
+unfoldable pub header_at : Span → Result (Option Header) Fault
+header_at s = tag_at s >>= behind_tag s
+
+-- a whole element of so many octets begins the octets, or so many are needed at least
+abbrev pub outer_of : List ℕ → Option Header → Outer
+outer_of octets None = Need (length octets + 1)
+outer_of octets (Some h) =
+    if nat_lt (length octets) (h.len + h.content_len) then Need (h.len + h.content_len)
+    else Whole (h.len + h.content_len)
+
+unfoldable pub outer_at : List ℕ → Result Outer Fault
+outer_at octets = header_at (record { octets = octets; place = 0 }) >>= λ h. Ok (outer_of octets h)
+
+-- an element that was read: where it begins, its tag and its content
+pub record Element : Type 0 where
+  pub tag : List ℕ
+  pub content : Span
+  pub place : ℕ
+
+abbrev pub element : Tlv → Element
+element t = record { tag = t.tag.octets.now; content = span t.content; place = t.start }
+
+abbrev pub element_of : Span → Option Header → Result (Element × Span) Fault
+element_of s None = Err (fault Overrun s.place)
+element_of s (Some h) =
+    if nat_lt (length s.octets) (h.len + h.content_len) then Err (fault Overrun s.place)
+    else Ok (
+      record {
+        tag = take h.tag_len s.octets;
+        content = record { octets = take h.content_len (drop h.len s.octets); place = s.place + h.len };
+        place = s.place;
+      },
+      behind (h.len + h.content_len) s,
+    )
+
+-- the first element of a window, and what is left behind it
+unfoldable pub next_at : Span → Result (Element × Span) Fault
+next_at s = header_at s >>= element_of s
+
+-- the octet is the whole tag
+abbrev pub is_tag : ℕ → List ℕ → Bool
+is_tag octet [] = false
+is_tag octet (first ∷ []) = first == octet
+is_tag octet (first ∷ second ∷ more) = false
+
+-- the octet is the first of the window
+abbrev pub is_next : ℕ → List ℕ → Bool
+is_next octet [] = false
+is_next octet (first ∷ more) = first == octet
+
+abbrev pub wanted : ℕ → Span → Element × Span → Result (Element × Span) Fault
+wanted tag s found = if is_tag tag found.0.tag then Ok found else Err (fault UnexpectedTag s.place)
+
+-- the first element of a window, which has to be there with this tag
+unfoldable pub required_at : ℕ → Span → Result (Element × Span) Fault
+required_at tag s = if length s.octets == 0 then Err (fault Missing s.place) else next_at s >>= wanted tag s

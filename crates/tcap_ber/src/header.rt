@@ -1,10 +1,14 @@
 //! The header of an element: its tag and its length (X.690 8.1.2, 8.1.3).
 
-ghost use Rattle.std.specs.Prelude.{◌≡◌, ◌≤◌, length};
+ghost use Rattle.std.specs.Prelude.{◌≡◌, ◌+◌, ◌≤◌, length, IfOk, IfSome};
 ghost use Rattle.tcap_ber.specs.Element.{number};
-ghost use Rattle.tcap_ber.specs.Reading.{Gives, tag_at, length_at};
+ghost use Rattle.tcap_ber.specs.Reading.{Gives, tag_at, length_at, header_at, span};
 
+use crate::element::Window;
 use crate::fault::{Fault, Reason};
+
+/// The greatest count of octets of a content, a limit of this profile.
+pub const CONTENT_LIMIT: usize = 65_535;
 
 /// A whole header: the count of octets of its tag, of all of it, and of the content that it announces.
 #[derive(Clone, Copy, Debug)]
@@ -14,12 +18,14 @@ pub(crate) struct Header {
     pub(crate) content_len: usize,
 }
 
-/// The count of octets of the tag that `octets` begin with, or `None` where they end before it does.
+/// The count of octets of the tag at the front, or `None` where the octets end before it does.
 #[tactic(auto, unfolding(crate::specs::Reading::tag_at))]
-fn tag_len(octets: &[u8]) -> Result<Option<usize>, Fault>
-    ensures { Gives (λ x. x) result (tag_at octets.now) }
+fn tag_len(window: Window) -> Result<Option<usize>, Fault>
+    ensures exact { Gives (λ x. x) result (tag_at (span window.entry)) }
+    ensures within { IfOk result (λ found. IfSome found (λ n. n ≤ length window.entry.octets.now)) }
+    ensures limit { IfOk result (λ found. IfSome found (λ n. n ≤ 5)) }
 {
-    match octets {
+    match window.octets {
         [] => Ok(None),
         [first, ..] if first % 32 != 31 => Ok(Some(1)),
         [_, last, ..] if *last < 0x80 => Ok(Some(2)),
@@ -28,7 +34,7 @@ fn tag_len(octets: &[u8]) -> Result<Option<usize>, Fault>
         [_, _, _, _, last, ..] if *last < 0x80 => Ok(Some(5)),
         [_, _, _, _, _, ..] => Err(Fault {
             reason: Reason::TagForm,
-            place: 0,
+            place: window.place,
         }),
         _ => Ok(None),
     }
@@ -44,35 +50,40 @@ fn number(octets: &[u8]) -> usize
         [a] => usize::from(*a),
         [a, b] => usize::from(*a) * 256 + usize::from(*b),
         [a, b, c] => (usize::from(*a) * 256 + usize::from(*b)) * 256 + usize::from(*c),
-        [a, b, c, d] => ((usize::from(*a) * 256 + usize::from(*b)) * 256 + usize::from(*c)) * 256
-            + usize::from(*d),
+        [a, b, c, d] => {
+            ((usize::from(*a) * 256 + usize::from(*b)) * 256 + usize::from(*c)) * 256
+                + usize::from(*d)
+        }
         _ => unreachable!(),
     }
 }
 
-/// The count of octets of the length that `octets` begin with and its number, or `None` where they end
-/// before it does (X.690 8.1.3).
+/// The count of octets of the length at the front and its number, or `None` where the octets end before
+/// it does (X.690 8.1.3).
 #[tactic(auto, unfolding(crate::specs::Reading::length_at))]
-fn length(octets: &[u8]) -> Result<Option<(usize, usize)>, Fault>
-    ensures { Gives (λ x. x) result (length_at octets.now) }
+fn length(window: Window) -> Result<Option<(usize, usize)>, Fault>
+    ensures exact { Gives (λ x. x) result (length_at (span window.entry)) }
+    ensures within { IfOk result (λ found. IfSome found (λ x. x.0 ≤ length window.entry.octets.now)) }
+    ensures limit { IfOk result (λ found. IfSome found (λ x. x.0 ≤ 5)) }
 {
-    let Some((first, more)) = octets.split_first() else {
+    let Some((first, more)) = window.octets.split_first() else {
         return Ok(None);
     };
     let first = usize::from(*first);
     if first < 0x80 {
         return Ok(Some((1, first)));
     }
+    let place = window.place;
     if first == 0x80 {
         return Err(Fault {
             reason: Reason::Indefinite,
-            place: 0,
+            place,
         });
     }
     if first > 0x84 {
         return Err(Fault {
             reason: Reason::LengthForm,
-            place: 0,
+            place,
         });
     }
     let count = first - 0x80;
@@ -80,4 +91,32 @@ fn length(octets: &[u8]) -> Result<Option<(usize, usize)>, Fault>
         return Ok(None);
     }
     Ok(Some((count + 1, number(&more[..count]))))
+}
+
+/// The header at the front of `window`, or `None` where its octets end before the header does. A content
+/// of over 65,535 octets is refused here.
+#[tactic(auto, unfolding(crate::specs::Reading::header_at))]
+pub(crate) fn read_header(window: Window) -> Result<Option<Header>, Fault>
+    ensures exact { Gives (λ x. x) result (header_at (span window.entry)) }
+    ensures within { IfOk result (λ found. IfSome found (λ h. h.len ≤ length window.entry.octets.now)) }
+    ensures limit { IfOk result (λ found. IfSome found (λ h. h.len + h.content_len ≤ 65545)) }
+    ensures tag { IfOk result (λ found. IfSome found (λ h. h.tag_len ≤ h.len)) }
+{
+    let Some(tag_len) = tag_len(window)? else {
+        return Ok(None);
+    };
+    let Some((length_len, content_len)) = length(window.behind(tag_len))? else {
+        return Ok(None);
+    };
+    if content_len > CONTENT_LIMIT {
+        return Err(Fault {
+            reason: Reason::TooLong,
+            place: window.place,
+        });
+    }
+    Ok(Some(Header {
+        tag_len,
+        len: tag_len + length_len,
+        content_len,
+    }))
 }

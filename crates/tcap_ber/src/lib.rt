@@ -3,8 +3,13 @@
 #![tactic(auto)]
 
 mod device;
+mod element;
 mod fault;
 mod header;
+mod window;
 
 pub use device::{Failed, Read, Write};
+pub use element::{Outer, Tag, Tlv, Window};
 pub use fault::{Fault, Reason};
+pub use header::CONTENT_LIMIT;
+pub use window::{begins_with, next_tlv, outer, required};

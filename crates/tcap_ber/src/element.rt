@@ -1,0 +1,77 @@
+//! Windows of octets, and the elements in them (X.690 8.1.1).
+
+ghost use Rattle.std.specs.Prelude.{◌≡◌, ◌<◌, ◌≤◌, ◌+◌, ◌^◌, length};
+
+/// Octets that are read as one part of a message, and the place of the first of them in it.
+#[derive(Clone, Copy, Debug)]
+pub struct Window<'a> {
+    /// The octets of the part.
+    pub octets: &'a [u8],
+    /// The place of the first of them, counted from the message's first octet.
+    pub place: u64,
+    pub ghost fits: { place + length octets.now < 2 ^ 64 },
+}
+
+/// A tag: its one to five octets. Tags are equal where their octets are.
+#[derive(Clone, Copy, Debug)]
+pub struct Tag<'a> {
+    /// The octets of the tag.
+    pub octets: &'a [u8],
+}
+
+/// An element of a window.
+#[derive(Clone, Copy, Debug)]
+pub struct Tlv<'a> {
+    /// The tag.
+    pub tag: Tag<'a>,
+    /// The content.
+    pub content: Window<'a>,
+    /// The place of the element's first octet.
+    pub start: u64,
+}
+
+/// How octets begin that are to begin with an element.
+#[derive(Clone, Copy, Debug, PartialEq, Eq)]
+pub enum Outer {
+    /// With a whole element of so many octets.
+    Whole(usize),
+    /// With no whole element yet: any that begins with them has at least so many octets.
+    Need(usize),
+}
+
+impl<'a> Window<'a> {
+    ghost use Rattle.std.specs.Prelude.{length};
+    ghost use Rattle.tcap_ber.specs.Reading.{span, behind};
+
+    /// All of `octets`, as a part whose first octet is at place 0.
+    pub fn new(octets: &'a [u8]) -> Window<'a>
+        ensures { span result ≡ record { octets = octets.entry.now; place = 0 } }
+    {
+        Window { octets, place: 0 }
+    }
+
+    /// What is left of the window behind its first `len` octets.
+    pub fn behind(self, len: usize) -> Window<'a>
+        requires { len ≤ length self.octets.now }
+        ensures { span result ≡ behind len (span self.entry) }
+    {
+        Window {
+            octets: &self.octets[len..],
+            place: self.place + len as u64,
+        }
+    }
+}
+
+impl<'a> Tag<'a> {
+    ghost use Rattle.tcap_ber.specs.Reading.{is_tag};
+
+    /// Whether the tag is this one octet.
+    pub fn is(self, octet: u8) -> bool
+        ensures { result ≡ is_tag octet self.entry.octets.now }
+    {
+        match self.octets {
+            [only] => *only == octet,
+            _ => false,
+        }
+    }
+}

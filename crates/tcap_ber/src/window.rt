@@ -1,0 +1,87 @@
+//! Reading the elements of a window one after the other.
+
+ghost use Rattle.std.specs.Prelude.{◌≡◌, ◌<◌, length};
+ghost use Rattle.tcap_ber.specs.Reading.{Gives, span, element, outer_at, next_at, required_at, is_next};
+
+use crate::element::{Outer, Tag, Tlv, Window};
+use crate::fault::{Fault, Reason};
+use crate::header::read_header;
+
+/// How `octets` begin: with a whole element, or with a part of one; a fault where the header as far as
+/// it stands there is wrong.
+#[tactic(auto, unfolding(crate::specs::Reading::outer_at))]
+pub fn outer(octets: &[u8]) -> Result<Outer, Fault>
+    ensures exact { Gives (λ x. x) result (outer_at octets.now) }
+{
+    let Some(header) = read_header(Window::new(octets))? else {
+        return Ok(Outer::Need(octets.len() + 1));
+    };
+    let len = header.len + header.content_len;
+    if octets.len() < len {
+        Ok(Outer::Need(len))
+    } else {
+        Ok(Outer::Whole(len))
+    }
+}
+
+/// The first element of a window, and the window behind it.
+#[tactic(auto, unfolding(crate::specs::Reading::next_at))]
+pub fn next_tlv(window: Window) -> Result<(Tlv, Window), Fault>
+    requires { 0 < length window.octets.now }
+    ensures exact { Gives (λ x. (element x.0, span x.1)) result (next_at (span window.entry)) }
+{
+    let overrun = Fault {
+        reason: Reason::Overrun,
+        place: window.place,
+    };
+    let header = read_header(window)?.ok_or(overrun)?;
+    let len = header.len + header.content_len;
+    if window.octets.len() < len {
+        return Err(overrun);
+    }
+    let (octets, _) = window.octets.split_at(len);
+    let (tag, _) = octets.split_at(header.tag_len);
+    let found = Tlv {
+        tag: Tag { octets: tag },
+        content: Window {
+            octets: &octets[header.len..],
+            place: window.place + header.len as u64,
+        },
+        start: window.place,
+    };
+    Ok((found, window.behind(len)))
+}
+
+/// The first element of a window, which has to be there with this tag of one octet, and the window
+/// behind it. `Missing` where the window is empty, `UnexpectedTag` where another tag stands there.
+#[tactic(auto, unfolding(crate::specs::Reading::required_at))]
+pub fn required(window: Window, tag: u8) -> Result<(Tlv, Window), Fault>
+    ensures exact { Gives (λ x. (element x.0, span x.1)) result (required_at tag (span window.entry)) }
+{
+    if window.octets.is_empty() {
+        return Err(Fault {
+            reason: Reason::Missing,
+            place: window.place,
+        });
+    }
+    let (found, rest) = next_tlv(window)?;
+    if found.tag.is(tag) {
+        Ok((found, rest))
+    } else {
+        Err(Fault {
+            reason: Reason::UnexpectedTag,
+            place: window.place,
+        })
+    }
+}
+
+/// Whether the window begins with this octet, which is a whole tag: so an optional element of that tag
+/// stands there.
+pub fn begins_with(window: Window, tag: u8) -> bool
+    ensures { result ≡ is_next tag window.entry.octets.now }
+{
+    match window.octets {
+        [first, ..] => *first == tag,
+        [] => false,
+    }
+}
