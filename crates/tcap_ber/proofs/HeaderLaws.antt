@@ -9,7 +9,8 @@ use Rattle.tcap_ber.specs.declared.fault.Reason.TheVariants as reasons
 use Rattle.tcap_ber.specs.declared.header.Header.{Header}
 use Rattle.tcap_ber.specs.Element.{number, IsTag, IsLength, content_limit}
 use Rattle.tcap_ber.specs.Header.{HasLongTag, HasLengthOctet, HasLongLength, IsHeaderFault}
-use Rattle.tcap_ber.specs.Reading.{◌>>=◌, fault, Span, behind, tag_in, tag_at, length_in, length_at, header_of, behind_tag, header_at}
+use Rattle.tcap_ber.specs.Span.{Span, behind}
+use Rattle.tcap_ber.specs.Reading.{◌>>=◌, fault, tag_in, tag_at, length_in, length_at, header_of, behind_tag, header_at}
 use Rattle.tcap_ber.proofs.Steps.{chosen, bind_ok, bind_err, ok_is, err_is, ok_not_err}
 use Rattle.tcap_ber.proofs.TagLaws.{FindsTag, tag_sound, tag_complete, tag_fault, tag_long}
 

@@ -1,14 +1,16 @@
 -- Reading elements from left to right, up to the first fault.
-use Rattle.std.specs.Prelude.{Bool, true, false, ◌≡◌, ℕ, zero, suc, ◌+◌, ◌-◌, ◌%◌, List, [], ◌∷◌, length, take, drop, Option, Some, None, Result, Ok, Err, nat_lt, ◌==◌, if◌then◌else◌}
+use Rattle.std.specs.Prelude.{Bool, true, false, not, ◌&&◌, ℤ, ◌≡◌, ℕ, zero, suc, ◌+◌, ◌-◌, ◌%◌, List, [], ◌∷◌, length, take, drop, Option, Some, None, Result, Ok, Err, nat_lt, ◌==◌, if◌then◌else◌}
 use Rattle.tcap_ber.specs.declared.fault.Fault.{Fault}
 use Rattle.tcap_ber.specs.declared.fault.Reason.{Reason}
-use Rattle.tcap_ber.specs.declared.fault.Reason.TheVariants.{LengthForm, TooLong, TagForm, Overrun, Missing, UnexpectedTag, Indefinite}
+use Rattle.tcap_ber.specs.declared.fault.Reason.TheVariants.{LengthForm, TooLong, BadInteger, TagForm, Overrun, Missing, UnexpectedTag, Indefinite}
 use Rattle.tcap_ber.specs.declared.header.Header.{Header}
 use Rattle.tcap_ber.specs.declared.element.Window.{Window}
 use Rattle.tcap_ber.specs.declared.element.Tlv.{Tlv}
 use Rattle.tcap_ber.specs.declared.element.Outer.{Outer}
 use Rattle.tcap_ber.specs.declared.element.Outer.TheVariants.{Whole, Need}
+use Rattle.tcap_ber.specs.Span.{Span, behind}
 use Rattle.tcap_ber.specs.Element.{number, content_limit}
+use Rattle.tcap_ber.specs.Integer.{signed}
 
 abbrev pub fault : Reason → ℕ → Fault
 fault r p = record { reason = r; place = p }
@@ -23,17 +25,8 @@ abbrev pub Gives : {X Y : Type 0} → (X → Y) → Result X Fault → Result Y 
 Gives view (Ok x) read = read ≡ Ok (view x)
 Gives view (Err f) read = read ≡ Err f
 
--- octets of a window, and the place of their first
-pub record Span : Type 0 where
-  pub octets : List ℕ
-  pub place : ℕ
-
 abbrev pub span : Window → Span
 span w = record { octets = w.octets.now; place = w.place }
-
--- what is left of a window behind its first n octets
-abbrev pub behind : ℕ → Span → Span
-behind n s = record { octets = drop n s.octets; place = s.place + n }
 
 -- the count of a tag's octets, where len have come and left more may come
 abbrev pub tag_rest : ℕ → ℕ → ℕ → List ℕ → Result (Option ℕ) Fault
@@ -132,3 +125,38 @@ wanted tag s found = if is_tag tag found.0.tag then Ok found else Err (fault Une
 -- the first element of a window, which has to be there with this tag
 unfoldable pub required_at : ℕ → Span → Result (Element × Span) Fault
 required_at tag s = if length s.octets == 0 then Err (fault Missing s.place) else next_at s >>= wanted tag s
+
+-- whether these are the contents of an INTEGER
+abbrev pub is_integer : List ℕ → Bool
+is_integer [] = false
+is_integer (first ∷ []) = true
+is_integer (first ∷ second ∷ more) =
+    not ((first == 0) && nat_lt second 128) && not ((first == 255) && nat_lt 127 second)
+
+-- an INTEGER's contents
+unfoldable pub integer_at : Element → Result (List ℕ) Fault
+integer_at e = if is_integer e.content.octets then Ok e.content.octets else Err (fault BadInteger e.place)
+
+-- the number of an INTEGER of at most so many octets
+abbrev pub within : ℕ → Reason → Element → List ℕ → Result ℤ Fault
+within limit too_wide e octets = if nat_lt limit (length octets) then Err (fault too_wide e.place) else Ok (signed octets)
+
+unfoldable pub small_integer_at : ℕ → Reason → Element → Result ℤ Fault
+small_integer_at limit too_wide e = integer_at e >>= within limit too_wide e
+
+-- whether octets are exactly one element
+abbrev pub is_whole : ℕ → Result Outer Fault → Bool
+is_whole len (Ok (Whole n)) = n == len
+is_whole len (Ok (Need n)) = false
+is_whole len (Err f) = false
+
+unfoldable pub is_raw : List ℕ → Bool
+is_raw octets = is_whole (length octets) (outer_at octets)
+
+-- the octets from one window to the window behind it
+abbrev pub raw_of : Span → Element × Span → Result (List ℕ × Span) Fault
+raw_of s found = Ok (take (length s.octets - length found.1.octets) s.octets, found.1)
+
+-- the first element of a window as its octets
+unfoldable pub raw_at : Span → Result (List ℕ × Span) Fault
+raw_at s = next_at s >>= raw_of s

@@ -41,7 +41,8 @@ pub enum Outer {
 
 impl<'a> Window<'a> {
     ghost use Rattle.std.specs.Prelude.{length};
-    ghost use Rattle.tcap_ber.specs.Reading.{span, behind};
+    ghost use Rattle.tcap_ber.specs.Span.{behind};
+    ghost use Rattle.tcap_ber.specs.Reading.{span};
 
     /// All of `octets`, as a part whose first octet is at place 0.
     pub fn new(octets: &'a [u8]) -> Window<'a>

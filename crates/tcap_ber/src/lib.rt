@@ -6,10 +6,14 @@ mod device;
 mod element;
 mod fault;
 mod header;
+mod integers;
+mod raw;
 mod window;
 
 pub use device::{Failed, Read, Write};
 pub use element::{Outer, Tag, Tlv, Window};
 pub use fault::{Fault, Reason};
 pub use header::CONTENT_LIMIT;
+pub use integers::{integer, small_integer};
+pub use raw::{Raw, RawView};
 pub use window::{begins_with, next_tlv, outer, required};

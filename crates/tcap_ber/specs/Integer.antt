@@ -1,0 +1,17 @@
+-- Integers (X.690 8.3).
+use Rattle.std.specs.Prelude.{◌≡◌, ℕ, ◌+◌, ◌-◌, ◌^◌, ◌<◌, ◌≤◌, ◌⊎◌, ℤ, pos, negsuc, List, [], ◌∷◌, length, nat_lt, if◌then◌else◌}
+use Rattle.tcap_ber.specs.Element.{number}
+
+-- The contents of an INTEGER: at least one octet, and where there are more, the first nine bits are
+-- neither all zero nor all one (X.690 8.3.2).
+abbrev pub IsInteger : List ℕ → Type 0
+IsInteger [] = ⊥
+IsInteger (first ∷ []) = Unit {0}
+IsInteger (first ∷ second ∷ more) = ((first ≡ 0) × (second < 128) → ⊥) × ((first ≡ 255) × (128 ≤ second) → ⊥)
+
+-- the number that octets stand for as a two's complement binary number (X.690 8.3.3)
+abbrev pub signed : List ℕ → ℤ
+signed [] = pos 0
+signed (first ∷ more) =
+    if nat_lt first 128 then pos (number (first ∷ more))
+    else negsuc (256 ^ (1 + length more) - 1 - number (first ∷ more))

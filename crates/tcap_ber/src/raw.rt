@@ -1,0 +1,99 @@
+//! Elements that are kept verbatim.
+
+ghost use Rattle.std.specs.Prelude.{◌≡◌, ◌<◌, length, true, IfOk, IfSome, IsSome, ◌↔◌, IsTrue};
+ghost use Rattle.tcap_ber.specs.Reading.{Gives, span, is_raw, raw_at};
+
+use crate::element::{Outer, Window};
+use crate::fault::Fault;
+use crate::window::{next_tlv, outer};
+use std::alloc::{AllocError, Global};
+use std::marker::Model;
+
+/// Octets of a message that are exactly one element.
+#[derive(Clone, Copy, Debug)]
+pub struct RawView<'a> {
+    /// The element's octets.
+    pub octets: &'a [u8],
+    pub ghost whole: { is_raw octets.now ≡ true },
+}
+
+/// Octets that are exactly one element, with any tag, kept verbatim.
+#[derive(Debug, Drop)]
+pub struct Raw {
+    octets: Vec<u8>,
+}
+
+impl Model for Raw {
+    ghost use Rattle.std.specs.Prelude.{List, ℕ, ◌≡◌, true};
+    ghost use Rattle.tcap_ber.specs.Reading.{is_raw};
+
+    ghost Value = { List ℕ };
+
+    ghost view = { λ a. a.octets.items };
+
+    ghost invariant = { λ a. is_raw a.octets.items ≡ true };
+}
+
+#[tactic(auto, unfolding(crate::specs::Reading::is_raw))]
+fn is_whole(octets: &[u8]) -> bool
+    ensures { result ≡ is_raw octets.now }
+{
+    match outer(octets) {
+        Ok(Outer::Whole(len)) => len == octets.len(),
+        _ => false,
+    }
+}
+
+impl<'a> RawView<'a> {
+    /// `octets` as one element; `None` exactly where they are not one.
+    pub fn new(octets: &'a [u8]) -> Option<RawView<'a>>
+        ensures found { IfSome result (λ raw. raw.octets.now ≡ octets.entry.now) }
+        ensures exact { IsSome result ↔ (is_raw octets.entry.now ≡ true) }
+    {
+        if is_whole(octets) {
+            Some(RawView { octets })
+        } else {
+            None
+        }
+    }
+
+    /// The element at the front of a window, and the window behind it.
+    #[tactic(auto, unfolding(crate::specs::Reading::raw_at))]
+    pub fn next(window: Window<'a>) -> Result<(RawView<'a>, Window<'a>), Fault>
+        requires { 0 < length window.octets.now }
+        ensures exact { Gives (λ x. (x.0.octets.now, span x.1)) result (raw_at (span window.entry)) }
+    {
+        let (_, rest) = next_tlv(window)?;
+        let len = window.octets.len() - rest.octets.len();
+        let raw = RawView { octets: &window.octets[..len] };
+        Ok((raw, rest))
+    }
+
+    /// A copy of the octets of its own.
+    pub fn to_raw(self, alloc: Global) -> Result<Raw, AllocError>
+        ensures { IfOk result (λ raw. raw ≡ self.entry.octets.now) }
+    {
+        Ok(Raw { octets: Vec::from_slice(alloc, self.octets)? })
+    }
+}
+
+impl Raw {
+    /// A copy of `octets`; `None` exactly where they are not one element.
+    pub fn new(alloc: Global, octets: &[u8]) -> Result<Option<Raw>, AllocError>
+        ensures found { IfOk result (λ made. IfSome made (λ raw. raw ≡ octets.now)) }
+        ensures exact { IfOk result (λ made. IsSome made ↔ (is_raw octets.now ≡ true)) }
+    {
+        match RawView::new(octets) {
+            Some(view) => Ok(Some(view.to_raw(alloc)?)),
+            None => Ok(None),
+        }
+    }
+
+    /// The element's octets.
+    pub fn octets(&self) -> &[u8]
+        ensures value { result.now ≡ self.now }
+        ensures whole { is_raw result.now ≡ true }
+    {
+        self.octets.as_slice()
+    }
+}
