@@ -34,7 +34,7 @@ long_is first more x low other high room e =
       rest = drop (first - 128) more;
       is_length = inr (omega (arith, k), omega (arith, k, other), omega (arith, k), refl);
       joined = ap (λ (y : List ℕ). first ∷ y) (sym (take-append-drop (first - 128) more));
-      len_is = omega (arith, k, other)
+      len_is = omega (arith, k, other);
     })
 
 pub length_sound : (place : ℕ) (octets : List ℕ) (x : ℕ × ℕ) → length_in place octets ≡ Ok (Some x) → FindsLength octets x.0 x.1
@@ -66,7 +66,7 @@ length_complete place n (first ∷ more) rest (inr h) =
     let room : first - 128 ≤ length (more ++ rest) = omega (arith, length-append more rest) in
     let taken : number (take (first - 128) (more ++ rest)) ≡ n = ap number (take_at more rest (first - 128) (sym k)) ∙ sym h.3 in
     rw (le-ltb first 128 (omega arith), ne_eqb first 128 (λ e. omega arith), le-ltb 132 first (omega arith), le-ltb (length (more ++ rest)) (first - 128) room)
-      (ap (λ (x : ℕ × ℕ). Ok (Some x)) (ap (λ (x : ℕ). (x, number (take (first - 128) (more ++ rest)))) one ∙ ap (λ (x : ℕ). (length (first ∷ more), x)) taken))
+    (rw (one, taken) refl)
 
 -- a length octet that is no form of a definite length
 pub length_fault : (place : ℕ) (octets : List ℕ) (f : Fault) → length_in place octets ≡ Err f
@@ -123,25 +123,25 @@ header_sound s h e =
     let a = bind_ok (tag_in s.place s.octets) (behind_tag s) (Some h) e in
     behind_tag_sound a.0 a.1 a.2
   where
-  behind_tag_sound : (tag : Option ℕ) → tag_in s.place s.octets ≡ Ok tag → behind_tag s tag ≡ Ok (Some h) → FindsHeader s.octets h
-  behind_tag_sound None t b = absurd cc
-  behind_tag_sound (Some n) t b =
-    let front = tag_sound s.place s.octets n t in
-    let l = bind_ok (length_in (s.place + n) (drop n s.octets)) (header_of s.place n) (Some h) b in
-    let found = header_of_sound s.place n l.0 h l.2 in
-    let len = length_sound (s.place + n) (drop n s.octets) found.0 (l.1 ∙ ap (λ (x : Option (ℕ × ℕ)). Ok x) found.1) in
-    let behind_it : drop n s.octets ≡ front.rest = ap (drop n) front.joined ∙ drop_at front.tag front.rest n (sym front.count) in
-    subst (FindsHeader s.octets) found.3 (record {
-      tag = front.tag;
-      length_octets = len.length_octets;
-      rest = len.rest;
-      is_tag = front.is_tag;
-      is_length = len.is_length;
-      within = found.2;
-      joined = front.joined ∙ ap (λ (x : List ℕ). front.tag ++ x) (sym behind_it ∙ len.joined);
-      tag_len = front.count;
-      len = omega (arith, front.count, len.len_is)
-    })
+    behind_tag_sound : (tag : Option ℕ) → tag_in s.place s.octets ≡ Ok tag → behind_tag s tag ≡ Ok (Some h) → FindsHeader s.octets h
+    behind_tag_sound None t b = absurd cc
+    behind_tag_sound (Some n) t b =
+        let front = tag_sound s.place s.octets n t in
+        let l = bind_ok (length_in (s.place + n) (drop n s.octets)) (header_of s.place n) (Some h) b in
+        let found = header_of_sound s.place n l.0 h l.2 in
+        let len = length_sound (s.place + n) (drop n s.octets) found.0 (l.1 ∙ ap (λ (x : Option (ℕ × ℕ)). Ok x) found.1) in
+        let behind_it : drop n s.octets ≡ front.rest = ap (drop n) front.joined ∙ drop_at front.tag front.rest n (sym front.count) in
+        subst (FindsHeader s.octets) found.3 (record {
+          tag = front.tag;
+          length_octets = len.length_octets;
+          rest = len.rest;
+          is_tag = front.is_tag;
+          is_length = len.is_length;
+          within = found.2;
+          joined = front.joined ∙ ap (λ (x : List ℕ). front.tag ++ x) (sym behind_it ∙ len.joined);
+          tag_len = front.count;
+          len = omega (arith, front.count, len.len_is);
+        })
 
 pub header_complete : (place n : ℕ) (tag length_octets rest : List ℕ) → IsTag tag → IsLength n length_octets → n ≤ content_limit
     → header_at (record { octets = tag ++ (length_octets ++ rest); place = place }) ≡ Ok (Some (record { tag_len = length tag; len = length tag + length length_octets; content_len = n }))
@@ -159,35 +159,48 @@ header_fault s f e =
       | inr a ↦ behind_tag_fault a.0 a.1 a.2
     ]
   where
-  behind_length : (n : ℕ) (front : FindsTag s.octets n) (found : Option (ℕ × ℕ)) → length_in (s.place + n) (drop n s.octets) ≡ Ok found → header_of s.place n found ≡ Err f → (offset : ℕ) × (f.place ≡ s.place + offset) × IsHeaderFault s.octets f.reason offset
-  behind_length n front None l b = absurd cc
-  behind_length n front (Some x) l b =
-    let len = length_sound (s.place + n) (drop n s.octets) x l in
-    let behind_it : drop n s.octets ≡ front.rest = ap (drop n) front.joined ∙ drop_at front.tag front.rest n (sym front.count) in
-    elim (chosen (nat_lt content_limit x.1) _ _ (Err f) b) [
-      | inl k ↦ subst (λ (y : Fault). (offset : ℕ) × (y.place ≡ s.place + offset) × IsHeaderFault s.octets y.reason offset) (err_is {A = Option Header} (fault reasons.TooLong s.place) f k.1)
-          (0, omega arith, (record {
-            tag = front.tag; length_octets = len.length_octets; rest = len.rest; count = x.1;
-            is_tag = front.is_tag; is_length = len.is_length; is_over = ltb-true content_limit x.1 k.0;
-            joined = front.joined ∙ ap (λ (y : List ℕ). front.tag ++ y) (sym behind_it ∙ len.joined) ∙ sym (append_assoc front.tag len.length_octets len.rest) }, refl))
-      | inr k ↦ absurd cc
-    ]
-  behind_tag_fault : (tag : Option ℕ) → tag_in s.place s.octets ≡ Ok tag → behind_tag s tag ≡ Err f → (offset : ℕ) × (f.place ≡ s.place + offset) × IsHeaderFault s.octets f.reason offset
-  behind_tag_fault None t b = absurd cc
-  behind_tag_fault (Some n) t b =
-    let front = tag_sound s.place s.octets n t in
-    let behind_it : drop n s.octets ≡ front.rest = ap (drop n) front.joined ∙ drop_at front.tag front.rest n (sym front.count) in
-    elim (bind_err (length_in (s.place + n) (drop n s.octets)) (header_of s.place n) f b) [
-      | inl l ↦ let k = length_fault (s.place + n) (drop n s.octets) f l in
-          let here : s.octets ≡ front.tag ++ k.0 ∷ k.1 = front.joined ∙ ap (λ (y : List ℕ). front.tag ++ y) (sym behind_it ∙ k.2) in
-          elim k.3 [
-            | inl m ↦ subst (λ (y : Fault). (offset : ℕ) × (y.place ≡ s.place + offset) × IsHeaderFault s.octets y.reason offset) (sym m.1)
-                (n, refl, record { tag = front.tag; rest = k.1; is_tag = front.is_tag; joined = here ∙ ap (λ (o : ℕ). front.tag ++ o ∷ k.1) m.0; place_is = front.count })
-            | inr m ↦ subst (λ (y : Fault). (offset : ℕ) × (y.place ≡ s.place + offset) × IsHeaderFault s.octets y.reason offset) (sym m.1)
-                (n, refl, (k.0, m.0, record { tag = front.tag; rest = k.1; is_tag = front.is_tag; joined = here; place_is = front.count }))
-          ]
-      | inr l ↦ behind_length n front l.0 l.1 l.2
-    ]
+    behind_length : (n : ℕ) (front : FindsTag s.octets n) (found : Option (ℕ × ℕ)) → length_in (s.place + n) (drop n s.octets) ≡ Ok found → header_of s.place n found ≡ Err f → (offset : ℕ) × (f.place ≡ s.place + offset) × IsHeaderFault s.octets f.reason offset
+    behind_length n front None l b = absurd cc
+    behind_length n front (Some x) l b =
+        let len = length_sound (s.place + n) (drop n s.octets) x l in
+        let behind_it : drop n s.octets ≡ front.rest = ap (drop n) front.joined ∙ drop_at front.tag front.rest n (sym front.count) in
+        elim (chosen (nat_lt content_limit x.1) _ _ (Err f) b) [
+          | inl k ↦ subst (λ (y : Fault). (offset : ℕ) × (y.place ≡ s.place + offset) × IsHeaderFault s.octets y.reason offset) (err_is {A = Option Header} (fault reasons.TooLong s.place) f k.1) (
+            0,
+            omega arith,
+            (
+              record {
+                tag = front.tag;
+                length_octets = len.length_octets;
+                rest = len.rest;
+                count = x.1;
+                is_tag = front.is_tag;
+                is_length = len.is_length;
+                is_over = ltb-true content_limit x.1 k.0;
+                joined = front.joined ∙ ap (λ (y : List ℕ). front.tag ++ y) (sym behind_it ∙ len.joined) ∙ sym (append_assoc front.tag len.length_octets len.rest);
+              },
+              refl,
+            ),
+          )
+          | inr k ↦ absurd cc
+        ]
+
+    behind_tag_fault : (tag : Option ℕ) → tag_in s.place s.octets ≡ Ok tag → behind_tag s tag ≡ Err f → (offset : ℕ) × (f.place ≡ s.place + offset) × IsHeaderFault s.octets f.reason offset
+    behind_tag_fault None t b = absurd cc
+    behind_tag_fault (Some n) t b =
+        let front = tag_sound s.place s.octets n t in
+        let behind_it : drop n s.octets ≡ front.rest = ap (drop n) front.joined ∙ drop_at front.tag front.rest n (sym front.count) in
+        elim (bind_err (length_in (s.place + n) (drop n s.octets)) (header_of s.place n) f b) [
+          | inl l ↦ let k = length_fault (s.place + n) (drop n s.octets) f l in
+              let here : s.octets ≡ front.tag ++ k.0 ∷ k.1 = front.joined ∙ ap (λ (y : List ℕ). front.tag ++ y) (sym behind_it ∙ k.2) in
+              elim k.3 [
+                | inl m ↦ subst (λ (y : Fault). (offset : ℕ) × (y.place ≡ s.place + offset) × IsHeaderFault s.octets y.reason offset) (sym m.1)
+                    (n, refl, record { tag = front.tag; rest = k.1; is_tag = front.is_tag; joined = here ∙ ap (λ (o : ℕ). front.tag ++ o ∷ k.1) m.0; place_is = front.count })
+                | inr m ↦ subst (λ (y : Fault). (offset : ℕ) × (y.place ≡ s.place + offset) × IsHeaderFault s.octets y.reason offset) (sym m.1)
+                    (n, refl, (k.0, m.0, record { tag = front.tag; rest = k.1; is_tag = front.is_tag; joined = here; place_is = front.count }))
+              ]
+          | inr l ↦ behind_length n front l.0 l.1 l.2
+        ]
 
 behind_length_octet : (place : ℕ) (octet offset : ℕ) (octets : List ℕ) (f : Fault) → HasLengthOctet octet octets offset
     → ((rest : List ℕ) → length_in (place + offset) (octet ∷ rest) ≡ Err f) → header_at (record { octets = octets; place = place }) ≡ Err f

@@ -1,3 +1,5 @@
 pub mod Steps
 pub mod TagLaws
 pub mod HeaderLaws
+pub mod ElementLaws
+pub mod OuterLaws

@@ -78,7 +78,7 @@ required tag body = record {
       IsMissing s reason place
       ⊎ IsElementFault s reason place
       ⊎ IsUnexpected tag s reason place
-      ⊎ IsFaultyInside tag body.faulty s reason place
+      ⊎ IsFaultyInside tag body.faulty s reason place;
 }
 
 -- the first of the octets is this one, which is a whole tag
@@ -94,7 +94,7 @@ SpellsOptional tag body None octets behind = (octets ≡ []) × (BeginsWith tag 
 abbrev pub optional : {V : Type 0} → ℕ → Body V → Field (Option V)
 optional tag body = record {
   spells = SpellsOptional tag body;
-  faulty = λ s reason place. BeginsWith tag s.octets × (required tag body).faulty s reason place
+  faulty = λ s reason place. BeginsWith tag s.octets × (required tag body).faulty s reason place;
 }
 
 abbrev pub SpellsParameter : Option (List ℕ) → List ℕ → List ℕ → Type 0
@@ -105,7 +105,7 @@ SpellsParameter None octets behind = (octets ≡ []) × (behind ≡ [])
 abbrev pub parameter : Field (Option (List ℕ))
 parameter = record {
   spells = SpellsParameter;
-  faulty = λ s reason place. (0 < length s.octets) × IsElementFault s reason place
+  faulty = λ s reason place. (0 < length s.octets) × IsElementFault s reason place;
 }
 
 -- ---- contents
@@ -114,7 +114,7 @@ parameter = record {
 abbrev pub ended : Content (Unit {0})
 ended = record {
   spells = λ _ octets. octets ≡ [];
-  faulty = λ s reason place. (0 < length s.octets) × (reason ≡ Trailing) × (place ≡ s.place)
+  faulty = λ s reason place. (0 < length s.octets) × (reason ≡ Trailing) × (place ≡ s.place);
 }
 
 -- the window behind its front
@@ -142,7 +142,7 @@ infixr 4 ◌⨾◌
 abbrev pub ◌⨾◌ : {V W : Type 0} → Field V → Content W → Content (V × W)
 first ⨾ others = record {
   spells = SpellsThen first others;
-  faulty = λ s reason place. first.faulty s reason place ⊎ IsFaultyBehind first others.faulty s reason place
+  faulty = λ s reason place. first.faulty s reason place ⊎ IsFaultyBehind first others.faulty s reason place;
 }
 
 abbrev pub SpellsEach : {V : Type 0} → Field V → List V → List ℕ → Type 0
@@ -160,7 +160,7 @@ IsFaultyAfter item (v ∷ vs) s reason place =
 abbrev pub each : {V : Type 0} → Field V → Content (List V)
 each {V} item = record {
   spells = SpellsEach item;
-  faulty = λ s reason place. (vs : List V) × IsFaultyAfter item vs s reason place
+  faulty = λ s reason place. (vs : List V) × IsFaultyAfter item vs s reason place;
 }
 
 -- ---- bodies of elements
@@ -169,14 +169,14 @@ each {V} item = record {
 abbrev pub structure : {V : Type 0} → Content V → Body V
 structure content = record {
   spells = content.spells;
-  faulty = λ at s reason place. content.faulty s reason place
+  faulty = λ at s reason place. content.faulty s reason place;
 }
 
 -- the same octets, of which another value is made
 abbrev pub made : {V W : Type 0} → (V → W) → Body V → Body W
 made {V} make body = record {
   spells = λ w octets. (v : V) × (w ≡ make v) × body.spells v octets;
-  faulty = body.faulty
+  faulty = body.faulty;
 }
 
 -- an INTEGER (X.690 8.3) of at most so many octets; wider ones are refused by that reason
@@ -186,5 +186,5 @@ integer limit too_wide = record {
   faulty = λ at s reason place.
       (place ≡ at)
       × (((reason ≡ BadInteger) × (IsInteger s.octets → ⊥))
-        ⊎ ((reason ≡ too_wide) × IsInteger s.octets × (limit < length s.octets)))
+      ⊎ ((reason ≡ too_wide) × IsInteger s.octets × (limit < length s.octets)));
 }

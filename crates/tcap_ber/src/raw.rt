@@ -65,7 +65,9 @@ impl<'a> RawView<'a> {
     {
         let (_, rest) = next_tlv(window)?;
         let len = window.octets.len() - rest.octets.len();
-        let raw = RawView { octets: &window.octets[..len] };
+        let raw = RawView {
+            octets: &window.octets[..len],
+        };
         Ok((raw, rest))
     }
 
@@ -73,7 +75,9 @@ impl<'a> RawView<'a> {
     pub fn to_raw(self, alloc: Global) -> Result<Raw, AllocError>
         ensures { IfOk result (λ raw. raw ≡ self.entry.octets.now) }
     {
-        Ok(Raw { octets: Vec::from_slice(alloc, self.octets)? })
+        Ok(Raw {
+            octets: Vec::from_slice(alloc, self.octets)?,
+        })
     }
 }
 
