@@ -1,7 +1,8 @@
 -- What is known of a device: the octets that it has yet to tell or has taken, and how often it failed.
-use Rattle.std.specs.Prelude.{◌≡◌, ℕ, ◌+◌, ◌-◌, ◌^◌, min, List, [], Option, Some, None, Result, Ok, Err, take, MatchResult, ⊤}
-use Rattle.std.specs.Io.KnownBytes.{Appends, Consumes, Keeps, IsAtEnd}
+use Rattle.std.specs.Prelude.{◌≡◌, ℕ, ◌+◌, ◌-◌, ◌^◌, min, List, Option, Result, take, MatchResult}
+use Rattle.std.specs.Io.KnownBytes.{Appends, Consumes, Keeps}
 use Rattle.tcap_ber.specs.declared.device.Failed.{Failed}
+use Rattle.tcap_ber.specs.declared.counted.Counted.{Counted}
 
 -- one failure more; at its greatest value the count stays
 abbrev pub one_more : ℕ → ℕ
@@ -19,3 +20,11 @@ Tells old new result buffer = MatchResult result (λ n. Consumes old new (take n
 -- A write took all the octets; a failed one took a beginning of them that isn't said.
 abbrev pub Takes : Option (List ℕ) → Option (List ℕ) → Result (Unit {0}) Failed → List ℕ → Type 0
 Takes old new result octets = MatchResult result (λ _. Appends old new octets) (λ _. (n : ℕ) × Appends old new (take n octets))
+
+-- the reader or writer in a `Counted`
+abbrev pub counted_inner : {T : Type 0} → Counted T → T
+counted_inner device = device.inner
+
+-- how often a `Counted` failed
+abbrev pub counted_failures : {T : Type 0} → Counted T → ℕ
+counted_failures device = device.failures

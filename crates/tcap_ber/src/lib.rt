@@ -2,9 +2,11 @@
 //! the devices that octets come from and go to.
 #![tactic(auto)]
 
+mod counted;
 mod device;
 mod fault;
 mod header;
 
+pub use counted::Counted;
 pub use device::{Failed, Read, Write};
 pub use fault::{Fault, Reason};
