@@ -1,8 +1,10 @@
 -- What is known of a device: the octets that it has yet to tell or has taken, and how often it failed.
-use Rattle.std.specs.Prelude.{◌≡◌, ℕ, ◌+◌, ◌-◌, ◌^◌, min, List, Option, Result, take, MatchResult}
+use Rattle.std.specs.Prelude.{◌≡◌, ℕ, ◌+◌, ◌-◌, ◌^◌, min, List, Option, Result, Err, take, MatchResult}
 use Rattle.std.specs.Io.KnownBytes.{Appends, Consumes, Keeps}
 use Rattle.tcap_ber.specs.declared.device.Failed.{Failed}
 use Rattle.tcap_ber.specs.declared.counted.Counted.{Counted}
+use Rattle.tcap_ber.specs.declared.to_end.ReadError.{ReadError}
+use Rattle.tcap_ber.specs.declared.to_end.ReadError.TheVariants.{Failed as DeviceFailed}
 
 -- one failure more; at its greatest value the count stays
 abbrev pub one_more : ℕ → ℕ
@@ -28,3 +30,8 @@ counted_inner device = device.inner
 -- how often a `Counted` failed
 abbrev pub counted_failures : {T : Type 0} → Counted T → ℕ
 counted_failures device = device.failures
+
+-- a reading to the end counts a failure exactly where the device failed, and none where memory ran out
+abbrev pub CountsReadFailure : ℕ → ℕ → Result (Unit {0}) ReadError → Type 0
+CountsReadFailure old new (Err DeviceFailed) = new ≡ one_more old
+CountsReadFailure old new _ = new ≡ old

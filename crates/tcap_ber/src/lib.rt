@@ -6,7 +6,9 @@ mod counted;
 mod device;
 mod fault;
 mod header;
+mod to_end;
 
 pub use counted::Counted;
 pub use device::{Failed, Read, Write};
 pub use fault::{Fault, Reason};
+pub use to_end::{ReadError, read_to_end};
