@@ -1,26 +1,18 @@
 //! std's readers and writers as devices.
 
-ghost use Rattle.std.specs.Prelude.{◌≡◌, ◌↔◌, IsTrue};
-ghost use Rattle.std.specs.IoError.{error_kind};
+ghost use Rattle.std.specs.Prelude.{◌≡◌};
 ghost use Rattle.std.specs.Io.KnownBytes.{Keeps};
 ghost use Rattle.tcap_ber.specs.Device.{CountsFailure, counted_inner, counted_failures, one_more};
 
 use crate::device::{Failed, Read, Write};
 use std::io;
-use std::io::{Error, ErrorKind};
+use std::io::ErrorKind;
 
 /// A reader or writer of std as a device that counts its failures.
 #[derive(Drop)]
 pub struct Counted<T> {
     inner: T,
     failures: u64,
-}
-
-/// Whether a signal interrupted the call that gave this error, so that it is to be made again.
-fn is_interrupted(error: &Error) -> bool
-    ensures { IsTrue result ↔ (error_kind error.now ≡ ErrorKind.Interrupted) }
-{
-    error.kind() == ErrorKind::Interrupted
 }
 
 impl<T> Counted<T> {
@@ -59,17 +51,16 @@ impl<T> Counted<T> {
 impl<T: io::Write> Counted<T> {
     /// Flushes the writer. `Failed` where it failed, which is counted.
     pub fn flush(&mut self) -> Result<(), Failed>
-        ensures taken { Keeps (T.contents (counted_inner self.old)) (T.contents (counted_inner self.new)) }
-        ensures counts { CountsFailure (counted_failures self.old) (counted_failures self.new) result }
+        ensures taken { Keeps (T.contents (counted_inner self.old))
+            (T.contents (counted_inner self.new)) }
+        ensures counts { CountsFailure (counted_failures self.old)
+            (counted_failures self.new) result }
     {
         for _ in 0..u64::MAX {
             match self.inner.flush() {
                 Ok(()) => return Ok(()),
-                Err(error) => {
-                    if !is_interrupted(&error) {
-                        break;
-                    }
-                }
+                Err(error) if error.kind() == ErrorKind::Interrupted => {}
+                Err(_) => break,
             }
         }
         Err(self.fail())
@@ -85,11 +76,8 @@ impl<T: io::Read> Read for Counted<T> {
         for _ in 0..u64::MAX {
             match self.inner.read(buffer) {
                 Ok(told) => return Ok(told),
-                Err(error) => {
-                    if !is_interrupted(&error) {
-                        break;
-                    }
-                }
+                Err(error) if error.kind() == ErrorKind::Interrupted => {}
+                Err(_) => break,
             }
         }
         Err(self.fail())
@@ -110,13 +98,76 @@ impl<T: io::Write> Write for Counted<T> {
             match self.inner.write(&octets[taken..]) {
                 Ok(0) => break,
                 Ok(count) => taken += count,
-                Err(error) => {
-                    if !is_interrupted(&error) {
-                        break;
-                    }
-                }
+                Err(error) if error.kind() == ErrorKind::Interrupted => {}
+                Err(_) => break,
             }
         }
         Err(self.fail())
+    }
+}
+
+#[cfg(test)]
+mod tests {
+    use super::*;
+    use crate::to_end::read_to_end;
+    use std::test::Fail;
+
+    /// Each second call is interrupted, and the others tell or take two octets at most.
+    #[derive(Drop)]
+    struct Unsteady<T> {
+        inner: T,
+        is_steady: bool,
+    }
+
+    impl<T> Unsteady<T> {
+        fn turn(&mut self) -> io::Result<()> {
+            self.is_steady = !self.is_steady;
+            if self.is_steady {
+                return Ok(());
+            }
+            Err(io::Error::from(ErrorKind::Interrupted))
+        }
+    }
+
+    impl<T: io::Read> io::Read for Unsteady<T> {
+        fn read(&mut self, buffer: &mut [u8]) -> io::Result<usize> {
+            self.turn()?;
+            let most = buffer.len().min(2);
+            self.inner.read(&mut buffer[..most])
+        }
+    }
+
+    impl<T: io::Write> io::Write for Unsteady<T> {
+        fn write(&mut self, buffer: &[u8]) -> io::Result<usize> {
+            self.turn()?;
+            self.inner.write(&buffer[..buffer.len().min(2)])
+        }
+
+        fn flush(&mut self) -> io::Result<()> {
+            self.turn()?;
+            self.inner.flush()
+        }
+    }
+
+    #[test]
+    fn tries_again_where_it_is_interrupted(rt: HostRuntime) -> Result<(), Fail> {
+        let mut source = Counted::new(Unsteady {
+            inner: b"unsteady".as_slice(),
+            is_steady: true,
+        });
+        let mut octets = Vec::new(rt.alloc());
+        read_to_end(&mut source, &mut octets)?;
+        assert_eq!(rt; octets.as_slice(), b"unsteady".as_slice());
+        assert_eq!(rt; source.failures(), 0);
+
+        let mut sink = Counted::new(Unsteady {
+            inner: Vec::new(rt.alloc()),
+            is_steady: true,
+        });
+        assert!(rt; sink.write_all(&octets).is_ok());
+        assert!(rt; sink.flush().is_ok());
+        assert_eq!(rt; sink.failures(), 0);
+        assert_eq!(rt; sink.into_inner().inner, octets);
+        Ok(())
     }
 }

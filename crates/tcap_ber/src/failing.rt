@@ -8,8 +8,8 @@ use crate::counted::Counted;
 use crate::device::{Failed, Read, Write};
 use std::io;
 
-/// A reader or writer of std as a device that fails once, when a given count of octets has gone through it,
-/// and then goes on.
+/// A reader or writer of std as a device that fails once, when a given count of octets has gone through
+/// it, and then goes on.
 #[derive(Drop)]
 pub struct Failing<T> {
     device: Counted<T>,
@@ -45,9 +45,12 @@ impl<T: io::Read> Read for Failing<T> {
 
     fn read(&mut self, buffer: &mut [u8]) -> Result<usize, Failed>
         ensures within { IfOk result (λ n. n ≤ length buffer.new) }
-        ensures tells { Tells (T.remaining (failing_inner self.old)) (T.remaining (failing_inner self.new)) result buffer.new }
-        ensures end { IfOk result (λ n. n ≡ 0 → 0 < length buffer.new → IsAtEnd (T.remaining (failing_inner self.new))) }
-        ensures counts { CountsFailure (failing_failures self.old) (failing_failures self.new) result }
+        ensures tells { Tells (T.remaining (failing_inner self.old))
+            (T.remaining (failing_inner self.new)) result buffer.new }
+        ensures end { IfOk result (λ n. n ≡ 0 → 0 < length buffer.new
+            → IsAtEnd (T.remaining (failing_inner self.new))) }
+        ensures counts { CountsFailure (failing_failures self.old)
+            (failing_failures self.new) result }
 
         // It fails where no octet is left to go through, and then never again by itself.
         ensures passes { IfOk result (Passes (failing_left self.old) (failing_left self.new)) }
@@ -75,13 +78,17 @@ impl<T: io::Write> Write for Failing<T> {
     ghost failures = { failing_failures };
 
     fn write_all(&mut self, octets: &[u8]) -> Result<(), Failed>
-        ensures takes { Takes (T.contents (failing_inner self.old)) (T.contents (failing_inner self.new)) result octets.now }
-        ensures counts { CountsFailure (failing_failures self.old) (failing_failures self.new) result }
+        ensures takes { Takes (T.contents (failing_inner self.old))
+            (T.contents (failing_inner self.new)) result octets.now }
+        ensures counts { CountsFailure (failing_failures self.old)
+            (failing_failures self.new) result }
 
         // It fails where more octets are given than are left to go through, and takes those.
-        ensures passes { OnOk result (Passes (failing_left self.old) (failing_left self.new) (length octets.now)) }
+        ensures passes { OnOk result
+            (Passes (failing_left self.old) (failing_left self.new) (length octets.now)) }
         ensures cuts { failing_left self.new ≡ None → (left : ℕ) → failing_left self.old ≡ Some left
-            → Appends (T.contents (failing_inner self.old)) (T.contents (failing_inner self.new)) (take left octets.now) }
+            → Appends (T.contents (failing_inner self.old)) (T.contents (failing_inner self.new))
+            (take left octets.now) }
         ensures once { failing_left self.old ≡ None → failing_left self.new ≡ None }
     {
         let Some(left) = self.left else {
@@ -95,5 +102,36 @@ impl<T: io::Write> Write for Failing<T> {
         self.device.write_all(&octets[..left])?;
         self.left = None;
         Err(self.device.fail())
+    }
+}
+
+#[cfg(test)]
+mod tests {
+    use super::*;
+    use crate::to_end::{ReadError, read_to_end};
+    use std::test::Fail;
+
+    #[test]
+    fn reads_on_after_one_failure(rt: HostRuntime) -> Result<(), Fail> {
+        let mut source = Failing::new(b"half a line".as_slice(), 4);
+        let mut octets = Vec::new(rt.alloc());
+        assert_eq!(rt;
+            read_to_end(&mut source, &mut octets),
+            Err(ReadError::Failed)
+        );
+        assert_eq!(rt; octets.as_slice(), b"half".as_slice());
+        assert_eq!(rt; read_to_end(&mut source, &mut octets), Ok(()));
+        assert_eq!(rt; octets.as_slice(), b"half a line".as_slice());
+        Ok(())
+    }
+
+    #[test]
+    fn writes_on_after_one_failure(rt: HostRuntime) -> Result<(), Fail> {
+        let mut sink = Failing::new(Vec::new(rt.alloc()), 5);
+        assert!(rt; sink.write_all(b"abc").is_ok());
+        assert!(rt; sink.write_all(b"defg").is_err());
+        assert!(rt; sink.write_all(b"hi").is_ok());
+        assert_eq!(rt; sink.into_inner().as_slice(), b"abcdehi".as_slice());
+        Ok(())
     }
 }

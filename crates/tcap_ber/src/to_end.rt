@@ -35,8 +35,8 @@ impl From<AllocError> for ReadError {
     }
 }
 
-/// Appends all octets that `reader` tells up to its end to `octets`. At an error `octets` has gained those
-/// that were told before it, and none is lost: memory is asked for before each read.
+/// Appends all octets that `reader` tells up to its end to `octets`. At an error `octets` has gained
+/// those that were told before it, and none is lost: memory is asked for before each read.
 pub fn read_to_end<R: Read>(reader: &mut R, octets: &mut Vec<u8>) -> Result<(), ReadError>
     ensures appends { (told : List ℕ) × (octets.new.items ≡ octets.old.items ++ told)
         × Consumes (R.untold reader.old) (R.untold reader.new) told }
