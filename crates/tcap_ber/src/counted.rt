@@ -170,4 +170,33 @@ mod tests {
         assert_eq!(rt; sink.into_inner().inner, octets);
         Ok(())
     }
+
+    /// Each call fails.
+    #[derive(Drop)]
+    struct Broken;
+
+    impl io::Read for Broken {
+        fn read(&mut self, _: &mut [u8]) -> io::Result<usize> {
+            Err(io::Error::from(ErrorKind::BrokenPipe))
+        }
+    }
+
+    impl io::Write for Broken {
+        fn write(&mut self, _: &[u8]) -> io::Result<usize> {
+            Err(io::Error::from(ErrorKind::BrokenPipe))
+        }
+
+        fn flush(&mut self) -> io::Result<()> {
+            Err(io::Error::from(ErrorKind::BrokenPipe))
+        }
+    }
+
+    #[test]
+    fn counts_each_failure(rt: HostRuntime) {
+        let mut device = Counted::new(Broken);
+        assert!(rt; device.read(&mut [0; 2]).is_err());
+        assert!(rt; device.write_all(b"lost").is_err());
+        assert!(rt; device.flush().is_err());
+        assert_eq!(rt; device.failures(), 3);
+    }
 }

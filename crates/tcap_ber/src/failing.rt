@@ -1,6 +1,6 @@
 //! A device that fails in mid-stream, for tests.
 
-ghost use Rattle.std.specs.Prelude.{◌≡◌, ℕ, ◌<◌, ◌≤◌, length, take, Some, None, Err, IfOk, OnOk, IsErr};
+ghost use Rattle.std.specs.Prelude.{◌≡◌, ℕ, ◌<◌, ◌≤◌, length, take, Some, None, IfOk, OnOk, IsErr};
 ghost use Rattle.std.specs.Io.KnownBytes.{Appends, IsAtEnd};
 ghost use Rattle.tcap_ber.specs.Device.{CountsFailure, Tells, Takes, Passes, failing_inner, failing_failures, failing_left};
 
