@@ -8,7 +8,8 @@ use crate::device::{Failed, Read, Write};
 use std::io;
 use std::io::ErrorKind;
 
-/// A reader or writer of std as a device that counts its failures.
+/// A reader or writer of std as a device that counts its failures. A call that a signal interrupted is
+/// made again, and is no failure.
 #[derive(Drop)]
 pub struct Counted<T> {
     inner: T,
