@@ -1,3 +1,4 @@
+pub mod DeviceLemmas
 pub mod Steps
 pub mod TagLaws
 pub mod HeaderLaws

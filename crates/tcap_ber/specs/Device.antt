@@ -1,7 +1,11 @@
 -- What is known of a device: the octets that it has yet to tell or has taken, and how often it failed.
-use Rattle.std.specs.Prelude.{◌≡◌, ℕ, ◌+◌, ◌-◌, ◌^◌, min, List, [], Option, Some, None, Result, Ok, Err, take, MatchResult, ⊤}
-use Rattle.std.specs.Io.KnownBytes.{Appends, Consumes, Keeps, IsAtEnd}
+use Rattle.std.specs.Prelude.{◌≡◌, ℕ, ◌+◌, ◌-◌, ◌^◌, ◌≤◌, min, List, Option, Some, None, Result, Err, take, MatchResult}
+use Rattle.std.specs.Io.KnownBytes.{Appends, Consumes, Keeps}
 use Rattle.tcap_ber.specs.declared.device.Failed.{Failed}
+use Rattle.tcap_ber.specs.declared.counted.Counted.{Counted}
+use Rattle.tcap_ber.specs.declared.failing.Failing.{Failing}
+use Rattle.tcap_ber.specs.declared.to_end.ReadError.{ReadError}
+use Rattle.tcap_ber.specs.declared.to_end.ReadError.TheVariants.{Failed as DeviceFailed}
 
 -- one failure more; at its greatest value the count stays
 abbrev pub one_more : ℕ → ℕ
@@ -19,3 +23,33 @@ Tells old new result buffer = MatchResult result (λ n. Consumes old new (take n
 -- A write took all the octets; a failed one took a beginning of them that isn't said.
 abbrev pub Takes : Option (List ℕ) → Option (List ℕ) → Result (Unit {0}) Failed → List ℕ → Type 0
 Takes old new result octets = MatchResult result (λ _. Appends old new octets) (λ _. (n : ℕ) × Appends old new (take n octets))
+
+-- the reader or writer in a `Counted`
+abbrev pub counted_inner : {T : Type 0} → Counted T → T
+counted_inner device = device.inner
+
+-- how often a `Counted` failed
+abbrev pub counted_failures : {T : Type 0} → Counted T → ℕ
+counted_failures device = device.failures
+
+-- the reader or writer in a `Failing`
+abbrev pub failing_inner : {T : Type 0} → Failing T → T
+failing_inner device = device.device.inner
+
+-- how often a `Failing` failed
+abbrev pub failing_failures : {T : Type 0} → Failing T → ℕ
+failing_failures device = device.device.failures
+
+-- how many octets go through a `Failing` before it fails; none is known once it has failed
+abbrev pub failing_left : {T : Type 0} → Failing T → Option ℕ
+failing_left device = device.left
+
+-- n octets went through a `Failing`: no more than were left, and so many fewer are left
+abbrev pub Passes : Option ℕ → Option ℕ → ℕ → Type 0
+Passes None new n = new ≡ None
+Passes (Some left) new n = (n ≤ left) × (new ≡ Some (left - n))
+
+-- a reading to the end counts a failure exactly where the device failed, and none where memory ran out
+abbrev pub CountsReadFailure : ℕ → ℕ → Result (Unit {0}) ReadError → Type 0
+CountsReadFailure old new (Err DeviceFailed) = new ≡ one_more old
+CountsReadFailure old new _ = new ≡ old

@@ -2,18 +2,24 @@
 //! the devices that octets come from and go to.
 #![tactic(auto)]
 
+mod counted;
 mod device;
 mod element;
+mod failing;
 mod fault;
 mod header;
 mod integers;
 mod raw;
+mod to_end;
 mod window;
 
+pub use counted::Counted;
 pub use device::{Failed, Read, Write};
 pub use element::{Outer, Tag, Tlv, Window};
+pub use failing::Failing;
 pub use fault::{Fault, Reason};
 pub use header::CONTENT_LIMIT;
 pub use integers::{integer, small_integer};
 pub use raw::{Raw, RawView};
+pub use to_end::{ReadError, read_to_end};
 pub use window::{begins_with, next_tlv, outer, required};

@@ -1,0 +1,106 @@
+//! A device that fails in mid-stream, for tests.
+
+ghost use Rattle.std.specs.Prelude.{◌≡◌, ℕ, ◌<◌, ◌≤◌, length, take, Some, None, IfOk, OnOk, IsErr};
+ghost use Rattle.std.specs.Io.KnownBytes.{Appends, IsAtEnd};
+ghost use Rattle.tcap_ber.specs.Device.{CountsFailure, Tells, Takes, Passes, failing_inner, failing_failures, failing_left};
+
+use crate::counted::Counted;
+use crate::device::{Failed, Read, Write};
+use std::io;
+
+/// A reader or writer of std as a device that fails once, when a given count of octets has gone through
+/// it, and then goes on.
+#[derive(Drop)]
+pub struct Failing<T> {
+    device: Counted<T>,
+    // How many octets go through before it fails; `None` once it has failed.
+    left: Option<usize>,
+}
+
+impl<T> Failing<T> {
+    /// The device over `inner` that fails once `after` octets have gone through it.
+    pub fn new(inner: T, after: usize) -> Failing<T>
+        ensures inner { failing_inner result ≡ inner }
+        ensures failures { failing_failures result ≡ 0 }
+        ensures left { failing_left result ≡ Some after }
+    {
+        Failing {
+            device: Counted::new(inner),
+            left: Some(after),
+        }
+    }
+
+    /// The reader or writer that was given.
+    pub fn into_inner(self) -> T
+        ensures { result ≡ failing_inner self }
+    {
+        self.device.into_inner()
+    }
+}
+
+impl<T: io::Read> Read for Failing<T> {
+    ghost untold = { λ device. T.remaining (failing_inner device) };
+
+    ghost failures = { failing_failures };
+
+    fn read(&mut self, buffer: &mut [u8]) -> Result<usize, Failed>
+        ensures within { IfOk result (λ n. n ≤ length buffer.new) }
+        ensures tells { Tells (T.remaining (failing_inner self.old))
+            (T.remaining (failing_inner self.new)) result buffer.new }
+        ensures end { IfOk result (λ n. n ≡ 0 → 0 < length buffer.new
+            → IsAtEnd (T.remaining (failing_inner self.new))) }
+        ensures counts { CountsFailure (failing_failures self.old)
+            (failing_failures self.new) result }
+
+        // It fails where no octet is left to go through, and then never again by itself.
+        ensures passes { IfOk result (Passes (failing_left self.old) (failing_left self.new)) }
+        ensures fails { failing_left self.old ≡ Some 0 → 0 < length buffer.old
+            → IsErr result × (failing_left self.new ≡ None) }
+        ensures once { failing_left self.old ≡ None → failing_left self.new ≡ None }
+    {
+        let Some(left) = self.left else {
+            return self.device.read(buffer);
+        };
+        if left == 0 && !buffer.is_empty() {
+            self.left = None;
+            return Err(self.device.fail());
+        }
+        let most = left.min(buffer.len());
+        let told = self.device.read(&mut buffer[..most])?;
+        self.left = Some(left - told);
+        Ok(told)
+    }
+}
+
+impl<T: io::Write> Write for Failing<T> {
+    ghost taken = { λ device. T.contents (failing_inner device) };
+
+    ghost failures = { failing_failures };
+
+    fn write_all(&mut self, octets: &[u8]) -> Result<(), Failed>
+        ensures takes { Takes (T.contents (failing_inner self.old))
+            (T.contents (failing_inner self.new)) result octets.now }
+        ensures counts { CountsFailure (failing_failures self.old)
+            (failing_failures self.new) result }
+
+        // It fails where more octets are given than are left to go through, and takes those.
+        ensures passes { OnOk result
+            (Passes (failing_left self.old) (failing_left self.new) (length octets.now)) }
+        ensures cuts { failing_left self.new ≡ None → (left : ℕ) → failing_left self.old ≡ Some left
+            → Appends (T.contents (failing_inner self.old)) (T.contents (failing_inner self.new))
+            (take left octets.now) }
+        ensures once { failing_left self.old ≡ None → failing_left self.new ≡ None }
+    {
+        let Some(left) = self.left else {
+            return self.device.write_all(octets);
+        };
+        if octets.len() <= left {
+            self.device.write_all(octets)?;
+            self.left = Some(left - octets.len());
+            return Ok(());
+        }
+        self.device.write_all(&octets[..left])?;
+        self.left = None;
+        Err(self.device.fail())
+    }
+}

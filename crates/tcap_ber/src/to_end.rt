@@ -1,0 +1,55 @@
+//! Reading a device to its end.
+
+ghost use Rattle.std.specs.Prelude.{◌≡◌, ℕ, ◌++◌, List, OnOk};
+ghost use Rattle.std.specs.Io.KnownBytes.{Consumes, IsAtEnd};
+ghost use Rattle.tcap_ber.specs.declared.to_end.ReadError.{ReadError};
+ghost use Rattle.tcap_ber.specs.Device.{CountsReadFailure};
+
+use crate::device::{Failed, Read};
+use std::alloc::AllocError;
+
+const BUFFER_LEN: usize = 8192;
+
+/// Why a device was not read to its end.
+#[derive(Clone, Copy, Debug, PartialEq, Eq)]
+pub enum ReadError {
+    /// The device failed.
+    Failed,
+    /// Memory ran out.
+    Memory,
+}
+
+impl From<Failed> for ReadError {
+    ghost from_gives = { λ _ error. error ≡ ReadError.Failed };
+
+    fn from(_: Failed) -> ReadError {
+        ReadError::Failed
+    }
+}
+
+impl From<AllocError> for ReadError {
+    ghost from_gives = { λ _ error. error ≡ ReadError.Memory };
+
+    fn from(_: AllocError) -> ReadError {
+        ReadError::Memory
+    }
+}
+
+/// Appends all octets that `reader` tells up to its end to `octets`. At an error `octets` has gained
+/// those that were told before it, and none is lost: memory is asked for before each read.
+pub fn read_to_end<R: Read>(reader: &mut R, octets: &mut Vec<u8>) -> Result<(), ReadError>
+    ensures appends { (told : List ℕ) × (octets.new.items ≡ octets.old.items ++ told)
+        × Consumes (R.untold reader.old) (R.untold reader.new) told }
+    ensures end { OnOk result (IsAtEnd (R.untold reader.new)) }
+    ensures counts { CountsReadFailure (R.failures reader.old) (R.failures reader.new) result }
+{
+    let mut buffer = [0; BUFFER_LEN];
+    loop {
+        octets.reserve(BUFFER_LEN)?;
+        let told = reader.read(&mut buffer)?;
+        if told == 0 {
+            return Ok(());
+        }
+        octets.extend_from_slice(&buffer[..told])?;
+    }
+}
