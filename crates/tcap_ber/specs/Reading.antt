@@ -2,7 +2,7 @@
 use Rattle.std.specs.Prelude.{Bool, true, false, not, ◌&&◌, ℤ, ◌≡◌, ℕ, zero, suc, ◌+◌, ◌-◌, ◌%◌, List, [], ◌∷◌, length, take, drop, Option, Some, None, Result, Ok, Err, nat_lt, ◌==◌, if◌then◌else◌}
 use Rattle.tcap_ber.specs.declared.fault.Fault.{Fault}
 use Rattle.tcap_ber.specs.declared.fault.Reason.{Reason}
-use Rattle.tcap_ber.specs.declared.fault.Reason.TheVariants.{LengthForm, TooLong, BadInteger, TagForm, Overrun, Missing, UnexpectedTag, Indefinite}
+use Rattle.tcap_ber.specs.declared.fault.Reason.TheVariants.{LengthForm, TooLong, BadInteger, TagForm, Overrun, Missing, UnexpectedTag, Trailing, Indefinite}
 use Rattle.tcap_ber.specs.declared.header.Header.{Header}
 use Rattle.tcap_ber.specs.declared.element.Window.{Window}
 use Rattle.tcap_ber.specs.declared.element.Tlv.{Tlv}
@@ -160,3 +160,32 @@ raw_of s found = Ok (take (length s.octets - length found.1.octets) s.octets, fo
 -- the first element of a window as its octets
 unfoldable pub raw_at : Span → Result (List ℕ × Span) Fault
 raw_at s = next_at s >>= raw_of s
+
+-- ---- for the words of the grammar
+
+-- the element's value, and what is left behind the element
+abbrev pub with_body : {V : Type 0} → (Element → Result V Fault) → Element × Span → Result (V × Span) Fault
+with_body read found = read found.0 >>= λ v. Ok (v, found.1)
+
+-- a value that is there
+abbrev pub with_some : {V : Type 0} → V × Span → Result (Option V × Span) Fault
+with_some x = Ok (Some x.0, x.1)
+
+-- any octets left are one element
+unfoldable pub parameter_at : Span → Result (Option (List ℕ) × Span) Fault
+parameter_at s = if length s.octets == 0 then Ok (None, s) else raw_at s >>= with_some
+
+-- nothing more may stand there
+abbrev pub end_at : {W : Type 0} → W → Span → Result W Fault
+end_at w s = if length s.octets == 0 then Ok w else Err (fault Trailing s.place)
+
+-- the items of a content one after the other, at most n of them
+abbrev pub each_at : {V : Type 0} → (Span → Result (V × Span) Fault) → ℕ → Span → Result (List V) Fault
+each_at read zero s = if length s.octets == 0 then Ok [] else Err (fault Trailing s.place)
+each_at read (suc n) s =
+    if length s.octets == 0 then Ok []
+    else (read s >>= λ x. each_at read n x.1 >>= λ vs. Ok (x.0 ∷ vs))
+
+-- an item has at least one octet, so no more items than octets are read
+unfoldable pub each_of : {V : Type 0} → (Span → Result (V × Span) Fault) → Span → Result (List V) Fault
+each_of read s = each_at read (length s.octets) s

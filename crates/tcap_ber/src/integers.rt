@@ -1,6 +1,6 @@
 //! Integers (X.690 8.3).
 
-ghost use Rattle.std.specs.Prelude.{◌≡◌, ◌≤◌, ◌≤ℤ◌, ◌+ℤ◌, ◌*ℤ◌, pos, negsuc, [], ◌∷◌, length};
+ghost use Rattle.std.specs.Prelude.{◌≡◌, ◌<◌, ◌≤◌, IfOk, ◌≤ℤ◌, ◌+ℤ◌, ◌*ℤ◌, pos, negsuc, [], ◌∷◌, length};
 ghost use Rattle.tcap_ber.specs.Integer.{signed};
 ghost use Rattle.tcap_ber.specs.Reading.{Gives, element, integer_at, small_integer_at};
 
@@ -12,6 +12,7 @@ use crate::fault::{Fault, Reason};
 #[tactic(auto, unfolding(crate::specs::Reading::integer_at))]
 pub fn integer<'a>(tlv: Tlv<'a>) -> Result<&'a [u8], Fault>
     ensures exact { Gives (λ x. x.now) result (integer_at (element tlv.entry)) }
+    ensures some { IfOk result (λ octets. 0 < length octets.now) }
 {
     let fault = Fault {
         reason: Reason::BadInteger,
@@ -25,16 +26,14 @@ pub fn integer<'a>(tlv: Tlv<'a>) -> Result<&'a [u8], Fault>
     }
 }
 
-/// What the leading octet of a two's complement number counts for, before it is shifted.
-fn leading(octet: u8) -> i32
-    ensures value { result ≡ signed (octet ∷ []) }
-    ensures low { (negsuc 127) ≤ℤ result }
-    ensures high { result ≤ℤ (pos 127) }
+/// The number that one octet stands for (X.690 8.3.3).
+fn leading(octet: u8) -> i8
+    ensures { result ≡ signed (octet ∷ []) }
 {
     if octet < 0x80 {
-        i32::from(octet)
+        octet as i8
     } else {
-        i32::from(octet) - 256
+        -1 - (0xff - octet) as i8
     }
 }
 
@@ -51,7 +50,7 @@ fn extended(value: i32, octet: u8) -> i32
 fn four(a: u8, b: u8, c: u8, d: u8) -> i32
     ensures { result ≡ signed (a ∷ b ∷ c ∷ d ∷ []) }
 {
-    extended(extended(extended(leading(a), b), c), d)
+    extended(extended(extended(i32::from(leading(a)), b), c), d)
 }
 
 /// The number that up to four octets stand for as a two's complement binary number (X.690 8.3.3).
@@ -61,9 +60,9 @@ fn number(octets: &[u8]) -> i32
 {
     match octets {
         [] => 0,
-        [a] => leading(*a),
-        [a, b] => extended(leading(*a), *b),
-        [a, b, c] => extended(extended(leading(*a), *b), *c),
+        [a] => i32::from(leading(*a)),
+        [a, b] => extended(i32::from(leading(*a)), *b),
+        [a, b, c] => extended(extended(i32::from(leading(*a)), *b), *c),
         [a, b, c, d] => four(*a, *b, *c, *d),
         _ => unreachable!(),
     }
@@ -84,4 +83,19 @@ pub fn small_integer(tlv: Tlv, limit: usize, too_wide: Reason) -> Result<i32, Fa
         });
     }
     Ok(number(octets))
+}
+
+/// The number of an element that is to be an INTEGER of one octet. `BadInteger` where its contents are
+/// none, `BadSize` where they have more octets, both at the element's first octet.
+#[tactic(auto, unfolding(crate::specs::Reading::small_integer_at))]
+pub fn octet_integer(tlv: Tlv) -> Result<i8, Fault>
+    ensures exact { Gives (λ x. x) result (small_integer_at 1 Reason.BadSize (element tlv.entry)) }
+{
+    match integer(tlv)? {
+        [octet] => Ok(leading(*octet)),
+        _ => Err(Fault {
+            reason: Reason::BadSize,
+            place: tlv.start,
+        }),
+    }
 }

@@ -1,7 +1,8 @@
 //! Elements that are kept verbatim.
 
 ghost use Rattle.std.specs.Prelude.{◌≡◌, ◌<◌, length, true, IfOk, IfSome, IsSome, ◌↔◌, IsTrue};
-ghost use Rattle.tcap_ber.specs.Reading.{Gives, span, is_raw, raw_at};
+ghost use Rattle.std.specs.Option.{option_map};
+ghost use Rattle.tcap_ber.specs.Reading.{Gives, span, is_raw, raw_at, parameter_at};
 
 use crate::element::{Outer, Window};
 use crate::fault::Fault;
@@ -69,6 +70,18 @@ impl<'a> RawView<'a> {
             octets: &window.octets[..len],
         };
         Ok((raw, rest))
+    }
+
+    /// A parameter: the element that any octets left in the window have to be, or `None` where none are.
+    #[tactic(auto, unfolding(crate::specs::Reading::parameter_at))]
+    pub fn parameter(window: Window<'a>) -> Result<(Option<RawView<'a>>, Window<'a>), Fault>
+        ensures exact { Gives (λ x. (option_map (λ raw. raw.octets.now) x.0, span x.1)) result (parameter_at (span window.entry)) }
+    {
+        if window.octets.is_empty() {
+            return Ok((None, window));
+        }
+        let (raw, rest) = RawView::next(window)?;
+        Ok((Some(raw), rest))
     }
 
     /// A copy of the octets of its own.

@@ -1,7 +1,7 @@
 //! Reading the elements of a window one after the other.
 
 ghost use Rattle.std.specs.Prelude.{◌≡◌, ◌<◌, length};
-ghost use Rattle.tcap_ber.specs.Reading.{Gives, span, element, outer_at, next_at, required_at, is_next};
+ghost use Rattle.tcap_ber.specs.Reading.{Gives, span, element, outer_at, next_at, required_at, is_next, end_at};
 
 use crate::element::{Outer, Tag, Tlv, Window};
 use crate::fault::{Fault, Reason};
@@ -83,5 +83,19 @@ pub fn begins_with(window: Window, tag: u8) -> bool
     match window.octets {
         [first, ..] => *first == tag,
         [] => false,
+    }
+}
+
+/// Nothing more may stand in the window: `Trailing` at its first octet.
+pub fn ended(window: Window) -> Result<(), Fault>
+    ensures exact { Gives (λ x. x) result (end_at tt (span window.entry)) }
+{
+    if window.octets.is_empty() {
+        Ok(())
+    } else {
+        Err(Fault {
+            reason: Reason::Trailing,
+            place: window.place,
+        })
     }
 }
