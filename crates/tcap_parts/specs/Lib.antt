@@ -1,0 +1,3 @@
+pub mod Component
+pub mod Meaning
+pub mod Reading

@@ -1,0 +1,12 @@
+-- What views of components stand for.
+use Rattle.std.specs.Prelude.{ℕ, List, [], Option, Result, Ok, Err}
+use Rattle.std.specs.Option.{option_map}
+use Rattle.tcap_ber.specs.declared.fault.Fault.{Fault}
+use Rattle.tcap_parts.specs.declared.component.Component.{Component}
+use Rattle.tcap_parts.specs.declared.component.Component.TheVariants as owned
+use Rattle.tcap_parts.specs.declared.component.ComponentView.{ComponentView}
+use Rattle.tcap_parts.specs.declared.component.ComponentView.TheVariants as views
+
+-- the component that a view lends
+abbrev pub component_of : ComponentView → Component
+component_of (views.Invoke id code parameter) = owned.Invoke id code (option_map (λ raw. raw.octets.now) parameter)

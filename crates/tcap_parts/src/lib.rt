@@ -1,0 +1,9 @@
+//! The component portion of TCAP messages (Q.773 4.2.2): its components, each read into a view that
+//! borrows the octets, and the values that are made of views.
+#![tactic(auto)]
+
+mod code;
+mod component;
+
+pub use code::Code;
+pub use component::{Component, ComponentView, view_component};
