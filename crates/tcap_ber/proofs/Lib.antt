@@ -4,3 +4,4 @@ pub mod TagLaws
 pub mod HeaderLaws
 pub mod ElementLaws
 pub mod OuterLaws
+pub mod GrammarLaws

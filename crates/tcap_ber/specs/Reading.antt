@@ -171,6 +171,11 @@ with_body read found = read found.0 >>= λ v. Ok (v, found.1)
 abbrev pub with_some : {V : Type 0} → V × Span → Result (Option V × Span) Fault
 with_some x = Ok (Some x.0, x.1)
 
+-- an element with this tag, where the window begins with it
+abbrev pub optional_at : {V : Type 0} → ℕ → (Element → Result V Fault) → Span → Result (Option V × Span) Fault
+optional_at tag read s =
+    if is_next tag s.octets then (required_at tag s >>= with_body read) >>= with_some else Ok (None, s)
+
 -- any octets left are one element
 unfoldable pub parameter_at : Span → Result (Option (List ℕ) × Span) Fault
 parameter_at s = if length s.octets == 0 then Ok (None, s) else raw_at s >>= with_some

@@ -4,6 +4,8 @@
 
 mod code;
 mod component;
+mod portion;
 
 pub use code::Code;
 pub use component::{Component, ComponentView, view_component};
+pub use portion::{Portion, PortionView};

@@ -1,0 +1,507 @@
+-- Readers of parts, contents and bodies: what they read is spelled so, what is spelled so they read, and
+-- what they refuse is faulty there. One law for each word of the grammar.
+use Rattle.std.proofs.Common.{zero, suc, ◌≡◌, ◌≢◌, ℕ, ◌+◌, ◌-◌, ◌<◌, ◌≤◌, ◌⊎◌, true, false, List, [], ◌∷◌, ◌++◌, length, Option, Some, None, Result, Ok, Err, refl, sym, ap, subst, ◌∙◌, inl, inr, arith, ℤ}
+use Rattle.std.specs.Prelude.{not, ◌&&◌, nat_lt, ◌==◌, if◌then◌else◌}
+use Rattle.std.proofs.lemmas.Bool.{ltb-true, ltb-false, lt-ltb, le-ltb, eqb-true, eqb-false, eq-eqb, ne_eqb, and_parts, and_from, both_ways, not-true, not_from_false, false_from_ne_true}
+use Rattle.std.proofs.lemmas.List.{length-append, nil_from_length}
+use Rattle.tcap_ber.specs.declared.fault.Fault.{Fault}
+use Rattle.tcap_ber.specs.declared.fault.Reason.{Reason}
+use Rattle.tcap_ber.specs.declared.fault.Reason.TheVariants.{Missing, UnexpectedTag, BadInteger, Trailing}
+use Rattle.tcap_ber.specs.Element.{IsElement}
+use Rattle.tcap_ber.specs.Integer.{IsInteger, signed}
+use Rattle.tcap_ber.specs.Grammar.{Body, Field, Content, IsElementFault, IsMissing, IsUnexpected, IsFaultyInside, BeginsWith, SpellsOptional, SpellsParameter, SpellsEach, IsFaultyAfter, required, optional, parameter, ended, ◌⨾◌, each, structure, made, integer, after}
+use Rattle.tcap_ber.specs.Span.{Span}
+use Rattle.tcap_ber.specs.Reading.{◌>>=◌, fault, Element, next_at, is_tag, is_next, wanted, required_at, raw_of, raw_at, is_integer, integer_at, within, small_integer_at, with_body, with_some, optional_at, parameter_at, end_at, each_at, each_of}
+use Rattle.tcap_ber.proofs.Steps.{chosen, bind_ok, bind_err, ok_is, err_is, ok_not_err}
+use Rattle.tcap_ber.proofs.ElementLaws.{element_len_at_least, FindsElement, next_sound, next_complete, next_fault}
+use Rattle.tcap_ber.proofs.OuterLaws.{raw_sound, raw_complete}
+
+-- how a part was read at the front of a window
+pub record Taken {V : Type 0} (part : Field V) (s : Span) (value : V) (rest : Span) : Type 0 where
+  pub front : List ℕ
+  pub joined : s.octets ≡ front ++ rest.octets
+  pub place : rest.place ≡ s.place + length front
+  pub is_part : part.spells value front rest.octets
+
+-- a reader of a part at the front of a window, which answers what is left of it
+pub record ReadsField {V : Type 0} (part : Field V) (read : Span → Result (V × Span) Fault) : Type 0 where
+  pub sound : (s : Span) (v : V) (rest : Span) → read s ≡ Ok (v, rest) → Taken part s v rest
+  pub complete : (place : ℕ) (v : V) (front rest : List ℕ) → part.spells v front rest → read (record { octets = front ++ rest; place = place }) ≡ Ok (v, after place front rest)
+  pub refuses : (s : Span) (f : Fault) → read s ≡ Err f → part.faulty s f.reason f.place
+
+-- a reader of the content of an element
+pub record ReadsBody {V : Type 0} (body : Body V) (read : Element → Result V Fault) : Type 0 where
+  pub sound : (e : Element) (v : V) → read e ≡ Ok v → body.spells v e.content.octets
+  pub complete : (e : Element) (v : V) → body.spells v e.content.octets → read e ≡ Ok v
+  pub refuses : (e : Element) (f : Fault) → read e ≡ Err f → body.faulty e.place e.content f.reason f.place
+
+-- a reader of what is left of a structure, which makes a value of the parts
+pub record ReadsContent {V W : Type 0} (content : Content V) (make : V → W) (read : Span → Result W Fault) : Type 0 where
+  pub sound : (s : Span) (w : W) → read s ≡ Ok w → (v : V) × (w ≡ make v) × content.spells v s.octets
+  pub complete : (s : Span) (v : V) → content.spells v s.octets → read s ≡ Ok (make v)
+  pub refuses : (s : Span) (f : Fault) → read s ≡ Err f → content.faulty s f.reason f.place
+
+-- the window where this front stands before this rest
+abbrev joint : ℕ → List ℕ → List ℕ → Span
+joint place front rest = record { octets = front ++ rest; place = place }
+
+-- a window behind a front is known by its octets and its place
+is_after : (place : ℕ) (front : List ℕ) (s : Span) → s.place ≡ place + length front → s ≡ after place front s.octets
+is_after place front s e = ap (λ (p : ℕ). let w : Span = record { octets = s.octets; place = p } in w) e
+
+-- ---- elements with a tag
+
+-- the test whether the octet is the whole tag, and what it means
+is_tag-true : (tag : ℕ) (octets : List ℕ) → is_tag tag octets ≡ true → octets ≡ tag ∷ []
+is_tag-true tag [] e = absurd cc
+is_tag-true tag (first ∷ []) e = ap (λ (x : ℕ). x ∷ []) (eqb-true first tag e)
+is_tag-true tag (first ∷ second ∷ more) e = absurd cc
+
+is_tag-itself : (tag : ℕ) → is_tag tag (tag ∷ []) ≡ true
+is_tag-itself tag = eq-eqb tag tag refl
+
+is_tag-false : (tag : ℕ) (octets : List ℕ) → is_tag tag octets ≡ false → octets ≢ tag ∷ []
+is_tag-false tag octets e same = let k : true ≡ false = sym (is_tag-itself tag) ∙ sym (ap (is_tag tag) same) ∙ e in cc
+
+-- an element that was read where one with this tag is required has it
+required_sound : (tag : ℕ) (s : Span) (x : Element × Span) → required_at tag s ≡ Ok x → FindsElement s x.0 x.1 × (x.0.tag ≡ tag ∷ [])
+unfolding required_at
+required_sound tag s x e =
+    elim (chosen (length s.octets == 0) _ _ (Ok x) e) [
+      | inl h ↦ absurd cc
+      | inr h ↦ let a = bind_ok (next_at s) (wanted tag s) x h.1 in
+          elim (chosen (is_tag tag a.0.0.tag) _ _ (Ok x) a.2) [
+            | inl k ↦ subst (λ (y : Element × Span). FindsElement s y.0 y.1 × (y.0.tag ≡ tag ∷ [])) (ok_is a.0 x k.1)
+                (next_sound s a.0 a.1, is_tag-true tag a.0.0.tag k.0)
+            | inr k ↦ absurd cc
+          ]
+    ]
+
+-- the element of this content in these octets
+abbrev element_in : ℕ → ℕ → List ℕ → List ℕ → Element
+element_in place tag content octets = record { tag = tag ∷ []; content = record { octets = content; place = place + (length octets - length content) }; place = place }
+
+-- an element of the tag is read where it is required
+required_complete : (place tag : ℕ) (content octets rest : List ℕ) → IsElement (tag ∷ []) content octets
+    → required_at tag (joint place octets rest) ≡ Ok (element_in place tag content octets, after place octets rest)
+unfolding required_at
+required_complete place tag content octets rest e =
+    let some : length (octets ++ rest) ≡ 0 → ⊥ = λ (z : length (octets ++ rest) ≡ 0). omega (arith, z, length-append octets rest, element_len_at_least (tag ∷ []) content octets e) in
+    rw (ne_eqb (length (octets ++ rest)) 0 some, next_complete place (tag ∷ []) content octets rest e, is_tag-itself tag) refl
+
+-- what is wrong where an element with this tag is required, but for its inside
+required_fault : (tag : ℕ) (s : Span) (f : Fault) → required_at tag s ≡ Err f
+    → IsMissing s f.reason f.place ⊎ IsElementFault s f.reason f.place ⊎ IsUnexpected tag s f.reason f.place
+unfolding required_at
+required_fault tag s f e =
+    elim (chosen (length s.octets == 0) _ _ (Err f) e) [
+      | inl h ↦ inl (missing (nil_from_length s.octets (eqb-true (length s.octets) 0 h.0)) (err_is {A = Element × Span} (fault Missing s.place) f h.1))
+      | inr h ↦ elim (bind_err (next_at s) (wanted tag s) f h.1) [
+        | inl k ↦ inr (inl (next_fault s f k))
+        | inr a ↦ elim (chosen (is_tag tag a.0.0.tag) _ _ (Err f) a.2) [
+          | inl k ↦ absurd cc
+          | inr k ↦ inr (inr (unexpected a.0 (next_sound s a.0 a.1) (is_tag-false tag a.0.0.tag k.0) (err_is {A = Element × Span} (fault UnexpectedTag s.place) f k.1)))
+        ]
+      ]
+    ]
+  where
+    missing : s.octets ≡ [] → fault Missing s.place ≡ f → IsMissing s f.reason f.place
+    missing ends k = subst (λ (x : Fault). IsMissing s x.reason x.place) k (record { ends = ends; reason_is = refl; place_is = refl })
+
+    unexpected : (x : Element × Span) → FindsElement s x.0 x.1 → x.0.tag ≢ tag ∷ [] → fault UnexpectedTag s.place ≡ f → IsUnexpected tag s f.reason f.place
+    unexpected x found other k = subst (λ (x : Fault). IsUnexpected tag s x.reason x.place) k (record {
+      other = x.0.tag;
+      content = x.0.content.octets;
+      octets = found.octets;
+      rest = x.1.octets;
+      is_element = found.is_element;
+      is_other = other;
+      joined = found.joined;
+      reason_is = refl;
+      place_is = refl;
+    })
+
+pub reads_required : {V : Type 0} (tag : ℕ) (body : Body V) (read : Element → Result V Fault) → ReadsBody body read
+    → ReadsField (required tag body) (λ s. required_at tag s >>= with_body read)
+reads_required {V} tag body read reads = record {
+  sound = λ s v rest e.
+      let a = bind_ok (required_at tag s) (with_body read) (v, rest) e in
+      let b = bind_ok (read a.0.0) (λ v. Ok (v, a.0.1)) (v, rest) a.2 in
+      let found = required_sound tag s a.0 a.1 in
+      subst (λ (y : V × Span). Taken (required tag body) s y.0 y.1) (ok_is (b.0, a.0.1) (v, rest) b.2)
+      (taken s a.0.0 a.0.1 b.0 found.0 found.1 (reads.sound a.0.0 b.0 b.1));
+  complete = λ place v front rest h. rw (required_complete place tag h.content front rest h.is_element, reads.complete (element_in place tag h.content front) v h.inside) refl;
+  refuses = λ s f e.
+      elim (bind_err (required_at tag s) (with_body read) f e) [
+        | inl h ↦ elim (required_fault tag s f h) [
+          | inl m ↦ inl m
+          | inr m ↦ elim m [
+            | inl w ↦ inr (inl w)
+            | inr u ↦ inr (inr (inl u))
+          ]
+        ]
+        | inr a ↦ elim (bind_err (read a.0.0) (λ v. Ok (v, a.0.1)) f a.2) [
+          | inl h ↦ let found = required_sound tag s a.0 a.1 in inr (inr (inr (inside s f a.0.0 a.0.1 found.0 found.1 (reads.refuses a.0.0 f h))))
+          | inr b ↦ absurd cc
+        ]
+      ];
+}
+  where
+    taken : (s : Span) (e : Element) (r : Span) (v : V) → FindsElement s e r → e.tag ≡ tag ∷ [] → body.spells v e.content.octets → Taken (required tag body) s v r
+    taken s e r v found same spelled = record {
+      front = found.octets;
+      joined = found.joined;
+      place = found.behind_place;
+      is_part = record { content = e.content.octets; is_element = subst (λ (t : List ℕ). IsElement t e.content.octets found.octets) same found.is_element; inside = spelled };
+    }
+
+    inside : (s : Span) (f : Fault) (e : Element) (r : Span) → FindsElement s e r → e.tag ≡ tag ∷ [] → body.faulty e.place e.content f.reason f.place → IsFaultyInside tag body.faulty s f.reason f.place
+    inside s f e r found same wrong = record {
+      content = e.content.octets;
+      octets = found.octets;
+      rest = r.octets;
+      is_element = subst (λ (t : List ℕ). IsElement t e.content.octets found.octets) same found.is_element;
+      joined = found.joined;
+      inside = subst (λ (p : ℕ). body.faulty s.place (record { octets = e.content.octets; place = p }) f.reason f.place) found.content_place
+          (subst (λ (p : ℕ). body.faulty p e.content f.reason f.place) found.place wrong);
+    }
+
+-- the test whether the first octet is this one, and what it means
+is_next-true : (tag : ℕ) (octets : List ℕ) → is_next tag octets ≡ true → BeginsWith tag octets
+is_next-true tag [] e = absurd cc
+is_next-true tag (first ∷ more) e = eqb-true first tag e
+
+is_next-begins : (tag : ℕ) (octets : List ℕ) → BeginsWith tag octets → is_next tag octets ≡ true
+is_next-begins tag [] b = absurd b
+is_next-begins tag (first ∷ more) b = eq-eqb first tag b
+
+is_next-none : (tag : ℕ) (octets : List ℕ) → (BeginsWith tag octets → ⊥) → is_next tag octets ≡ false
+is_next-none tag [] b = refl
+is_next-none tag (first ∷ more) b = ne_eqb first tag b
+
+is_next-false : (tag : ℕ) (octets : List ℕ) → is_next tag octets ≡ false → BeginsWith tag octets → ⊥
+is_next-false tag octets e b = let k : true ≡ false = sym (is_next-begins tag octets b) ∙ e in cc
+
+-- an element of the tag begins with it
+is_next-element : (tag : ℕ) (content octets rest : List ℕ) → IsElement (tag ∷ []) content octets → is_next tag (octets ++ rest) ≡ true
+is_next-element tag content octets rest e = ap (λ (x : List ℕ). is_next tag (x ++ rest)) e.joined ∙ eq-eqb tag tag refl
+
+-- nothing stands before this window
+nothing_before : (s : Span) → s ≡ after s.place [] s.octets
+nothing_before s = is_after s.place [] s (omega arith)
+
+-- the value of an element with this tag
+abbrev value_at : {V : Type 0} → ℕ → (Element → Result V Fault) → Span → Result (V × Span) Fault
+value_at tag read s = required_at tag s >>= with_body read
+
+pub reads_optional : {V : Type 0} (tag : ℕ) (body : Body V) (read : Element → Result V Fault) → ReadsBody body read
+    → ReadsField (optional tag body) (optional_at tag read)
+reads_optional {V} tag body read reads = record {
+  sound = λ s v rest e.
+      elim (chosen (is_next tag s.octets) _ _ (Ok (v, rest)) e) [
+        | inl h ↦ let a = bind_ok (value_at tag read s) with_some (v, rest) h.1 in
+            subst (λ (y : Option V × Span). Taken (optional tag body) s y.0 y.1) (ok_is (Some a.0.0, a.0.1) (v, rest) a.2) (some s a.0.0 a.0.1 (one.sound s a.0.0 a.0.1 a.1))
+        | inr h ↦ subst (λ (y : Option V × Span). Taken (optional tag body) s y.0 y.1) (ok_is (None, s) (v, rest) h.1)
+            (record { front = []; joined = refl; place = omega arith; is_part = (refl, is_next-false tag s.octets h.0) })
+      ];
+  complete = complete;
+  refuses = λ s f e.
+      elim (chosen (is_next tag s.octets) _ _ (Err f) e) [
+        | inl h ↦ elim (bind_err (value_at tag read s) with_some f h.1) [
+          | inl k ↦ (is_next-true tag s.octets h.0, one.refuses s f k)
+          | inr a ↦ absurd cc
+        ]
+        | inr h ↦ absurd cc
+      ];
+}
+  where
+    one : ReadsField (required tag body) (value_at tag read)
+    one = reads_required tag body read reads
+
+    some : (s : Span) (v : V) (rest : Span) → Taken (required tag body) s v rest → Taken (optional tag body) s (Some v) rest
+    some s v rest t = record { front = t.front; joined = t.joined; place = t.place; is_part = t.is_part }
+
+    complete : (place : ℕ) (v : Option V) (front rest : List ℕ) → SpellsOptional tag body v front rest
+        → (if is_next tag (front ++ rest) then value_at tag read (joint place front rest) >>= with_some else Ok (None, joint place front rest)) ≡ Ok (v, after place front rest)
+    complete place (Some v) front rest h = rw (is_next-element tag h.content front rest h.is_element, one.complete place v front rest h) refl
+    complete place None [] rest h = rw (is_next-none tag rest h.1) (ap (λ (s : Span). Ok (None, s)) (nothing_before (record { octets = rest; place = place })))
+    complete place None (first ∷ more) rest h = absurd cc
+
+-- what is wrong where any element is read
+raw_fault : (s : Span) (f : Fault) → raw_at s ≡ Err f → IsElementFault s f.reason f.place
+unfolding raw_at
+raw_fault s f e =
+    elim (bind_err (next_at s) (raw_of s) f e) [
+      | inl h ↦ next_fault s f h
+      | inr a ↦ absurd cc
+    ]
+
+pub reads_parameter : ReadsField parameter parameter_at
+unfolding parameter_at
+reads_parameter = record {
+  sound = λ s v rest e.
+      elim (chosen (length s.octets == 0) _ _ (Ok (v, rest)) e) [
+        | inl h ↦ subst (λ (y : Option (List ℕ) × Span). Taken parameter s y.0 y.1) (ok_is (None, s) (v, rest) h.1)
+            (record { front = []; joined = refl; place = omega arith; is_part = (refl, nil_from_length s.octets (eqb-true (length s.octets) 0 h.0)) })
+        | inr h ↦ let a = bind_ok (raw_at s) with_some (v, rest) h.1 in
+            let r = raw_sound s a.0 a.1 in
+            subst (λ (y : Option (List ℕ) × Span). Taken parameter s y.0 y.1) (ok_is (Some a.0.0, a.0.1) (v, rest) a.2)
+            (record { front = a.0.0; joined = r.1; place = r.2; is_part = (r.0, refl) })
+      ];
+  complete = complete;
+  refuses = λ s f e.
+      elim (chosen (length s.octets == 0) _ _ (Err f) e) [
+        | inl h ↦ absurd cc
+        | inr h ↦ elim (bind_err (raw_at s) with_some f h.1) [
+          | inl k ↦ let filled = eqb-false (length s.octets) 0 h.0 in (omega (arith, filled), raw_fault s f k)
+          | inr a ↦ absurd cc
+        ]
+      ];
+}
+  where
+    complete : (place : ℕ) (v : Option (List ℕ)) (front rest : List ℕ) → SpellsParameter v front rest
+        → (if length (front ++ rest) == 0 then Ok (None, joint place front rest) else raw_at (joint place front rest) >>= with_some) ≡ Ok (v, after place front rest)
+    complete place (Some raw) front rest h =
+        let some : length (raw ++ rest) ≡ 0 → ⊥ = λ (z : length (raw ++ rest) ≡ 0). omega (arith, z, length-append raw rest, element_len_at_least h.0.0 h.0.1 raw h.0.2) in
+        rw (h.1, ne_eqb (length (raw ++ rest)) 0 some, raw_complete place raw rest h.0) refl
+    complete place None [] rest h = rw (eq-eqb (length rest) 0 (ap length h.1)) (ap (λ (s : Span). Ok (None, s)) (nothing_before (record { octets = rest; place = place })))
+    complete place None (first ∷ more) rest h = absurd cc
+
+pub reads_ended : {W : Type 0} (w : W) → ReadsContent ended (λ _. w) (end_at w)
+reads_ended {W} w = record {
+  sound = λ s x e.
+      elim (chosen (length s.octets == 0) _ _ (Ok x) e) [
+        | inl h ↦ (tt, sym (ok_is w x h.1), nil_from_length s.octets (eqb-true (length s.octets) 0 h.0))
+        | inr h ↦ absurd cc
+      ];
+  complete = λ s v ends. rw (eq-eqb (length s.octets) 0 (ap length ends)) refl;
+  refuses = λ s f e.
+      elim (chosen (length s.octets == 0) _ _ (Err f) e) [
+        | inl h ↦ absurd cc
+        | inr h ↦ let k = err_is {A = W} (fault Trailing s.place) f h.1 in
+            let some = eqb-false (length s.octets) 0 h.0 in
+            (omega (arith, some), sym (ap (λ (x : Fault). x.reason) k), sym (ap (λ (x : Fault). x.place) k))
+      ];
+}
+
+pub reads_then : {V W U : Type 0} (first : Field V) (others : Content W) (make : V × W → U) (read : Span → Result (V × Span) Fault) (go_on : V → Span → Result U Fault)
+    → ReadsField first read → ((v : V) → ReadsContent others (λ w. make (v, w)) (go_on v))
+    → ReadsContent (first ⨾ others) make (λ s. read s >>= λ x. go_on x.0 x.1)
+reads_then first others make read go_on one all = record {
+  sound = λ s u e.
+      let a = bind_ok (read s) (λ x. go_on x.0 x.1) u e in
+      let t = one.sound s a.0.0 a.0.1 a.1 in
+      let o = (all a.0.0).sound a.0.1 u a.2 in
+      ((a.0.0, o.0), o.1, record { front = t.front; rest = a.0.1.octets; joined = t.joined; is_first = t.is_part; are_others = o.2 });
+  complete = λ s x h.
+      let here = ap (λ (y : List ℕ). read (record { octets = y; place = s.place })) h.joined ∙ one.complete s.place x.0 h.front h.rest h.is_first in
+      ap (λ r. r >>= λ x. go_on x.0 x.1) here ∙ (all x.0).complete (after s.place h.front h.rest) x.1 h.are_others;
+  refuses = λ s f e.
+      elim (bind_err (read s) (λ x. go_on x.0 x.1) f e) [
+        | inl h ↦ inl (one.refuses s f h)
+        | inr a ↦ let t = one.sound s a.0.0 a.0.1 a.1 in
+            inr (record {
+              value = a.0.0;
+              front = t.front;
+              rest = a.0.1.octets;
+              joined = t.joined;
+              is_first = t.is_part;
+              behind = subst (λ (r : Span). others.faulty r f.reason f.place) (is_after s.place t.front a.0.1 t.place) ((all a.0.0).refuses a.0.1 f a.2);
+            })
+      ];
+}
+
+pub reads_structure : {V W : Type 0} (content : Content V) (make : V → W) (read : Span → Result W Fault) → ReadsContent content make read
+    → ReadsBody (made make (structure content)) (λ e. read e.content)
+reads_structure content make read reads = record {
+  sound = λ e w h. reads.sound e.content w h;
+  complete = λ e w h. reads.complete e.content h.0 h.2 ∙ ap (λ x. Ok x) (sym h.1);
+  refuses = λ e f h. reads.refuses e.content f h;
+}
+
+-- the test whether these are the contents of an INTEGER, and what it means
+is_integer_sound : (octets : List ℕ) → is_integer octets ≡ true → IsInteger octets
+is_integer_sound [] e = absurd cc
+is_integer_sound (first ∷ []) e = tt
+is_integer_sound (first ∷ second ∷ more) e =
+    let both = and_parts (not ((first == 0) && nat_lt second 128)) (not ((first == 255) && nat_lt 127 second)) e in
+    let low : ((first == 0) && nat_lt second 128) ≡ false = not-true _ both.0 in
+    let high : ((first == 255) && nat_lt 127 second) ≡ false = not-true _ both.1 in
+    (λ h. both_ways _ low (and_from _ _ (eq-eqb first 0 h.0) (lt-ltb second 128 h.1)),
+      λ h. both_ways _ high (and_from _ _ (eq-eqb first 255 h.0) (lt-ltb 127 second (omega (arith, h.1)))))
+
+is_integer_complete : (octets : List ℕ) → IsInteger octets → is_integer octets ≡ true
+is_integer_complete [] h = absurd h
+is_integer_complete (first ∷ []) h = refl
+is_integer_complete (first ∷ second ∷ more) h =
+    and_from _ _ (not_from_false _ (false_from_ne_true _ low)) (not_from_false _ (false_from_ne_true _ high))
+  where
+    low : ((first == 0) && nat_lt second 128) ≡ true → ⊥
+    low e = let both = and_parts (first == 0) (nat_lt second 128) e in h.0 (eqb-true first 0 both.0, ltb-true second 128 both.1)
+
+    high : ((first == 255) && nat_lt 127 second) ≡ true → ⊥
+    high e = let both = and_parts (first == 255) (nat_lt 127 second) e in
+        let above = ltb-true 127 second both.1 in
+        h.1 (eqb-true first 255 both.0, omega (arith, above))
+
+-- the same octets, of which another value is made
+pub reads_made : {V W : Type 0} (make : V → W) (body : Body V) (read : Element → Result V Fault) → ReadsBody body read
+    → ReadsBody (made make body) (λ e. read e >>= λ v. Ok (make v))
+reads_made {V} {W} make body read reads = record {
+  sound = λ e w h.
+      let a = bind_ok (read e) (λ v. Ok (make v)) w h in
+      (a.0, sym (ok_is (make a.0) w a.2), reads.sound e a.0 a.1);
+  complete = λ e w h. rw (reads.complete e h.0 h.2) (ap (λ (x : W). Ok x) (sym h.1));
+  refuses = λ e f h.
+      elim (bind_err (read e) (λ v. Ok (make v)) f h) [
+        | inl k ↦ reads.refuses e f k
+        | inr a ↦ absurd cc
+      ];
+}
+
+pub reads_integer : (limit : ℕ) (too_wide : Reason) → ReadsBody (integer limit too_wide) (small_integer_at limit too_wide)
+unfolding integer_at small_integer_at
+reads_integer limit too_wide = record {
+  sound = λ e v h.
+      let a = bind_ok (integer_at e) (within limit too_wide e) v h in
+      elim (chosen (is_integer e.content.octets) _ _ (Ok a.0) a.1) [
+        | inl k ↦ read e v a.0 (is_integer_sound e.content.octets k.0) (ok_is e.content.octets a.0 k.1) a.2
+        | inr k ↦ absurd cc
+      ];
+  complete = λ e v h. rw (is_integer_complete e.content.octets h.0, le-ltb limit (length e.content.octets) h.1) (ap (λ (n : ℤ). Ok n) (sym h.2));
+  refuses = λ e f h.
+      elim (bind_err (integer_at e) (within limit too_wide e) f h) [
+        | inl a ↦ elim (chosen (is_integer e.content.octets) _ _ (Err f) a) [
+          | inl k ↦ absurd cc
+          | inr k ↦ bad e f k.0 (err_is {A = List ℕ} (fault BadInteger e.place) f k.1)
+        ]
+        | inr a ↦ elim (chosen (is_integer e.content.octets) _ _ (Ok a.0) a.1) [
+          | inl k ↦ wide e f a.0 (is_integer_sound e.content.octets k.0) (ok_is e.content.octets a.0 k.1) a.2
+          | inr k ↦ absurd cc
+        ]
+      ];
+}
+  where
+    read : (e : Element) (v : ℤ) (octets : List ℕ) → IsInteger e.content.octets → e.content.octets ≡ octets → within limit too_wide e octets ≡ Ok v → (integer limit too_wide).spells v e.content.octets
+    read e v octets good same h =
+        elim (chosen (nat_lt limit (length octets)) _ _ (Ok v) h) [
+          | inl k ↦ absurd cc
+          | inr k ↦ (good, omega (arith, ap length same, ltb-false limit (length octets) k.0), sym (ok_is (signed octets) v k.1) ∙ sym (ap signed same))
+        ]
+
+    bad : (e : Element) (f : Fault) → is_integer e.content.octets ≡ false → fault BadInteger e.place ≡ f → (integer limit too_wide).faulty e.place e.content f.reason f.place
+    bad e f k same = subst (λ (x : Fault). (integer limit too_wide).faulty e.place e.content x.reason x.place) same
+        (refl, inl (refl, λ good. both_ways (is_integer e.content.octets) k (is_integer_complete e.content.octets good)))
+
+    wide : (e : Element) (f : Fault) (octets : List ℕ) → IsInteger e.content.octets → e.content.octets ≡ octets → within limit too_wide e octets ≡ Err f → (integer limit too_wide).faulty e.place e.content f.reason f.place
+    wide e f octets good same h =
+        elim (chosen (nat_lt limit (length octets)) _ _ (Err f) h) [
+          | inl k ↦ subst (λ (x : Fault). (integer limit too_wide).faulty e.place e.content x.reason x.place) (err_is {A = ℤ} (fault too_wide e.place) f k.1)
+              (refl, inr (refl, good, omega (arith, ap length same, ltb-true limit (length octets) k.0)))
+          | inr k ↦ absurd cc
+        ]
+
+-- two chains are one where they go on alike behind what was read
+bind_same : {A B : Type 0} (r : Result A Fault) (f g : A → Result B Fault) → ((x : A) → r ≡ Ok x → f x ≡ g x) → (r >>= f) ≡ (r >>= g)
+bind_same (Ok x) f g same = same x refl
+bind_same (Err e) f g same = refl
+
+-- an item has at least one octet
+abbrev pub HasOctets : {V : Type 0} → Field V → Type 0
+HasOctets {V} item = (v : V) (front rest : List ℕ) → item.spells v front rest → 0 < length front
+
+-- behind an item fewer octets are left
+item_is_shorter : {V : Type 0} (item : Field V) (read : Span → Result (V × Span) Fault) → ReadsField item read → HasOctets item
+    → (s : Span) (x : V × Span) → read s ≡ Ok x → length x.1.octets < length s.octets
+item_is_shorter item read reads has s x e =
+    let t = reads.sound s x.0 x.1 e in
+    omega (arith, ap length t.joined, length-append t.front x.1.octets, has x.0 t.front x.1.octets t.is_part)
+
+-- of an empty window no items are read
+each_at-empty : {V : Type 0} (read : Span → Result (V × Span) Fault) (n : ℕ) (s : Span) → length s.octets ≡ 0 → each_at read n s ≡ Ok []
+each_at-empty read zero s e = rw (eq-eqb (length s.octets) 0 e) refl
+each_at-empty read (suc n) s e = rw (eq-eqb (length s.octets) 0 e) refl
+
+-- as many items as octets are enough
+each_at-enough : {V : Type 0} (item : Field V) (read : Span → Result (V × Span) Fault) → ReadsField item read → HasOctets item
+    → (n m : ℕ) (s : Span) → length s.octets ≤ n → length s.octets ≤ m → each_at read n s ≡ each_at read m s
+each_at-enough item read reads has zero m s a b =
+    let none : length s.octets ≡ 0 = omega arith in each_at-empty read zero s none ∙ sym (each_at-empty read m s none)
+each_at-enough item read reads has (suc n) zero s a b =
+    let none : length s.octets ≡ 0 = omega arith in each_at-empty read (suc n) s none ∙ sym (each_at-empty read zero s none)
+each_at-enough {V} item read reads has (suc n) (suc m) s a b =
+    ap (λ (r : Result (List V) Fault). if length s.octets == 0 then Ok [] else r) (bind_same (read s) _ _ (λ x e.
+      let less = item_is_shorter item read reads has s x e in
+      ap (λ (r : Result (List V) Fault). r >>= λ vs. Ok (x.0 ∷ vs)) (each_at-enough item read reads has n m x.1 (omega (arith, less, a)) (omega (arith, less, b)))))
+
+-- an empty window has no items
+pub each_of-empty : {V : Type 0} (read : Span → Result (V × Span) Fault) (s : Span) → length s.octets ≡ 0 → each_of read s ≡ Ok []
+unfolding each_of
+each_of-empty read s e = each_at-empty read (length s.octets) s e
+
+-- the first item and the others
+pub each_of-step : {V : Type 0} (item : Field V) (read : Span → Result (V × Span) Fault) → ReadsField item read → HasOctets item → (s : Span) → 0 < length s.octets
+    → each_of read s ≡ (read s >>= λ x. each_of read x.1 >>= λ vs. Ok (x.0 ∷ vs))
+unfolding each_of
+each_of-step {V} item read reads has s some =
+    let filled : length s.octets ≡ 0 → ⊥ = λ (z : length s.octets ≡ 0). omega arith in
+    let first : each_at read (suc (length s.octets)) s ≡ (read s >>= λ x. each_at read (length s.octets) x.1 >>= λ vs. Ok (x.0 ∷ vs)) =
+    rw (ne_eqb (length s.octets) 0 filled) refl in
+    each_at-enough item read reads has (length s.octets) (suc (length s.octets)) s (omega arith) (omega arith) ∙ first ∙ bind_same (read s) _ _ (λ x e.
+      let less = item_is_shorter item read reads has s x e in
+      ap (λ (r : Result (List V) Fault). r >>= λ vs. Ok (x.0 ∷ vs)) (each_at-enough item read reads has (length s.octets) (length x.1.octets) x.1 (omega (arith, less)) (omega arith)))
+
+pub reads_each : {V : Type 0} (item : Field V) (read : Span → Result (V × Span) Fault) → ReadsField item read → HasOctets item
+    → ReadsContent (each item) (λ vs. vs) (each_of read)
+unfolding each_of
+reads_each {V} item read reads has = record {
+  sound = λ s vs e. (vs, refl, sound (length s.octets) s vs e);
+  complete = λ s vs h. complete (length s.octets) s vs (omega arith) h;
+  refuses = λ s f e. refuses (length s.octets) s f (omega arith) e;
+}
+  where
+    sound : (n : ℕ) (s : Span) (vs : List V) → each_at read n s ≡ Ok vs → SpellsEach item vs s.octets
+    sound zero s vs e =
+        elim (chosen (length s.octets == 0) _ _ (Ok vs) e) [
+          | inl h ↦ subst (λ (w : List V). SpellsEach item w s.octets) (ok_is [] vs h.1) (nil_from_length s.octets (eqb-true (length s.octets) 0 h.0))
+          | inr h ↦ absurd cc
+        ]
+    sound (suc n) s vs e =
+        elim (chosen (length s.octets == 0) _ _ (Ok vs) e) [
+          | inl h ↦ subst (λ (w : List V). SpellsEach item w s.octets) (ok_is [] vs h.1) (nil_from_length s.octets (eqb-true (length s.octets) 0 h.0))
+          | inr h ↦
+              let a = bind_ok (read s) (λ x. each_at read n x.1 >>= λ ws. Ok (x.0 ∷ ws)) vs h.1 in
+              let b = bind_ok (each_at read n a.0.1) (λ ws. Ok (a.0.0 ∷ ws)) vs a.2 in
+              let t = reads.sound s a.0.0 a.0.1 a.1 in
+              subst (λ (w : List V). SpellsEach item w s.octets) (ok_is (a.0.0 ∷ b.0) vs b.2)
+              (t.front, a.0.1.octets, t.joined, t.is_part, sound n a.0.1 b.0 b.1)
+        ]
+
+    complete : (n : ℕ) (s : Span) (vs : List V) → length s.octets ≤ n → SpellsEach item vs s.octets → each_at read n s ≡ Ok vs
+    complete n s [] room h = each_at-empty read n s (ap length h)
+    complete zero s (v ∷ vs) room h = absurd (omega (arith, ap length h.2, length-append h.0 h.1, has v h.0 h.1 h.3))
+    complete (suc n) s (v ∷ vs) room h =
+        let total : length s.octets ≡ length h.0 + length h.1 = ap length h.2 ∙ length-append h.0 h.1 in
+        let some = has v h.0 h.1 h.3 in
+        let filled : length s.octets ≡ 0 → ⊥ = λ (z : length s.octets ≡ 0). omega (arith, z, total, some) in
+        let here : read s ≡ Ok (v, after s.place h.0 h.1) = ap (λ (y : List ℕ). read (record { octets = y; place = s.place })) h.2 ∙ reads.complete s.place v h.0 h.1 h.3 in
+        rw (ne_eqb (length s.octets) 0 filled, here, complete n (after s.place h.0 h.1) vs (omega (arith, total, some, room)) h.4) refl
+
+    refuses : (n : ℕ) (s : Span) (f : Fault) → length s.octets ≤ n → each_at read n s ≡ Err f → (vs : List V) × IsFaultyAfter item vs s f.reason f.place
+    refuses zero s f room e = absurd (ok_not_err [] f (sym (each_at-empty read zero s (omega arith)) ∙ e))
+    refuses (suc n) s f room e =
+        elim (chosen (length s.octets == 0) _ _ (Err f) e) [
+          | inl h ↦ absurd cc
+          | inr h ↦ elim (bind_err (read s) (λ x. each_at read n x.1 >>= λ ws. Ok (x.0 ∷ ws)) f h.1) [
+            | inl k ↦ let filled = eqb-false (length s.octets) 0 h.0 in ([], (omega (arith, filled), reads.refuses s f k))
+            | inr a ↦ elim (bind_err (each_at read n a.0.1) (λ ws. Ok (a.0.0 ∷ ws)) f a.2) [
+              | inl k ↦ behind_item n s f a.0 a.1 (refuses n a.0.1 f (omega (arith, item_is_shorter item read reads has s a.0 a.1, room)) k)
+              | inr b ↦ absurd cc
+            ]
+          ]
+        ]
+      where
+        behind_item : (n : ℕ) (s : Span) (f : Fault) (x : V × Span) → read s ≡ Ok x → ((vs : List V) × IsFaultyAfter item vs x.1 f.reason f.place) → (vs : List V) × IsFaultyAfter item vs s f.reason f.place
+        behind_item n s f x e wrong =
+            let t = reads.sound s x.0 x.1 e in
+            (x.0 ∷ wrong.0, (t.front, x.1.octets, t.joined, t.is_part, subst (λ (r : Span). IsFaultyAfter item wrong.0 r f.reason f.place) (is_after s.place t.front x.1 t.place) wrong.1))

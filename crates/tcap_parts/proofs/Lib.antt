@@ -1,0 +1,2 @@
+pub mod ComponentLaws
+pub mod PortionLaws

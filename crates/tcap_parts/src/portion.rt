@@ -1,0 +1,108 @@
+//! The component portion (Q.773 4.2.2): one component after the other, and at least one.
+
+ghost use Rattle.std.specs.Prelude.{◌≡◌, ◌≢◌, [], ◌<◌, ◌↔◌, length, true, IfOk, IfSome, IsSome, OnOk, IfErr, Err};
+ghost use Rattle.tcap_ber.specs.Reading.{Gives, span, element};
+ghost use Rattle.tcap_parts.specs.Reading.{components_at, portion_at, is_read};
+
+use crate::component::{Component, view_component};
+use std::alloc::{AllocError, Global};
+use std::marker::Model;
+use tcap_ber::{Fault, Reason, Tlv, Window};
+
+/// A component portion, lent from the octets that were read.
+#[derive(Clone, Copy, Debug)]
+pub struct PortionView<'a> {
+    content: Window<'a>,
+    pub ghost whole: { is_read (components_at (span content)) ≡ true },
+    pub ghost some: { 0 < length content.octets.now },
+}
+
+/// Components, at least one.
+#[derive(Debug, Drop)]
+pub struct Portion {
+    components: Vec<Component>,
+}
+
+impl Model for Portion {
+    ghost use Rattle.std.specs.Prelude.{List, ◌≢◌, []};
+    ghost use Rattle.tcap_parts.specs.declared.component.Component.{Component};
+
+    ghost Value = { List Component };
+
+    ghost view = { λ a. a.components.items };
+
+    ghost invariant = { λ a. a.components.items ≢ [] };
+}
+
+impl Portion {
+    /// The components as a portion; `None` exactly where there are none.
+    pub fn new(components: Vec<Component>) -> Option<Portion>
+        ensures found { IfSome result (λ portion. portion ≡ components.items) }
+        ensures exact { IsSome result ↔ (components.items ≢ []) }
+    {
+        if components.is_empty() {
+            None
+        } else {
+            Some(Portion { components })
+        }
+    }
+
+    /// The components in their order.
+    pub fn items(&self) -> &[Component]
+        ensures value { result.now ≡ self.now }
+        ensures some { result.now ≢ [] }
+    {
+        self.components.as_slice()
+    }
+}
+
+/// Reads each component of `content`, and refuses it at the first fault.
+fn check_components(content: Window) -> Result<(), Fault>
+    ensures ok { OnOk result (is_read (components_at (span content.entry)) ≡ true) }
+    ensures err { IfErr result (λ fault. components_at (span content.entry) ≡ Err fault) }
+{
+    let mut rest = content;
+    while !rest.octets.is_empty() {
+        let (_, behind) = view_component(rest)?;
+        rest = behind;
+    }
+    Ok(())
+}
+
+impl<'a> PortionView<'a> {
+    ghost use Rattle.tcap_parts.specs.Meaning.{components_of};
+
+    /// The component portion that an element of tag 6C holds. `EmptyComponents` at the element where it
+    /// holds no component.
+    #[tactic(auto, unfolding(crate::specs::Reading::portion_at))]
+    pub fn read(tlv: Tlv<'a>) -> Result<PortionView<'a>, Fault>
+        ensures exact { Gives components_of result (portion_at (element tlv.entry)) }
+    {
+        if tlv.content.octets.is_empty() {
+            return Err(Fault {
+                reason: Reason::EmptyComponents,
+                place: tlv.start,
+            });
+        }
+        check_components(tlv.content)?;
+        Ok(PortionView {
+            content: tlv.content,
+        })
+    }
+
+    /// The components as values of their own.
+    pub fn to_portion(self, alloc: Global) -> Result<Portion, AllocError>
+        ensures { IfOk result (λ portion. portion ≡ components_of self.entry) }
+    {
+        let mut components = Vec::new(alloc);
+        let mut rest = self.content;
+        while !rest.octets.is_empty() {
+            let Ok((component, behind)) = view_component(rest) else {
+                unreachable!()
+            };
+            components.push(component.to_component(alloc)?)?;
+            rest = behind;
+        }
+        Ok(Portion { components })
+    }
+}
