@@ -326,9 +326,10 @@ is_integer_sound (first ∷ []) e = tt
 is_integer_sound (first ∷ second ∷ more) e =
     let both = and_parts (not ((first == 0) && nat_lt second 128)) (not ((first == 255) && nat_lt 127 second)) e in
     let low : ((first == 0) && nat_lt second 128) ≡ false = not-true _ both.0 in
-    let high : ((first == 255) && nat_lt 127 second) ≡ false = not-true _ both.1 in
-    (λ h. both_ways _ low (and_from _ _ (eq-eqb first 0 h.0) (lt-ltb second 128 h.1)),
-      λ h. both_ways _ high (and_from _ _ (eq-eqb first 255 h.0) (lt-ltb 127 second (omega (arith, h.1)))))
+    let high : ((first == 255) && nat_lt 127 second) ≡ false = not-true _ both.1 in (
+      λ h. both_ways _ low (and_from _ _ (eq-eqb first 0 h.0) (lt-ltb second 128 h.1)),
+      λ h. both_ways _ high (and_from _ _ (eq-eqb first 255 h.0) (lt-ltb 127 second (omega (arith, h.1)))),
+    )
 
 is_integer_complete : (octets : List ℕ) → IsInteger octets → is_integer octets ≡ true
 is_integer_complete [] h = absurd h
@@ -431,8 +432,8 @@ each_at-enough item read reads has (suc n) zero s a b =
     let none : length s.octets ≡ 0 = omega arith in each_at-empty read (suc n) s none ∙ sym (each_at-empty read zero s none)
 each_at-enough {V} item read reads has (suc n) (suc m) s a b =
     ap (λ (r : Result (List V) Fault). if length s.octets == 0 then Ok [] else r) (bind_same (read s) _ _ (λ x e.
-      let less = item_is_shorter item read reads has s x e in
-      ap (λ (r : Result (List V) Fault). r >>= λ vs. Ok (x.0 ∷ vs)) (each_at-enough item read reads has n m x.1 (omega (arith, less, a)) (omega (arith, less, b)))))
+    let less = item_is_shorter item read reads has s x e in
+    ap (λ (r : Result (List V) Fault). r >>= λ vs. Ok (x.0 ∷ vs)) (each_at-enough item read reads has n m x.1 (omega (arith, less, a)) (omega (arith, less, b)))))
 
 -- an empty window has no items
 pub each_of-empty : {V : Type 0} (read : Span → Result (V × Span) Fault) (s : Span) → length s.octets ≡ 0 → each_of read s ≡ Ok []
@@ -448,8 +449,8 @@ each_of-step {V} item read reads has s some =
     let first : each_at read (suc (length s.octets)) s ≡ (read s >>= λ x. each_at read (length s.octets) x.1 >>= λ vs. Ok (x.0 ∷ vs)) =
     rw (ne_eqb (length s.octets) 0 filled) refl in
     each_at-enough item read reads has (length s.octets) (suc (length s.octets)) s (omega arith) (omega arith) ∙ first ∙ bind_same (read s) _ _ (λ x e.
-      let less = item_is_shorter item read reads has s x e in
-      ap (λ (r : Result (List V) Fault). r >>= λ vs. Ok (x.0 ∷ vs)) (each_at-enough item read reads has (length s.octets) (length x.1.octets) x.1 (omega (arith, less)) (omega arith)))
+    let less = item_is_shorter item read reads has s x e in
+    ap (λ (r : Result (List V) Fault). r >>= λ vs. Ok (x.0 ∷ vs)) (each_at-enough item read reads has (length s.octets) (length x.1.octets) x.1 (omega (arith, less)) (omega arith)))
 
 pub reads_each : {V : Type 0} (item : Field V) (read : Span → Result (V × Span) Fault) → ReadsField item read → HasOctets item
     → ReadsContent (each item) (λ vs. vs) (each_of read)

@@ -1,13 +1,10 @@
-// A library with one function.
+//! TCAP messages (Q.773): read into a view that borrows the octets, or into a value.
 #![tactic(auto)]
 
-ghost use Rattle.std.specs.Prelude.{◌≡◌};
-ghost use Rattle.tcap_msg.specs.Echo.{echo_of};
+mod message;
+mod transaction_id;
+mod views;
 
-// The `ensures` clause is the contract: what `echo` returns is `echo_of` of its argument, a definition
-// in `specs/Echo.antt`, which a caller's clause can cite too.
-pub fn echo(x: usize) -> usize
-    ensures { result ≡ echo_of x }
-{
-    x
-}
+pub use message::{DecodeFault, Message, decode};
+pub use transaction_id::{TransactionId, TransactionIdView};
+pub use views::{MessageView, view};

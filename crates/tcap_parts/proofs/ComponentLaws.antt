@@ -27,15 +27,15 @@ reads_invoke_parts : ReadsContent (required 0x02 invoke_id ⨾ required 0x02 loc
 unfolding invoke_at
 reads_invoke_parts =
     reads_then (required 0x02 invoke_id) (required 0x02 local_code ⨾ parameter ⨾ ended) make_invoke invoke_id_at
-      (λ id s. code_at s >>= λ code. parameter_at code.1 >>= λ p. end_at (Invoke id code.0 p.0) p.1)
-      reads_invoke_id
-      (λ id. reads_then (required 0x02 local_code) (parameter ⨾ ended) (λ w. make_invoke (id, w)) code_at
-        (λ code s. parameter_at s >>= λ p. end_at (Invoke id code p.0) p.1)
-        reads_code
-        (λ code. reads_then parameter ended (λ w. make_invoke (id, (code, w))) parameter_at
-          (λ p s. end_at (Invoke id code p) s)
-          reads_parameter
-          (λ p. reads_ended (Invoke id code p))))
+    (λ id s. code_at s >>= λ code. parameter_at code.1 >>= λ p. end_at (Invoke id code.0 p.0) p.1)
+    reads_invoke_id
+    (λ id. reads_then (required 0x02 local_code) (parameter ⨾ ended) (λ w. make_invoke (id, w)) code_at
+    (λ code s. parameter_at s >>= λ p. end_at (Invoke id code p.0) p.1)
+    reads_code
+    (λ code. reads_then parameter ended (λ w. make_invoke (id, (code, w))) parameter_at
+    (λ p s. end_at (Invoke id code p) s)
+    reads_parameter
+    (λ p. reads_ended (Invoke id code p))))
 
 reads_invoke : ReadsBody invoke (λ e. invoke_at e.content)
 reads_invoke = reads_structure (required 0x02 invoke_id ⨾ required 0x02 local_code ⨾ parameter ⨾ ended) make_invoke invoke_at reads_invoke_parts

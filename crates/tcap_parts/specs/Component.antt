@@ -38,7 +38,7 @@ portion = record {
   spells = λ components octets. (components ≢ []) × (each component).spells components octets;
   faulty = λ at content reason place.
       ((content.octets ≡ []) × (reason ≡ EmptyComponents) × (place ≡ at))
-      ⊎ (each component).faulty content reason place
+      ⊎ (each component).faulty content reason place;
 }
 
 -- the octets spell the components, one after the other, and there is one

@@ -34,6 +34,7 @@ pub enum ComponentView<'a> {
 }
 
 const INTEGER: u8 = 0x02;
+
 const INVOKE: u8 = 0xA1;
 
 /// The invoke ID at the front of a window (Q.773 4.2.2.2).

@@ -1,0 +1,11 @@
+-- What decoding answers, where memory may run out.
+use Rattle.std.specs.Prelude.{◌≡◌, ℕ, Result, Ok, Err}
+use Rattle.tcap_ber.specs.declared.fault.Fault.{Fault}
+use Rattle.tcap_msg.specs.declared.message.DecodeFault.{DecodeFault}
+use Rattle.tcap_msg.specs.declared.message.DecodeFault.TheVariants as faults
+
+-- what was answered is what reading gives, unless memory ran out
+abbrev pub Decodes : {X : Type 0} → Result X DecodeFault → Result X Fault → Type 0
+Decodes (Ok x) read = read ≡ Ok x
+Decodes (Err (faults.Fault f)) read = read ≡ Err f
+Decodes (Err faults.Memory) read = Unit {0}

@@ -1,0 +1,4 @@
+pub mod Message
+pub mod Meaning
+pub mod Reading
+pub mod Decode
