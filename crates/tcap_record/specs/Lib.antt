@@ -1,0 +1,4 @@
+pub mod Framed
+pub mod Lines
+pub mod FeedFault
+pub mod Reading

@@ -1,0 +1,68 @@
+-- The text that `show` prints, line by line.
+use Rattle.std.specs.Prelude.{ℕ, suc, ◌+◌, ◌/◌, ◌%◌, List, [], ◌∷◌, ◌++◌, Option, Some, None, codes, nat_lt, if◌then◌else◌}
+use Rattle.std.specs.List.{flat_map}
+use Rattle.std.specs.Fmt.{decimal, signed_decimal}
+use Rattle.tcap_ber.specs.Fault.{number_of}
+use Rattle.tcap_parts.specs.declared.code.Code.{Code}
+use Rattle.tcap_parts.specs.declared.code.Code.TheVariants.{Local}
+use Rattle.tcap_parts.specs.declared.component.Component.{Component}
+use Rattle.tcap_parts.specs.declared.component.Component.TheVariants.{Invoke}
+use Rattle.tcap_msg.specs.declared.message.Message.{Message}
+use Rattle.tcap_msg.specs.declared.message.Message.TheVariants.{Begin}
+use Rattle.tcap_record.specs.declared.entry.End.{End}
+use Rattle.tcap_record.specs.declared.entry.End.TheVariants as ends
+use Rattle.tcap_record.specs.declared.entry.Body.{Body}
+use Rattle.tcap_record.specs.declared.entry.Body.TheVariants.{Good, Bad}
+use Rattle.tcap_record.specs.declared.entry.Entry.{Entry}
+
+-- a hexadecimal digit, in lower case
+abbrev pub hex_digit : ℕ → ℕ
+hex_digit n = if nat_lt n 10 then 48 + n else 87 + n
+
+-- two digits for each octet
+abbrev pub hex_of : List ℕ → List ℕ
+hex_of octets = flat_map (λ octet. hex_digit (octet / 16) ∷ hex_digit (octet % 16) ∷ []) octets
+
+abbrev pub line_end : List ℕ
+line_end = 10 ∷ []
+
+abbrev pub name_of_end : End → List ℕ
+name_of_end ends.A = codes "A"
+name_of_end ends.B = codes "B"
+
+abbrev pub code_text : Code → List ℕ
+code_text (Local n) = signed_decimal n
+
+abbrev pub parameter_text : Option (List ℕ) → List ℕ
+parameter_text None = []
+parameter_text (Some raw) = codes " parameter=" ++ hex_of raw
+
+-- the line of a component
+abbrev pub component_line : Component → List ℕ
+component_line (Invoke id code parameter) =
+    codes "  Invoke id=" ++ signed_decimal id ++ codes " op=" ++ code_text code ++ parameter_text parameter ++ line_end
+
+abbrev pub component_lines : Option (List Component) → List ℕ
+component_lines None = []
+component_lines (Some components) = flat_map component_line components
+
+-- a message behind the number and the end of its entry, and the lines of its components
+abbrev pub message_text : Message → List ℕ
+message_text (Begin otid components) =
+    codes "Begin otid=" ++ hex_of otid ++ line_end ++ component_lines components
+
+abbrev pub body_text : Body → List ℕ
+body_text (Good m) = message_text m
+body_text (Bad f) = codes "FAULT " ++ decimal (number_of f.reason) ++ codes " " ++ decimal f.place ++ line_end
+
+-- the lines of the entry of that number
+abbrev pub entry_lines : ℕ → Entry → List ℕ
+entry_lines number entry = decimal number ++ codes " " ++ name_of_end entry.side ++ codes " " ++ body_text entry.body
+
+abbrev pub lines_from : ℕ → List Entry → List ℕ
+lines_from number [] = []
+lines_from number (entry ∷ entries) = entry_lines number entry ++ lines_from (suc number) entries
+
+-- the lines of the entries, numbered from 0
+abbrev pub lines_of : List Entry → List ℕ
+lines_of entries = lines_from 0 entries

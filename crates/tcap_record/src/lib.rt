@@ -1,0 +1,8 @@
+//! Records of TCAP messages: entries one after the other, each an end's octet and one message.
+#![tactic(auto)]
+
+mod entry;
+mod fault;
+
+pub use entry::{Body, End, Entry, Record};
+pub use fault::{FeedFault, FeedReason};
