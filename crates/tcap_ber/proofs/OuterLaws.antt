@@ -29,7 +29,7 @@ pub record BeginsElement (octets : List ℕ) (n : ℕ) : Type 0 where
   pub joined : octets ≡ element ++ rest
   pub len : n ≡ length element
 
-whole_is : (n m : ℕ) → (let a : Outer = Whole n in a) ≡ Whole m → n ≡ m
+pub whole_is : (n m : ℕ) → (let a : Outer = Whole n in a) ≡ Whole m → n ≡ m
 whole_is n m e = cc
 
 need_is : (n m : ℕ) → (let a : Outer = Need n in a) ≡ Need m → n ≡ m

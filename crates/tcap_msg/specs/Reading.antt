@@ -31,11 +31,14 @@ begin_at s = do
   components ← component_portion_at otid.1
   end_at (Begin otid.0 components.0) components.1
 
+-- the message of that element, and the count of its octets
+abbrev pub with_len : ℕ → Element × Span → Result (Message × ℕ) Fault
+with_len n found = begin_at found.0.content >>= λ m. Ok (m, n)
+
 -- the message in the octets, where their outer element is whole
 abbrev pub in_outer : List ℕ → Outer → Result (Message × ℕ) Fault
 in_outer octets (Need n) = Err (fault Cut (length octets))
-in_outer octets (Whole n) =
-    required_at 0x62 (whole octets) >>= λ found. begin_at found.0.content >>= λ m. Ok (m, n)
+in_outer octets (Whole n) = required_at 0x62 (whole octets) >>= with_len n
 
 -- the message at the front, and the count of its octets
 unfoldable pub message_at : List ℕ → Result (Message × ℕ) Fault

@@ -1,0 +1,183 @@
+-- Messages are read exactly, and what is refused is refused for ever.
+use Rattle.std.proofs.Common.{◌≡◌, ◌≢◌, ℕ, ◌+◌, ◌-◌, ◌<◌, ◌≤◌, ◌⊎◌, List, [], ◌∷◌, ◌++◌, length, take, drop, Option, Result, Ok, Err, refl, sym, ap, subst, ◌∙◌, inl, inr, arith, append_assoc}
+use Rattle.std.proofs.lemmas.List.{take_at, drop_at, length-append}
+use Rattle.tcap_ber.specs.declared.fault.Fault.{Fault}
+use Rattle.tcap_ber.specs.declared.fault.Reason.{Reason}
+use Rattle.tcap_ber.specs.declared.fault.Reason.TheVariants as reasons
+use Rattle.tcap_ber.specs.declared.element.Outer.{Outer}
+use Rattle.tcap_ber.specs.declared.element.Outer.TheVariants.{Whole, Need}
+use Rattle.tcap_ber.specs.Element.{IsElement}
+use Rattle.tcap_ber.specs.Header.{HasLengthOctet, IsHeaderFault, IsUnfinished}
+use Rattle.tcap_ber.specs.Grammar.{after}
+use Rattle.tcap_ber.specs.Span.{Span}
+use Rattle.tcap_ber.specs.Reading.{◌>>=◌, fault, Element, outer_at, required_at, with_body}
+use Rattle.tcap_ber.proofs.Steps.{bind_ok, bind_err, ok_is, err_is, ok_not_err}
+use Rattle.tcap_ber.proofs.ElementLaws.{element_len_at_least}
+use Rattle.tcap_ber.proofs.OuterLaws.{BeginsElement, outer_whole, outer_of_element, outer_needs, outer_fault, outer_refused, whole_is}
+use Rattle.tcap_msg.specs.declared.message.Message.{Message}
+use Rattle.tcap_msg.specs.Message.{begin, message, Spells, whole, IsFaulty, BeginsNoMessage, IsNeverMessage}
+use Rattle.tcap_msg.specs.Reading.{begin_at, with_len, in_outer, message_at}
+use Rattle.tcap_msg.proofs.BeginLaws.{reads_message}
+
+-- the reader of a message at the front of a window
+abbrev message_in : Span → Result (Message × Span) Fault
+message_in s = required_at 0x62 s >>= with_body (λ e. begin_at e.content)
+
+-- a chain goes on from what its first part answered
+chained : {A B : Type 0} (r : Result A Fault) (x : A) (f : A → Result B Fault) (y : Result B Fault) → r ≡ Ok x → f x ≡ y → (r >>= f) ≡ y
+chained r x f y e h = ap (λ q. q >>= f) e ∙ h
+
+chained_err : {A B : Type 0} (r : Result A Fault) (f : A → Result B Fault) (g : Fault) → r ≡ Err g → (r >>= f) ≡ Err g
+chained_err r f g e = ap (λ q. q >>= f) e
+
+abbrev begin_in : Element → Result Message Fault
+begin_in e = begin_at e.content
+
+-- the two chains that read a message answer alike
+counted : (r : Result (Element × Span) Fault) (n : ℕ) (x : Message × ℕ) → (r >>= with_len n) ≡ Ok x
+    → (rest : Span) × ((r >>= with_body begin_in) ≡ Ok (x.0, rest)) × (x.1 ≡ n)
+counted r n x e =
+    let a = bind_ok r (with_len n) x e in
+    let b = bind_ok (begin_at a.0.0.content) (λ m. Ok (m, n)) x a.2 in
+    let same : (b.0, n) ≡ x = ok_is (b.0, n) x b.2 in
+    let m_is : b.0 ≡ x.0 = ap (λ (y : Message × ℕ). y.0) same in
+    let inner : with_body begin_in a.0 ≡ Ok (x.0, a.0.1) =
+      chained (begin_at a.0.0.content) b.0 (λ v. Ok (v, a.0.1)) (Ok (x.0, a.0.1)) b.1 (ap (λ (y : Message). Ok (y, a.0.1)) m_is) in
+    (a.0.1, chained r a.0 (with_body begin_in) (Ok (x.0, a.0.1)) a.1 inner, sym (ap (λ (y : Message × ℕ). y.1) same))
+
+counted_back : (r : Result (Element × Span) Fault) (n : ℕ) (m : Message) (rest : Span) → (r >>= with_body begin_in) ≡ Ok (m, rest)
+    → (r >>= with_len n) ≡ Ok (m, n)
+counted_back r n m rest e =
+    let a = bind_ok r (with_body begin_in) (m, rest) e in
+    let b = bind_ok (begin_at a.0.0.content) (λ v. Ok (v, a.0.1)) (m, rest) a.2 in
+    let same : (b.0, a.0.1) ≡ (m, rest) = ok_is (b.0, a.0.1) (m, rest) b.2 in
+    let m_is : b.0 ≡ m = ap (λ (y : Message × Span). y.0) same in
+    chained r a.0 (with_len n) (Ok (m, n)) a.1
+      (chained (begin_at a.0.0.content) b.0 (λ v. Ok (v, n)) (Ok (m, n)) b.1 (ap (λ (y : Message). Ok (y, n)) m_is))
+
+counted_err : (r : Result (Element × Span) Fault) (n : ℕ) (f : Fault) → (r >>= with_len n) ≡ Err f → (r >>= with_body begin_in) ≡ Err f
+counted_err r n f e =
+    elim (bind_err r (with_len n) f e) [
+      | inl h ↦ chained_err r (with_body begin_in) f h
+      | inr a ↦ elim (bind_err (begin_at a.0.0.content) (λ m. Ok (m, n)) f a.2) [
+        | inl h ↦ chained r a.0 (with_body begin_in) (Err f) a.1 (chained_err (begin_at a.0.0.content) (λ v. Ok (v, a.0.1)) f h)
+        | inr b ↦ absurd cc
+      ]
+    ]
+
+outer_ok : (x y : Outer) → (let a : Result Outer Fault = Ok x in a) ≡ Ok y → x ≡ y
+outer_ok x y e = cc
+
+pub message_sound : (octets : List ℕ) (x : Message × ℕ) → message_at octets ≡ Ok x → (front rest : List ℕ) × (octets ≡ front ++ rest) × (x.1 ≡ length front) × Spells x.0 front
+unfolding message_at
+message_sound octets x e =
+    let a = bind_ok (outer_at octets) (in_outer octets) x e in
+    of_outer a.0 a.1 a.2
+  where
+    of_outer : (o : Outer) → outer_at octets ≡ Ok o → in_outer octets o ≡ Ok x → (front rest : List ℕ) × (octets ≡ front ++ rest) × (x.1 ≡ length front) × Spells x.0 front
+    of_outer (Need n) a b = absurd cc
+    of_outer (Whole n) a b =
+      let c = counted (required_at 0x62 (whole octets)) n x b in
+      let t = reads_message.sound (whole octets) x.0 c.0 c.1 in
+      let len = outer_of_element (0x62 ∷ []) t.is_part.content t.front c.0.octets t.is_part.is_element in
+      let same : n ≡ length t.front = whole_is n (length t.front) (outer_ok (Whole n) (Whole (length t.front)) (sym a ∙ ap outer_at t.joined ∙ len)) in
+      (t.front, c.0.octets, t.joined, c.2 ∙ same, t.is_part)
+
+pub message_complete : (m : Message) (front rest : List ℕ) → Spells m front → message_at (front ++ rest) ≡ Ok (m, length front)
+unfolding message_at
+message_complete m front rest spelled =
+    rw (outer_of_element (0x62 ∷ []) spelled.content front rest spelled.is_element)
+      (counted_back (required_at 0x62 (whole (front ++ rest))) (length front) m (after 0 front rest) (reads_message.complete 0 m front rest spelled))
+
+-- octets that begin with an element are neither empty nor unfinished
+pub message_refused : (octets : List ℕ) (f : Fault) → message_at octets ≡ Err f → IsFaulty octets f.reason f.place
+unfolding message_at
+message_refused octets f e =
+    elim (bind_err (outer_at octets) (in_outer octets) f e) [
+      | inl h ↦ inr (inl (outer_fault octets f h))
+      | inr a ↦ of_outer a.0 a.1 a.2
+    ]
+  where
+    of_outer : (o : Outer) → outer_at octets ≡ Ok o → in_outer octets o ≡ Err f → IsFaulty octets f.reason f.place
+    of_outer (Need n) a b =
+      subst (λ (g : Fault). IsFaulty octets g.reason g.place) (err_is {A = Message × ℕ} (fault reasons.Cut (length octets)) f b)
+        (inl (refl, refl, (outer_needs octets n a).unfinished))
+    of_outer (Whole n) a b =
+      let here = outer_whole octets n a in
+      elim (reads_message.refuses (whole octets) f (counted_err (required_at 0x62 (whole octets)) n f b)) [
+        | inl missing ↦ let some = element_len_at_least here.tag here.content here.element here.is_element in
+            absurd (omega (arith, some, ap length missing.ends, ap length here.joined, length-append here.element here.rest))
+        | inr h ↦ elim h [
+          | inl wrong ↦ elim wrong [
+            | inl k ↦ let at : k.0 ≡ f.place = omega (arith, k.1) in inr (inl (subst (IsHeaderFault octets f.reason) at k.2))
+            | inr k ↦ absurd (k.2.no_element here.tag here.content here.element here.rest here.is_element here.joined)
+          ]
+          | inr k ↦ inr (inr k)
+        ]
+      ]
+
+-- ---- for ever
+
+length_octet_stays : (octet : ℕ) (octets more : List ℕ) (place : ℕ) → HasLengthOctet octet octets place → HasLengthOctet octet (octets ++ more) place
+length_octet_stays octet octets more place h = record {
+  tag = h.tag; rest = h.rest ++ more; is_tag = h.is_tag; place_is = h.place_is;
+  joined = ap (λ (x : List ℕ). x ++ more) h.joined ∙ append_assoc h.tag (octet ∷ h.rest) more
+}
+
+-- what is wrong with a header stays wrong, whatever comes behind
+header_stays : (octets more : List ℕ) (reason : Reason) (place : ℕ) → IsHeaderFault octets reason place → IsHeaderFault (octets ++ more) reason place
+header_stays octets more reasons.TagForm place h = (record {
+  first = h.0.first; four = h.0.four; rest = h.0.rest ++ more; is_long = h.0.is_long; are_four = h.0.are_four; go_on = h.0.go_on;
+  joined = ap (λ (x : List ℕ). x ++ more) h.0.joined ∙ append_assoc (h.0.first ∷ h.0.four) h.0.rest more
+}, h.1)
+header_stays octets more reasons.LengthForm place h = (h.0, h.1, length_octet_stays h.0 octets more place h.2)
+header_stays octets more reasons.Indefinite place h = length_octet_stays 128 octets more place h
+header_stays octets more reasons.TooLong place h = (record {
+  tag = h.0.tag; length_octets = h.0.length_octets; rest = h.0.rest ++ more; count = h.0.count; is_tag = h.0.is_tag; is_length = h.0.is_length; is_over = h.0.is_over;
+  joined = ap (λ (x : List ℕ). x ++ more) h.0.joined ∙ append_assoc (h.0.tag ++ h.0.length_octets) h.0.rest more
+}, h.1)
+header_stays octets more _ place h = absurd h
+
+-- two elements that begin the same octets are one
+pub one_element : (tag content element rest tag' content' element' rest' : List ℕ) → IsElement tag content element → IsElement tag' content' element'
+    → element ++ rest ≡ element' ++ rest' → element ≡ element'
+one_element tag content element rest tag' content' element' rest' e e' same =
+    let len : length element ≡ length element' = whole_is _ _ (outer_ok (Whole (length element)) (Whole (length element'))
+      (sym (outer_of_element tag content element rest e) ∙ ap outer_at same ∙ outer_of_element tag' content' element' rest' e')) in
+    sym (take_at element rest (length element) refl) ∙ ap (take (length element)) same ∙ take_at element' rest' (length element) (sym len)
+
+-- an element does not begin octets whose header is wrong
+no_element_there : (octets front rest : List ℕ) (m : Message) (f : Fault) → IsHeaderFault octets f.reason f.place → Spells m front → octets ≡ front ++ rest → ⊥
+no_element_there octets front rest m f wrong spelled joined =
+    let refused = outer_refused octets f.reason f.place wrong in
+    let whole_one = ap outer_at joined ∙ outer_of_element (0x62 ∷ []) spelled.content front rest spelled.is_element in
+    ok_not_err (Whole (length front)) (fault f.reason f.place) (sym whole_one ∙ refused)
+
+-- what is refused begins with no message
+pub begins_no_message : (octets : List ℕ) (f : Fault) → message_at octets ≡ Err f → BeginsNoMessage octets
+begins_no_message octets f e m front rest spelled joined =
+    ok_not_err (m, length front) f (sym (ap message_at joined ∙ message_complete m front rest spelled) ∙ e)
+
+-- no beginning of it does either
+cut_off : (octets : List ℕ) (f : Fault) → message_at octets ≡ Err f → (front rest : List ℕ) → octets ≡ front ++ rest → BeginsNoMessage front
+cut_off octets f e front rest joined m first others spelled here =
+    begins_no_message octets f e m first (others ++ rest) spelled (joined ∙ ap (λ (x : List ℕ). x ++ rest) here ∙ append_assoc first others rest)
+
+-- and what is refused, but not as cut, is refused whatever comes behind
+pub never_message : (octets : List ℕ) (f : Fault) → message_at octets ≡ Err f → f.reason ≢ reasons.Cut → IsNeverMessage octets
+unfolding message_at
+never_message octets f e other = record {
+  going_on = λ more. elim (bind_err (outer_at octets) (in_outer octets) f e) [
+    | inl h ↦ λ m front rest spelled joined. no_element_there (octets ++ more) front rest m f (header_stays octets more f.reason f.place (outer_fault octets f h)) spelled joined
+    | inr a ↦ of_outer more a.0 a.1 a.2
+  ];
+  cut_off = cut_off octets f e
+}
+  where
+    of_outer : (more : List ℕ) (o : Outer) → outer_at octets ≡ Ok o → in_outer octets o ≡ Err f → BeginsNoMessage (octets ++ more)
+    of_outer more (Need n) a b = absurd (other (sym (ap (λ (x : Fault). x.reason) (err_is {A = Message × ℕ} (fault reasons.Cut (length octets)) f b))))
+    of_outer more (Whole n) a b = λ m front rest spelled joined.
+      let here = outer_whole octets n a in
+      let all : here.element ++ (here.rest ++ more) ≡ front ++ rest = sym (append_assoc here.element here.rest more) ∙ ap (λ (x : List ℕ). x ++ more) (sym here.joined) ∙ joined in
+      let same = one_element here.tag here.content here.element (here.rest ++ more) (0x62 ∷ []) spelled.content front rest here.is_element spelled.is_element all in
+      begins_no_message octets f e m front here.rest spelled (here.joined ∙ ap (λ (x : List ℕ). x ++ here.rest) same)
