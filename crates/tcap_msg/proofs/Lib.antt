@@ -1,2 +1,3 @@
 pub mod BeginLaws
 pub mod MessageLaws
+pub mod DecodeLaws

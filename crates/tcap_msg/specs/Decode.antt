@@ -9,3 +9,9 @@ abbrev pub Decodes : {X : Type 0} → Result X DecodeFault → Result X Fault �
 Decodes (Ok x) read = read ≡ Ok x
 Decodes (Err (faults.Fault f)) read = read ≡ Err f
 Decodes (Err faults.Memory) read = Unit {0}
+
+-- what holds of the fault, where the octets were refused
+abbrev pub IfRefused : {X : Type 0} → Result X DecodeFault → (Fault → Type 0) → Type 0
+IfRefused (Ok x) P = Unit {0}
+IfRefused (Err (faults.Fault f)) P = P f
+IfRefused (Err faults.Memory) P = Unit {0}

@@ -48,6 +48,14 @@ IsFaulty octets reason place =
     ⊎ IsUnexpected 0x62 (whole octets) reason place
     ⊎ IsFaultyInside 0x62 begin.faulty (whole octets) reason place
 
+-- a message of so many octets is at the front
+pub record BeginsWithMessage (m : Message) (len : ℕ) (octets : List ℕ) : Type 0 where
+  pub front : List ℕ
+  pub rest : List ℕ
+  pub joined : octets ≡ front ++ rest
+  pub len_is : len ≡ length front
+  pub spelled : Spells m front
+
 -- no beginning of the octets spells a message
 abbrev pub BeginsNoMessage : List ℕ → Type 0
 BeginsNoMessage octets = (m : Message) (front rest : List ℕ) → Spells m front → octets ≡ front ++ rest → ⊥

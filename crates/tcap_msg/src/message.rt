@@ -1,8 +1,10 @@
 //! Messages (Q.773 4.2.1) as values.
 
-ghost use Rattle.std.specs.Prelude.{◌≡◌};
+ghost use Rattle.std.specs.Prelude.{◌≡◌, ◌≢◌, ℕ, ◌++◌, List, length, Ok, IfOk};
 ghost use Rattle.tcap_msg.specs.declared.message.DecodeFault.{DecodeFault};
-ghost use Rattle.tcap_msg.specs.Decode.{Decodes};
+ghost use Rattle.tcap_msg.specs.Decode.{Decodes, IfRefused};
+ghost use Rattle.tcap_ber.specs.declared.fault.Reason.{Reason};
+ghost use Rattle.tcap_msg.specs.Message.{Spells, BeginsWithMessage, BeginsNoMessage, IsNeverMessage, IsFaulty};
 ghost use Rattle.tcap_msg.specs.Reading.{message_at};
 
 use crate::transaction_id::TransactionId;
@@ -46,10 +48,28 @@ impl From<AllocError> for DecodeFault {
     }
 }
 
-/// The message at the front of `octets`, and the count of its octets.
-pub fn decode(alloc: Global, octets: &[u8]) -> Result<(Message, usize), DecodeFault>
+fn read(alloc: Global, octets: &[u8]) -> Result<(Message, usize), DecodeFault>
     ensures exact { Decodes result (message_at octets.now) }
 {
     let (message, len) = view(octets)?;
     Ok((message.to_message(alloc)?, len))
+}
+
+/// The message at the front of `octets`, as a value of its own, and the count of its octets. It is the
+/// whole outer element; octets behind it are not looked at. The faults are those of [`view`], and `Memory`.
+pub fn decode(alloc: Global, octets: &[u8]) -> Result<(Message, usize), DecodeFault>
+    // What is read is spelled by the octets at the front.
+    ensures found { IfOk result (λ x. BeginsWithMessage x.0 x.1 octets.now) }
+    // What is spelled by octets at the front is read, unless memory runs out.
+    ensures only { (m : Message) (front rest : List ℕ) → Spells m front → octets.now ≡ front ++ rest
+        → Decodes result (Ok (m, length front)) }
+    // What is refused is faulty there, and begins with no message.
+    ensures faulty { IfRefused result (λ fault. IsFaulty octets.now fault.reason fault.place) }
+    ensures none { IfRefused result (λ fault. BeginsNoMessage octets.now) }
+    // But for octets that end too early, whatever comes behind.
+    ensures never { IfRefused result (λ fault. fault.reason ≢ Reason.Cut → IsNeverMessage octets.now) }
+    // Which fault it is: the first.
+    ensures exact { Decodes result (message_at octets.now) }
+{
+    read(alloc, octets)
 }

@@ -1,10 +1,12 @@
 //! Messages as views of the octets that were read.
 
-ghost use Rattle.std.specs.Prelude.{◌≡◌, IfOk};
+ghost use Rattle.std.specs.Prelude.{◌≡◌, ◌≢◌, ℕ, ◌++◌, List, length, IfOk, IfErr, IsOkAnd};
 ghost use Rattle.std.specs.Option.{option_map};
 ghost use Rattle.tcap_ber.specs.Reading.{Gives, span};
 ghost use Rattle.tcap_parts.specs.Meaning.{components_of};
 ghost use Rattle.tcap_msg.specs.Meaning.{message_of};
+ghost use Rattle.tcap_msg.specs.declared.message.Message.{Message};
+ghost use Rattle.tcap_msg.specs.Message.{Spells, BeginsWithMessage, BeginsNoMessage, IsNeverMessage, IsFaulty};
 ghost use Rattle.tcap_msg.specs.Reading.{otid_at, component_portion_at, begin_at, message_at};
 
 use crate::message::Message;
@@ -61,9 +63,8 @@ fn view_begin(content: Window) -> Result<MessageView, Fault>
     Ok(MessageView::Begin { otid, components })
 }
 
-/// The message at the front of `octets`, and the count of its octets.
 #[tactic(auto, unfolding(crate::specs::Reading::message_at))]
-pub fn view(octets: &[u8]) -> Result<(MessageView, usize), Fault>
+fn read(octets: &[u8]) -> Result<(MessageView, usize), Fault>
     ensures exact { Gives (λ x. (message_of x.0, x.1)) result (message_at octets.now) }
 {
     let len = match outer(octets)? {
@@ -77,6 +78,29 @@ pub fn view(octets: &[u8]) -> Result<(MessageView, usize), Fault>
     };
     let (found, _) = required(Window::new(octets), BEGIN)?;
     Ok((view_begin(found.content)?, len))
+}
+
+/// The message at the front of `octets`, lent from them, and the count of its octets. It is the whole
+/// outer element; octets behind it are not looked at.
+///
+/// A fault is the first from left to right, its place counted from the first octet: `Cut` where the octets
+/// end before their outer element does, `UnexpectedTag` at 0 where it is no message, or what is wrong with
+/// a header or inside (Q.773 4.2, X.690 8.1).
+pub fn view(octets: &[u8]) -> Result<(MessageView, usize), Fault>
+    // What is read is spelled by the octets at the front.
+    ensures found { IfOk result (λ x. BeginsWithMessage (message_of x.0) x.1 octets.now) }
+    // What is spelled by octets at the front is read.
+    ensures only { (m : Message) (front rest : List ℕ) → Spells m front → octets.now ≡ front ++ rest
+        → IsOkAnd result (λ x. (message_of x.0 ≡ m) × (x.1 ≡ length front)) }
+    // What is refused is faulty there, and begins with no message.
+    ensures faulty { IfErr result (λ fault. IsFaulty octets.now fault.reason fault.place) }
+    ensures none { IfErr result (λ fault. BeginsNoMessage octets.now) }
+    // But for octets that end too early, whatever comes behind.
+    ensures never { IfErr result (λ fault. fault.reason ≢ Reason.Cut → IsNeverMessage octets.now) }
+    // Which fault it is: the first.
+    ensures exact { Gives (λ x. (message_of x.0, x.1)) result (message_at octets.now) }
+{
+    read(octets)
 }
 
 impl<'a> MessageView<'a> {
