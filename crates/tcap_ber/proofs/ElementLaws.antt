@@ -12,6 +12,7 @@ use Rattle.tcap_ber.specs.declared.element.Outer.TheVariants.{Whole, Need}
 use Rattle.tcap_ber.specs.Element.{IsTag, IsLength, IsElement, IsRaw, content_limit}
 use Rattle.tcap_ber.specs.Header.{IsHeaderFault, IsUnfinished}
 use Rattle.tcap_ber.specs.Grammar.{IsElementFault}
+use Rattle.tcap_ber.specs.Found.{FindsElement}
 use Rattle.tcap_ber.specs.Span.{Span, behind}
 use Rattle.tcap_ber.specs.Reading.{◌>>=◌, fault, header_at, Element, element_of, next_at, outer_of, outer_at, is_whole, is_raw, raw_of, raw_at}
 use Rattle.tcap_ber.proofs.Steps.{chosen, bind_ok, bind_err, ok_is, err_is, ok_not_err}
@@ -33,15 +34,6 @@ element_len_at_least tag content octets e = omega (arith, element_len tag conten
     length_len : (n : ℕ) (octets : List ℕ) → IsLength n octets → 1 ≤ length octets
     length_len n [] l = absurd l
     length_len n (first ∷ more) l = omega arith
-
--- an element at the front of a window, and the window behind it
-pub record FindsElement (s : Span) (e : Element) (r : Span) : Type 0 where
-  pub octets : List ℕ
-  pub is_element : IsElement e.tag e.content.octets octets
-  pub joined : s.octets ≡ octets ++ r.octets
-  pub content_place : e.content.place ≡ s.place + (length octets - length e.content.octets)
-  pub place : e.place ≡ s.place
-  pub behind_place : r.place ≡ s.place + length octets
 
 abbrev pub element_there : Span → Header → Element × Span
 element_there s h = (

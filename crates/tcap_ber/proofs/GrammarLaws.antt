@@ -10,10 +10,11 @@ use Rattle.tcap_ber.specs.declared.fault.Reason.TheVariants.{Missing, Unexpected
 use Rattle.tcap_ber.specs.Element.{IsElement}
 use Rattle.tcap_ber.specs.Integer.{IsInteger, signed}
 use Rattle.tcap_ber.specs.Grammar.{Body, Field, Content, IsElementFault, IsMissing, IsUnexpected, IsFaultyInside, BeginsWith, SpellsOptional, SpellsParameter, SpellsEach, IsFaultyAfter, required, optional, parameter, ended, ◌⨾◌, each, structure, made, integer, after}
+use Rattle.tcap_ber.specs.Found.{FindsElement}
 use Rattle.tcap_ber.specs.Span.{Span}
 use Rattle.tcap_ber.specs.Reading.{◌>>=◌, fault, Element, next_at, is_tag, is_next, wanted, required_at, raw_of, raw_at, is_integer, integer_at, within, small_integer_at, with_body, with_some, optional_at, parameter_at, end_at, each_at, each_of}
 use Rattle.tcap_ber.proofs.Steps.{chosen, bind_ok, bind_err, ok_is, err_is, ok_not_err}
-use Rattle.tcap_ber.proofs.ElementLaws.{element_len_at_least, FindsElement, next_sound, next_complete, next_fault}
+use Rattle.tcap_ber.proofs.ElementLaws.{element_len_at_least, next_sound, next_complete, next_fault}
 use Rattle.tcap_ber.proofs.OuterLaws.{raw_sound, raw_complete}
 
 -- how a part was read at the front of a window
@@ -320,7 +321,7 @@ reads_structure content make read reads = record {
 }
 
 -- the test whether these are the contents of an INTEGER, and what it means
-is_integer_sound : (octets : List ℕ) → is_integer octets ≡ true → IsInteger octets
+pub is_integer_sound : (octets : List ℕ) → is_integer octets ≡ true → IsInteger octets
 is_integer_sound [] e = absurd cc
 is_integer_sound (first ∷ []) e = tt
 is_integer_sound (first ∷ second ∷ more) e =
@@ -331,7 +332,7 @@ is_integer_sound (first ∷ second ∷ more) e =
       λ h. both_ways _ high (and_from _ _ (eq-eqb first 255 h.0) (lt-ltb 127 second (omega (arith, h.1)))),
     )
 
-is_integer_complete : (octets : List ℕ) → IsInteger octets → is_integer octets ≡ true
+pub is_integer_complete : (octets : List ℕ) → IsInteger octets → is_integer octets ≡ true
 is_integer_complete [] h = absurd h
 is_integer_complete (first ∷ []) h = refl
 is_integer_complete (first ∷ second ∷ more) h =

@@ -5,3 +5,4 @@ pub mod HeaderLaws
 pub mod ElementLaws
 pub mod OuterLaws
 pub mod GrammarLaws
+pub mod ResultLaws

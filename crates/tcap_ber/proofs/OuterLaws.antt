@@ -9,25 +9,16 @@ use Rattle.tcap_ber.specs.declared.header.Header.{Header}
 use Rattle.tcap_ber.specs.declared.element.Outer.{Outer}
 use Rattle.tcap_ber.specs.declared.element.Outer.TheVariants.{Whole, Need}
 use Rattle.tcap_ber.specs.Element.{IsElement, IsRaw}
-use Rattle.tcap_ber.specs.Header.{IsHeaderFault, IsUnfinished}
+use Rattle.tcap_ber.specs.Header.{IsHeaderFault, IsUnfinished, BeginsElement, NeedsMore}
+use Rattle.tcap_ber.specs.Found.{FindsElement}
 use Rattle.tcap_ber.specs.Span.{Span, behind}
 use Rattle.tcap_ber.specs.Reading.{◌>>=◌, fault, header_at, Element, next_at, outer_of, outer_at, is_whole, is_raw, raw_of, raw_at}
 use Rattle.tcap_ber.proofs.Steps.{chosen, bind_ok, bind_err, ok_is, ok_not_err}
 use Rattle.tcap_ber.proofs.HeaderLaws.{FindsHeader, header_sound, header_complete, header_fault, header_refused}
-use Rattle.tcap_ber.proofs.ElementLaws.{element_len, FindsElement, finds_there, next_sound, next_complete, header_there, cut_is_unfinished, short_is_unfinished, some_header}
+use Rattle.tcap_ber.proofs.ElementLaws.{element_len, finds_there, next_sound, next_complete, header_there, cut_is_unfinished, short_is_unfinished, some_header}
 
 abbrev from_start : List ℕ → Span
 from_start octets = record { octets = octets; place = 0 }
-
--- an element begins the octets
-pub record BeginsElement (octets : List ℕ) (n : ℕ) : Type 0 where
-  pub tag : List ℕ
-  pub content : List ℕ
-  pub element : List ℕ
-  pub rest : List ℕ
-  pub is_element : IsElement tag content element
-  pub joined : octets ≡ element ++ rest
-  pub len : n ≡ length element
 
 pub whole_is : (n m : ℕ) → (let a : Outer = Whole n in a) ≡ Whole m → n ≡ m
 whole_is n m e = cc
@@ -70,12 +61,6 @@ outer_of_element tag content element rest e =
     let room : length tag + length e.length_octets + length content ≤ length (element ++ rest) = omega (arith, len, length-append element rest) in
     rw (header_there (from_start (element ++ rest)) tag content element rest e refl, le-ltb (length (element ++ rest)) (length tag + length e.length_octets + length content) room)
     (ap (λ (n : ℕ). Ok (Whole n)) (sym len))
-
--- What more is needed, where the octets are unfinished.
-pub record NeedsMore (octets : List ℕ) (n : ℕ) : Type 0 where
-  pub above : length octets < n
-  pub least : (tag content element more : List ℕ) → IsElement tag content element → element ≡ octets ++ more → n ≤ length element
-  pub unfinished : IsUnfinished octets
 
 pub outer_needs : (octets : List ℕ) (n : ℕ) → outer_at octets ≡ Ok (Need n) → NeedsMore octets n
 unfolding outer_at

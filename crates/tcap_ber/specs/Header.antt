@@ -47,3 +47,20 @@ IsHeaderFault octets _ place = ⊥
 pub record IsUnfinished (octets : List ℕ) : Type 0 where
   pub no_element : (tag content element rest : List ℕ) → IsElement tag content element → octets ≡ element ++ rest → ⊥
   pub no_fault : (reason : Reason) (place : ℕ) → IsHeaderFault octets reason place → ⊥
+
+-- an element of so many octets begins the octets
+pub record BeginsElement (octets : List ℕ) (n : ℕ) : Type 0 where
+  pub tag : List ℕ
+  pub content : List ℕ
+  pub element : List ℕ
+  pub rest : List ℕ
+  pub is_element : IsElement tag content element
+  pub joined : octets ≡ element ++ rest
+  pub len : n ≡ length element
+
+-- The octets are unfinished, and any element that begins with them has at least so many octets, which are
+-- more than there are.
+pub record NeedsMore (octets : List ℕ) (n : ℕ) : Type 0 where
+  pub above : length octets < n
+  pub least : (tag content element more : List ℕ) → IsElement tag content element → element ≡ octets ++ more → n ≤ length element
+  pub unfinished : IsUnfinished octets

@@ -6,3 +6,4 @@ pub mod Span
 pub mod Header
 pub mod Grammar
 pub mod Reading
+pub mod Found

@@ -1,16 +1,14 @@
 //! Integers (X.690 8.3).
 
-ghost use Rattle.std.specs.Prelude.{◌≡◌, ◌<◌, ◌≤◌, IfOk, ◌≤ℤ◌, ◌+ℤ◌, ◌*ℤ◌, pos, negsuc, [], ◌∷◌, length};
-ghost use Rattle.tcap_ber.specs.Integer.{signed};
+ghost use Rattle.std.specs.Prelude.{◌≡◌, ◌<◌, ◌≤◌, IfOk, IfErr, ◌≤ℤ◌, ◌+ℤ◌, ◌*ℤ◌, pos, negsuc, [], ◌∷◌, length};
+ghost use Rattle.tcap_ber.specs.Integer.{IsInteger, signed};
 ghost use Rattle.tcap_ber.specs.Reading.{Gives, element, integer_at, small_integer_at};
 
 use crate::element::Tlv;
 use crate::fault::{Fault, Reason};
 
-/// The contents of an element that is to be an INTEGER: at least one octet, and no needless leading one.
-/// `BadInteger` at the element's first octet where they are none.
 #[tactic(auto, unfolding(crate::specs::Reading::integer_at))]
-pub fn integer<'a>(tlv: Tlv<'a>) -> Result<&'a [u8], Fault>
+fn contents<'a>(tlv: Tlv<'a>) -> Result<&'a [u8], Fault>
     ensures exact { Gives (λ x. x.now) result (integer_at (element tlv.entry)) }
     ensures some { IfOk result (λ octets. 0 < length octets.now) }
 {
@@ -24,6 +22,18 @@ pub fn integer<'a>(tlv: Tlv<'a>) -> Result<&'a [u8], Fault>
         [0xff, second, ..] if *second >= 0x80 => Err(fault),
         octets => Ok(octets),
     }
+}
+
+/// The contents of an element that is to be an INTEGER: at least one octet, and no needless leading one
+/// (X.690 8.3). `BadInteger` at the element's first octet where they are none.
+pub fn integer<'a>(tlv: Tlv<'a>) -> Result<&'a [u8], Fault>
+    ensures valid { IfOk result (λ octets. (octets.now ≡ tlv.entry.content.octets.now) × IsInteger octets.now) }
+    ensures invalid { IfErr result (λ fault. (fault.reason ≡ Reason.BadInteger) × (fault.place ≡ tlv.entry.start)
+        × (IsInteger tlv.entry.content.octets.now → ⊥)) }
+    ensures some { IfOk result (λ octets. 0 < length octets.now) }
+    ensures exact { Gives (λ x. x.now) result (integer_at (element tlv.entry)) }
+{
+    contents(tlv)
 }
 
 /// The number that one octet stands for (X.690 8.3.3).

@@ -2,6 +2,7 @@
 
 ghost use Rattle.std.specs.Prelude.{◌≡◌, ◌<◌, length, true, IfOk, IfSome, IsSome, ◌↔◌, IsTrue};
 ghost use Rattle.std.specs.Option.{option_map};
+ghost use Rattle.tcap_ber.specs.Element.{IsRaw};
 ghost use Rattle.tcap_ber.specs.Reading.{Gives, span, is_raw, raw_at, parameter_at};
 
 use crate::element::{Outer, Window};
@@ -36,7 +37,7 @@ impl Model for Raw {
 }
 
 #[tactic(auto, unfolding(crate::specs::Reading::is_raw))]
-fn is_whole(octets: &[u8]) -> bool
+fn is_read_whole(octets: &[u8]) -> bool
     ensures { result ≡ is_raw octets.now }
 {
     match outer(octets) {
@@ -45,11 +46,18 @@ fn is_whole(octets: &[u8]) -> bool
     }
 }
 
+fn is_whole(octets: &[u8]) -> bool
+    ensures raw { IsTrue result ↔ IsRaw octets.now }
+    ensures exact { result ≡ is_raw octets.now }
+{
+    is_read_whole(octets)
+}
+
 impl<'a> RawView<'a> {
     /// `octets` as one element; `None` exactly where they are not one.
     pub fn new(octets: &'a [u8]) -> Option<RawView<'a>>
         ensures found { IfSome result (λ raw. raw.octets.now ≡ octets.entry.now) }
-        ensures exact { IsSome result ↔ (is_raw octets.entry.now ≡ true) }
+        ensures exact { IsSome result ↔ IsRaw octets.entry.now }
     {
         if is_whole(octets) {
             Some(RawView { octets })
@@ -98,7 +106,7 @@ impl Raw {
     /// A copy of `octets`; `None` exactly where they are not one element.
     pub fn new(alloc: Global, octets: &[u8]) -> Result<Option<Raw>, AllocError>
         ensures found { IfOk result (λ made. IfSome made (λ raw. raw ≡ octets.now)) }
-        ensures exact { IfOk result (λ made. IsSome made ↔ (is_raw octets.now ≡ true)) }
+        ensures exact { IfOk result (λ made. IsSome made ↔ IsRaw octets.now) }
     {
         match RawView::new(octets) {
             Some(view) => Ok(Some(view.to_raw(alloc)?)),
@@ -109,7 +117,7 @@ impl Raw {
     /// The element's octets.
     pub fn octets(&self) -> &[u8]
         ensures value { result.now ≡ self.now }
-        ensures whole { is_raw result.now ≡ true }
+        ensures whole { IsRaw result.now }
     {
         self.octets.as_slice()
     }

@@ -1,16 +1,20 @@
 //! Reading the elements of a window one after the other.
 
-ghost use Rattle.std.specs.Prelude.{◌≡◌, ◌<◌, length};
+ghost use Rattle.std.specs.Prelude.{◌≡◌, ◌<◌, ◌↔◌, ◌++◌, ℕ, List, length, Ok, Err, IfOk, IfErr, IsOkAnd};
+ghost use Rattle.tcap_ber.specs.declared.element.Outer.{Outer};
+ghost use Rattle.tcap_ber.specs.declared.fault.Fault.{Fault};
+ghost use Rattle.tcap_ber.specs.Element.{IsElement};
+ghost use Rattle.tcap_ber.specs.Header.{BeginsElement, NeedsMore, IsHeaderFault};
+ghost use Rattle.tcap_ber.specs.Grammar.{IsElementFault};
+ghost use Rattle.tcap_ber.specs.Found.{FindsElement};
 ghost use Rattle.tcap_ber.specs.Reading.{Gives, span, element, outer_at, next_at, required_at, is_next, end_at};
 
 use crate::element::{Outer, Tag, Tlv, Window};
 use crate::fault::{Fault, Reason};
 use crate::header::read_header;
 
-/// How `octets` begin: with a whole element, or with a part of one; a fault where the header as far as
-/// it stands there is wrong.
 #[tactic(auto, unfolding(crate::specs::Reading::outer_at))]
-pub fn outer(octets: &[u8]) -> Result<Outer, Fault>
+fn read_outer(octets: &[u8]) -> Result<Outer, Fault>
     ensures exact { Gives (λ x. x) result (outer_at octets.now) }
 {
     let Some(header) = read_header(Window::new(octets))? else {
@@ -24,9 +28,21 @@ pub fn outer(octets: &[u8]) -> Result<Outer, Fault>
     }
 }
 
-/// The first element of a window, and the window behind it.
+/// How `octets` begin: with a whole element of so many octets, or with a part of one, so that at least so
+/// many octets are needed in all. A fault where the header as far as it stands there is wrong, its place
+/// counted from the first octet: `TagForm` and `TooLong` at 0, `LengthForm` and `Indefinite` at the first
+/// length octet (X.690 8.1.2, 8.1.3).
+pub fn outer(octets: &[u8]) -> Result<Outer, Fault>
+    ensures whole { (n : ℕ) → (result ≡ Ok (Outer.Whole n)) ↔ BeginsElement octets.now n }
+    ensures need { (n : ℕ) → result ≡ Ok (Outer.Need n) → NeedsMore octets.now n }
+    ensures fault { (fault : Fault) → (result ≡ Err fault) ↔ IsHeaderFault octets.now fault.reason fault.place }
+    ensures exact { Gives (λ x. x) result (outer_at octets.now) }
+{
+    read_outer(octets)
+}
+
 #[tactic(auto, unfolding(crate::specs::Reading::next_at))]
-pub fn next_tlv(window: Window) -> Result<(Tlv, Window), Fault>
+fn read_next(window: Window) -> Result<(Tlv, Window), Fault>
     requires { 0 < length window.octets.now }
     ensures exact { Gives (λ x. (element x.0, span x.1)) result (next_at (span window.entry)) }
 {
@@ -50,6 +66,22 @@ pub fn next_tlv(window: Window) -> Result<(Tlv, Window), Fault>
         start: window.place,
     };
     Ok((found, window.behind(len)))
+}
+
+/// The first element of a window, and the window behind it. `TagForm`, `TooLong` or `Overrun` at the
+/// element's first octet, `LengthForm` or `Indefinite` at its first length octet.
+pub fn next_tlv(window: Window) -> Result<(Tlv, Window), Fault>
+    requires { 0 < length window.octets.now }
+    // What is read is the element that stands there, and its parts are those octets of the window.
+    ensures found { IfOk result (λ x. FindsElement (span window.entry) (element x.0) (span x.1)) }
+    // What stands there is read.
+    ensures only { (tag content octets rest : List ℕ) → IsElement tag content octets → window.entry.octets.now ≡ octets ++ rest
+        → IsOkAnd result (λ x. (x.0.tag.octets.now ≡ tag) × (x.0.content.octets.now ≡ content) × (x.1.octets.now ≡ rest)) }
+    // What is refused is faulty there.
+    ensures faulty { IfErr result (λ fault. IsElementFault (span window.entry) fault.reason fault.place) }
+    ensures exact { Gives (λ x. (element x.0, span x.1)) result (next_at (span window.entry)) }
+{
+    read_next(window)
 }
 
 /// The first element of a window, which has to be there with this tag of one octet, and the window

@@ -1,0 +1,88 @@
+-- What exact answers mean for the readers of elements.
+use Rattle.std.proofs.Common.{◌≡◌, ℕ, List, ◌++◌, length, Bool, true, false, Result, Ok, Err, sym, ap, subst, ◌∙◌, refl, Option, inl, inr}
+use Rattle.std.specs.Prelude.{IfOk, IfErr, IsOkAnd, ◌↔◌, IsTrue}
+use Rattle.tcap_ber.specs.declared.fault.Fault.{Fault}
+use Rattle.tcap_ber.specs.declared.fault.Reason.TheVariants.{BadInteger}
+use Rattle.tcap_ber.specs.declared.element.Outer.{Outer}
+use Rattle.tcap_ber.specs.declared.element.Outer.TheVariants.{Whole, Need}
+use Rattle.tcap_ber.specs.declared.element.Tlv.{Tlv}
+use Rattle.tcap_ber.specs.declared.element.Window.{Window}
+use Rattle.tcap_ber.specs.Element.{IsElement, IsRaw}
+use Rattle.tcap_ber.specs.Integer.{IsInteger}
+use Rattle.tcap_ber.specs.Header.{IsHeaderFault, BeginsElement, NeedsMore}
+use Rattle.tcap_ber.specs.Grammar.{IsElementFault}
+use Rattle.tcap_ber.specs.Found.{FindsElement}
+use Rattle.tcap_ber.specs.Span.{Span}
+use Rattle.tcap_ber.specs.Reading.{fault, Gives, Element, element, span, next_at, outer_at, is_raw, is_integer, integer_at}
+use Rattle.tcap_ber.proofs.Steps.{chosen, ok_is, err_is, ok_not_err}
+use Rattle.tcap_ber.proofs.ElementLaws.{next_sound, next_complete, next_fault}
+use Rattle.tcap_ber.proofs.OuterLaws.{outer_whole, outer_of_element, outer_needs, outer_fault, outer_refused, is_raw_sound, is_raw_complete}
+use Rattle.tcap_ber.proofs.GrammarLaws.{is_integer_sound, is_integer_complete}
+
+-- an exact answer is the one that reading gives
+gives_same : {A : Type 0} (r read : Result A Fault) → Gives (λ x. x) r read → read ≡ r
+gives_same (Ok x) read e = e
+gives_same (Err f) read e = e
+
+pub whole_iff : (octets : List ℕ) (r : Result Outer Fault) → Gives (λ x. x) r (outer_at octets) → (n : ℕ) → (r ≡ Ok (Whole n)) ↔ BeginsElement octets n
+whole_iff octets r e n = (
+  λ k. outer_whole octets n (gives_same r (outer_at octets) e ∙ k),
+  λ b. sym (gives_same r (outer_at octets) e) ∙ ap outer_at b.joined ∙ outer_of_element b.tag b.content b.element b.rest b.is_element ∙ ap (λ (m : ℕ). Ok (Whole m)) (sym b.len),
+)
+
+pub needs_more : (octets : List ℕ) (r : Result Outer Fault) → Gives (λ x. x) r (outer_at octets) → (n : ℕ) → r ≡ Ok (Need n) → NeedsMore octets n
+needs_more octets r e n k = outer_needs octets n (gives_same r (outer_at octets) e ∙ k)
+
+pub fault_iff : (octets : List ℕ) (r : Result Outer Fault) → Gives (λ x. x) r (outer_at octets) → (f : Fault) → (r ≡ Err f) ↔ IsHeaderFault octets f.reason f.place
+fault_iff octets r e f = (
+  λ k. outer_fault octets f (gives_same r (outer_at octets) e ∙ k),
+  λ h. sym (gives_same r (outer_at octets) e) ∙ outer_refused octets f.reason f.place h,
+)
+
+abbrev pub Next : Type 0
+Next = Result (Tlv × Window) Fault
+
+abbrev pub seen : Tlv × Window → Element × Span
+seen x = (element x.0, span x.1)
+
+pub next_found : (s : Span) (r : Next) → Gives seen r (next_at s) → IfOk r (λ x. FindsElement s (element x.0) (span x.1))
+next_found s (Ok x) e = next_sound s (seen x) e
+next_found s (Err f) e = tt
+
+pub next_faulty : (s : Span) (r : Next) → Gives seen r (next_at s) → IfErr r (λ f. IsElementFault s f.reason f.place)
+next_faulty s (Ok x) e = tt
+next_faulty s (Err f) e = next_fault s f e
+
+pub next_only : (s : Span) (r : Next) → Gives seen r (next_at s) → (tag content octets rest : List ℕ) → IsElement tag content octets → s.octets ≡ octets ++ rest
+    → IsOkAnd r (λ x. (x.0.tag.octets.now ≡ tag) × (x.0.content.octets.now ≡ content) × (x.1.octets.now ≡ rest))
+next_only s (Ok x) e tag content octets rest h joined =
+    let there = ap (λ (o : List ℕ). next_at (record { octets = o; place = s.place })) joined ∙ next_complete s.place tag content octets rest h in
+    let same = ok_is (seen x) _ (sym e ∙ there) in
+    (ap (λ (y : Element × Span). y.0.tag) same, ap (λ (y : Element × Span). y.0.content.octets) same, ap (λ (y : Element × Span). y.1.octets) same)
+next_only s (Err f) e tag content octets rest h joined =
+    let there = ap (λ (o : List ℕ). next_at (record { octets = o; place = s.place })) joined ∙ next_complete s.place tag content octets rest h in
+    ok_not_err {A = Element × Span} _ f (sym there ∙ e)
+
+pub raw_iff : (octets : List ℕ) (b : Bool) → b ≡ is_raw octets → IsTrue b ↔ IsRaw octets
+raw_iff octets b e = (λ t. is_raw_sound octets (sym e ∙ t), λ r. e ∙ is_raw_complete octets r)
+
+pub integer_valid : {X : Type 0} (octets_of : X → List ℕ) (e : Element) (r : Result X Fault) → Gives octets_of r (integer_at e)
+    → IfOk r (λ x. (octets_of x ≡ e.content.octets) × IsInteger (octets_of x))
+unfolding integer_at
+integer_valid octets_of e (Ok x) h =
+    elim (chosen (is_integer e.content.octets) _ _ (Ok (octets_of x)) h) [
+      | inl k ↦ let same = ok_is e.content.octets (octets_of x) k.1 in (sym same, subst IsInteger same (is_integer_sound e.content.octets k.0))
+      | inr k ↦ absurd cc
+    ]
+integer_valid octets_of e (Err f) h = tt
+
+pub integer_invalid : {X : Type 0} (octets_of : X → List ℕ) (e : Element) (r : Result X Fault) → Gives octets_of r (integer_at e)
+    → IfErr r (λ f. (f.reason ≡ BadInteger) × (f.place ≡ e.place) × (IsInteger e.content.octets → ⊥))
+unfolding integer_at
+integer_invalid octets_of e (Ok x) h = tt
+integer_invalid octets_of e (Err f) h =
+    elim (chosen (is_integer e.content.octets) _ _ (Err f) h) [
+      | inl k ↦ absurd cc
+      | inr k ↦ let same = err_is {A = List ℕ} (fault BadInteger e.place) f k.1 in
+          (sym (ap (λ (x : Fault). x.reason) same), sym (ap (λ (x : Fault). x.place) same), λ i. let t : true ≡ false = sym (is_integer_complete e.content.octets i) ∙ k.0 in cc)
+    ]
