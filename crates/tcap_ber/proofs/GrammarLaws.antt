@@ -10,19 +10,12 @@ use Rattle.tcap_ber.specs.declared.fault.Reason.TheVariants.{Missing, Unexpected
 use Rattle.tcap_ber.specs.Element.{IsElement}
 use Rattle.tcap_ber.specs.Integer.{IsInteger, signed}
 use Rattle.tcap_ber.specs.Grammar.{Body, Field, Content, IsElementFault, IsMissing, IsUnexpected, IsFaultyInside, BeginsWith, SpellsOptional, SpellsParameter, SpellsEach, IsFaultyAfter, required, optional, parameter, ended, ◌⨾◌, each, structure, made, integer, after}
-use Rattle.tcap_ber.specs.Found.{FindsElement}
+use Rattle.tcap_ber.specs.Found.{FindsElement, Taken}
 use Rattle.tcap_ber.specs.Span.{Span}
 use Rattle.tcap_ber.specs.Reading.{◌>>=◌, fault, Element, next_at, is_tag, is_next, wanted, required_at, raw_of, raw_at, is_integer, integer_at, within, small_integer_at, with_body, with_some, optional_at, parameter_at, end_at, each_at, each_of}
 use Rattle.tcap_ber.proofs.Steps.{chosen, bind_ok, bind_err, ok_is, err_is, ok_not_err}
 use Rattle.tcap_ber.proofs.ElementLaws.{element_len_at_least, next_sound, next_complete, next_fault}
 use Rattle.tcap_ber.proofs.OuterLaws.{raw_sound, raw_complete}
-
--- how a part was read at the front of a window
-pub record Taken {V : Type 0} (part : Field V) (s : Span) (value : V) (rest : Span) : Type 0 where
-  pub front : List ℕ
-  pub joined : s.octets ≡ front ++ rest.octets
-  pub place : rest.place ≡ s.place + length front
-  pub is_part : part.spells value front rest.octets
 
 -- a reader of a part at the front of a window, which answers what is left of it
 pub record ReadsField {V : Type 0} (part : Field V) (read : Span → Result (V × Span) Fault) : Type 0 where

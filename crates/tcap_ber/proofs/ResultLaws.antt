@@ -10,14 +10,14 @@ use Rattle.tcap_ber.specs.declared.element.Window.{Window}
 use Rattle.tcap_ber.specs.Element.{IsElement, IsRaw}
 use Rattle.tcap_ber.specs.Integer.{IsInteger}
 use Rattle.tcap_ber.specs.Header.{IsHeaderFault, BeginsElement, NeedsMore}
-use Rattle.tcap_ber.specs.Grammar.{IsElementFault}
-use Rattle.tcap_ber.specs.Found.{FindsElement}
+use Rattle.tcap_ber.specs.Grammar.{Body, Field, IsElementFault, after}
+use Rattle.tcap_ber.specs.Found.{FindsElement, Taken}
 use Rattle.tcap_ber.specs.Span.{Span}
 use Rattle.tcap_ber.specs.Reading.{fault, Gives, Element, element, span, next_at, outer_at, is_raw, is_integer, integer_at}
 use Rattle.tcap_ber.proofs.Steps.{chosen, ok_is, err_is, ok_not_err}
 use Rattle.tcap_ber.proofs.ElementLaws.{next_sound, next_complete, next_fault}
 use Rattle.tcap_ber.proofs.OuterLaws.{outer_whole, outer_of_element, outer_needs, outer_fault, outer_refused, is_raw_sound, is_raw_complete}
-use Rattle.tcap_ber.proofs.GrammarLaws.{is_integer_sound, is_integer_complete}
+use Rattle.tcap_ber.proofs.GrammarLaws.{ReadsField, ReadsBody, is_integer_sound, is_integer_complete}
 
 -- an exact answer is the one that reading gives
 gives_same : {A : Type 0} (r read : Result A Fault) → Gives (λ x. x) r read → read ≡ r
@@ -86,3 +86,41 @@ integer_invalid octets_of e (Err f) h =
       | inr k ↦ let same = err_is {A = List ℕ} (fault BadInteger e.place) f k.1 in
           (sym (ap (λ (x : Fault). x.reason) same), sym (ap (λ (x : Fault). x.place) same), λ i. let t : true ≡ false = sym (is_integer_complete e.content.octets i) ∙ k.0 in cc)
     ]
+
+-- ---- a reader of a part, and a reader of a body
+
+pub field_found : {V X : Type 0} (part : Field V) (read : Span → Result (V × Span) Fault) → ReadsField part read → (meaning : X → V) (s : Span) (r : Result (X × Window) Fault)
+    → Gives (λ x. (meaning x.0, span x.1)) r (read s) → IfOk r (λ x. Taken part s (meaning x.0) (span x.1))
+field_found part read reads meaning s (Ok x) e = reads.sound s (meaning x.0) (span x.1) e
+field_found part read reads meaning s (Err f) e = tt
+
+pub field_only : {V X : Type 0} (part : Field V) (read : Span → Result (V × Span) Fault) → ReadsField part read → (meaning : X → V) (s : Span) (r : Result (X × Window) Fault)
+    → Gives (λ x. (meaning x.0, span x.1)) r (read s) → (v : V) (front rest : List ℕ) → part.spells v front rest → s.octets ≡ front ++ rest
+    → IsOkAnd r (λ x. (meaning x.0 ≡ v) × (x.1.octets.now ≡ rest))
+field_only {V} part read reads meaning s (Ok x) e v front rest spelled joined =
+    let there = ap (λ (o : List ℕ). read (record { octets = o; place = s.place })) joined ∙ reads.complete s.place v front rest spelled in
+    let same = ok_is (meaning x.0, span x.1) (v, after s.place front rest) (sym e ∙ there) in
+    (ap (λ (y : V × Span). y.0) same, ap (λ (y : V × Span). y.1.octets) same)
+field_only {V} part read reads meaning s (Err f) e v front rest spelled joined =
+    let there = ap (λ (o : List ℕ). read (record { octets = o; place = s.place })) joined ∙ reads.complete s.place v front rest spelled in
+    ok_not_err {A = V × Span} _ f (sym there ∙ e)
+
+pub field_faulty : {V X : Type 0} (part : Field V) (read : Span → Result (V × Span) Fault) → ReadsField part read → (meaning : X → V) (s : Span) (r : Result (X × Window) Fault)
+    → Gives (λ x. (meaning x.0, span x.1)) r (read s) → IfErr r (λ f. part.faulty s f.reason f.place)
+field_faulty part read reads meaning s (Ok x) e = tt
+field_faulty part read reads meaning s (Err f) e = reads.refuses s f e
+
+pub body_found : {V X : Type 0} (body : Body V) (read : Element → Result V Fault) → ReadsBody body read → (meaning : X → V) (e : Element) (r : Result X Fault)
+    → Gives meaning r (read e) → IfOk r (λ x. body.spells (meaning x) e.content.octets)
+body_found body read reads meaning e (Ok x) h = reads.sound e (meaning x) h
+body_found body read reads meaning e (Err f) h = tt
+
+pub body_only : {V X : Type 0} (body : Body V) (read : Element → Result V Fault) → ReadsBody body read → (meaning : X → V) (e : Element) (r : Result X Fault)
+    → Gives meaning r (read e) → (v : V) → body.spells v e.content.octets → IsOkAnd r (λ x. meaning x ≡ v)
+body_only body read reads meaning e (Ok x) h v spelled = ok_is (meaning x) v (sym h ∙ reads.complete e v spelled)
+body_only {V} body read reads meaning e (Err f) h v spelled = ok_not_err {A = V} v f (sym (reads.complete e v spelled) ∙ h)
+
+pub body_faulty : {V X : Type 0} (body : Body V) (read : Element → Result V Fault) → ReadsBody body read → (meaning : X → V) (e : Element) (r : Result X Fault)
+    → Gives meaning r (read e) → IfErr r (λ f. body.faulty e.place e.content f.reason f.place)
+body_faulty body read reads meaning e (Ok x) h = tt
+body_faulty body read reads meaning e (Err f) h = reads.refuses e f h

@@ -2,6 +2,7 @@
 use Rattle.std.specs.Prelude.{◌≡◌, ℕ, ◌+◌, ◌-◌, List, ◌++◌, length}
 use Rattle.tcap_ber.specs.declared.fault.Fault.{Fault}
 use Rattle.tcap_ber.specs.Element.{IsElement}
+use Rattle.tcap_ber.specs.Grammar.{Field}
 use Rattle.tcap_ber.specs.Span.{Span}
 use Rattle.tcap_ber.specs.Reading.{Element}
 
@@ -13,3 +14,10 @@ pub record FindsElement (s : Span) (e : Element) (r : Span) : Type 0 where
   pub content_place : e.content.place ≡ s.place + (length octets - length e.content.octets)
   pub place : e.place ≡ s.place
   pub behind_place : r.place ≡ s.place + length octets
+
+-- how a part was read at the front of a window
+pub record Taken {V : Type 0} (part : Field V) (s : Span) (value : V) (rest : Span) : Type 0 where
+  pub front : List ℕ
+  pub joined : s.octets ≡ front ++ rest.octets
+  pub place : rest.place ≡ s.place + length front
+  pub is_part : part.spells value front rest.octets

@@ -1,7 +1,10 @@
 //! Components (Q.773 4.2.2).
 
-ghost use Rattle.std.specs.Prelude.{◌≡◌, ◌<◌, length, IfOk};
+ghost use Rattle.std.specs.Prelude.{◌≡◌, ◌<◌, ◌++◌, ℕ, List, length, IfOk, IfErr, IsOkAnd};
+ghost use Rattle.tcap_ber.specs.Found.{Taken};
 ghost use Rattle.tcap_ber.specs.Reading.{Gives, span, element};
+ghost use Rattle.tcap_parts.specs.declared.component.Component.{Component};
+ghost use Rattle.tcap_parts.specs.Component.{component, SpellsComponent};
 ghost use Rattle.tcap_parts.specs.Meaning.{component_of};
 ghost use Rattle.tcap_parts.specs.Reading.{invoke_id_at, code_at, invoke_at, component_at};
 
@@ -72,14 +75,29 @@ fn view_invoke(content: Window) -> Result<ComponentView, Fault>
     })
 }
 
-/// The first component of a window, and the window behind it.
 #[tactic(auto, unfolding(crate::specs::Reading::component_at))]
-pub fn view_component(window: Window) -> Result<(ComponentView, Window), Fault>
-    requires { 0 < length window.octets.now }
+fn read_component(window: Window) -> Result<(ComponentView, Window), Fault>
     ensures exact { Gives (λ x. (component_of x.0, span x.1)) result (component_at (span window.entry)) }
 {
     let (found, rest) = required(window, INVOKE)?;
     Ok((view_invoke(found.content)?, rest))
+}
+
+/// The first component of a window that is not empty, lent from its octets, and the window behind it. A
+/// fault is the first from left to right, its place counted from the message's first octet
+/// (Q.773 4.2.2).
+pub fn view_component(window: Window) -> Result<(ComponentView, Window), Fault>
+    requires { 0 < length window.octets.now }
+    // What is read is spelled there.
+    ensures found { IfOk result (λ x. Taken component (span window.entry) (component_of x.0) (span x.1)) }
+    // What is spelled there is read.
+    ensures only { (c : Component) (front rest : List ℕ) → SpellsComponent c front → window.entry.octets.now ≡ front ++ rest
+        → IsOkAnd result (λ x. (component_of x.0 ≡ c) × (x.1.octets.now ≡ rest)) }
+    // What is refused is faulty there.
+    ensures faulty { IfErr result (λ fault. component.faulty (span window.entry) fault.reason fault.place) }
+    ensures exact { Gives (λ x. (component_of x.0, span x.1)) result (component_at (span window.entry)) }
+{
+    read_component(window)
 }
 
 impl<'a> ComponentView<'a> {

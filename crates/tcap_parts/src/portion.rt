@@ -1,6 +1,8 @@
 //! The component portion (Q.773 4.2.2): one component after the other, and at least one.
 
-ghost use Rattle.std.specs.Prelude.{◌≡◌, ◌≢◌, [], ◌<◌, ◌↔◌, length, true, IfOk, IfSome, IsSome, OnOk, IfErr, Err};
+ghost use Rattle.std.specs.Prelude.{◌≡◌, ◌≢◌, [], ◌<◌, ◌↔◌, length, true, IfOk, IfSome, IsSome, OnOk, IfErr, Err, List, IsOkAnd};
+ghost use Rattle.tcap_parts.specs.declared.component.Component.{Component};
+ghost use Rattle.tcap_parts.specs.Component.{portion, SpellsPortion};
 ghost use Rattle.tcap_ber.specs.Reading.{Gives, span, element};
 ghost use Rattle.tcap_parts.specs.Reading.{components_at, portion_at, is_read};
 
@@ -72,10 +74,8 @@ fn check_components(content: Window) -> Result<(), Fault>
 impl<'a> PortionView<'a> {
     ghost use Rattle.tcap_parts.specs.Meaning.{components_of};
 
-    /// The component portion that an element of tag 6C holds. `EmptyComponents` at the element where it
-    /// holds no component.
     #[tactic(auto, unfolding(crate::specs::Reading::portion_at))]
-    pub fn read(tlv: Tlv<'a>) -> Result<PortionView<'a>, Fault>
+    fn from_content(tlv: Tlv<'a>) -> Result<PortionView<'a>, Fault>
         ensures exact { Gives components_of result (portion_at (element tlv.entry)) }
     {
         if tlv.content.octets.is_empty() {
@@ -88,6 +88,22 @@ impl<'a> PortionView<'a> {
         Ok(PortionView {
             content: tlv.content,
         })
+    }
+
+    /// The component portion that an element of tag 6C holds, lent from its octets. `EmptyComponents` at
+    /// the element where it holds no component, else the first fault from left to right in its content
+    /// (Q.773 4.2.2.1).
+    pub fn read(tlv: Tlv<'a>) -> Result<PortionView<'a>, Fault>
+        // What is read is spelled by all of the content.
+        ensures found { IfOk result (λ view. SpellsPortion (components_of view) tlv.entry.content.octets.now) }
+        // What is spelled by all of the content is read.
+        ensures only { (components : List Component) → SpellsPortion components tlv.entry.content.octets.now
+            → IsOkAnd result (λ view. components_of view ≡ components) }
+        // What is refused is faulty there.
+        ensures faulty { IfErr result (λ fault. portion.faulty tlv.entry.start (span tlv.entry.content) fault.reason fault.place) }
+        ensures exact { Gives components_of result (portion_at (element tlv.entry)) }
+    {
+        PortionView::from_content(tlv)
     }
 
     /// The components as values of their own.
