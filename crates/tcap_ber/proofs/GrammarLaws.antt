@@ -11,29 +11,12 @@ use Rattle.tcap_ber.specs.Element.{IsElement}
 use Rattle.tcap_ber.specs.Integer.{IsInteger, signed}
 use Rattle.tcap_ber.specs.Grammar.{Body, Field, Content, IsElementFault, IsMissing, IsUnexpected, IsFaultyInside, BeginsWith, SpellsOptional, SpellsParameter, SpellsEach, IsFaultyAfter, required, optional, parameter, ended, ◌⨾◌, each, structure, made, integer, after}
 use Rattle.tcap_ber.specs.Found.{FindsElement, Taken}
+use Rattle.tcap_ber.specs.Reads.{ReadsField, ReadsBody, ReadsContent}
 use Rattle.tcap_ber.specs.Span.{Span}
 use Rattle.tcap_ber.specs.Reading.{◌>>=◌, fault, Element, next_at, is_tag, is_next, wanted, required_at, raw_of, raw_at, is_integer, integer_at, within, small_integer_at, with_body, with_some, optional_at, parameter_at, end_at, each_at, each_of}
 use Rattle.tcap_ber.proofs.Steps.{chosen, bind_ok, bind_err, ok_is, err_is, ok_not_err}
 use Rattle.tcap_ber.proofs.ElementLaws.{element_len_at_least, next_sound, next_complete, next_fault}
 use Rattle.tcap_ber.proofs.OuterLaws.{raw_sound, raw_complete}
-
--- a reader of a part at the front of a window, which answers what is left of it
-pub record ReadsField {V : Type 0} (part : Field V) (read : Span → Result (V × Span) Fault) : Type 0 where
-  pub sound : (s : Span) (v : V) (rest : Span) → read s ≡ Ok (v, rest) → Taken part s v rest
-  pub complete : (place : ℕ) (v : V) (front rest : List ℕ) → part.spells v front rest → read (record { octets = front ++ rest; place = place }) ≡ Ok (v, after place front rest)
-  pub refuses : (s : Span) (f : Fault) → read s ≡ Err f → part.faulty s f.reason f.place
-
--- a reader of the content of an element
-pub record ReadsBody {V : Type 0} (body : Body V) (read : Element → Result V Fault) : Type 0 where
-  pub sound : (e : Element) (v : V) → read e ≡ Ok v → body.spells v e.content.octets
-  pub complete : (e : Element) (v : V) → body.spells v e.content.octets → read e ≡ Ok v
-  pub refuses : (e : Element) (f : Fault) → read e ≡ Err f → body.faulty e.place e.content f.reason f.place
-
--- a reader of what is left of a structure, which makes a value of the parts
-pub record ReadsContent {V W : Type 0} (content : Content V) (make : V → W) (read : Span → Result W Fault) : Type 0 where
-  pub sound : (s : Span) (w : W) → read s ≡ Ok w → (v : V) × (w ≡ make v) × content.spells v s.octets
-  pub complete : (s : Span) (v : V) → content.spells v s.octets → read s ≡ Ok (make v)
-  pub refuses : (s : Span) (f : Fault) → read s ≡ Err f → content.faulty s f.reason f.place
 
 -- the window where this front stands before this rest
 abbrev joint : ℕ → List ℕ → List ℕ → Span
@@ -58,7 +41,7 @@ is_tag-false : (tag : ℕ) (octets : List ℕ) → is_tag tag octets ≡ false �
 is_tag-false tag octets e same = let k : true ≡ false = sym (is_tag-itself tag) ∙ sym (ap (is_tag tag) same) ∙ e in cc
 
 -- an element that was read where one with this tag is required has it
-required_sound : (tag : ℕ) (s : Span) (x : Element × Span) → required_at tag s ≡ Ok x → FindsElement s x.0 x.1 × (x.0.tag ≡ tag ∷ [])
+pub required_sound : (tag : ℕ) (s : Span) (x : Element × Span) → required_at tag s ≡ Ok x → FindsElement s x.0 x.1 × (x.0.tag ≡ tag ∷ [])
 unfolding required_at
 required_sound tag s x e =
     elim (chosen (length s.octets == 0) _ _ (Ok x) e) [
@@ -84,7 +67,7 @@ required_complete place tag content octets rest e =
     rw (ne_eqb (length (octets ++ rest)) 0 some, next_complete place (tag ∷ []) content octets rest e, is_tag-itself tag) refl
 
 -- what is wrong where an element with this tag is required, but for its inside
-required_fault : (tag : ℕ) (s : Span) (f : Fault) → required_at tag s ≡ Err f
+pub required_fault : (tag : ℕ) (s : Span) (f : Fault) → required_at tag s ≡ Err f
     → IsMissing s f.reason f.place ⊎ IsElementFault s f.reason f.place ⊎ IsUnexpected tag s f.reason f.place
 unfolding required_at
 required_fault tag s f e =

@@ -12,12 +12,13 @@ use Rattle.tcap_ber.specs.Integer.{IsInteger}
 use Rattle.tcap_ber.specs.Header.{IsHeaderFault, BeginsElement, NeedsMore}
 use Rattle.tcap_ber.specs.Grammar.{Body, Field, IsElementFault, after}
 use Rattle.tcap_ber.specs.Found.{FindsElement, Taken}
+use Rattle.tcap_ber.specs.Reads.{ReadsField, ReadsBody}
 use Rattle.tcap_ber.specs.Span.{Span}
 use Rattle.tcap_ber.specs.Reading.{fault, Gives, Element, element, span, next_at, outer_at, is_raw, is_integer, integer_at}
 use Rattle.tcap_ber.proofs.Steps.{chosen, ok_is, err_is, ok_not_err}
 use Rattle.tcap_ber.proofs.ElementLaws.{next_sound, next_complete, next_fault}
 use Rattle.tcap_ber.proofs.OuterLaws.{outer_whole, outer_of_element, outer_needs, outer_fault, outer_refused, is_raw_sound, is_raw_complete}
-use Rattle.tcap_ber.proofs.GrammarLaws.{ReadsField, ReadsBody, is_integer_sound, is_integer_complete}
+use Rattle.tcap_ber.proofs.GrammarLaws.{is_integer_sound, is_integer_complete}
 
 -- an exact answer is the one that reading gives
 gives_same : {A : Type 0} (r read : Result A Fault) → Gives (λ x. x) r read → read ≡ r

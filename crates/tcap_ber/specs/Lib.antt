@@ -7,3 +7,4 @@ pub mod Header
 pub mod Grammar
 pub mod Reading
 pub mod Found
+pub mod Reads

@@ -9,6 +9,7 @@ mod failing;
 mod fault;
 mod header;
 mod integers;
+pub mod laws;
 mod raw;
 mod to_end;
 mod window;

@@ -9,7 +9,8 @@ use Rattle.tcap_ber.specs.Span.{Span}
 use Rattle.tcap_ber.specs.Grammar.{required, optional, ended, ◌⨾◌, structure, made}
 use Rattle.tcap_ber.specs.Reading.{◌>>=◌, fault, Element, end_at, required_at, with_body}
 use Rattle.tcap_ber.proofs.Steps.{chosen, ok_is, err_is, ok_not_err}
-use Rattle.tcap_ber.proofs.GrammarLaws.{ReadsField, ReadsBody, ReadsContent, reads_required, reads_optional, reads_ended, reads_then, reads_structure}
+use Rattle.tcap_ber.specs.Reads.{ReadsField, ReadsBody, ReadsContent}
+use Rattle.tcap_ber.proofs.GrammarLaws.{reads_required, reads_optional, reads_ended, reads_then, reads_structure}
 use Rattle.tcap_parts.specs.declared.component.Component.{Component}
 use Rattle.tcap_parts.specs.Component.{portion}
 use Rattle.tcap_parts.specs.Reading.{portion_at}

@@ -13,7 +13,7 @@ use Rattle.tcap_ber.specs.Span.{Span}
 use Rattle.tcap_ber.specs.Reading.{◌>>=◌, fault, Element, outer_at, required_at, with_body}
 use Rattle.tcap_ber.proofs.Steps.{bind_ok, bind_err, ok_is, err_is, ok_not_err}
 use Rattle.tcap_ber.proofs.ElementLaws.{element_len_at_least}
-use Rattle.tcap_ber.proofs.OuterLaws.{BeginsElement, outer_whole, outer_of_element, outer_needs, outer_fault, outer_refused, whole_is}
+use Rattle.tcap_ber.proofs.OuterLaws.{outer_whole, outer_of_element, outer_needs, outer_fault, outer_refused, whole_is}
 use Rattle.tcap_msg.specs.declared.message.Message.{Message}
 use Rattle.tcap_msg.specs.Message.{begin, message, Spells, whole, IsFaulty, BeginsNoMessage, IsNeverMessage}
 use Rattle.tcap_msg.specs.Reading.{begin_at, with_len, in_outer, message_at}

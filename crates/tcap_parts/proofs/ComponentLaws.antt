@@ -7,7 +7,8 @@ use Rattle.tcap_ber.specs.Span.{Span}
 use Rattle.tcap_ber.specs.Grammar.{required, parameter, ended, ◌⨾◌, structure, made, integer}
 use Rattle.tcap_ber.specs.Reading.{◌>>=◌, small_integer_at, parameter_at, end_at}
 use Rattle.tcap_ber.proofs.ElementLaws.{element_len_at_least}
-use Rattle.tcap_ber.proofs.GrammarLaws.{ReadsField, ReadsBody, ReadsContent, HasOctets, reads_required, reads_parameter, reads_ended, reads_then, reads_structure, reads_integer, reads_made}
+use Rattle.tcap_ber.specs.Reads.{ReadsField, ReadsBody, ReadsContent}
+use Rattle.tcap_ber.proofs.GrammarLaws.{HasOctets, reads_required, reads_parameter, reads_ended, reads_then, reads_structure, reads_integer, reads_made}
 use Rattle.tcap_parts.specs.declared.code.Code.{Code}
 use Rattle.tcap_parts.specs.declared.code.Code.TheVariants.{Local}
 use Rattle.tcap_parts.specs.declared.component.Component.{Component}

@@ -8,7 +8,8 @@ use Rattle.tcap_ber.specs.declared.fault.Reason.TheVariants.{EmptyComponents}
 use Rattle.tcap_ber.specs.Span.{Span}
 use Rattle.tcap_ber.specs.Reading.{◌>>=◌, fault, Element, each_of}
 use Rattle.tcap_ber.proofs.Steps.{chosen, bind_ok, err_is}
-use Rattle.tcap_ber.proofs.GrammarLaws.{ReadsBody, ReadsContent, each_of-empty, each_of-step, reads_each}
+use Rattle.tcap_ber.specs.Reads.{ReadsBody, ReadsContent}
+use Rattle.tcap_ber.proofs.GrammarLaws.{each_of-empty, each_of-step, reads_each}
 use Rattle.tcap_parts.specs.declared.component.Component.{Component}
 use Rattle.tcap_parts.specs.Component.{component, portion}
 use Rattle.tcap_ber.specs.Grammar.{each}
