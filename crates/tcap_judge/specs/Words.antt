@@ -37,10 +37,6 @@ abbrev pub IsFaultOf : Kinds → WordsFault → Type 0
 IsFaultOf kinds Memory = Unit {0}
 IsFaultOf kinds (Words e) = IsAmong (kind_of e) kinds
 
-abbrev pub is_out_of_memory : ErrorKind → Bool
-is_out_of_memory kind.OutOfMemory = true
-is_out_of_memory _ = false
-
 abbrev pub is_help_kind : ErrorKind → Bool
 is_help_kind kind.DisplayHelp = true
 is_help_kind _ = false

@@ -1,7 +1,7 @@
 //! What the words of the command line ask for.
-ghost use Rattle.std.specs.Prelude.{◌≡◌, [], IfErr, IfOk, MatchResult, true};
+ghost use Rattle.std.specs.Prelude.{◌≡◌, ◌∷◌, [], IfErr, IfOk, MatchResult, codes, true};
 ghost use Rattle.clap.specs.Words.{app_of, fault_of, kind_of, takes};
-ghost use Rattle.clap.specs.Walk.{texts};
+ghost use Rattle.clap.specs.Walk.{Text, texts};
 ghost use Rattle.tcap_judge.specs.Words.{Asks, Becomes, IsFaultOf, IsMemory, is_help, tool};
 
 use clap::error::ErrorKind;
@@ -72,7 +72,9 @@ impl error::Error for WordsFault {}
 fn command<'a>(alloc: Global) -> Result<Command<'a>, AllocError>
     ensures { IfOk result (λ c. app_of c ≡ tool) }
 {
-    let show = Command::new(alloc, "show").about("Prints the entries of the record on standard input");
+    let show = Command::new(alloc, "show").about(
+        "Prints the entries of the record on standard input",
+    );
     Command::new(alloc, "tcapjudge")
         .about("Reads records of TCAP messages")
         .subcommand_required(true)
@@ -83,6 +85,8 @@ fn command<'a>(alloc: Global) -> Result<Command<'a>, AllocError>
 pub fn read_request<'a>(alloc: Global, words: &'a [&'a str]) -> Result<Request, WordsFault>
     ensures asks { IfOk result (Asks (texts words.entry.now)) }
     ensures taken { takes tool (texts words.entry.now) ≡ true → IfErr result IsMemory }
+    ensures show { (program : Text) → texts words.entry.now ≡ program ∷ codes "show" ∷ []
+        → IfErr result IsMemory }
     ensures faults { MatchResult result (λ _. fault_of tool (texts words.entry.now) ≡ [])
         (IsFaultOf (fault_of tool (texts words.entry.now))) }
 {

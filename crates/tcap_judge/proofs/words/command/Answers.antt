@@ -1,4 +1,4 @@
-use Rattle.std.proofs.Common.{◌≡◌, ◌∙◌, rules, ap, ap₂, refl, true, false, codes}
+use Rattle.std.proofs.Common.{◌≡◌, ◌∙◌, rules, ap, ap₂, true, false, codes}
 use Rattle.std.proofs.lemmas.Result.{IfOk-weaker}
 use Rattle.clap.specs.Words.{App, app_of, with_subcommand}
 use Rattle.clap.specs.declared.builder.command.Command.TheViews.{out-Command}

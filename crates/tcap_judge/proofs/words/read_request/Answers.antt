@@ -1,7 +1,6 @@
-use Rattle.std.proofs.Common.{rules, ◌≡◌, ◌∙◌, [], ap, subst, sym, true, false, List, ◌∷◌, Option, Some, None, codes, IfErr, MatchResult}
+use Rattle.std.proofs.Common.{◌≡◌, ◌∙◌, [], ap, subst, sym, List, Option, Some, None, codes}
 use Rattle.std.proofs.lemmas.Result.{err_from_is_err_and}
-use Rattle.clap.specs.Words.{App, app_of, fault_of, is_simple, is_simple_and_free, kind_of, takes}
-use Rattle.std.specs.Borrow.{Bor}
+use Rattle.clap.specs.Words.{App, app_of, fault_of, is_simple, is_simple_and_free, takes}
 use Rattle.std.specs.Prelude.{option_map}
 use Rattle.clap.specs.Kinds.{HasKind}
 use Rattle.clap.specs.Matches.{subcommand_name_of}
@@ -10,7 +9,8 @@ use Rattle.clap.specs.declared.builder.command.Command.{Command}
 use Rattle.clap.specs.declared.parser.matches.ArgMatches.{ArgMatches}
 use Rattle.clap.specs.declared.parser.matches.ArgMatches.TheViews.{out-ArgMatches}
 use Rattle.clap.specs.Walk.{Row, Text, texts}
-use Rattle.tcap_judge.specs.Words.{Asks, Becomes, IsFaultOf, IsMemory, subcommand_named, tool}
+use Rattle.tcap_judge.specs.Words.{tool}
+use Rattle.tcap_judge.proofs.Cases.{show_taken}
 use Rattle.tcap_judge.proofs.Tool.{as_fault, became_memory, fused, named, tool_simple, tool_is_simple}
 use Rattle.tcap_judge.proofs.words.read_request.Goals as goal
 
@@ -18,6 +18,10 @@ pub returns-in_err-matches-clause-taken : goal.returns-in_err-matches-clause-tak
 returns-in_err-matches-clause-taken c taken =
     let p = err_from_is_err_and c.from_residual-in_err-matches.result c.from_residual-in_err-matches.ensures.1 in
     rw p.1 (became_memory c.in_err-matches.field-0.0 p.0 (c.in_err-matches.ensures.passes (ap (λ (a : App). takes a (texts c.args.words.now)) c.in_ok-command.ensures ∙ taken)) p.2)
+
+pub returns-in_err-matches-clause-show : goal.returns-in_err-matches-clause-show
+returns-in_err-matches-clause-show c program is =
+    returns-in_err-matches-clause-taken c (ap (takes tool) is ∙ show_taken program)
 
 pub returns-in_err-matches-clause-faults : goal.returns-in_err-matches-clause-faults
 returns-in_err-matches-clause-faults c =
