@@ -1,0 +1,102 @@
+//! What the words of the command line ask for.
+ghost use Rattle.std.specs.Prelude.{◌≡◌, ◌∷◌, [], IfErr, IfOk, MatchResult, codes, true};
+ghost use Rattle.clap.specs.Words.{app_of, fault_of, kind_of, takes};
+ghost use Rattle.clap.specs.Walk.{Text, texts};
+ghost use Rattle.tcap_judge.specs.Words.{Asks, Becomes, IsFaultOf, IsMemory, is_help, tool};
+
+use clap::error::ErrorKind;
+use clap::{Command, Error};
+use std::alloc::{AllocError, Global};
+use std::{error, fmt};
+
+/// What the program is asked to do.
+#[derive(Clone, Copy, Debug, PartialEq, Eq)]
+pub enum Request {
+    /// Print the entries of the record on standard input.
+    Show,
+}
+
+/// Why words are not a request. Its `Display` is the text for the user.
+#[derive(Debug, Drop)]
+pub enum WordsFault {
+    /// What clap makes of them: wrong words, or a request for help.
+    Words(Error),
+    /// Memory ran out.
+    Memory,
+}
+
+impl WordsFault {
+    /// Whether the words ask for help, of which the text goes to the standard output.
+    pub fn is_help(&self) -> bool
+        ensures { result ≡ is_help self.now }
+    {
+        match self {
+            WordsFault::Words(error) => matches!(error.kind(), ErrorKind::DisplayHelp),
+            WordsFault::Memory => false,
+        }
+    }
+}
+
+impl From<AllocError> for WordsFault {
+    ghost from_gives = { λ _ f. IsMemory f };
+
+    fn from(_error: AllocError) -> WordsFault {
+        WordsFault::Memory
+    }
+}
+
+impl From<Error> for WordsFault {
+    ghost from_gives = { Becomes };
+
+    fn from(error: Error) -> WordsFault {
+        if matches!(error.kind(), ErrorKind::OutOfMemory) {
+            WordsFault::Memory
+        } else {
+            WordsFault::Words(error)
+        }
+    }
+}
+
+impl fmt::Display for WordsFault {
+    fn fmt<W: fmt::Write>(&self, f: &mut fmt::Formatter<W>) -> fmt::Result {
+        match self {
+            WordsFault::Words(error) => error.fmt(f),
+            WordsFault::Memory => f.write_str("error: out of memory\n"),
+        }
+    }
+}
+
+impl error::Error for WordsFault {}
+
+/// The command line that the program takes.
+fn command<'a>(alloc: Global) -> Result<Command<'a>, AllocError>
+    ensures { IfOk result (λ c. app_of c ≡ tool) }
+{
+    let show = Command::new(alloc, "show").about(
+        "Prints the entries of the record on standard input",
+    );
+    Command::new(alloc, "tcapjudge")
+        .about("Reads records of TCAP messages")
+        .subcommand_required(true)
+        .subcommand(show)
+}
+
+/// What `words` ask for: the program's name, and then the words behind it.
+pub fn read_request<'a>(alloc: Global, words: &'a [&'a str]) -> Result<Request, WordsFault>
+    ensures asks { IfOk result (Asks (texts words.entry.now)) }
+    ensures taken { takes tool (texts words.entry.now) ≡ true → IfErr result IsMemory }
+    ensures show { (program : Text) → texts words.entry.now ≡ program ∷ codes "show" ∷ []
+        → IfErr result IsMemory }
+    ensures faults { MatchResult result (λ _. fault_of tool (texts words.entry.now) ≡ [])
+        (IsFaultOf (fault_of tool (texts words.entry.now))) }
+{
+    let command = command(alloc)?;
+    let matches = command.try_get_matches_from(words)?;
+    let Some(name) = matches.subcommand_name() else {
+        unreachable!()
+    };
+    match name {
+        "show" => Ok(Request::Show),
+        _ => unreachable!(),
+    }
+}
