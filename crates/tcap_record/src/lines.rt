@@ -22,7 +22,11 @@ fn name(side: End) -> &'static str
 }
 
 /// Appends a parameter, where there is one.
-fn push_parameter(alloc: Global, text: &mut String, parameter: &Option<Raw>) -> Result<(), AllocError>
+fn push_parameter(
+    alloc: Global,
+    text: &mut String,
+    parameter: &Option<Raw>,
+) -> Result<(), AllocError>
     ensures { OnOk result (string_bytes text.new ≡ string_bytes text.old ++ parameter_text parameter.now) }
 {
     match parameter {
@@ -44,7 +48,13 @@ fn push_code(text: &mut String, code: Code) -> Result<(), AllocError>
 }
 
 /// Appends the line of an Invoke.
-fn push_invoke(alloc: Global, text: &mut String, id: i8, code: Code, parameter: &Option<Raw>) -> Result<(), AllocError>
+fn push_invoke(
+    alloc: Global,
+    text: &mut String,
+    id: i8,
+    code: Code,
+    parameter: &Option<Raw>,
+) -> Result<(), AllocError>
     ensures { OnOk result (string_bytes text.new ≡ string_bytes text.old ++ invoke_line id code parameter.now) }
 {
     write!(text, "  Invoke id={id} op=")?;
@@ -67,7 +77,11 @@ fn push_component(alloc: Global, text: &mut String, component: &Component) -> Re
 }
 
 /// Appends the lines of components.
-fn push_components(alloc: Global, text: &mut String, components: &[Component]) -> Result<(), AllocError>
+fn push_components(
+    alloc: Global,
+    text: &mut String,
+    components: &[Component],
+) -> Result<(), AllocError>
     ensures { OnOk result (string_bytes text.new ≡ string_bytes text.old ++ flat_map component_line components.now) }
 {
     for component in components {
@@ -77,7 +91,12 @@ fn push_components(alloc: Global, text: &mut String, components: &[Component]) -
 }
 
 /// Appends the text of a Begin and the lines of its components.
-fn push_begin(alloc: Global, text: &mut String, otid: &TransactionId, components: &Option<Portion>) -> Result<(), AllocError>
+fn push_begin(
+    alloc: Global,
+    text: &mut String,
+    otid: &TransactionId,
+    components: &Option<Portion>,
+) -> Result<(), AllocError>
     ensures { OnOk result (string_bytes text.new ≡ string_bytes text.old ++ begin_text otid.now components.now) }
 {
     let octets = hex::encode(alloc, otid.octets())?;
@@ -112,7 +131,12 @@ fn push_body(alloc: Global, text: &mut String, body: &Body) -> Result<(), AllocE
 }
 
 /// Appends the lines of the entry of that number.
-pub(crate) fn push_entry(alloc: Global, text: &mut String, number: usize, entry: &Entry) -> Result<(), AllocError>
+pub(crate) fn push_entry(
+    alloc: Global,
+    text: &mut String,
+    number: usize,
+    entry: &Entry,
+) -> Result<(), AllocError>
     ensures { OnOk result (string_bytes text.new ≡ string_bytes text.old ++ entry_lines number entry.now) }
 {
     let side = name(entry.side);
