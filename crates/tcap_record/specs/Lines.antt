@@ -30,6 +30,7 @@ abbrev pub parameter_text : Option (List ℕ) → List ℕ
 parameter_text None = []
 parameter_text (Some raw) = codes " parameter=" ++ encode_lower raw
 
+-- the line of an Invoke
 abbrev pub invoke_line : ℤ → Code → Option (List ℕ) → List ℕ
 invoke_line id code parameter =
     codes "  Invoke id=" ++ signed_decimal id ++ codes " op=" ++ code_text code ++ parameter_text parameter ++ line_end
@@ -42,6 +43,7 @@ abbrev pub component_lines : Option (List Component) → List ℕ
 component_lines None = []
 component_lines (Some components) = flat_map component_line components
 
+-- a Begin, and the lines of its components
 abbrev pub begin_text : List ℕ → Option (List Component) → List ℕ
 begin_text otid components = codes "Begin otid=" ++ encode_lower otid ++ line_end ++ component_lines components
 
