@@ -1,7 +1,8 @@
 -- The text that `show` prints, line by line.
-use Rattle.std.specs.Prelude.{ℕ, suc, ◌+◌, ◌/◌, ◌%◌, List, [], ◌∷◌, ◌++◌, Option, Some, None, codes, nat_lt, if◌then◌else◌}
+use Rattle.std.specs.Prelude.{ℕ, ℤ, suc, List, [], ◌∷◌, ◌++◌, Option, Some, None, codes}
 use Rattle.std.specs.List.{flat_map}
 use Rattle.std.specs.Fmt.{decimal, signed_decimal}
+use Rattle.hex.specs.Hex.{encode_lower}
 use Rattle.tcap_ber.specs.Fault.{number_of}
 use Rattle.tcap_parts.specs.declared.code.Code.{Code}
 use Rattle.tcap_parts.specs.declared.code.Code.TheVariants.{Local}
@@ -15,14 +16,6 @@ use Rattle.tcap_record.specs.declared.entry.Body.{Body}
 use Rattle.tcap_record.specs.declared.entry.Body.TheVariants.{Good, Bad}
 use Rattle.tcap_record.specs.declared.entry.Entry.{Entry}
 
--- a hexadecimal digit, in lower case
-abbrev pub hex_digit : ℕ → ℕ
-hex_digit n = if nat_lt n 10 then 48 + n else 87 + n
-
--- two digits for each octet
-abbrev pub hex_of : List ℕ → List ℕ
-hex_of octets = flat_map (λ octet. hex_digit (octet / 16) ∷ hex_digit (octet % 16) ∷ []) octets
-
 abbrev pub line_end : List ℕ
 line_end = 10 ∷ []
 
@@ -35,21 +28,28 @@ code_text (Local n) = signed_decimal n
 
 abbrev pub parameter_text : Option (List ℕ) → List ℕ
 parameter_text None = []
-parameter_text (Some raw) = codes " parameter=" ++ hex_of raw
+parameter_text (Some raw) = codes " parameter=" ++ encode_lower raw
+
+-- the line of an Invoke
+abbrev pub invoke_line : ℤ → Code → Option (List ℕ) → List ℕ
+invoke_line id code parameter =
+    codes "  Invoke id=" ++ signed_decimal id ++ codes " op=" ++ code_text code ++ parameter_text parameter ++ line_end
 
 -- the line of a component
 abbrev pub component_line : Component → List ℕ
-component_line (Invoke id code parameter) =
-    codes "  Invoke id=" ++ signed_decimal id ++ codes " op=" ++ code_text code ++ parameter_text parameter ++ line_end
+component_line (Invoke id code parameter) = invoke_line id code parameter
 
 abbrev pub component_lines : Option (List Component) → List ℕ
 component_lines None = []
 component_lines (Some components) = flat_map component_line components
 
+-- a Begin, and the lines of its components
+abbrev pub begin_text : List ℕ → Option (List Component) → List ℕ
+begin_text otid components = codes "Begin otid=" ++ encode_lower otid ++ line_end ++ component_lines components
+
 -- a message behind the number and the end of its entry, and the lines of its components
 abbrev pub message_text : Message → List ℕ
-message_text (Begin otid components) =
-    codes "Begin otid=" ++ hex_of otid ++ line_end ++ component_lines components
+message_text (Begin otid components) = begin_text otid components
 
 abbrev pub body_text : Body → List ℕ
 body_text (Good m) = message_text m

@@ -3,6 +3,9 @@
 
 mod entry;
 mod fault;
+mod lines;
+mod printing;
 
 pub use entry::{Body, End, Entry, Record};
 pub use fault::{FeedFault, FeedReason};
+pub use printing::{ShowFault, show};
