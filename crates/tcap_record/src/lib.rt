@@ -3,6 +3,7 @@
 
 mod entry;
 mod fault;
+mod framing;
 
 pub use entry::{Body, End, Entry, Record};
 pub use fault::{FeedFault, FeedReason};
