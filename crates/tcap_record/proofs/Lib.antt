@@ -1,1 +1,3 @@
 pub mod MessageFacts
+pub mod PlaceLaws
+pub mod FramingLaws

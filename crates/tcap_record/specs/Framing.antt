@@ -66,3 +66,8 @@ with_end s (Some side) = with_len side (behind 1 s) (len_at (behind 1 s))
 -- the entry at the front, and what is left behind it
 unfoldable pub entry_at : Span → Result (Entry × Span) FeedFault
 entry_at s = with_end s (end_in (slice_index s.octets 0))
+
+-- whether a record was read, or why it was not
+abbrev pub outcome : {A : Type 0} → Result A FeedFault → Result (Unit {0}) FeedFault
+outcome (Ok x) = Ok tt
+outcome (Err f) = Err f

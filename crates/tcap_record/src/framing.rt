@@ -1,6 +1,6 @@
 //! The entries in octets, one after the other.
 
-ghost use Rattle.std.specs.Prelude.{◌≡◌, ◌≢◌, ◌<◌, [], length, IfOk, IfErr};
+ghost use Rattle.std.specs.Prelude.{◌≡◌, ◌≢◌, ◌<◌, [], length, IfOk, IfErr, IsErr};
 ghost use Rattle.tcap_ber.specs.Span.{behind};
 ghost use Rattle.tcap_ber.specs.Reading.{span, outer_at};
 ghost use Rattle.tcap_record.specs.declared.fault.FeedReason.{FeedReason};
@@ -128,4 +128,24 @@ pub(crate) fn read_all(
         rest = behind;
     }
     Ok(())
+}
+
+/// Appends the entries in `octets`, which a reader told before it failed, to `entries`, up to the first
+/// fault: that the reader failed is one behind the octets, and covers a cut entry.
+pub(crate) fn read_failed(
+    alloc: Global,
+    octets: &[u8],
+    entries: &mut Vec<Entry>,
+) -> Result<(), FeedFault>
+    requires { entries.old.items ≡ [] }
+    ensures framed { IsReadAs entries.new.items result octets.now }
+    ensures failed { IsErr result }
+{
+    match read_all(alloc, octets, entries) {
+        Err(fault) if fault.reason != FeedReason::CutRecord => Err(fault),
+        _ => Err(FeedFault {
+            reason: FeedReason::Read,
+            place: octets.len() as u64,
+        }),
+    }
 }

@@ -4,6 +4,8 @@
 mod entry;
 mod fault;
 mod framing;
+mod reading;
 
 pub use entry::{Body, End, Entry, Record};
 pub use fault::{FeedFault, FeedReason};
+pub use reading::{Reading, read_entries, read_record};
