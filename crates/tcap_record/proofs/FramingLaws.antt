@@ -237,7 +237,7 @@ pub record IsFramedTo (entries : List Entry) (octets : List ℕ) (s : Span) : Ty
 pub framed_first : (octets : List ℕ) (entries : List Entry) (s : Span) → entries ≡ [] → s ≡ record { octets = octets; place = 0 } → IsFramedTo entries octets s
 framed_first octets entries s none start = rw (none, start) (record { framed = refl; place = omega arith; within = omega arith })
 
-pub framed_next : (entries more : List Entry) (octets : List ℕ) (s : Span) (entry : Entry) (rest : Span) → IsFramedTo entries octets s → length entries ≢ entry_limit → 0 < length s.octets → entry_at s ≡ Ok (entry, rest)
+pub framed_next : (entries more : List Entry) (octets : List ℕ) (s : Span) (entry : Entry) (rest : Span) → IsFramedTo entries octets s → length entries < entry_limit → 0 < length s.octets → entry_at s ≡ Ok (entry, rest)
     → more ≡ entries ++ entry ∷ [] → IsFramedTo more octets rest
 framed_next entries more octets s entry rest so_far room some e pushed =
     let there = entry_sound s (entry, rest) some e in
@@ -273,6 +273,15 @@ stop_is_own count s f stop e = not_reader count s.octets stop.offset (subst (λ 
 
 pub read_to_memory : (entries : List Entry) (octets : List ℕ) (s : Span) → IsFramedTo entries octets s → IsReadAs entries (Err (feed_fault feed.Memory 0)) octets
 read_to_memory entries octets s so_far = record { rest = s.octets; framed = so_far.framed; within = so_far.within; ends = refl }
+
+pub read_fails : (entries : List Entry) (octets : List ℕ) (s : Span) (f : FeedFault) → IsFramedTo entries octets s → length entries < entry_limit → 0 < length s.octets
+    → (f ≡ feed_fault feed.Memory 0) ⊎ (entry_at s ≡ Err f) → IsReadAs entries (Err f) octets
+read_fails entries octets s f so_far room some (inl h) = rw h (read_to_memory entries octets s so_far)
+read_fails entries octets s f so_far room some (inr h) = read_stops entries octets s f so_far (entry_refused (length entries) s f room some h)
+
+pub fault_is_own : (count : ℕ) (s : Span) (f : FeedFault) → count < entry_limit → 0 < length s.octets → (f ≡ feed_fault feed.Memory 0) ⊎ (entry_at s ≡ Err f) → f.reason ≢ feed.Read
+fault_is_own count s f room some (inl h) = λ e. cc (ap (λ (g : FeedFault). g.reason) h)
+fault_is_own count s f room some (inr h) = stop_is_own count s f (entry_refused count s f room some h)
 
 -- ---- a reader that failed
 
