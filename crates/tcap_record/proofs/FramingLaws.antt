@@ -1,29 +1,28 @@
 -- What reading the entries of a record gives.
-use Rattle.std.proofs.Common.{◌≡◌, ◌≢◌, ℕ, suc, ◌+◌, ◌-◌, ◌<◌, ◌≤◌, ◌⊎◌, Bool, true, false, List, [], ◌∷◌, ◌++◌, length, take, drop, get_or, Option, Some, None, Result, Ok, Err, refl, sym, ap, subst, ◌∙◌, inl, inr, arith, append_assoc}
-use Rattle.std.specs.Prelude.{◌==◌, slice_index}
-use Rattle.std.proofs.lemmas.Bool.{eqb-true, eqb-false}
-use Rattle.std.proofs.lemmas.List.{take_at, drop_at, length-append, length-drop, append-nil, nil_from_length}
+use Rattle.std.proofs.Common.{◌≡◌, ◌≢◌, ℕ, ◌+◌, ◌-◌, ◌<◌, ◌≤◌, ◌⊎◌, List, [], ◌∷◌, ◌++◌, length, take, drop, Option, Some, None, Result, Ok, Err, refl, sym, ap, subst, ◌∙◌, inl, inr, arith}
+use Rattle.std.specs.Prelude.{◌==◌}
+use Rattle.std.proofs.lemmas.Bool.{eqb-true}
+use Rattle.std.proofs.lemmas.List.{take_at, drop_at, length-append, append-nil, nil_from_length}
 use Rattle.tcap_ber.specs.declared.fault.Fault.{Fault}
 use Rattle.tcap_ber.specs.declared.element.Outer.{Outer}
 use Rattle.tcap_ber.specs.declared.element.Outer.TheVariants.{Whole, Need}
 use Rattle.tcap_ber.specs.Element.{IsElement, IsRaw}
 use Rattle.tcap_ber.specs.Span.{Span, behind}
-use Rattle.tcap_ber.specs.Reading.{◌>>=◌, fault, outer_at, required_at}
+use Rattle.tcap_ber.specs.Reading.{◌>>=◌, outer_at, required_at}
 use Rattle.tcap_ber.proofs.Steps.{chosen, bind_ok}
-use Rattle.tcap_ber.proofs.OuterLaws.{BeginsElement, NeedsMore, outer_whole, outer_of_element, outer_needs, outer_fault}
+use Rattle.tcap_ber.proofs.OuterLaws.{BeginsElement, outer_whole, outer_of_element, outer_needs, outer_fault}
 use Rattle.tcap_msg.specs.declared.message.Message.{Message}
-use Rattle.tcap_msg.specs.Message.{Spells, IsFaulty, whole}
+use Rattle.tcap_msg.specs.Message.{Spells, whole}
 use Rattle.tcap_msg.specs.Reading.{message_at, in_outer, begin_at}
 use Rattle.tcap_record.specs.declared.entry.End.{End}
 use Rattle.tcap_record.specs.declared.entry.End.TheVariants as ends
-use Rattle.tcap_record.specs.declared.entry.Body.{Body}
 use Rattle.tcap_record.specs.declared.entry.Entry.{Entry}
 use Rattle.tcap_record.specs.declared.fault.FeedFault.{FeedFault}
 use Rattle.tcap_record.specs.declared.fault.FeedReason.{FeedReason}
 use Rattle.tcap_record.specs.declared.fault.FeedReason.TheVariants as feed
 use Rattle.tcap_record.specs.Framed.{octet_of, IsBody, FramedFrom, IsEndOctet, IsRestFault, entry_limit}
 use Rattle.tcap_record.specs.Framing.{feed_fault, end_in, body_of, body_at, len_of, len_at, entry_of, with_len, with_end, entry_at}
-use Rattle.tcap_record.specs.Reading.{EndsAs, Ends, IsReadAs}
+use Rattle.tcap_record.specs.Reading.{EndsAs, IsReadAs}
 use Rattle.tcap_record.proofs.MessageFacts.{message_sound, message_complete, message_refused}
 use Rattle.tcap_record.proofs.PlaceLaws.{header_fault_within, faulty_within}
 
@@ -65,7 +64,7 @@ body_is place octets (Err f) raw e = (λ m spelled. never m spelled, (f.place, r
         let there : message_at octets ≡ Ok (m, length octets) = ap message_at (sym (append-nil octets)) ∙ message_complete m octets [] spelled in
         cc
 
-pub element_is : (s : Span) → IsRaw s.octets → IsBody (body_at s) s.place s.octets
+element_is : (s : Span) → IsRaw s.octets → IsBody (body_at s) s.place s.octets
 unfolding body_at
 element_is s raw = body_is s.place s.octets (message_at s.octets) raw refl
 
@@ -89,7 +88,7 @@ no_end : (octet : ℕ) → end_in octet ≡ None → IsEndOctet octet → ⊥
 no_end octet e (inl h) = let k : end_in octet ≡ Some ends.A = rw h refl in cc
 no_end octet e (inr h) = let k : end_in octet ≡ Some ends.B = rw h refl in cc
 
-pub len_within : (s : Span) (n : ℕ) → len_at s ≡ Ok n → outer_at s.octets ≡ Ok (Whole n)
+len_within : (s : Span) (n : ℕ) → len_at s ≡ Ok n → outer_at s.octets ≡ Ok (Whole n)
 unfolding len_at
 len_within s n e = of_outer (outer_at s.octets) e
   where
@@ -137,9 +136,6 @@ entry_there : (place first : ℕ) (more : List ℕ) (x : Entry × Span) → entr
 unfolding entry_at
 entry_there place first more x e = of_end (end_in first) refl e
   where
-    behind_end : Span
-    behind_end = record { octets = more; place = place + 1 }
-
     of_len : (side : End) (r : Result ℕ FeedFault) → first ≡ octet_of side → len_at (record { octets = more; place = place + 1 }) ≡ r → with_len side (record { octets = more; place = place + 1 }) r ≡ Ok x
         → IsEntryAt (record { octets = first ∷ more; place = place }) x.0 x.1
     of_len side (Ok n) is l k =
@@ -152,7 +148,7 @@ entry_there place first more x e = of_end (end_in first) refl e
     of_end None h k = absurd cc
     of_end (Some side) h k = of_len side (len_at (record { octets = more; place = place + 1 })) (end_is first side h) refl k
 
-pub entry_sound : (s : Span) (x : Entry × Span) → 0 < length s.octets → entry_at s ≡ Ok x → IsEntryAt s x.0 x.1
+entry_sound : (s : Span) (x : Entry × Span) → 0 < length s.octets → entry_at s ≡ Ok x → IsEntryAt s x.0 x.1
 entry_sound s x some e = of_octets s.place s.octets some e
   where
     of_octets : (place : ℕ) (octets : List ℕ) → 0 < length octets → entry_at (record { octets = octets; place = place }) ≡ Ok x → IsEntryAt (record { octets = octets; place = place }) x.0 x.1
@@ -186,19 +182,12 @@ entry_not_there count place first more f room e = of_end (end_in first) refl e
         (record { offset = 0; place = omega arith; is_fault = (room, no_end first h, refl) })
     of_end (Some side) h k = of_outer (outer_at more) (subst IsEndOctet (sym (end_is first side h)) (is_end side)) refl side k
 
-pub entry_refused : (count : ℕ) (s : Span) (f : FeedFault) → count < entry_limit → 0 < length s.octets → entry_at s ≡ Err f → StopsAt count s f
+entry_refused : (count : ℕ) (s : Span) (f : FeedFault) → count < entry_limit → 0 < length s.octets → entry_at s ≡ Err f → StopsAt count s f
 entry_refused count s f room some e = of_octets s.place s.octets some e
   where
     of_octets : (place : ℕ) (octets : List ℕ) → 0 < length octets → entry_at (record { octets = octets; place = place }) ≡ Err f → StopsAt count (record { octets = octets; place = place }) f
     of_octets place [] some e = absurd (omega (arith, some))
     of_octets place (first ∷ more) some e = entry_not_there count place first more f room e
-
-too_many : (count : ℕ) (s : Span) → count ≡ entry_limit → 0 < length s.octets → StopsAt count s (feed_fault feed.TooManyEntries s.place)
-too_many count s full some = of_octets s.place s.octets some
-  where
-    of_octets : (place : ℕ) (octets : List ℕ) → 0 < length octets → StopsAt count (record { octets = octets; place = place }) (feed_fault feed.TooManyEntries place)
-    of_octets place [] some = absurd (omega (arith, some))
-    of_octets place (first ∷ more) some = record { offset = 0; place = omega arith; is_fault = (full, refl) }
 
 -- ---- the end of the octets
 
@@ -234,9 +223,6 @@ pub record IsFramedTo (entries : List Entry) (octets : List ℕ) (s : Span) : Ty
   pub place : s.place + length s.octets ≡ length octets
   pub within : length entries ≤ entry_limit
 
-pub framed_first : (octets : List ℕ) (entries : List Entry) (s : Span) → entries ≡ [] → s ≡ record { octets = octets; place = 0 } → IsFramedTo entries octets s
-framed_first octets entries s none start = rw (none, start) (record { framed = refl; place = omega arith; within = omega arith })
-
 pub framed_next : (entries more : List Entry) (octets : List ℕ) (s : Span) (entry : Entry) (rest : Span) → IsFramedTo entries octets s → length entries < entry_limit → 0 < length s.octets → entry_at s ≡ Ok (entry, rest)
     → more ≡ entries ++ entry ∷ [] → IsFramedTo more octets rest
 framed_next entries more octets s entry rest so_far room some e pushed =
@@ -252,15 +238,7 @@ rest_is_shorter s entry rest some e =
     let there = entry_sound s (entry, rest) some e in
     omega (arith, ap length there.joined, length-append there.element rest.octets)
 
-pub read_whole : (entries : List Entry) (octets : List ℕ) (s : Span) → IsFramedTo entries octets s → length s.octets ≡ 0 → IsReadAs entries (Ok tt) octets
-read_whole entries octets s so_far none = record {
-  rest = s.octets;
-  framed = so_far.framed;
-  within = so_far.within;
-  ends = nil_from_length s.octets none;
-}
-
-pub read_stops : (entries : List Entry) (octets : List ℕ) (s : Span) (f : FeedFault) → IsFramedTo entries octets s → StopsAt (length entries) s f → IsReadAs entries (Err f) octets
+read_stops : (entries : List Entry) (octets : List ℕ) (s : Span) (f : FeedFault) → IsFramedTo entries octets s → StopsAt (length entries) s f → IsReadAs entries (Err f) octets
 read_stops entries octets s f so_far stop = record {
   rest = s.octets;
   framed = so_far.framed;
@@ -268,10 +246,10 @@ read_stops entries octets s f so_far stop = record {
   ends = ends_as (length entries) (length octets) s.octets f.reason f.place stop.offset (omega (arith, stop.place, so_far.place)) stop.is_fault;
 }
 
-pub stop_is_own : (count : ℕ) (s : Span) (f : FeedFault) → StopsAt count s f → f.reason ≢ feed.Read
+stop_is_own : (count : ℕ) (s : Span) (f : FeedFault) → StopsAt count s f → f.reason ≢ feed.Read
 stop_is_own count s f stop e = not_reader count s.octets stop.offset (subst (λ (r : FeedReason). IsRestFault count s.octets r stop.offset) e stop.is_fault)
 
-pub read_to_memory : (entries : List Entry) (octets : List ℕ) (s : Span) → IsFramedTo entries octets s → IsReadAs entries (Err (feed_fault feed.Memory 0)) octets
+read_to_memory : (entries : List Entry) (octets : List ℕ) (s : Span) → IsFramedTo entries octets s → IsReadAs entries (Err (feed_fault feed.Memory 0)) octets
 read_to_memory entries octets s so_far = record { rest = s.octets; framed = so_far.framed; within = so_far.within; ends = refl }
 
 pub read_fails : (entries : List Entry) (octets : List ℕ) (s : Span) (f : FeedFault) → IsFramedTo entries octets s → length entries < entry_limit → 0 < length s.octets
@@ -282,18 +260,3 @@ read_fails entries octets s f so_far room some (inr h) = read_stops entries octe
 pub fault_is_own : (count : ℕ) (s : Span) (f : FeedFault) → count < entry_limit → 0 < length s.octets → (f ≡ feed_fault feed.Memory 0) ⊎ (entry_at s ≡ Err f) → f.reason ≢ feed.Read
 fault_is_own count s f room some (inl h) = λ e. cc (ap (λ (g : FeedFault). g.reason) h)
 fault_is_own count s f room some (inr h) = stop_is_own count s f (entry_refused count s f room some h)
-
--- ---- a reader that failed
-
--- the octets that were told before are all entries
-pub reader_failed : (entries : List Entry) (octets : List ℕ) → IsReadAs entries (Ok tt) octets → IsReadAs entries (Err (feed_fault feed.Read (length octets))) octets
-reader_failed entries octets read = record { rest = read.rest; framed = read.framed; within = read.within; ends = (refl, inl read.ends) }
-
--- or they end within an entry
-pub reader_failed_within : (entries : List Entry) (octets : List ℕ) (f : FeedFault) → f.reason ≡ feed.CutRecord → IsReadAs entries (Err f) octets → IsReadAs entries (Err (feed_fault feed.Read (length octets))) octets
-reader_failed_within entries octets f cut read =
-    let ends : EndsAs (length entries) (length octets) read.rest feed.CutRecord f.place = rw cut at read.ends in
-    record { rest = read.rest; framed = read.framed; within = read.within; ends = (refl, inr (ends.0, ends.2)) }
-
-pub nothing_read : (octets : List ℕ) → IsReadAs [] (Err (feed_fault feed.Memory 0)) octets
-nothing_read octets = record { rest = octets; framed = refl; within = omega arith; ends = refl }

@@ -1,14 +1,12 @@
 -- The place of a fault lies within the octets, or right behind them.
-use Rattle.std.proofs.Common.{◌≡◌, ℕ, ◌+◌, ◌-◌, ◌<◌, ◌≤◌, ◌⊎◌, List, [], ◌∷◌, ◌++◌, length, inl, inr, ap, arith}
+use Rattle.std.proofs.Common.{◌≡◌, ℕ, ◌+◌, ◌-◌, ◌≤◌, List, [], ◌∷◌, ◌++◌, length, inl, inr, ap, arith}
 use Rattle.std.proofs.lemmas.List.{length-append}
 use Rattle.tcap_ber.specs.declared.fault.Reason.{Reason}
 use Rattle.tcap_ber.specs.declared.fault.Reason.TheVariants as reasons
 use Rattle.tcap_ber.specs.Span.{Span}
 use Rattle.tcap_ber.specs.Header.{IsHeaderFault, HasLengthOctet}
-use Rattle.tcap_ber.specs.Element.{IsElement}
-use Rattle.tcap_ber.specs.Grammar.{Body, Field, Content, IsElementFault, IsFaultyInside, IsFaultyAfter, required, optional, parameter, ended, after, ◌⨾◌, each, structure, made, integer}
+use Rattle.tcap_ber.specs.Grammar.{Body, Field, Content, IsElementFault, IsFaultyInside, IsFaultyAfter, required, optional, parameter, ended, after, ◌⨾◌, each, structure, integer}
 use Rattle.tcap_ber.proofs.ElementLaws.{element_len}
-use Rattle.tcap_parts.specs.declared.component.Component.{Component}
 use Rattle.tcap_parts.specs.Component.{invoke_id, local_code, invoke, component, portion}
 use Rattle.tcap_msg.specs.Message.{IsFaulty, transaction_id, begin, whole}
 

@@ -2,7 +2,7 @@
 
 ghost use Rattle.std.specs.Prelude.{◌≡◌, ◌≢◌, ◌<◌, [], length, IfOk, IfErr, IsErr};
 ghost use Rattle.tcap_ber.specs.Span.{behind};
-ghost use Rattle.tcap_ber.specs.Reading.{span, outer_at};
+ghost use Rattle.tcap_ber.specs.Reading.{span};
 ghost use Rattle.tcap_record.specs.declared.fault.FeedReason.{FeedReason};
 ghost use Rattle.tcap_record.specs.Framing.{Frames, end_in, body_at, len_at, entry_at};
 ghost use Rattle.tcap_record.specs.Reading.{IsReadAs};
@@ -16,16 +16,18 @@ use tcap_msg::{DecodeFault, decode};
 /// The greatest count of entries of a record, this profile's limit.
 const ENTRY_LIMIT: usize = 100_000;
 
+pub(crate) const OUT_OF_MEMORY: FeedFault = FeedFault {
+    reason: FeedReason::Memory,
+    place: 0,
+};
+
 impl From<AllocError> for FeedFault {
     ghost use Rattle.tcap_record.specs.Framing.{feed_fault};
 
     ghost from_gives = { λ _ fault. fault ≡ feed_fault FeedReason.Memory 0 };
 
     fn from(_: AllocError) -> FeedFault {
-        FeedFault {
-            reason: FeedReason::Memory,
-            place: 0,
-        }
+        OUT_OF_MEMORY
     }
 }
 
@@ -35,10 +37,7 @@ impl<T: Drop> From<AllocFailed<T>> for FeedFault {
     ghost from_gives = { λ _ fault. fault ≡ feed_fault FeedReason.Memory 0 };
 
     fn from(_: AllocFailed<T>) -> FeedFault {
-        FeedFault {
-            reason: FeedReason::Memory,
-            place: 0,
-        }
+        OUT_OF_MEMORY
     }
 }
 

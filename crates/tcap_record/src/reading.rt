@@ -1,6 +1,6 @@
 //! Reading a record from a device.
 
-ghost use Rattle.std.specs.Prelude.{◌≡◌, ℕ, List, IsOk, MatchResult, Ok, Err, OnOk};
+ghost use Rattle.std.specs.Prelude.{ℕ, List, IsOk, MatchResult, Ok, Err, OnOk};
 ghost use Rattle.std.specs.Io.KnownBytes.{Consumes, IsAtEnd};
 ghost use Rattle.tcap_record.specs.declared.entry.Entry.{Entry};
 ghost use Rattle.tcap_record.specs.declared.fault.FeedFault.{FeedFault};
@@ -8,8 +8,8 @@ ghost use Rattle.tcap_record.specs.Reading.{IsReadAs, FailsOnlyByReader};
 ghost use Rattle.tcap_record.specs.Framing.{outcome};
 
 use crate::entry::Record;
-use crate::fault::{FeedFault, FeedReason};
-use crate::framing::{read_all, read_failed};
+use crate::fault::FeedFault;
+use crate::framing::{OUT_OF_MEMORY, read_all, read_failed};
 use std::alloc::Global;
 use tcap_ber::{Read, ReadError, read_to_end};
 
@@ -38,10 +38,7 @@ pub fn read_entries<R: Read>(alloc: Global, reader: &mut R) -> Reading
     let end = match read_to_end(reader, &mut octets) {
         Ok(()) => read_all(alloc, &octets, &mut entries),
         Err(ReadError::Failed) => read_failed(alloc, &octets, &mut entries),
-        Err(ReadError::Memory) => Err(FeedFault {
-            reason: FeedReason::Memory,
-            place: 0,
-        }),
+        Err(ReadError::Memory) => Err(OUT_OF_MEMORY),
     };
     Reading {
         record: Record { entries },
