@@ -3,9 +3,12 @@
 
 mod entry;
 mod fault;
+mod framing;
 mod lines;
 mod printing;
+mod reading;
 
 pub use entry::{Body, End, Entry, Record};
 pub use fault::{FeedFault, FeedReason};
 pub use printing::{ShowFault, show};
+pub use reading::{Reading, read_entries, read_record};
