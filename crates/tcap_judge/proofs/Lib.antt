@@ -1,3 +1,4 @@
 pub mod Help
 pub mod Tool
 pub mod Cases
+pub mod PrintLaws

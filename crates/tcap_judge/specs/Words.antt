@@ -6,8 +6,8 @@ use Rattle.clap.specs.Simple.{new_shape, on_top}
 use Rattle.clap.specs.declared.error.kind.ErrorKind.{ErrorKind}
 use Rattle.clap.specs.declared.error.kind.ErrorKind.TheVariants as kind
 use Rattle.clap.specs.declared.error.Error.{Error}
-use Rattle.tcap_judge.specs.declared.words.Request.{Request}
-use Rattle.tcap_judge.specs.declared.words.Request.TheVariants.{Show}
+use Rattle.tcap_judge.specs.declared.asked.Request.{Request}
+use Rattle.tcap_judge.specs.declared.asked.Request.TheVariants.{Show}
 use Rattle.tcap_judge.specs.declared.words.WordsFault.{WordsFault}
 use Rattle.tcap_judge.specs.declared.words.WordsFault.TheVariants.{Words, Memory}
 

@@ -1,6 +1,12 @@
-//! The program `tcapjudge`, but for what only its main function does.
+//! What `tcapjudge` does: the words of its command line, and its runs over readers and writers.
 #![tactic(auto)]
 
+mod asked;
+mod showing;
+mod status;
 mod words;
 
-pub use words::{Request, WordsFault, read_request};
+pub use asked::Request;
+pub use showing::run_show;
+pub use status::{Status, WriteFailed};
+pub use words::{WordsFault, request};

@@ -1,20 +1,15 @@
 //! What the words of the command line ask for.
+
 ghost use Rattle.std.specs.Prelude.{◌≡◌, ◌∷◌, [], IfErr, IfOk, MatchResult, codes, true};
 ghost use Rattle.clap.specs.Words.{app_of, fault_of, kind_of, takes};
 ghost use Rattle.clap.specs.Walk.{Text, texts};
 ghost use Rattle.tcap_judge.specs.Words.{Asks, Becomes, IsFaultOf, IsMemory, is_help, tool};
 
+use crate::asked::Request;
 use clap::error::ErrorKind;
 use clap::{Command, Error};
 use std::alloc::{AllocError, Global};
 use std::{error, fmt};
-
-/// What the program is asked to do.
-#[derive(Clone, Copy, Debug, PartialEq, Eq)]
-pub enum Request {
-    /// Print the entries of the record on standard input.
-    Show,
-}
 
 /// Why words are not a request. Its `Display` is the text for the user.
 #[derive(Debug, Drop)]
@@ -82,7 +77,7 @@ fn command<'a>(alloc: Global) -> Result<Command<'a>, AllocError>
 }
 
 /// What `words` ask for: the program's name, and then the words behind it.
-pub fn read_request<'a>(alloc: Global, words: &'a [&'a str]) -> Result<Request, WordsFault>
+pub fn request<'a>(alloc: Global, words: &'a [&'a str]) -> Result<Request, WordsFault>
     ensures asks { IfOk result (Asks (texts words.entry.now)) }
     ensures taken { takes tool (texts words.entry.now) ≡ true → IfErr result IsMemory }
     ensures show { (program : Text) → texts words.entry.now ≡ program ∷ codes "show" ∷ []

@@ -12,7 +12,7 @@ use Rattle.clap.specs.Walk.{Row, Text, texts}
 use Rattle.tcap_judge.specs.Words.{tool}
 use Rattle.tcap_judge.proofs.Cases.{show_taken}
 use Rattle.tcap_judge.proofs.Tool.{as_fault, became_memory, fused, named, tool_simple, tool_is_simple}
-use Rattle.tcap_judge.proofs.words.read_request.Goals as goal
+use Rattle.tcap_judge.proofs.words.request.Goals as goal
 
 pub returns-in_err-matches-clause-taken : goal.returns-in_err-matches-clause-taken
 returns-in_err-matches-clause-taken c taken =

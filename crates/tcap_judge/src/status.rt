@@ -1,0 +1,32 @@
+//! How a run ended.
+
+ghost use Rattle.std.specs.Prelude.{◌≡◌};
+ghost use Rattle.tcap_judge.specs.Shown.{status_number};
+
+use thiserror::Error;
+
+/// How a run ended that printed all it had to.
+#[derive(Clone, Copy, Debug, PartialEq, Eq)]
+pub enum Status {
+    /// No line of fault was printed.
+    Fine,
+    /// A line of fault was printed.
+    Fault,
+}
+
+impl Status {
+    /// The exit status of the program: 0 or 3.
+    pub fn number(self) -> u8
+        ensures { result ≡ status_number self }
+    {
+        match self {
+            Status::Fine => 0,
+            Status::Fault => 3,
+        }
+    }
+}
+
+/// A writer failed; what went out is not said.
+#[derive(Clone, Copy, Debug, PartialEq, Eq, Error)]
+#[error("write failed")]
+pub struct WriteFailed;
