@@ -1,0 +1,16 @@
+//! The worked rows, over memory: tests that cross crates, each a table of inputs with the answers that are
+//! wanted of them.
+#![tactic(auto)]
+
+#[cfg(test)]
+mod decoding;
+#[cfg(test)]
+mod devices;
+#[cfg(test)]
+mod limits;
+#[cfg(test)]
+mod showing;
+#[cfg(test)]
+mod values;
+#[cfg(test)]
+mod words;
