@@ -3,8 +3,16 @@
 
 RECORD = examples/two_begins.hex
 
-tools:
-	@command -v rt >/dev/null || { echo "missing: rt, the command of the Rattle kit" >&2; exit 2; }
+# The octets of lines of hexadecimal digits; lines that begin with # are left out.
+OCTETS = import sys; sys.stdout.buffer.write(bytes.fromhex("".join(l for l in sys.stdin if l[0] != "\#")))
+
+demo: tools
+	@cd crates/tcapjudge && rt run -- --help >build.log 2>&1 || { cat build.log >&2; exit 1; }
+	@rm -f crates/tcapjudge/build.log
+	@python3 -c '$(OCTETS)' <$(RECORD) | crates/tcapjudge/out/tcapjudge show
 
 test: tools
 	rt ci
+
+tools:
+	@for tool in rt python3; do command -v $$tool >/dev/null || { echo "missing: $$tool" >&2; exit 2; }; done
