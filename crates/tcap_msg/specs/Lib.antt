@@ -2,3 +2,4 @@ pub mod Message
 pub mod Meaning
 pub mod Reading
 pub mod Decode
+pub mod Canonical

@@ -1,3 +1,4 @@
 pub mod Component
 pub mod Meaning
 pub mod Reading
+pub mod Canonical
