@@ -6,3 +6,4 @@ pub mod ElementLaws
 pub mod OuterLaws
 pub mod GrammarLaws
 pub mod ResultLaws
+pub mod CanonicalLaws
