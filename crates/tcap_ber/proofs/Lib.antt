@@ -7,3 +7,4 @@ pub mod OuterLaws
 pub mod GrammarLaws
 pub mod ResultLaws
 pub mod CanonicalLaws
+pub mod PutLaws

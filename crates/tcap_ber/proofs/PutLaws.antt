@@ -1,0 +1,71 @@
+-- The shortest contents of an INTEGER are the last of its four octets.
+use Rattle.std.proofs.Common.{◌≡◌, ℕ, suc, ◌-◌, ◌^◌, ◌<◌, ◌/◌, ◌%◌, ℤ, pos, negsuc, Bool, true, false, cond, nat_lt, List, ◌++◌, take, drop, Option, Result, Ok, Err, OnOk, w32, refl, ap, ◌∙◌, subst, arith}
+use Rattle.std.proofs.KnownBytes.{Appends-trans}
+use Rattle.std.specs.Io.KnownBytes.{Appends}
+use Rattle.std.specs.Int.{cast_unsigned}
+use Rattle.std.proofs.lemmas.Bool.{ltb-true}
+use Rattle.std.proofs.lemmas.List.{take_rest}
+use Rattle.tcap_ber.specs.Canonical.{magnitude, integer_len, integer_octets, twos_complement, number_octets}
+use Rattle.tcap_ber.specs.declared.device.Failed.{Failed}
+use Rattle.tcap_ber.specs.Device.{Takes}
+
+-- the last so many of the four octets are those of the shorter number
+abbrev Ends : ℤ → ℕ → Type 0
+Ends value count = drop (4 - count) (number_octets 4 (cast_unsigned w32 value)) ≡ number_octets count (twos_complement count value)
+
+ends-1 : (value : ℤ) → magnitude value < 0x80 → Ends value 1
+ends-1 (pos n) h = refl
+ends-1 (negsuc n) h =
+    let a : (2 ^ 32 - suc n) % 256 ≡ (256 ^ 1 - 1 - n) % 256 = omega arith in
+    cc
+
+ends-2 : (value : ℤ) → magnitude value < 0x8000 → Ends value 2
+ends-2 (pos n) h = refl
+ends-2 (negsuc n) h =
+    let a : (2 ^ 32 - suc n) % 256 ≡ (256 ^ 2 - 1 - n) % 256 = omega arith in
+    let b : (2 ^ 32 - suc n) / 256 % 256 ≡ (256 ^ 2 - 1 - n) / 256 % 256 = omega arith in
+    cc
+
+ends-3 : (value : ℤ) → magnitude value < 0x800000 → Ends value 3
+ends-3 (pos n) h = refl
+ends-3 (negsuc n) h =
+    let a : (2 ^ 32 - suc n) % 256 ≡ (256 ^ 3 - 1 - n) % 256 = omega arith in
+    let b : (2 ^ 32 - suc n) / 256 % 256 ≡ (256 ^ 3 - 1 - n) / 256 % 256 = omega arith in
+    let d : (2 ^ 32 - suc n) / 256 / 256 % 256 ≡ (256 ^ 3 - 1 - n) / 256 / 256 % 256 = omega arith in
+    cc
+
+ends-4 : (value : ℤ) → Ends value 4
+ends-4 (pos n) = refl
+ends-4 (negsuc n) = let a : 2 ^ 32 - suc n ≡ 256 ^ 4 - 1 - n = omega arith in ap (number_octets 4) a
+
+pub last_octets : (value : ℤ) → drop (4 - integer_len value) (number_octets 4 (cast_unsigned w32 value)) ≡ integer_octets value
+last_octets value = of_one (nat_lt (magnitude value) 0x80) refl
+  where
+    of_three : (b : Bool) → nat_lt (magnitude value) 0x800000 ≡ b → Ends value (cond b 3 4)
+    of_three true e = ends-3 value (ltb-true (magnitude value) 0x800000 e)
+    of_three false e = ends-4 value
+
+    of_two : (b : Bool) → nat_lt (magnitude value) 0x8000 ≡ b → Ends value (cond b 2 (cond (nat_lt (magnitude value) 0x800000) 3 4))
+    of_two true e = ends-2 value (ltb-true (magnitude value) 0x8000 e)
+    of_two false e = of_three (nat_lt (magnitude value) 0x800000) refl
+
+    of_one : (b : Bool) → nat_lt (magnitude value) 0x80 ≡ b → Ends value (cond b 1 (cond (nat_lt (magnitude value) 0x8000) 2 (cond (nat_lt (magnitude value) 0x800000) 3 4)))
+    of_one true e = ends-1 value (ltb-true (magnitude value) 0x80 e)
+    of_one false e = of_two (nat_lt (magnitude value) 0x8000) refl
+
+-- what a call wrote, behind what was written before it
+pub writes_then : (a b c : Option (List ℕ)) (front rest : List ℕ) (r : Result (Unit {0}) Failed) → Appends a b front → OnOk r (Appends b c rest) → OnOk r (Appends a c (front ++ rest))
+writes_then a b c front rest (Ok _) before more = Appends-trans a b c front rest before more
+writes_then a b c front rest (Err _) before more = tt
+
+-- the octets of a header, and then the contents
+pub takes_then : (a b c : Option (List ℕ)) (front octets rest : List ℕ) (r : Result (Unit {0}) Failed) → Appends a b front → Takes b c r octets → octets ≡ rest
+    → OnOk r (Appends a c (front ++ rest))
+takes_then a b c front octets rest (Ok _) before more same = subst (λ (x : List ℕ). Appends a c (front ++ x)) same (Appends-trans a b c front octets before more)
+takes_then a b c front octets rest (Err _) before more same = tt
+
+-- what is written of the four octets
+pub contents_of : (value : ℤ) (len : ℕ) (octets : List ℕ) → len ≡ integer_len value → octets ≡ number_octets 4 (cast_unsigned w32 value)
+    → take (4 - (4 - len)) (drop (4 - len) octets) ≡ integer_octets value
+contents_of value len octets l o =
+    rw (l, o) (take_rest (number_octets 4 (cast_unsigned w32 value)) (4 - integer_len value) ∙ last_octets value)
