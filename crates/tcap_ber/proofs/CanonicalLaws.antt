@@ -4,6 +4,7 @@ use Rattle.std.specs.Prelude.{nat_lt, nat_le, pos, negsuc}
 use Rattle.std.proofs.lemmas.Bool.{ltb-true, ltb-false, lt-ltb, le-ltb, leb-true}
 use Rattle.tcap_ber.specs.Element.{IsElement, IsLength, number, content_limit}
 use Rattle.tcap_ber.specs.Integer.{IsInteger, signed}
+use Rattle.tcap_ber.specs.Grammar.{IsElementOf}
 use Rattle.tcap_ber.specs.Canonical.{shortest_length, shortest_header, element_around, ◌⧺◌, number_octets, magnitude, integer_len, twos_complement, integer_octets}
 use Rattle.tcap_ber.proofs.Steps.{chosen}
 
@@ -55,20 +56,23 @@ one_low n h = record { is_integer = tt; count_is = refl; value = signed-low (n %
 
 two_low : (n : ℕ) → 0x80 ≤ n → n < 0x8000 → Writes (pos n) 2 (number_octets 2 n)
 two_low n l h = record {
-  is_integer = (λ z. omega (arith, z.0, z.1), λ z. omega (arith, z.0, z.1)); count_is = refl;
-  value = signed-low (n / 256 % 256) (n % 256 ∷ []) n (omega arith) (omega arith)
+  is_integer = (λ z. omega (arith, z.0, z.1), λ z. omega (arith, z.0, z.1));
+  count_is = refl;
+  value = signed-low (n / 256 % 256) (n % 256 ∷ []) n (omega arith) (omega arith);
 }
 
 three_low : (n : ℕ) → 0x8000 ≤ n → n < 0x800000 → Writes (pos n) 3 (number_octets 3 n)
 three_low n l h = record {
-  is_integer = (λ z. omega (arith, z.0, z.1), λ z. omega (arith, z.0, z.1)); count_is = refl;
-  value = signed-low (n / 256 / 256 % 256) (n / 256 % 256 ∷ n % 256 ∷ []) n (omega arith) (omega arith)
+  is_integer = (λ z. omega (arith, z.0, z.1), λ z. omega (arith, z.0, z.1));
+  count_is = refl;
+  value = signed-low (n / 256 / 256 % 256) (n / 256 % 256 ∷ n % 256 ∷ []) n (omega arith) (omega arith);
 }
 
 four_low : (n : ℕ) → 0x800000 ≤ n → n < 2 ^ 31 → Writes (pos n) 4 (number_octets 4 n)
 four_low n l h = record {
-  is_integer = (λ z. omega (arith, z.0, z.1), λ z. omega (arith, z.0, z.1)); count_is = refl;
-  value = signed-low (n / 256 / 256 / 256 % 256) (n / 256 / 256 % 256 ∷ n / 256 % 256 ∷ n % 256 ∷ []) n (omega arith) (omega arith)
+  is_integer = (λ z. omega (arith, z.0, z.1), λ z. omega (arith, z.0, z.1));
+  count_is = refl;
+  value = signed-low (n / 256 / 256 / 256 % 256) (n / 256 / 256 % 256 ∷ n / 256 % 256 ∷ n % 256 ∷ []) n (omega arith) (omega arith);
 }
 
 one_high : (n : ℕ) → n < 0x80 → Writes (negsuc n) 1 (number_octets 1 (256 ^ 1 - 1 - n))
@@ -77,20 +81,23 @@ one_high n h = record { is_integer = tt; count_is = refl; value = signed-high ((
 -- t is the number that is written for -1 - n
 two_high : (n t : ℕ) → 0x80 ≤ n → n < 0x8000 → t + n + 1 ≡ 65536 → Writes (negsuc n) 2 (number_octets 2 t)
 two_high n t l h e = record {
-  is_integer = (λ z. omega (arith, z.0, z.1), λ z. omega (arith, z.0, z.1)); count_is = refl;
-  value = signed-high (t / 256 % 256) (t % 256 ∷ []) n (omega arith) (omega arith)
+  is_integer = (λ z. omega (arith, z.0, z.1), λ z. omega (arith, z.0, z.1));
+  count_is = refl;
+  value = signed-high (t / 256 % 256) (t % 256 ∷ []) n (omega arith) (omega arith);
 }
 
 three_high : (n t : ℕ) → 0x8000 ≤ n → n < 0x800000 → t + n + 1 ≡ 16777216 → Writes (negsuc n) 3 (number_octets 3 t)
 three_high n t l h e = record {
-  is_integer = (λ z. omega (arith, z.0, z.1), λ z. omega (arith, z.0, z.1)); count_is = refl;
-  value = signed-high (t / 256 / 256 % 256) (t / 256 % 256 ∷ t % 256 ∷ []) n (omega arith) (omega arith)
+  is_integer = (λ z. omega (arith, z.0, z.1), λ z. omega (arith, z.0, z.1));
+  count_is = refl;
+  value = signed-high (t / 256 / 256 % 256) (t / 256 % 256 ∷ t % 256 ∷ []) n (omega arith) (omega arith);
 }
 
 four_high : (n t : ℕ) → 0x800000 ≤ n → n < 2 ^ 31 → t + n + 1 ≡ 4294967296 → Writes (negsuc n) 4 (number_octets 4 t)
 four_high n t l h e = record {
-  is_integer = (λ z. omega (arith, z.0, z.1), λ z. omega (arith, z.0, z.1)); count_is = refl;
-  value = signed-high (t / 256 / 256 / 256 % 256) (t / 256 / 256 % 256 ∷ t / 256 % 256 ∷ t % 256 ∷ []) n (omega arith) (omega arith)
+  is_integer = (λ z. omega (arith, z.0, z.1), λ z. omega (arith, z.0, z.1));
+  count_is = refl;
+  value = signed-high (t / 256 / 256 / 256 % 256) (t / 256 / 256 % 256 ∷ t / 256 % 256 ∷ t % 256 ∷ []) n (omega arith) (omega arith);
 }
 
 -- the octets that are written for a number of 32 bits
@@ -150,7 +157,7 @@ integer_one n h = (integer_written n (omega arith)).count_is ∙ rw (lt-ltb (mag
 
 -- ---- options
 
-abbrev there : List ℕ → Option (List ℕ)
+abbrev pub there : List ℕ → Option (List ℕ)
 there x = Some x
 
 -- what an element around a content is
@@ -160,7 +167,7 @@ pub record IsAround (tag : ℕ) (x : Option (List ℕ)) (octets : List ℕ) : Ty
   pub within : length content ≤ content_limit
   pub octets_are : octets ≡ shortest_header tag (length content) ++ content
 
-some_is : (x y : List ℕ) → there x ≡ there y → x ≡ y
+pub some_is : (x y : List ℕ) → there x ≡ there y → x ≡ y
 some_is x y e = cc
 
 pub element_around-is : (tag : ℕ) (x : Option (List ℕ)) (octets : List ℕ) → element_around tag x ≡ Some octets → IsAround tag x octets
@@ -171,10 +178,16 @@ element_around-is tag (Some content) octets e =
       | inr h ↦ absurd cc
     ]
 
--- an element around a content that is there is an element of that
-pub element_around-element : (tag : ℕ) (x : Option (List ℕ)) (octets : List ℕ) → tag % 32 ≢ 31 → (e : IsAround tag x octets) → IsElement (tag ∷ []) e.content octets
-element_around-element tag x octets short e =
-    subst (IsElement (tag ∷ []) e.content) (sym e.octets_are) (header_is_element tag e.content short e.within)
+-- an element around what such a content is, is one
+pub element_around-spells : (tag : ℕ) (spells : List ℕ → Type 0) (x : Option (List ℕ)) (octets : List ℕ) → tag % 32 ≢ 31
+    → ((content : List ℕ) → x ≡ Some content → spells content) → element_around tag x ≡ Some octets → IsElementOf tag spells octets
+element_around-spells tag spells x octets short inside e =
+    let a = element_around-is tag x octets e in
+    record {
+      content = a.content;
+      is_element = subst (IsElement (tag ∷ []) a.content) (sym a.octets_are) (header_is_element tag a.content short a.within);
+      inside = inside a.content a.is_some;
+    }
 
 -- what two parts are
 pub record IsJoin (x y : Option (List ℕ)) (octets : List ℕ) : Type 0 where
@@ -189,6 +202,8 @@ join-is None y octets e = absurd cc
 join-is (Some front) None octets e = absurd cc
 join-is (Some front) (Some rest) octets e = record { front = front; rest = rest; is_front = refl; is_rest = refl; octets_are = sym (some_is (front ++ rest) octets e) }
 
--- the content that is there is the one
-pub around_content : (tag : ℕ) (content octets : List ℕ) (e : IsAround tag (Some content) octets) → e.content ≡ content
-around_content tag content octets e = sym (some_is content e.content e.is_some)
+-- an element around a content that is there
+pub element_of-spells : (tag : ℕ) (spells : List ℕ → Type 0) (content octets : List ℕ) → tag % 32 ≢ 31 → spells content
+    → element_around tag (Some content) ≡ Some octets → IsElementOf tag spells octets
+element_of-spells tag spells content octets short inside e =
+    element_around-spells tag spells (Some content) octets short (λ c k. subst spells (some_is content c k) inside) e

@@ -1,2 +1,3 @@
 pub mod ComponentLaws
 pub mod PortionLaws
+pub mod CanonicalLaws

@@ -2,3 +2,4 @@ pub mod Component
 pub mod Meaning
 pub mod Reading
 pub mod Canonical
+pub mod Valid
