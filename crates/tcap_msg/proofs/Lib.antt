@@ -1,3 +1,5 @@
 pub mod BeginLaws
 pub mod MessageLaws
 pub mod DecodeLaws
+pub mod CanonicalLaws
+pub mod SpellingLaws
