@@ -1,11 +1,12 @@
 -- The shortest contents of an INTEGER are the last of its four octets.
-use Rattle.std.proofs.Common.{◌≡◌, ℕ, suc, ◌-◌, ◌^◌, ◌<◌, ◌/◌, ◌%◌, ℤ, pos, negsuc, Bool, true, false, cond, nat_lt, List, ◌++◌, take, drop, Option, Result, Ok, Err, OnOk, w32, refl, ap, ◌∙◌, subst, arith}
+use Rattle.std.proofs.Common.{◌≡◌, ℕ, zero, suc, ◌-◌, ◌^◌, ◌<◌, ◌≤◌, ◌/◌, ◌%◌, ℤ, pos, negsuc, Bool, true, false, cond, nat_lt, List, [], ◌∷◌, ◌++◌, length, take, drop, Option, Some, Result, Ok, Err, OnOk, w32, refl, ap, ◌∙◌, subst, arith}
 use Rattle.std.proofs.KnownBytes.{Appends-trans}
 use Rattle.std.specs.Io.KnownBytes.{Appends}
 use Rattle.std.specs.Int.{cast_unsigned}
-use Rattle.std.proofs.lemmas.Bool.{ltb-true}
-use Rattle.std.proofs.lemmas.List.{take_rest}
-use Rattle.tcap_ber.specs.Canonical.{magnitude, integer_len, integer_octets, twos_complement, number_octets}
+use Rattle.std.proofs.lemmas.Bool.{ltb-true, le-leb}
+use Rattle.std.proofs.lemmas.Bool.Decides.{nat_tests}
+use Rattle.std.proofs.lemmas.List.{take_rest, length-append}
+use Rattle.tcap_ber.specs.Canonical.{magnitude, shortest_header, element_around, integer_len, integer_octets, twos_complement, number_octets}
 use Rattle.tcap_ber.specs.declared.device.Failed.{Failed}
 use Rattle.tcap_ber.specs.Device.{Takes}
 
@@ -69,3 +70,20 @@ pub contents_of : (value : ℤ) (len : ℕ) (octets : List ℕ) → len ≡ inte
     → take (4 - (4 - len)) (drop (4 - len) octets) ≡ integer_octets value
 contents_of value len octets l o =
     rw (l, o) (take_rest (number_octets 4 (cast_unsigned w32 value)) (4 - integer_len value) ∙ last_octets value)
+
+length-number_octets : (count n : ℕ) → length (number_octets count n) ≡ count
+length-number_octets zero n = refl
+length-number_octets (suc count) n = omega (arith, length-append (number_octets count (n / 256)) (n % 256 ∷ []), length-number_octets count (n / 256))
+
+pub length-integer_octets : (n : ℤ) → length (integer_octets n) ≡ integer_len n
+length-integer_octets n = length-number_octets (integer_len n) (twos_complement (integer_len n) n)
+
+at_most_four : (m : ℕ) → cond (nat_lt m 0x80) 1 (cond (nat_lt m 0x8000) 2 (cond (nat_lt m 0x800000) 3 4)) ≤ 4
+at_most_four m = grind (arith, nat_tests)
+
+pub length-shortest_header : (tag count : ℕ) → count ≤ 65535 → length (shortest_header tag count) ≤ 4
+length-shortest_header tag count h = grind (arith, nat_tests)
+
+-- an INTEGER is within the limit
+pub integer_around : (tag : ℕ) (n : ℤ) → element_around tag (Some (integer_octets n)) ≡ Some (shortest_header tag (integer_len n) ++ integer_octets n)
+integer_around tag n = rw (length-integer_octets n) (rw (le-leb (integer_len n) 65535 (omega (arith, at_most_four (magnitude n)))) refl)
