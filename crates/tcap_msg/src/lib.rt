@@ -1,6 +1,7 @@
 //! TCAP messages (Q.773): read into a view that borrows the octets, or into a value.
 #![tactic(auto)]
 
+pub mod laws;
 mod message;
 mod transaction_id;
 mod views;
