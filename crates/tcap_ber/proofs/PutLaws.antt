@@ -1,12 +1,13 @@
 -- The shortest contents of an INTEGER are the last of its four octets.
-use Rattle.std.proofs.Common.{◌≡◌, ℕ, zero, suc, ◌-◌, ◌^◌, ◌<◌, ◌≤◌, ◌/◌, ◌%◌, ℤ, pos, negsuc, Bool, true, false, cond, nat_lt, List, [], ◌∷◌, ◌++◌, length, take, drop, Option, Some, Result, Ok, Err, OnOk, w32, refl, ap, ◌∙◌, subst, arith}
+use Rattle.std.proofs.Common.{◌≡◌, ℕ, zero, suc, ◌-◌, ◌^◌, ◌<◌, ◌≤◌, ◌/◌, ◌%◌, ℤ, pos, negsuc, Bool, true, false, cond, nat_lt, List, [], ◌∷◌, ◌++◌, length, take, drop, Option, Some, None, Result, Ok, Err, OnOk, w32, ◌+◌, append_assoc, refl, sym, ap, ◌∙◌, subst, arith}
+use Rattle.std.specs.Option.{option_map, IsSome}
 use Rattle.std.proofs.KnownBytes.{Appends-trans}
 use Rattle.std.specs.Io.KnownBytes.{Appends}
 use Rattle.std.specs.Int.{cast_unsigned}
-use Rattle.std.proofs.lemmas.Bool.{ltb-true, le-leb}
+use Rattle.std.proofs.lemmas.Bool.{ltb-true, le-leb, lt-leb}
 use Rattle.std.proofs.lemmas.Bool.Decides.{nat_tests}
-use Rattle.std.proofs.lemmas.List.{take_rest, length-append}
-use Rattle.tcap_ber.specs.Canonical.{magnitude, shortest_header, element_around, integer_len, integer_octets, twos_complement, number_octets}
+use Rattle.std.proofs.lemmas.List.{take_rest, length-append, append-nil}
+use Rattle.tcap_ber.specs.Canonical.{magnitude, shortest_header, element_around, integer_len, integer_octets, twos_complement, number_octets, ◌⧺◌}
 use Rattle.tcap_ber.specs.declared.device.Failed.{Failed}
 use Rattle.tcap_ber.specs.Device.{Takes}
 
@@ -87,3 +88,62 @@ length-shortest_header tag count h = grind (arith, nat_tests)
 -- an INTEGER is within the limit
 pub integer_around : (tag : ℕ) (n : ℤ) → element_around tag (Some (integer_octets n)) ≡ Some (shortest_header tag (integer_len n) ++ integer_octets n)
 integer_around tag n = rw (length-integer_octets n) (rw (le-leb (integer_len n) 65535 (omega (arith, at_most_four (magnitude n)))) refl)
+
+-- ---- an element around a content
+
+pub around_short : (tag : ℕ) (content : List ℕ) → length content ≤ 65535 → element_around tag (Some content) ≡ Some (shortest_header tag (length content) ++ content)
+around_short tag content h = rw (le-leb (length content) 65535 h) refl
+
+pub around_long : (tag : ℕ) (content : List ℕ) → 65535 < length content → element_around tag (Some content) ≡ None
+around_long tag content h = rw (lt-leb (length content) 65535 h) refl
+
+pub around_len : (tag : ℕ) (content : List ℕ) (len header : ℕ) → len ≡ length content → len ≤ 65535 → header ≡ length (shortest_header tag len)
+    → option_map length (element_around tag (Some content)) ≡ Some (header + len)
+around_len tag content len header l h e =
+    let fits : length content ≤ 65535 = omega arith in
+    let same : header ≡ length (shortest_header tag (length content)) = e ∙ ap (λ (n : ℕ). length (shortest_header tag n)) l in
+    let total : length (shortest_header tag (length content) ++ content) ≡ header + len = omega (arith, length-append (shortest_header tag (length content)) content, same) in
+    ap (option_map length) (around_short tag content fits) ∙ ap (λ (n : ℕ). Some n) total
+
+-- ---- two parts one after the other
+
+pub join_nil : (x : Option (List ℕ)) → Some [] ⧺ x ≡ x
+join_nil None = refl
+join_nil (Some x) = refl
+
+pub nil_join : (x : Option (List ℕ)) → x ⧺ Some [] ≡ x
+nil_join None = refl
+nil_join (Some x) = ap (λ (y : List ℕ). Some y) (append-nil x)
+
+pub join_assoc : (x y z : Option (List ℕ)) → (x ⧺ y) ⧺ z ≡ x ⧺ (y ⧺ z)
+join_assoc None y z = refl
+join_assoc (Some a) None z = refl
+join_assoc (Some a) (Some b) None = refl
+join_assoc (Some a) (Some b) (Some d) = ap (λ (y : List ℕ). Some y) (append_assoc a b d)
+
+pub join_none : (x : Option (List ℕ)) → x ⧺ None ≡ None
+join_none None = refl
+join_none (Some a) = refl
+
+some_same : (n m : ℕ) → (let a : Option ℕ = Some n in a) ≡ Some m → n ≡ m
+some_same n m e = cc
+
+pub join_len : (x y : Option (List ℕ)) (n m : ℕ) → option_map length x ≡ Some n → option_map length y ≡ Some m → option_map length (x ⧺ y) ≡ Some (n + m)
+join_len None y n m p q = absurd cc
+join_len (Some a) None n m p q = absurd cc
+join_len (Some a) (Some b) n m p q =
+    let k : length (a ++ b) ≡ n + m = omega (arith, length-append a b, some_same (length a) n p, some_same (length b) m q) in
+    ap (λ (x : ℕ). Some x) k
+
+-- what has no length is not there
+pub no_len : (x : Option (List ℕ)) → None ≡ option_map length x → x ≡ None
+no_len None e = refl
+no_len (Some x) e = absurd cc
+
+pub some_there : (x : Option (List ℕ)) → IsSome x → (octets : List ℕ) × (x ≡ Some octets)
+some_there None h = absurd cc
+some_there (Some x) h = (x, refl)
+
+pub some_not_none : (x : Option (List ℕ)) → IsSome x → x ≡ None → ⊥
+some_not_none None h e = cc
+some_not_none (Some x) h e = cc

@@ -11,7 +11,8 @@ use crate::device::{Failed, Write};
 /// one octet.
 pub fn header_len(content_len: usize) -> usize
     requires { content_len ≤ 65535 }
-    ensures { (tag : ℕ) → result ≡ length (shortest_header tag content_len) }
+    ensures exact { (tag : ℕ) → result ≡ length (shortest_header tag content_len) }
+    ensures most { result ≤ 4 }
 {
     if content_len < 0x80 {
         2
