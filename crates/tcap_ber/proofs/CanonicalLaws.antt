@@ -1,11 +1,11 @@
 -- The canonical spellings of headers and of integers are such spellings.
-use Rattle.std.proofs.Common.{◌≡◌, ◌≢◌, ℕ, suc, ◌+◌, ◌-◌, ◌*◌, ◌/◌, ◌%◌, ◌^◌, ◌<◌, ◌≤◌, ◌⊎◌, true, false, cond, List, [], ◌∷◌, ◌++◌, length, Option, Some, None, refl, sym, ap, subst, ◌∙◌, inl, inr, arith, ℤ}
+use Rattle.std.proofs.Common.{◌≡◌, ◌≢◌, ℕ, ◌+◌, ◌-◌, ◌/◌, ◌%◌, ◌^◌, ◌<◌, ◌≤◌, ◌⊎◌, true, false, cond, List, [], ◌∷◌, ◌++◌, length, Option, Some, None, refl, sym, ap, subst, ◌∙◌, inl, inr, arith, ℤ}
 use Rattle.std.specs.Prelude.{nat_lt, nat_le, pos, negsuc}
 use Rattle.std.proofs.lemmas.Bool.{ltb-true, ltb-false, lt-ltb, le-ltb, leb-true}
 use Rattle.tcap_ber.specs.Element.{IsElement, IsLength, number, content_limit}
 use Rattle.tcap_ber.specs.Integer.{IsInteger, signed}
 use Rattle.tcap_ber.specs.Grammar.{IsElementOf}
-use Rattle.tcap_ber.specs.Canonical.{shortest_length, shortest_header, element_around, ◌⧺◌, number_octets, magnitude, integer_len, twos_complement, integer_octets}
+use Rattle.tcap_ber.specs.Canonical.{shortest_length, shortest_header, element_around, ◌⧺◌, number_octets, magnitude, integer_len, integer_octets}
 use Rattle.tcap_ber.proofs.Steps.{chosen}
 
 -- ---- headers
