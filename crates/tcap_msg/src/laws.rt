@@ -35,6 +35,7 @@ fn is_component(component: &Component)
         parameter,
     } = component;
     let Code::Local(local) = code;
+    // Reading numbers tells their ranges.
     let _ = (*id, *local);
     if let Some(raw) = parameter {
         raw.octets();
