@@ -1,5 +1,5 @@
 -- The shortest contents of an INTEGER are the last of its four octets.
-use Rattle.std.proofs.Common.{◌≡◌, ℕ, zero, suc, ◌-◌, ◌^◌, ◌<◌, ◌≤◌, ◌/◌, ◌%◌, ℤ, pos, negsuc, Bool, true, false, cond, nat_lt, List, [], ◌∷◌, ◌++◌, length, take, drop, Option, Some, None, Result, Ok, Err, OnOk, w32, ◌+◌, append_assoc, refl, sym, ap, ◌∙◌, subst, arith}
+use Rattle.std.proofs.Common.{◌≡◌, ℕ, zero, suc, ◌-◌, ◌^◌, ◌<◌, ◌≤◌, ◌/◌, ◌%◌, ℤ, pos, negsuc, Bool, true, false, cond, nat_lt, nat_le, inl, inr, List, [], ◌∷◌, ◌++◌, length, take, drop, Option, Some, None, Result, Ok, Err, OnOk, w32, ◌+◌, append_assoc, refl, sym, ap, ◌∙◌, subst, arith}
 use Rattle.std.specs.Option.{option_map, IsSome}
 use Rattle.std.proofs.KnownBytes.{Appends-trans}
 use Rattle.std.specs.Io.KnownBytes.{Appends}
@@ -10,6 +10,7 @@ use Rattle.std.proofs.lemmas.List.{take_rest, length-append, append-nil}
 use Rattle.tcap_ber.specs.Canonical.{magnitude, shortest_header, element_around, integer_len, integer_octets, twos_complement, number_octets, ◌⧺◌}
 use Rattle.tcap_ber.specs.declared.device.Failed.{Failed}
 use Rattle.tcap_ber.specs.Device.{Takes}
+use Rattle.tcap_ber.proofs.Steps.{chosen}
 
 -- the last so many of the four octets are those of the shorter number
 abbrev Ends : ℤ → ℕ → Type 0
@@ -91,6 +92,9 @@ integer_around tag n = rw (length-integer_octets n) (rw (le-leb (integer_len n) 
 
 -- ---- an element around a content
 
+abbrev there : List ℕ → Option (List ℕ)
+there x = Some x
+
 pub around_short : (tag : ℕ) (content : List ℕ) → length content ≤ 65535 → element_around tag (Some content) ≡ Some (shortest_header tag (length content) ++ content)
 around_short tag content h = rw (le-leb (length content) 65535 h) refl
 
@@ -125,7 +129,7 @@ pub join_none : (x : Option (List ℕ)) → x ⧺ None ≡ None
 join_none None = refl
 join_none (Some a) = refl
 
-some_same : (n m : ℕ) → (let a : Option ℕ = Some n in a) ≡ Some m → n ≡ m
+pub some_same : (n m : ℕ) → (let a : Option ℕ = Some n in a) ≡ Some m → n ≡ m
 some_same n m e = cc
 
 pub join_len : (x y : Option (List ℕ)) (n m : ℕ) → option_map length x ≡ Some n → option_map length y ≡ Some m → option_map length (x ⧺ y) ≡ Some (n + m)
@@ -147,3 +151,14 @@ some_there (Some x) h = (x, refl)
 pub some_not_none : (x : Option (List ℕ)) → IsSome x → x ≡ None → ⊥
 some_not_none None h e = cc
 some_not_none (Some x) h e = cc
+
+-- what an element around a content is
+pub around_is : (tag : ℕ) (content octets : List ℕ) → element_around tag (Some content) ≡ Some octets → shortest_header tag (length content) ++ content ≡ octets
+around_is tag content octets e =
+    elim (chosen (nat_le (length content) 65535) (there (shortest_header tag (length content) ++ content)) None (Some octets) e) [
+      | inl h ↦ some_octets_same _ octets h.1
+      | inr h ↦ absurd cc
+    ]
+  where
+    some_octets_same : (x y : List ℕ) → there x ≡ there y → x ≡ y
+    some_octets_same x y e = cc

@@ -3,3 +3,4 @@ pub mod Meaning
 pub mod Reading
 pub mod Canonical
 pub mod Valid
+pub mod Writing
