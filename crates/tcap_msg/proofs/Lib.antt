@@ -3,3 +3,4 @@ pub mod MessageLaws
 pub mod DecodeLaws
 pub mod CanonicalLaws
 pub mod SpellingLaws
+pub mod EncodeLaws

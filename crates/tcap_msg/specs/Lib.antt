@@ -4,3 +4,4 @@ pub mod Reading
 pub mod Decode
 pub mod Canonical
 pub mod Valid
+pub mod Encoding

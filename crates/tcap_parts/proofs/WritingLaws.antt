@@ -3,7 +3,7 @@ use Rattle.std.proofs.Common.{◌≡◌, ℕ, suc, ◌+◌, ◌<◌, ◌≤◌, 
 use Rattle.std.specs.Option.{option_map, IsSome}
 use Rattle.std.specs.Io.KnownBytes.{Appends}
 use Rattle.std.proofs.KnownBytes.{Appends-nil, Appends-trans}
-use Rattle.std.proofs.lemmas.Bool.{le-leb, lt-leb, leb-false}
+use Rattle.std.proofs.lemmas.Bool.{le-leb, lt-leb, leb-true, leb-false}
 use Rattle.std.proofs.lemmas.List.{take-append-drop, take_all, length-append}
 use Rattle.std.proofs.Math.Seq.{take-suc}
 use Rattle.tcap_ber.specs.Canonical.{◌⧺◌, element_around, shortest_header}
@@ -154,3 +154,14 @@ pub parts_written : (a b c d : Option (List ℕ)) (id code rest : List ℕ) (r :
     → OnOk r (Appends a d (id ++ code ++ rest))
 parts_written a b c d id code rest (Err _) first second third = tt
 parts_written a b c d id code rest (Ok _) first second third = Appends-trans a c d (id ++ code) rest (Appends-trans a b c id code first second) third
+
+pub portion_within : (components : List Component) (octets : List ℕ) → canonical_portion components ≡ Some octets → length octets ≤ 65535
+portion_within components octets e = of_it (canonical_components components) e
+  where
+    of_it : (x : Option (List ℕ)) → within_limit x ≡ Some octets → length octets ≤ 65535
+    of_it None e = absurd cc
+    of_it (Some a) e =
+        elim (chosen (nat_le (length a) 65535) (Some a) None (Some octets) e) [
+          | inl h ↦ let f = h.1 in let same : a ≡ octets = cc in omega (arith, leb-true (length a) 65535 h.0, ap length same)
+          | inr h ↦ absurd cc
+        ]
