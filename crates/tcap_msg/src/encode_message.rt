@@ -83,6 +83,14 @@ fn measure(otid: &TransactionId, components: &Option<Portion>) -> Option<Lens>
     Some(Lens { portion, content })
 }
 
+/// The count of octets of a Begin; `None` exactly where a content is over 65,535 octets.
+fn len_begin(otid: &TransactionId, components: &Option<Portion>) -> Option<usize>
+    ensures { result ≡ option_map length (canonical (Begin otid.now components.now)) }
+{
+    let lens = measure(otid, components)?;
+    Some(header_len(lens.content) + lens.content)
+}
+
 /// The count of octets of the message as [`encode`] writes it; `None` exactly where a content is over
 /// 65,535 octets. It takes no memory.
 pub fn encoded_len(message: &Message) -> Option<usize>
@@ -92,13 +100,7 @@ pub fn encoded_len(message: &Message) -> Option<usize>
     len_begin(otid, components)
 }
 
-fn len_begin(otid: &TransactionId, components: &Option<Portion>) -> Option<usize>
-    ensures { result ≡ option_map length (canonical (Begin otid.now components.now)) }
-{
-    let lens = measure(otid, components)?;
-    Some(header_len(lens.content) + lens.content)
-}
-
+/// Writes the originating transaction ID. `Failed` where the writer failed, as below.
 fn write_id<W: Write>(otid: &TransactionId, writer: &mut W) -> Result<(), Failed>
     ensures ok { OnOk result (Appends (W.taken writer.old) (W.taken writer.new) (id_element otid.now)) }
     ensures counts { CountsFailure (W.failures writer.old) (W.failures writer.new) result }
@@ -147,6 +149,7 @@ fn write_begin<W: Write>(
     write_portion(components, lens.portion, writer)
 }
 
+/// Writes a Begin. The faults are those of [`encode`].
 fn encode_begin<W: Write>(
     otid: &TransactionId,
     components: &Option<Portion>,
@@ -172,13 +175,6 @@ pub fn encode<W: Write>(message: &Message, writer: &mut W) -> Result<(), EncodeF
     ensures nothing { result ≡ Err EncodeFault.TooLong → Keeps (W.taken writer.old) (W.taken writer.new) }
     ensures write { result ≡ Err EncodeFault.Write → W.failures writer.new ≡ one_more (W.failures writer.old) }
     ensures others { result ≢ Err EncodeFault.Write → W.failures writer.new ≡ W.failures writer.old }
-{
-    encode_message(message, writer)
-}
-
-fn encode_message<W: Write>(message: &Message, writer: &mut W) -> Result<(), EncodeFault>
-    ensures { IsEncoded (canonical message.now) (W.taken writer.old) (W.taken writer.new)
-        (W.failures writer.old) (W.failures writer.new) result }
 {
     let Message::Begin { otid, components } = message;
     encode_begin(otid, components, writer)
