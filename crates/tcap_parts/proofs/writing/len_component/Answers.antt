@@ -1,6 +1,6 @@
-use Rattle.std.proofs.Common.{sym, ap, ◌∙◌, refl, length, arith}
+use Rattle.std.proofs.Common.{sym, ap, ◌∙◌, length, arith}
 use Rattle.std.specs.Option.{option_map}
-use Rattle.tcap_ber.proofs.PutLaws.{around_len, around_long}
+use Rattle.tcap_ber.proofs.PutLaws.{around_len}
 use Rattle.tcap_parts.specs.Writing.{component_content}
 use Rattle.tcap_parts.proofs.WritingLaws.{component_is}
 use Rattle.tcap_parts.proofs.writing.len_component.Goals as goal

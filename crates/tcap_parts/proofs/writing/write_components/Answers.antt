@@ -1,5 +1,5 @@
 use Rattle.std.proofs.Common.{sym, ◌∙◌, arith}
-use Rattle.tcap_parts.proofs.WritingLaws.{some_component, wrote_next, wrote_all}
+use Rattle.tcap_parts.proofs.WritingLaws.{some_component, wrote_next}
 use Rattle.tcap_parts.proofs.writing.write_components.Goals as goal
 
 pub write_component-requires : goal.write_component-requires
