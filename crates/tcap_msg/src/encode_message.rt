@@ -1,8 +1,8 @@
 //! Messages as they are written: with the shortest definite lengths, parameters verbatim.
 
-ghost use Rattle.std.specs.Prelude.{◌≡◌, ◌≢◌, ℕ, ◌++◌, ◌≤◌, ◌↔◌, List, length, Some, None, Ok, Err, IfSome, OnOk};
+ghost use Rattle.std.specs.Prelude.{◌≡◌, ◌≢◌, ℕ, ◌≤◌, ◌↔◌, List, length, Some, None, Err, IfSome, OnOk};
 ghost use Rattle.std.specs.Option.{option_map};
-ghost use Rattle.std.specs.Io.KnownBytes.{Appends, Keeps};
+ghost use Rattle.std.specs.Io.KnownBytes.{Appends};
 ghost use Rattle.tcap_ber.specs.Device.{CountsFailure, one_more};
 ghost use Rattle.tcap_msg.specs.declared.encode_message.EncodeFault.{EncodeFault};
 ghost use Rattle.tcap_msg.specs.declared.message.Message.TheVariants.{Begin};
@@ -100,7 +100,7 @@ pub fn encoded_len(message: &Message) -> Option<usize>
     len_begin(otid, components)
 }
 
-/// Writes the originating transaction ID. `Failed` where the writer failed, as below.
+/// Writes the originating transaction ID. `Failed` where the writer failed.
 fn write_id<W: Write>(otid: &TransactionId, writer: &mut W) -> Result<(), Failed>
     ensures ok { OnOk result (Appends (W.taken writer.old) (W.taken writer.new) (id_element otid.now)) }
     ensures counts { CountsFailure (W.failures writer.old) (W.failures writer.new) result }
@@ -110,7 +110,8 @@ fn write_id<W: Write>(otid: &TransactionId, writer: &mut W) -> Result<(), Failed
     writer.write_all(octets)
 }
 
-/// Writes the component portion, whose content has `portion_len` octets.
+/// Writes the component portion, whose content has `portion_len` octets. `Failed` where the writer
+/// failed.
 fn write_portion<W: Write>(
     components: &Option<Portion>,
     portion_len: usize,
@@ -131,7 +132,7 @@ fn write_portion<W: Write>(
     }
 }
 
-/// Writes a Begin of these lengths.
+/// Writes a Begin of these lengths. `Failed` where the writer failed.
 fn write_begin<W: Write>(
     otid: &TransactionId,
     components: &Option<Portion>,
@@ -155,8 +156,9 @@ fn encode_begin<W: Write>(
     components: &Option<Portion>,
     writer: &mut W,
 ) -> Result<(), EncodeFault>
-    ensures { IsEncoded (canonical (Begin otid.now components.now)) (W.taken writer.old) (W.taken writer.new)
+    ensures exact { IsEncoded (canonical (Begin otid.now components.now)) (W.taken writer.old) (W.taken writer.new)
         (W.failures writer.old) (W.failures writer.new) result }
+    ensures nothing { result ≡ Err EncodeFault.TooLong → writer.new ≡ writer.old }
 {
     let Some(lens) = measure(otid, components) else {
         return Err(EncodeFault::TooLong);
@@ -172,7 +174,7 @@ pub fn encode<W: Write>(message: &Message, writer: &mut W) -> Result<(), EncodeF
     ensures ok { OnOk result ((octets : List ℕ) × (canonical message.now ≡ Some octets)
         × Appends (W.taken writer.old) (W.taken writer.new) octets) }
     ensures too_long { (result ≡ Err EncodeFault.TooLong) ↔ (canonical message.now ≡ None) }
-    ensures nothing { result ≡ Err EncodeFault.TooLong → Keeps (W.taken writer.old) (W.taken writer.new) }
+    ensures nothing { result ≡ Err EncodeFault.TooLong → writer.new ≡ writer.old }
     ensures write { result ≡ Err EncodeFault.Write → W.failures writer.new ≡ one_more (W.failures writer.old) }
     ensures others { result ≢ Err EncodeFault.Write → W.failures writer.new ≡ W.failures writer.old }
 {

@@ -1,9 +1,8 @@
 //! Components as they are written: with the shortest definite lengths, parameters verbatim.
 
-ghost use Rattle.std.specs.Prelude.{◌≡◌, ℕ, ◌++◌, ◌≤◌, List, length, Some, IsSome, OnOk};
+ghost use Rattle.std.specs.Prelude.{◌≡◌, ℕ, ◌++◌, ◌^◌, ◌<◌, List, length, Some, IsSome, OnOk};
 ghost use Rattle.std.specs.Option.{option_map};
 ghost use Rattle.std.specs.Io.KnownBytes.{Appends};
-ghost use Rattle.tcap_ber.specs.Canonical.{shortest_header};
 ghost use Rattle.tcap_ber.specs.Device.{CountsFailure};
 ghost use Rattle.tcap_parts.specs.Canonical.{parameter_octets, canonical_component, canonical_portion};
 ghost use Rattle.tcap_parts.specs.Writing.{integer_element, component_content};
@@ -18,10 +17,10 @@ const INTEGER: u8 = 0x02;
 
 const INVOKE: u8 = 0xA1;
 
-/// The count of octets of a parameter: of none where there is none.
+/// The count of octets of a parameter: 0 where there is none.
 fn len_parameter(parameter: &Option<Raw>) -> usize
     ensures exact { result ≡ length (parameter_octets parameter.now) }
-    ensures within { result ≤ 9223372036854775807 }
+    ensures within { result < 2 ^ 63 }
 {
     match parameter {
         Some(raw) => raw.octets().len(),
@@ -67,6 +66,7 @@ pub fn len_components(components: &[Component]) -> Option<usize>
     Some(total)
 }
 
+/// Writes the parameter, if there is one. `Failed` where the writer failed.
 fn write_parameter<W: Write>(parameter: &Option<Raw>, writer: &mut W) -> Result<(), Failed>
     ensures ok { OnOk result (Appends (W.taken writer.old) (W.taken writer.new) (parameter_octets parameter.now)) }
     ensures counts { CountsFailure (W.failures writer.old) (W.failures writer.new) result }
@@ -77,7 +77,7 @@ fn write_parameter<W: Write>(parameter: &Option<Raw>, writer: &mut W) -> Result<
     }
 }
 
-/// Writes the parts of an Invoke.
+/// Writes the parts of an Invoke. `Failed` where the writer failed.
 fn write_invoke<W: Write>(
     id: i32,
     code: i32,
@@ -93,6 +93,7 @@ fn write_invoke<W: Write>(
     write_parameter(parameter, writer)
 }
 
+/// Writes the content of a component. `Failed` where the writer failed.
 fn write_content<W: Write>(component: &Component, writer: &mut W) -> Result<(), Failed>
     ensures ok { OnOk result (Appends (W.taken writer.old) (W.taken writer.new) (component_content component.now)) }
     ensures counts { CountsFailure (W.failures writer.old) (W.failures writer.new) result }
