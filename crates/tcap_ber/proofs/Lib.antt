@@ -6,3 +6,5 @@ pub mod ElementLaws
 pub mod OuterLaws
 pub mod GrammarLaws
 pub mod ResultLaws
+pub mod CanonicalLaws
+pub mod PutLaws

@@ -8,3 +8,4 @@ pub mod Grammar
 pub mod Reading
 pub mod Found
 pub mod Reads
+pub mod Canonical

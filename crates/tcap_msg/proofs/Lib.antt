@@ -1,3 +1,6 @@
 pub mod BeginLaws
 pub mod MessageLaws
 pub mod DecodeLaws
+pub mod CanonicalLaws
+pub mod SpellingLaws
+pub mod EncodeLaws

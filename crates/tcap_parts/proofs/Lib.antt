@@ -1,2 +1,4 @@
 pub mod ComponentLaws
 pub mod PortionLaws
+pub mod CanonicalLaws
+pub mod WritingLaws

@@ -5,7 +5,9 @@
 mod code;
 mod component;
 mod portion;
+mod writing;
 
 pub use code::Code;
 pub use component::{Component, ComponentView, view_component};
 pub use portion::{Portion, PortionView};
+pub use writing::{len_components, write_components};

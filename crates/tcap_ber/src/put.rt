@@ -1,0 +1,86 @@
+//! Elements as they are written: with the shortest definite length (X.690 8.1.3).
+
+ghost use Rattle.std.specs.Prelude.{◌≡◌, ℕ, ◌++◌, ◌≤◌, length, OnOk};
+ghost use Rattle.std.specs.Io.KnownBytes.{Appends};
+ghost use Rattle.tcap_ber.specs.Canonical.{shortest_header, number_octets, integer_len, integer_octets};
+ghost use Rattle.tcap_ber.specs.Device.{CountsFailure};
+
+use crate::device::{Failed, Write};
+
+/// The count of octets of the shortest header before a content of `content_len` octets, with any tag of
+/// one octet.
+pub fn header_len(content_len: usize) -> usize
+    requires { content_len ≤ 65535 }
+    ensures exact { (tag : ℕ) → result ≡ length (shortest_header tag content_len) }
+    ensures most { result ≤ 4 }
+{
+    if content_len < 0x80 {
+        2
+    } else if content_len < 0x100 {
+        3
+    } else {
+        4
+    }
+}
+
+/// Writes the shortest header of an element with a tag of one octet and a content of `content_len`
+/// octets. `Failed` where the writer failed.
+pub fn put_header<W: Write>(tag: u8, content_len: usize, writer: &mut W) -> Result<(), Failed>
+    requires { content_len ≤ 65535 }
+    ensures ok { OnOk result (Appends (W.taken writer.old) (W.taken writer.new) (shortest_header tag content_len)) }
+    ensures counts { CountsFailure (W.failures writer.old) (W.failures writer.new) result }
+{
+    if content_len < 0x80 {
+        writer.write_all(&[tag, content_len as u8])
+    } else if content_len < 0x100 {
+        writer.write_all(&[tag, 0x81, content_len as u8])
+    } else {
+        writer.write_all(&[
+            tag,
+            0x82,
+            (content_len / 0x100) as u8,
+            (content_len % 0x100) as u8,
+        ])
+    }
+}
+
+/// The count of octets of the contents of an INTEGER (X.690 8.3.2).
+pub fn integer_len(value: i32) -> usize
+    ensures exact { result ≡ integer_len value }
+    ensures most { result ≤ 4 }
+    ensures some { 1 ≤ result }
+{
+    match value {
+        -0x80..=0x7f => 1,
+        -0x8000..=0x7fff => 2,
+        -0x80_0000..=0x7f_ffff => 3,
+        _ => 4,
+    }
+}
+
+/// The four octets of a number, the most significant first.
+fn four_octets(number: u32) -> [u8; 4]
+    ensures { result ≡ number_octets 4 number }
+{
+    let above = number / 0x100;
+    let high = above / 0x100;
+    [
+        (high / 0x100 % 0x100) as u8,
+        (high % 0x100) as u8,
+        (above % 0x100) as u8,
+        (number % 0x100) as u8,
+    ]
+}
+
+/// Writes an INTEGER element with the shortest contents, under a tag of one octet (X.690 8.3). `Failed`
+/// where the writer failed.
+pub fn put_integer<W: Write>(tag: u8, value: i32, writer: &mut W) -> Result<(), Failed>
+    ensures ok { OnOk result (Appends (W.taken writer.old) (W.taken writer.new)
+        (shortest_header tag (integer_len value) ++ integer_octets value)) }
+    ensures counts { CountsFailure (W.failures writer.old) (W.failures writer.new) result }
+{
+    let len = integer_len(value);
+    let octets = four_octets(value.cast_unsigned());
+    put_header(tag, len, writer)?;
+    writer.write_all(&octets[4 - len..])
+}

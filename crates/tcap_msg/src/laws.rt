@@ -1,0 +1,62 @@
+//! Laws of spelling messages. Each function says, by its contract alone, what holds of the grammar.
+
+ghost use Rattle.std.specs.Prelude.{◌≡◌, ℕ, List, [], ◌++◌, Some};
+ghost use Rattle.std.specs.List.{All};
+ghost use Rattle.tcap_parts.specs.Valid.{IsComponent};
+ghost use Rattle.tcap_msg.specs.declared.message.Message.{Message};
+ghost use Rattle.tcap_msg.specs.Message.{Spells};
+ghost use Rattle.tcap_msg.specs.Canonical.{canonical};
+ghost use Rattle.tcap_msg.specs.Valid.{IsMessage};
+
+use crate::message::Message;
+use tcap_parts::{Code, Component};
+
+/// Octets spell at most one message.
+pub fn one_message()
+    ensures { (octets : List ℕ) (m m' : Message) → Spells m octets → Spells m' octets → m ≡ m' }
+{}
+
+/// No spelling of a message begins another.
+pub fn no_longer_spelling()
+    ensures { (octets more : List ℕ) (m m' : Message) → Spells m octets → Spells m' (octets ++ more) → more ≡ [] }
+{}
+
+/// The canonical spelling of a message spells it.
+pub fn canonical_spelling()
+    ensures { (m : Message) (octets : List ℕ) → IsMessage m → canonical m ≡ Some octets → Spells m octets }
+{}
+
+fn is_component(component: &Component)
+    ensures { IsComponent component.now }
+{
+    let Component::Invoke {
+        id,
+        code,
+        parameter,
+    } = component;
+    let Code::Local(local) = code;
+    // Reading numbers tells their ranges.
+    let _ = (*id, *local);
+    if let Some(raw) = parameter {
+        raw.octets();
+    }
+}
+
+fn are_components(components: &[Component])
+    ensures { All IsComponent components.now }
+{
+    for component in components {
+        is_component(component);
+    }
+}
+
+/// Each message of the type is one of which the laws speak.
+pub fn is_message(message: &Message)
+    ensures { IsMessage message.now }
+{
+    let Message::Begin { otid, components } = message;
+    otid.octets();
+    if let Some(portion) = components {
+        are_components(portion.items());
+    }
+}
