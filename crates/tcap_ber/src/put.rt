@@ -14,12 +14,10 @@ pub fn header_len(content_len: usize) -> usize
     ensures exact { (tag : ℕ) → result ≡ length (shortest_header tag content_len) }
     ensures most { result ≤ 4 }
 {
-    if content_len < 0x80 {
-        2
-    } else if content_len < 0x100 {
-        3
-    } else {
-        4
+    match content_len {
+        0..=0x7f => 2,
+        0x80..=0xff => 3,
+        _ => 4,
     }
 }
 

@@ -7,6 +7,8 @@ mod decoding;
 #[cfg(test)]
 mod devices;
 #[cfg(test)]
+mod encoding;
+#[cfg(test)]
 mod limits;
 #[cfg(test)]
 mod showing;
