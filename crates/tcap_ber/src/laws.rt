@@ -18,17 +18,14 @@ pub fn required_elements()
     ensures faulty { (tag : ℕ) (s : Span) (fault : Fault) → required_at tag s ≡ Err fault
         → IsMissing s fault.reason fault.place ⊎ IsElementFault s fault.reason fault.place
         ⊎ IsUnexpected tag s fault.reason fault.place }
-{
-}
+{}
 
 /// Integers of at most so many octets are read exactly (X.690 8.3).
 pub fn small_integers()
     ensures { (limit : ℕ) (too_wide : Reason) → ReadsBody (integer limit too_wide) (small_integer_at limit too_wide) }
-{
-}
+{}
 
 /// Parameters are read exactly: one element with any tag, or nothing.
 pub fn parameters()
     ensures { ReadsField parameter parameter_at }
-{
-}
+{}

@@ -35,9 +35,9 @@ end_line (Err fault) = fault_line fault
 abbrev pub is_bad : Entry → Bool
 is_bad entry = is_bad_body entry.body
   where
-  is_bad_body : Body → Bool
-  is_bad_body (Good m) = false
-  is_bad_body (Bad f) = true
+    is_bad_body : Body → Bool
+    is_bad_body (Good m) = false
+    is_bad_body (Bad f) = true
 
 -- whether there is a line of fault among the lines of the entries, or behind them
 abbrev pub has_fault : List Entry → Result (Unit {0}) FeedFault → Bool

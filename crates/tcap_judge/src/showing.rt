@@ -18,7 +18,9 @@ const MEMORY_LINE: &[u8] = b"FAULT 99 0\n";
 fn has_bad(entries: &[Entry]) -> bool
     ensures { result ≡ list_any is_bad entries.now }
 {
-    entries.iter().any(|entry| matches!(entry.body, Body::Bad(_)))
+    entries
+        .iter()
+        .any(|entry| matches!(entry.body, Body::Bad(_)))
 }
 
 /// Appends the line of a fault of the record.
@@ -39,11 +41,7 @@ fn write_line<W: Write>(writer: &mut W, line: &[u8]) -> Result<(), WriteFailed>
 }
 
 /// Writes the line of a fault of the record, or that memory ran out where there is none for it.
-fn write_fault<W: Write>(
-    alloc: Global,
-    fault: FeedFault,
-    writer: &mut W,
-) -> Result<(), WriteFailed>
+fn write_fault<W: Write>(alloc: Global, fault: FeedFault, writer: &mut W) -> Result<(), WriteFailed>
     ensures line { OnOk result ((line : List ℕ) × ((line ≡ fault_line fault) ⊎ (line ≡ memory_line))
         × Appends (W.taken writer.old) (W.taken writer.new) line) }
     ensures counts { OnOk result (W.failures writer.new ≡ W.failures writer.old) }
@@ -57,11 +55,7 @@ fn write_fault<W: Write>(
 }
 
 /// Prints the entries that were read and the fault behind them.
-fn print<W: Write>(
-    alloc: Global,
-    reading: &Reading,
-    writer: &mut W,
-) -> Result<Status, WriteFailed>
+fn print<W: Write>(alloc: Global, reading: &Reading, writer: &mut W) -> Result<Status, WriteFailed>
     ensures text { IfOk result (λ status. (text : List ℕ)
         × Prints reading.now.«record».entries.items reading.now.«end» text status
         × Appends (W.taken writer.old) (W.taken writer.new) text) }

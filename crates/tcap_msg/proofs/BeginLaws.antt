@@ -57,12 +57,12 @@ reads_begin_parts : ReadsContent (required 0x48 transaction_id ⨾ optional 0x6C
 unfolding begin_at
 reads_begin_parts =
     reads_then (required 0x48 transaction_id) (optional 0x6C portion ⨾ ended) make_begin otid_at
-      (λ otid s. component_portion_at s >>= λ c. end_at (Begin otid c.0) c.1)
-      reads_otid
-      (λ otid. reads_then (optional 0x6C portion) ended (λ w. make_begin (otid, w)) component_portion_at
-        (λ c s. end_at (Begin otid c) s)
-        reads_component_portion
-        (λ c. reads_ended (Begin otid c)))
+    (λ otid s. component_portion_at s >>= λ c. end_at (Begin otid c.0) c.1)
+    reads_otid
+    (λ otid. reads_then (optional 0x6C portion) ended (λ w. make_begin (otid, w)) component_portion_at
+    (λ c s. end_at (Begin otid c) s)
+    reads_component_portion
+    (λ c. reads_ended (Begin otid c)))
 
 pub reads_begin : ReadsBody begin (λ e. begin_at e.content)
 reads_begin = reads_structure (required 0x48 transaction_id ⨾ optional 0x6C portion ⨾ ended) make_begin begin_at reads_begin_parts

@@ -42,7 +42,7 @@ counted r n x e =
     let same : (b.0, n) ≡ x = ok_is (b.0, n) x b.2 in
     let m_is : b.0 ≡ x.0 = ap (λ (y : Message × ℕ). y.0) same in
     let inner : with_body begin_in a.0 ≡ Ok (x.0, a.0.1) =
-      chained (begin_at a.0.0.content) b.0 (λ v. Ok (v, a.0.1)) (Ok (x.0, a.0.1)) b.1 (ap (λ (y : Message). Ok (y, a.0.1)) m_is) in
+    chained (begin_at a.0.0.content) b.0 (λ v. Ok (v, a.0.1)) (Ok (x.0, a.0.1)) b.1 (ap (λ (y : Message). Ok (y, a.0.1)) m_is) in
     (a.0.1, chained r a.0 (with_body begin_in) (Ok (x.0, a.0.1)) a.1 inner, sym (ap (λ (y : Message × ℕ). y.1) same))
 
 counted_back : (r : Result (Element × Span) Fault) (n : ℕ) (m : Message) (rest : Span) → (r >>= with_body begin_in) ≡ Ok (m, rest)
@@ -53,7 +53,7 @@ counted_back r n m rest e =
     let same : (b.0, a.0.1) ≡ (m, rest) = ok_is (b.0, a.0.1) (m, rest) b.2 in
     let m_is : b.0 ≡ m = ap (λ (y : Message × Span). y.0) same in
     chained r a.0 (with_len n) (Ok (m, n)) a.1
-      (chained (begin_at a.0.0.content) b.0 (λ v. Ok (v, n)) (Ok (m, n)) b.1 (ap (λ (y : Message). Ok (y, n)) m_is))
+    (chained (begin_at a.0.0.content) b.0 (λ v. Ok (v, n)) (Ok (m, n)) b.1 (ap (λ (y : Message). Ok (y, n)) m_is))
 
 counted_err : (r : Result (Element × Span) Fault) (n : ℕ) (f : Fault) → (r >>= with_len n) ≡ Err f → (r >>= with_body begin_in) ≡ Err f
 counted_err r n f e =
@@ -77,17 +77,17 @@ message_sound octets x e =
     of_outer : (o : Outer) → outer_at octets ≡ Ok o → in_outer octets o ≡ Ok x → (front rest : List ℕ) × (octets ≡ front ++ rest) × (x.1 ≡ length front) × Spells x.0 front
     of_outer (Need n) a b = absurd cc
     of_outer (Whole n) a b =
-      let c = counted (required_at 0x62 (whole octets)) n x b in
-      let t = reads_message.sound (whole octets) x.0 c.0 c.1 in
-      let len = outer_of_element (0x62 ∷ []) t.is_part.content t.front c.0.octets t.is_part.is_element in
-      let same : n ≡ length t.front = whole_is n (length t.front) (outer_ok (Whole n) (Whole (length t.front)) (sym a ∙ ap outer_at t.joined ∙ len)) in
-      (t.front, c.0.octets, t.joined, c.2 ∙ same, t.is_part)
+        let c = counted (required_at 0x62 (whole octets)) n x b in
+        let t = reads_message.sound (whole octets) x.0 c.0 c.1 in
+        let len = outer_of_element (0x62 ∷ []) t.is_part.content t.front c.0.octets t.is_part.is_element in
+        let same : n ≡ length t.front = whole_is n (length t.front) (outer_ok (Whole n) (Whole (length t.front)) (sym a ∙ ap outer_at t.joined ∙ len)) in
+        (t.front, c.0.octets, t.joined, c.2 ∙ same, t.is_part)
 
 pub message_complete : (m : Message) (front rest : List ℕ) → Spells m front → message_at (front ++ rest) ≡ Ok (m, length front)
 unfolding message_at
 message_complete m front rest spelled =
     rw (outer_of_element (0x62 ∷ []) spelled.content front rest spelled.is_element)
-      (counted_back (required_at 0x62 (whole (front ++ rest))) (length front) m (after 0 front rest) (reads_message.complete 0 m front rest spelled))
+    (counted_back (required_at 0x62 (whole (front ++ rest))) (length front) m (after 0 front rest) (reads_message.complete 0 m front rest spelled))
 
 -- octets that begin with an element are neither empty nor unfinished
 pub message_refused : (octets : List ℕ) (f : Fault) → message_at octets ≡ Err f → IsFaulty octets f.reason f.place
@@ -100,42 +100,62 @@ message_refused octets f e =
   where
     of_outer : (o : Outer) → outer_at octets ≡ Ok o → in_outer octets o ≡ Err f → IsFaulty octets f.reason f.place
     of_outer (Need n) a b =
-      subst (λ (g : Fault). IsFaulty octets g.reason g.place) (err_is {A = Message × ℕ} (fault reasons.Cut (length octets)) f b)
+        subst (λ (g : Fault). IsFaulty octets g.reason g.place) (err_is {A = Message × ℕ} (fault reasons.Cut (length octets)) f b)
         (inl (refl, refl, (outer_needs octets n a).unfinished))
     of_outer (Whole n) a b =
-      let here = outer_whole octets n a in
-      elim (reads_message.refuses (whole octets) f (counted_err (required_at 0x62 (whole octets)) n f b)) [
-        | inl missing ↦ let some = element_len_at_least here.tag here.content here.element here.is_element in
-            absurd (omega (arith, some, ap length missing.ends, ap length here.joined, length-append here.element here.rest))
-        | inr h ↦ elim h [
-          | inl wrong ↦ elim wrong [
-            | inl k ↦ let at : k.0 ≡ f.place = omega (arith, k.1) in inr (inl (subst (IsHeaderFault octets f.reason) at k.2))
-            | inr k ↦ absurd (k.2.no_element here.tag here.content here.element here.rest here.is_element here.joined)
+        let here = outer_whole octets n a in
+        elim (reads_message.refuses (whole octets) f (counted_err (required_at 0x62 (whole octets)) n f b)) [
+          | inl missing ↦ let some = element_len_at_least here.tag here.content here.element here.is_element in
+              absurd (omega (arith, some, ap length missing.ends, ap length here.joined, length-append here.element here.rest))
+          | inr h ↦ elim h [
+            | inl wrong ↦ elim wrong [
+              | inl k ↦ let at : k.0 ≡ f.place = omega (arith, k.1) in inr (inl (subst (IsHeaderFault octets f.reason) at k.2))
+              | inr k ↦ absurd (k.2.no_element here.tag here.content here.element here.rest here.is_element here.joined)
+            ]
+            | inr k ↦ inr (inr k)
           ]
-          | inr k ↦ inr (inr k)
         ]
-      ]
 
 -- ---- for ever
 
 length_octet_stays : (octet : ℕ) (octets more : List ℕ) (place : ℕ) → HasLengthOctet octet octets place → HasLengthOctet octet (octets ++ more) place
 length_octet_stays octet octets more place h = record {
-  tag = h.tag; rest = h.rest ++ more; is_tag = h.is_tag; place_is = h.place_is;
-  joined = ap (λ (x : List ℕ). x ++ more) h.joined ∙ append_assoc h.tag (octet ∷ h.rest) more
+  tag = h.tag;
+  rest = h.rest ++ more;
+  is_tag = h.is_tag;
+  place_is = h.place_is;
+  joined = ap (λ (x : List ℕ). x ++ more) h.joined ∙ append_assoc h.tag (octet ∷ h.rest) more;
 }
 
 -- what is wrong with a header stays wrong, whatever comes behind
 header_stays : (octets more : List ℕ) (reason : Reason) (place : ℕ) → IsHeaderFault octets reason place → IsHeaderFault (octets ++ more) reason place
-header_stays octets more reasons.TagForm place h = (record {
-  first = h.0.first; four = h.0.four; rest = h.0.rest ++ more; is_long = h.0.is_long; are_four = h.0.are_four; go_on = h.0.go_on;
-  joined = ap (λ (x : List ℕ). x ++ more) h.0.joined ∙ append_assoc (h.0.first ∷ h.0.four) h.0.rest more
-}, h.1)
+header_stays octets more reasons.TagForm place h = (
+  record {
+    first = h.0.first;
+    four = h.0.four;
+    rest = h.0.rest ++ more;
+    is_long = h.0.is_long;
+    are_four = h.0.are_four;
+    go_on = h.0.go_on;
+    joined = ap (λ (x : List ℕ). x ++ more) h.0.joined ∙ append_assoc (h.0.first ∷ h.0.four) h.0.rest more;
+  },
+  h.1,
+)
 header_stays octets more reasons.LengthForm place h = (h.0, h.1, length_octet_stays h.0 octets more place h.2)
 header_stays octets more reasons.Indefinite place h = length_octet_stays 128 octets more place h
-header_stays octets more reasons.TooLong place h = (record {
-  tag = h.0.tag; length_octets = h.0.length_octets; rest = h.0.rest ++ more; count = h.0.count; is_tag = h.0.is_tag; is_length = h.0.is_length; is_over = h.0.is_over;
-  joined = ap (λ (x : List ℕ). x ++ more) h.0.joined ∙ append_assoc (h.0.tag ++ h.0.length_octets) h.0.rest more
-}, h.1)
+header_stays octets more reasons.TooLong place h = (
+  record {
+    tag = h.0.tag;
+    length_octets = h.0.length_octets;
+    rest = h.0.rest ++ more;
+    count = h.0.count;
+    is_tag = h.0.is_tag;
+    is_length = h.0.is_length;
+    is_over = h.0.is_over;
+    joined = ap (λ (x : List ℕ). x ++ more) h.0.joined ∙ append_assoc (h.0.tag ++ h.0.length_octets) h.0.rest more;
+  },
+  h.1,
+)
 header_stays octets more _ place h = absurd h
 
 -- two elements that begin the same octets are one
@@ -143,7 +163,7 @@ pub one_element : (tag content element rest tag' content' element' rest' : List 
     → element ++ rest ≡ element' ++ rest' → element ≡ element'
 one_element tag content element rest tag' content' element' rest' e e' same =
     let len : length element ≡ length element' = whole_is _ _ (outer_ok (Whole (length element)) (Whole (length element'))
-      (sym (outer_of_element tag content element rest e) ∙ ap outer_at same ∙ outer_of_element tag' content' element' rest' e')) in
+    (sym (outer_of_element tag content element rest e) ∙ ap outer_at same ∙ outer_of_element tag' content' element' rest' e')) in
     sym (take_at element rest (length element) refl) ∙ ap (take (length element)) same ∙ take_at element' rest' (length element) (sym len)
 
 -- an element does not begin octets whose header is wrong
@@ -171,13 +191,13 @@ never_message octets f e other = record {
     | inl h ↦ λ m front rest spelled joined. no_element_there (octets ++ more) front rest m f (header_stays octets more f.reason f.place (outer_fault octets f h)) spelled joined
     | inr a ↦ of_outer more a.0 a.1 a.2
   ];
-  cut_off = cut_off octets f e
+  cut_off = cut_off octets f e;
 }
   where
     of_outer : (more : List ℕ) (o : Outer) → outer_at octets ≡ Ok o → in_outer octets o ≡ Err f → BeginsNoMessage (octets ++ more)
     of_outer more (Need n) a b = absurd (other (sym (ap (λ (x : Fault). x.reason) (err_is {A = Message × ℕ} (fault reasons.Cut (length octets)) f b))))
     of_outer more (Whole n) a b = λ m front rest spelled joined.
-      let here = outer_whole octets n a in
-      let all : here.element ++ (here.rest ++ more) ≡ front ++ rest = sym (append_assoc here.element here.rest more) ∙ ap (λ (x : List ℕ). x ++ more) (sym here.joined) ∙ joined in
-      let same = one_element here.tag here.content here.element (here.rest ++ more) (0x62 ∷ []) spelled.content front rest here.is_element spelled.is_element all in
-      begins_no_message octets f e m front here.rest spelled (here.joined ∙ ap (λ (x : List ℕ). x ++ here.rest) same)
+        let here = outer_whole octets n a in
+        let all : here.element ++ (here.rest ++ more) ≡ front ++ rest = sym (append_assoc here.element here.rest more) ∙ ap (λ (x : List ℕ). x ++ more) (sym here.joined) ∙ joined in
+        let same = one_element here.tag here.content here.element (here.rest ++ more) (0x62 ∷ []) spelled.content front rest here.is_element spelled.is_element all in
+        begins_no_message octets f e m front here.rest spelled (here.joined ∙ ap (λ (x : List ℕ). x ++ here.rest) same)

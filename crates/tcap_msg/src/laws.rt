@@ -1,11 +1,12 @@
 //! Laws of spelling messages. Each function says, by its contract alone, what holds of the grammar.
 
-ghost use Rattle.std.specs.Prelude.{◌≡◌, ℕ, List, [], ◌++◌, Some};
+ghost use Rattle.std.specs.Prelude.{◌≡◌, ℕ, List, [], ◌++◌, length, Ok, Some};
 ghost use Rattle.std.specs.List.{All};
 ghost use Rattle.tcap_parts.specs.Valid.{IsComponent};
 ghost use Rattle.tcap_msg.specs.declared.message.Message.{Message};
 ghost use Rattle.tcap_msg.specs.Message.{Spells};
 ghost use Rattle.tcap_msg.specs.Canonical.{canonical};
+ghost use Rattle.tcap_msg.specs.Reading.{message_at};
 ghost use Rattle.tcap_msg.specs.Valid.{IsMessage};
 
 use crate::message::Message;
@@ -24,6 +25,12 @@ pub fn no_longer_spelling()
 /// The canonical spelling of a message spells it.
 pub fn canonical_spelling()
     ensures { (m : Message) (octets : List ℕ) → IsMessage m → canonical m ≡ Some octets → Spells m octets }
+{}
+
+/// Reading what was written, whatever comes behind it, gives the message and the count of its octets.
+pub fn read_again()
+    ensures { (m : Message) (octets more : List ℕ) → IsMessage m → canonical m ≡ Some octets
+        → message_at (octets ++ more) ≡ Ok (m, length octets) }
 {}
 
 fn is_component(component: &Component)

@@ -18,7 +18,7 @@ parameter_octets (Some raw) = raw
 abbrev pub canonical_component : Component → Option (List ℕ)
 canonical_component (Invoke id code parameter) =
     element_around 0xA1
-      (element_around 0x02 (Some (integer_octets id)) ⧺ canonical_code code ⧺ Some (parameter_octets parameter))
+    (element_around 0x02 (Some (integer_octets id)) ⧺ canonical_code code ⧺ Some (parameter_octets parameter))
 
 -- one after the other
 abbrev pub canonical_components : List Component → Option (List ℕ)

@@ -8,6 +8,7 @@ use tcap_parts::{Code, Component, Portion};
 
 /// A Begin with transaction ID 01 and Invoke 1 of 45.
 const BEGIN: &str = "620d4801016c08a10602010102012d";
+
 const PADDED: &str = "62810d4801016c08a10602010102012d";
 
 /// Local codes, and their contents as hexadecimal digits.
@@ -135,7 +136,10 @@ fn failing_writer(rt: HostRuntime) -> Result<(), Fail> {
     let wanted: Vec<u8> = hex::decode(rt.alloc(), BEGIN)?;
     for count in 0..wanted.len() {
         let mut writer = Failing::new(Vec::new(rt.alloc()), count);
-        assert!(rt; encode(&message, &mut writer) == Err(EncodeFault::Write), "{count}");
+        assert!(rt;
+            encode(&message, &mut writer) == Err(EncodeFault::Write),
+            "{count}"
+        );
         assert_eq!(rt; written(rt.alloc(), &message)?, wanted, "{count}");
     }
     Ok(())
