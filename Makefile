@@ -1,5 +1,6 @@
-# `make demo` builds the program and shows a record; `make test` is the gate.
-.PHONY: demo test tools
+# `make demo` builds the program and shows a record; `make test` is the gate;
+# `make bench` prints how the time grows with the record.
+.PHONY: demo test bench tools
 
 RECORD = examples/two_begins.hex
 
@@ -10,6 +11,9 @@ demo: tools
 	@cd crates/tcapjudge && rt run -- --help >build.log 2>&1 || { cat build.log >&2; exit 1; }
 	@rm -f crates/tcapjudge/build.log
 	@python3 -c '$(OCTETS)' <$(RECORD) | crates/tcapjudge/out/tcapjudge show
+
+bench: demo
+	@python3 bench/linear.py
 
 test: tools
 	rt ci
