@@ -1,20 +1,17 @@
 -- What reading makes of the element at the front of a window is what stands there.
-use Rattle.std.proofs.Common.{◌≡◌, ◌≢◌, ℕ, suc, ◌+◌, ◌-◌, ◌<◌, ◌≤◌, ◌⊎◌, Bool, true, false, List, [], ◌∷◌, ◌++◌, length, take, drop, Option, Some, None, Result, Ok, Err, refl, sym, ap, subst, ◌∙◌, inl, inr, arith, append_assoc}
-use Rattle.std.specs.Prelude.{nat_lt, ◌==◌}
-use Rattle.std.proofs.lemmas.List.{take_at, drop_at, take-append-drop, length-append, length-take-le, append-nil}
-use Rattle.std.proofs.lemmas.Bool.{ltb-true, ltb-false, lt-ltb, le-ltb, eqb-true, eqb-false, eq-eqb}
+use Rattle.std.proofs.Common.{◌≡◌, ℕ, ◌+◌, ◌-◌, ◌<◌, ◌≤◌, List, [], ◌∷◌, ◌++◌, length, take, drop, Option, Some, None, Result, Ok, Err, refl, sym, ap, subst, ◌∙◌, inl, inr, arith, append_assoc}
+use Rattle.std.specs.Prelude.{nat_lt}
+use Rattle.std.proofs.lemmas.List.{take_at, drop_at, take-append-drop, length-append, length-take-le}
+use Rattle.std.proofs.lemmas.Bool.{ltb-true, ltb-false, le-ltb}
 use Rattle.tcap_ber.specs.declared.fault.Fault.{Fault}
-use Rattle.tcap_ber.specs.declared.fault.Reason.{Reason}
 use Rattle.tcap_ber.specs.declared.fault.Reason.TheVariants.{Overrun}
 use Rattle.tcap_ber.specs.declared.header.Header.{Header}
-use Rattle.tcap_ber.specs.declared.element.Outer.{Outer}
-use Rattle.tcap_ber.specs.declared.element.Outer.TheVariants.{Whole, Need}
-use Rattle.tcap_ber.specs.Element.{IsTag, IsLength, IsElement, IsRaw, content_limit}
-use Rattle.tcap_ber.specs.Header.{IsHeaderFault, IsUnfinished}
+use Rattle.tcap_ber.specs.Element.{IsTag, IsLength, IsElement}
+use Rattle.tcap_ber.specs.Header.{IsUnfinished}
 use Rattle.tcap_ber.specs.Grammar.{IsElementFault}
 use Rattle.tcap_ber.specs.Found.{FindsElement}
 use Rattle.tcap_ber.specs.Span.{Span, behind}
-use Rattle.tcap_ber.specs.Reading.{◌>>=◌, fault, header_at, Element, element_of, next_at, outer_of, outer_at, is_whole, is_raw, raw_of, raw_at}
+use Rattle.tcap_ber.specs.Reading.{fault, header_at, Element, element_of, next_at}
 use Rattle.tcap_ber.proofs.Steps.{chosen, bind_ok, bind_err, ok_is, err_is, ok_not_err}
 use Rattle.tcap_ber.proofs.HeaderLaws.{FindsHeader, header_sound, header_complete, header_fault, header_refused}
 

@@ -1,7 +1,7 @@
 -- What is answered of the octets that a message or an entry begins with.
-use Rattle.std.proofs.Common.{◌≡◌, ℕ, ◌+◌, ◌-◌, ◌<◌, ◌≤◌, Bool, true, false, List, [], ◌∷◌, ◌++◌, length, take, drop, Option, Some, None, Result, Ok, Err, refl, sym, ap, subst, ◌∙◌, inl, inr, arith, append_assoc}
-use Rattle.std.specs.Prelude.{nat_lt, ◌==◌}
-use Rattle.std.proofs.lemmas.List.{take_at, drop_at, length-append, length-drop, append-nil, nil_from_length}
+use Rattle.std.proofs.Common.{◌≡◌, ℕ, ◌+◌, ◌-◌, ◌≤◌, true, List, [], ◌∷◌, ◌++◌, length, take, drop, Option, Some, None, Result, Ok, Err, refl, sym, ap, subst, ◌∙◌, inl, inr, arith, append_assoc}
+use Rattle.std.specs.Prelude.{nat_lt}
+use Rattle.std.proofs.lemmas.List.{take_at, length-append, length-drop, append-nil, nil_from_length}
 use Rattle.std.proofs.lemmas.Bool.{ltb-true, ltb-false, le-ltb, eqb-true, eq-eqb}
 use Rattle.tcap_ber.specs.declared.fault.Fault.{Fault}
 use Rattle.tcap_ber.specs.declared.fault.Reason.{Reason}
@@ -11,10 +11,10 @@ use Rattle.tcap_ber.specs.declared.element.Outer.TheVariants.{Whole, Need}
 use Rattle.tcap_ber.specs.Element.{IsElement, IsRaw}
 use Rattle.tcap_ber.specs.Header.{IsHeaderFault, IsUnfinished, BeginsElement, NeedsMore}
 use Rattle.tcap_ber.specs.Found.{FindsElement}
-use Rattle.tcap_ber.specs.Span.{Span, behind}
-use Rattle.tcap_ber.specs.Reading.{◌>>=◌, fault, header_at, Element, next_at, outer_of, outer_at, is_whole, is_raw, raw_of, raw_at}
+use Rattle.tcap_ber.specs.Span.{Span}
+use Rattle.tcap_ber.specs.Reading.{fault, header_at, Element, next_at, outer_of, outer_at, is_whole, is_raw, raw_of, raw_at}
 use Rattle.tcap_ber.proofs.Steps.{chosen, bind_ok, bind_err, ok_is, ok_not_err}
-use Rattle.tcap_ber.proofs.HeaderLaws.{FindsHeader, header_sound, header_complete, header_fault, header_refused}
+use Rattle.tcap_ber.proofs.HeaderLaws.{header_sound, header_complete, header_fault, header_refused}
 use Rattle.tcap_ber.proofs.ElementLaws.{element_len, finds_there, next_sound, next_complete, header_there, cut_is_unfinished, short_is_unfinished, some_header}
 
 abbrev from_start : List ℕ → Span

@@ -1,5 +1,5 @@
 -- What exact answers mean for the readers of elements.
-use Rattle.std.proofs.Common.{◌≡◌, ℕ, List, ◌++◌, length, Bool, true, false, Result, Ok, Err, sym, ap, subst, ◌∙◌, refl, Option, inl, inr}
+use Rattle.std.proofs.Common.{◌≡◌, ℕ, List, ◌++◌, Bool, true, false, Result, Ok, Err, sym, ap, subst, ◌∙◌, inl, inr}
 use Rattle.std.specs.Prelude.{IfOk, IfErr, IsOkAnd, ◌↔◌, IsTrue}
 use Rattle.tcap_ber.specs.declared.fault.Fault.{Fault}
 use Rattle.tcap_ber.specs.declared.fault.Reason.TheVariants.{BadInteger}

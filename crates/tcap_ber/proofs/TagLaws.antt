@@ -1,14 +1,14 @@
 -- What reading makes of the tag at the front is what stands there.
-use Rattle.std.proofs.Common.{◌≡◌, ◌≢◌, ℕ, zero, suc, ◌+◌, ◌-◌, ◌%◌, ◌<◌, ◌≤◌, ◌⊎◌, Bool, true, false, cond, List, [], ◌∷◌, ◌++◌, length, Option, Some, None, Result, Ok, Err, refl, sym, ap, subst, ◌∙◌, inl, inr, arith}
+use Rattle.std.proofs.Common.{◌≡◌, ℕ, zero, suc, ◌+◌, ◌%◌, ◌≤◌, List, [], ◌∷◌, ◌++◌, length, Option, Some, Result, Ok, Err, refl, sym, ap, ◌∙◌, inl, inr, arith}
 use Rattle.std.specs.List.{AllByRecursion}
 use Rattle.std.specs.Prelude.{nat_lt, ◌==◌}
-use Rattle.std.proofs.lemmas.Bool.{ltb-true, ltb-false, lt-ltb, le-ltb, eqb-true, eqb-false, eq-eqb, ne_eqb, cond-true, cond-false}
+use Rattle.std.proofs.lemmas.Bool.{ltb-true, ltb-false, lt-ltb, le-ltb, eqb-true, eqb-false, eq-eqb, ne_eqb}
 use Rattle.tcap_ber.specs.declared.fault.Fault.{Fault}
 use Rattle.tcap_ber.specs.declared.fault.Reason.TheVariants.{TagForm}
 use Rattle.tcap_ber.specs.Element.{IsContinued, IsTag}
 use Rattle.tcap_ber.specs.Header.{HasLongTag}
-use Rattle.tcap_ber.specs.Reading.{◌>>=◌, fault, tag_rest, tag_in}
-use Rattle.tcap_ber.proofs.Steps.{chosen, ok_is, err_is, ok_not_err}
+use Rattle.tcap_ber.specs.Reading.{fault, tag_rest, tag_in}
+use Rattle.tcap_ber.proofs.Steps.{chosen, err_is, ok_not_err}
 
 -- the octets behind the first of a long tag, at the front
 pub record FindsMore (left len : ℕ) (octets : List ℕ) (n : ℕ) : Type 0 where

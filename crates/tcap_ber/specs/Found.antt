@@ -1,6 +1,5 @@
 -- What reading an element finds.
 use Rattle.std.specs.Prelude.{◌≡◌, ℕ, ◌+◌, ◌-◌, List, ◌++◌, length}
-use Rattle.tcap_ber.specs.declared.fault.Fault.{Fault}
 use Rattle.tcap_ber.specs.Element.{IsElement}
 use Rattle.tcap_ber.specs.Grammar.{Field}
 use Rattle.tcap_ber.specs.Span.{Span}

@@ -1,5 +1,5 @@
 -- Integers (X.690 8.3).
-use Rattle.std.specs.Prelude.{◌≡◌, ℕ, ◌+◌, ◌-◌, ◌^◌, ◌<◌, ◌≤◌, ◌⊎◌, ℤ, pos, negsuc, List, [], ◌∷◌, length, nat_lt, if◌then◌else◌}
+use Rattle.std.specs.Prelude.{◌≡◌, ℕ, ◌+◌, ◌-◌, ◌^◌, ◌<◌, ◌≤◌, ℤ, pos, negsuc, List, [], ◌∷◌, length, nat_lt, if◌then◌else◌}
 use Rattle.tcap_ber.specs.Element.{number}
 
 -- The contents of an INTEGER: at least one octet, and where there are more, the first nine bits are

@@ -1,17 +1,15 @@
 -- Begins are read exactly: what is read is spelled so, what is spelled so is read, and what is refused is
 -- faulty there.
-use Rattle.std.proofs.Common.{◌≡◌, ℕ, ◌+◌, ◌<◌, ◌≤◌, ◌⊎◌, Bool, true, false, List, [], ◌∷◌, ◌++◌, length, Option, Result, Ok, Err, refl, sym, ap, ◌∙◌, inl, inr, arith}
-use Rattle.std.specs.Prelude.{nat_lt, ◌&&◌}
+use Rattle.std.proofs.Common.{◌≡◌, ℕ, true, false, List, length, Ok, Err, sym, ap, ◌∙◌, inl, inr, arith}
+use Rattle.std.specs.Prelude.{nat_lt}
 use Rattle.std.proofs.lemmas.Bool.{ltb-true, lt-ltb, and_parts, and_from}
 use Rattle.tcap_ber.specs.declared.fault.Fault.{Fault}
 use Rattle.tcap_ber.specs.declared.fault.Reason.TheVariants.{BadTransactionId}
-use Rattle.tcap_ber.specs.Span.{Span}
-use Rattle.tcap_ber.specs.Grammar.{required, optional, ended, ◌⨾◌, structure, made}
-use Rattle.tcap_ber.specs.Reading.{◌>>=◌, fault, Element, end_at, required_at, with_body}
-use Rattle.tcap_ber.proofs.Steps.{chosen, ok_is, err_is, ok_not_err}
+use Rattle.tcap_ber.specs.Grammar.{required, optional, ended, ◌⨾◌}
+use Rattle.tcap_ber.specs.Reading.{◌>>=◌, fault, end_at, required_at, with_body}
+use Rattle.tcap_ber.proofs.Steps.{chosen, ok_is, err_is}
 use Rattle.tcap_ber.specs.Reads.{ReadsField, ReadsBody, ReadsContent}
 use Rattle.tcap_ber.proofs.GrammarLaws.{reads_required, reads_optional, reads_ended, reads_then, reads_structure}
-use Rattle.tcap_parts.specs.declared.component.Component.{Component}
 use Rattle.tcap_parts.specs.Component.{portion}
 use Rattle.tcap_parts.specs.Reading.{portion_at}
 use Rattle.tcap_parts.proofs.PortionLaws.{reads_portion}

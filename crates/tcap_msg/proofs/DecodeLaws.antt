@@ -4,7 +4,7 @@ use Rattle.std.specs.Prelude.{IfOk, IfErr, IsOkAnd}
 use Rattle.tcap_ber.specs.declared.fault.Fault.{Fault}
 use Rattle.tcap_ber.specs.declared.fault.Reason.TheVariants as reasons
 use Rattle.tcap_ber.specs.Reading.{Gives}
-use Rattle.tcap_ber.proofs.Steps.{ok_is, ok_not_err}
+use Rattle.tcap_ber.proofs.Steps.{ok_is}
 use Rattle.tcap_msg.specs.declared.message.Message.{Message}
 use Rattle.tcap_msg.specs.declared.message.DecodeFault.{DecodeFault}
 use Rattle.tcap_msg.specs.declared.message.DecodeFault.TheVariants as faults

@@ -1,13 +1,13 @@
 -- Messages are read exactly, and what is refused is refused for ever.
-use Rattle.std.proofs.Common.{◌≡◌, ◌≢◌, ℕ, ◌+◌, ◌-◌, ◌<◌, ◌≤◌, ◌⊎◌, List, [], ◌∷◌, ◌++◌, length, take, drop, Option, Result, Ok, Err, refl, sym, ap, subst, ◌∙◌, inl, inr, arith, append_assoc}
-use Rattle.std.proofs.lemmas.List.{take_at, drop_at, length-append}
+use Rattle.std.proofs.Common.{◌≡◌, ◌≢◌, ℕ, List, [], ◌∷◌, ◌++◌, length, take, Result, Ok, Err, refl, sym, ap, subst, ◌∙◌, inl, inr, arith, append_assoc}
+use Rattle.std.proofs.lemmas.List.{take_at, length-append}
 use Rattle.tcap_ber.specs.declared.fault.Fault.{Fault}
 use Rattle.tcap_ber.specs.declared.fault.Reason.{Reason}
 use Rattle.tcap_ber.specs.declared.fault.Reason.TheVariants as reasons
 use Rattle.tcap_ber.specs.declared.element.Outer.{Outer}
 use Rattle.tcap_ber.specs.declared.element.Outer.TheVariants.{Whole, Need}
 use Rattle.tcap_ber.specs.Element.{IsElement}
-use Rattle.tcap_ber.specs.Header.{HasLengthOctet, IsHeaderFault, IsUnfinished}
+use Rattle.tcap_ber.specs.Header.{HasLengthOctet, IsHeaderFault}
 use Rattle.tcap_ber.specs.Grammar.{after}
 use Rattle.tcap_ber.specs.Span.{Span}
 use Rattle.tcap_ber.specs.Reading.{◌>>=◌, fault, Element, outer_at, required_at, with_body}
@@ -15,7 +15,7 @@ use Rattle.tcap_ber.proofs.Steps.{bind_ok, bind_err, ok_is, err_is, ok_not_err}
 use Rattle.tcap_ber.proofs.ElementLaws.{element_len_at_least}
 use Rattle.tcap_ber.proofs.OuterLaws.{outer_whole, outer_of_element, outer_needs, outer_fault, outer_refused, whole_is}
 use Rattle.tcap_msg.specs.declared.message.Message.{Message}
-use Rattle.tcap_msg.specs.Message.{begin, message, Spells, whole, IsFaulty, BeginsNoMessage, IsNeverMessage}
+use Rattle.tcap_msg.specs.Message.{Spells, whole, IsFaulty, BeginsNoMessage, IsNeverMessage}
 use Rattle.tcap_msg.specs.Reading.{begin_at, with_len, in_outer, message_at}
 use Rattle.tcap_msg.proofs.BeginLaws.{reads_message}
 

@@ -1,5 +1,5 @@
 -- What decoding answers, where memory may run out.
-use Rattle.std.specs.Prelude.{◌≡◌, ℕ, Result, Ok, Err}
+use Rattle.std.specs.Prelude.{◌≡◌, Result, Ok, Err}
 use Rattle.tcap_ber.specs.declared.fault.Fault.{Fault}
 use Rattle.tcap_msg.specs.declared.message.DecodeFault.{DecodeFault}
 use Rattle.tcap_msg.specs.declared.message.DecodeFault.TheVariants as faults

@@ -1,5 +1,4 @@
 -- What views of messages stand for.
-use Rattle.std.specs.Prelude.{ℕ, List, Option}
 use Rattle.std.specs.Option.{option_map}
 use Rattle.tcap_parts.specs.Meaning.{components_of}
 use Rattle.tcap_msg.specs.declared.message.Message.{Message}

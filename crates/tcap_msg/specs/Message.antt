@@ -1,10 +1,10 @@
 -- Messages (Q.773 4.2.1, tables 1 to 7).
-use Rattle.std.specs.Prelude.{◌≡◌, ◌≢◌, ℕ, ◌<◌, ◌≤◌, ◌⊎◌, List, [], ◌++◌, length, Option}
+use Rattle.std.specs.Prelude.{◌≡◌, ℕ, ◌<◌, ◌≤◌, ◌⊎◌, List, [], ◌++◌, length, Option}
 use Rattle.tcap_ber.specs.declared.fault.Reason.{Reason}
 use Rattle.tcap_ber.specs.declared.fault.Reason.TheVariants.{Cut, BadTransactionId}
 use Rattle.tcap_ber.specs.Span.{Span}
 use Rattle.tcap_ber.specs.Header.{IsHeaderFault, IsUnfinished}
-use Rattle.tcap_ber.specs.Grammar.{Body, Field, Content, IsUnexpected, IsFaultyInside, IsElementOf, required, optional, ended, ◌⨾◌, structure, made}
+use Rattle.tcap_ber.specs.Grammar.{Body, Field, IsUnexpected, IsFaultyInside, required, optional, ended, ◌⨾◌, structure, made}
 use Rattle.tcap_parts.specs.declared.component.Component.{Component}
 use Rattle.tcap_parts.specs.Component.{portion}
 use Rattle.tcap_msg.specs.declared.message.Message.{Message}

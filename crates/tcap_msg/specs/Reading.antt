@@ -1,5 +1,5 @@
 -- Reading messages from left to right, up to the first fault.
-use Rattle.std.specs.Prelude.{ℕ, List, length, Option, Some, None, Result, Ok, Err, nat_lt, Bool, ◌&&◌, if◌then◌else◌}
+use Rattle.std.specs.Prelude.{ℕ, List, length, Option, Result, Ok, Err, nat_lt, Bool, ◌&&◌, if◌then◌else◌}
 use Rattle.tcap_ber.specs.declared.fault.Fault.{Fault}
 use Rattle.tcap_ber.specs.declared.fault.Reason.TheVariants.{Cut, BadTransactionId}
 use Rattle.tcap_ber.specs.declared.element.Outer.{Outer}

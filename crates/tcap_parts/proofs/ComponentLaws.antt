@@ -1,17 +1,13 @@
 -- Components are read exactly: what is read is spelled so, what is spelled so is read, and what is refused
 -- is faulty there.
-use Rattle.std.proofs.Common.{◌≡◌, ℕ, ◌<◌, ℤ, List, [], ◌∷◌, ◌++◌, length, Option, Result, Ok, Err, arith}
-use Rattle.tcap_ber.specs.declared.fault.Fault.{Fault}
+use Rattle.std.proofs.Common.{[], ◌∷◌, arith}
 use Rattle.tcap_ber.specs.declared.fault.Reason.TheVariants.{BadSize, CodeTooWide}
-use Rattle.tcap_ber.specs.Span.{Span}
-use Rattle.tcap_ber.specs.Grammar.{required, parameter, ended, ◌⨾◌, structure, made, integer}
+use Rattle.tcap_ber.specs.Grammar.{required, parameter, ended, ◌⨾◌, integer}
 use Rattle.tcap_ber.specs.Reading.{◌>>=◌, small_integer_at, parameter_at, end_at}
 use Rattle.tcap_ber.proofs.ElementLaws.{element_len_at_least}
 use Rattle.tcap_ber.specs.Reads.{ReadsField, ReadsBody, ReadsContent}
 use Rattle.tcap_ber.proofs.GrammarLaws.{HasOctets, reads_required, reads_parameter, reads_ended, reads_then, reads_structure, reads_integer, reads_made}
-use Rattle.tcap_parts.specs.declared.code.Code.{Code}
 use Rattle.tcap_parts.specs.declared.code.Code.TheVariants.{Local}
-use Rattle.tcap_parts.specs.declared.component.Component.{Component}
 use Rattle.tcap_parts.specs.declared.component.Component.TheVariants.{Invoke}
 use Rattle.tcap_parts.specs.Component.{invoke_id, local_code, make_invoke, invoke, component}
 use Rattle.tcap_parts.specs.Reading.{invoke_id_at, local_code_of, code_at, invoke_at, component_at}

@@ -1,13 +1,13 @@
 -- Reading components one after the other, as a loop does.
-use Rattle.std.proofs.Common.{◌≡◌, ◌≢◌, ℕ, suc, ◌+◌, ◌<◌, ◌⊎◌, Bool, true, false, List, [], ◌∷◌, ◌++◌, length, Option, Result, Ok, Err, refl, sym, ap, subst, ◌∙◌, inl, inr, arith, append_assoc}
+use Rattle.std.proofs.Common.{◌≡◌, ◌≢◌, ℕ, ◌<◌, Bool, true, false, List, [], ◌∷◌, ◌++◌, length, Result, Ok, Err, refl, sym, ap, subst, ◌∙◌, inl, inr, arith, append_assoc}
 use Rattle.std.specs.Prelude.{◌==◌}
-use Rattle.std.proofs.lemmas.Bool.{eq-eqb, ne_eqb, eqb-true, eqb-false}
+use Rattle.std.proofs.lemmas.Bool.{ne_eqb, eqb-true, eqb-false}
 use Rattle.std.proofs.lemmas.List.{append-nil, length-append, nil_from_length}
 use Rattle.tcap_ber.specs.declared.fault.Fault.{Fault}
 use Rattle.tcap_ber.specs.declared.fault.Reason.TheVariants.{EmptyComponents}
 use Rattle.tcap_ber.specs.Span.{Span}
-use Rattle.tcap_ber.specs.Reading.{◌>>=◌, fault, Element, each_of}
-use Rattle.tcap_ber.proofs.Steps.{chosen, bind_ok, err_is}
+use Rattle.tcap_ber.specs.Reading.{◌>>=◌, fault, Element}
+use Rattle.tcap_ber.proofs.Steps.{chosen, err_is}
 use Rattle.tcap_ber.specs.Reads.{ReadsBody, ReadsContent}
 use Rattle.tcap_ber.proofs.GrammarLaws.{each_of-empty, each_of-step, reads_each}
 use Rattle.tcap_parts.specs.declared.component.Component.{Component}

@@ -1,9 +1,7 @@
 -- Components and the component portion (Q.773 4.2.2, table 8).
 use Rattle.std.specs.Prelude.{◌≡◌, ◌≢◌, ℕ, ◌⊎◌, ℤ, List, [], Option}
-use Rattle.tcap_ber.specs.declared.fault.Reason.{Reason}
 use Rattle.tcap_ber.specs.declared.fault.Reason.TheVariants.{BadSize, CodeTooWide, EmptyComponents}
-use Rattle.tcap_ber.specs.Span.{Span}
-use Rattle.tcap_ber.specs.Grammar.{Body, Field, Content, required, parameter, ended, ◌⨾◌, each, structure, made, integer}
+use Rattle.tcap_ber.specs.Grammar.{Body, Field, required, parameter, ended, ◌⨾◌, each, structure, made, integer}
 use Rattle.tcap_parts.specs.declared.code.Code.{Code}
 use Rattle.tcap_parts.specs.declared.code.Code.TheVariants.{Local}
 use Rattle.tcap_parts.specs.declared.component.Component.{Component}

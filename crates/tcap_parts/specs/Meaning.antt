@@ -1,13 +1,12 @@
 -- What views of components stand for.
-use Rattle.std.specs.Prelude.{ℕ, List, [], Option, Result, Ok, Err}
+use Rattle.std.specs.Prelude.{List}
 use Rattle.std.specs.Option.{option_map}
-use Rattle.tcap_ber.specs.declared.fault.Fault.{Fault}
 use Rattle.tcap_parts.specs.declared.component.Component.{Component}
 use Rattle.tcap_parts.specs.declared.component.Component.TheVariants as owned
 use Rattle.tcap_parts.specs.declared.component.ComponentView.{ComponentView}
 use Rattle.tcap_parts.specs.declared.component.ComponentView.TheVariants as views
 use Rattle.tcap_parts.specs.declared.portion.PortionView.{PortionView}
-use Rattle.tcap_parts.specs.Reading.{components_at, is_read, read_or_none}
+use Rattle.tcap_parts.specs.Reading.{components_at, read_or_none}
 use Rattle.tcap_ber.specs.Reading.{span}
 
 -- the component that a view lends

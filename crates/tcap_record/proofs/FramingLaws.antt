@@ -7,7 +7,7 @@ use Rattle.tcap_ber.specs.declared.fault.Fault.{Fault}
 use Rattle.tcap_ber.specs.declared.element.Outer.{Outer}
 use Rattle.tcap_ber.specs.declared.element.Outer.TheVariants.{Whole, Need}
 use Rattle.tcap_ber.specs.Element.{IsElement, IsRaw}
-use Rattle.tcap_ber.specs.Span.{Span, behind}
+use Rattle.tcap_ber.specs.Span.{Span}
 use Rattle.tcap_ber.specs.Reading.{◌>>=◌, outer_at, required_at}
 use Rattle.tcap_ber.proofs.Steps.{chosen, bind_ok}
 use Rattle.tcap_ber.specs.Header.{BeginsElement}

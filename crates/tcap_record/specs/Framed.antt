@@ -1,7 +1,5 @@
 -- Records: entries one after the other, each an end's octet and one element.
-use Rattle.std.specs.Prelude.{◌≡◌, ◌≢◌, ℕ, ◌+◌, ◌<◌, ◌⊎◌, List, [], ◌∷◌, ◌++◌, length}
-use Rattle.tcap_ber.specs.declared.fault.Reason.{Reason}
-use Rattle.tcap_ber.specs.declared.fault.Reason.TheVariants as reasons
+use Rattle.std.specs.Prelude.{◌≡◌, ℕ, ◌+◌, ◌<◌, ◌⊎◌, List, [], ◌∷◌, ◌++◌, length}
 use Rattle.tcap_ber.specs.Element.{IsRaw}
 use Rattle.tcap_ber.specs.Header.{IsHeaderFault, IsUnfinished}
 use Rattle.tcap_msg.specs.declared.message.Message.{Message}

@@ -1,4 +1,4 @@
-use Rattle.std.proofs.Common.{◌≡◌, ◌<◌, [], ◌∷◌, length, Err, sym, ap, ◌∙◌}
+use Rattle.std.proofs.Common.{[], ◌∷◌, length, sym, ap, ◌∙◌}
 use Rattle.std.proofs.lemmas.Result.{err_from_is_err_and}
 use Rattle.tcap_ber.specs.Reading.{span}
 use Rattle.tcap_parts.specs.Meaning.{component_of}

@@ -1,5 +1,4 @@
 use Rattle.std.proofs.Common.{◌≡◌, Err, arith}
-use Rattle.tcap_msg.specs.Decode.{Decodes}
 use Rattle.tcap_msg.specs.Reading.{message_at}
 use Rattle.tcap_record.proofs.FramingLaws.{message_fault_within}
 use Rattle.tcap_record.proofs.framing.read_body.Goals as goal

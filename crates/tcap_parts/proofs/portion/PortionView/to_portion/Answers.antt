@@ -1,4 +1,4 @@
-use Rattle.std.proofs.Common.{◌≡◌, ◌≢◌, ◌<◌, length, [], sym, ap, ◌∙◌}
+use Rattle.std.proofs.Common.{length, sym, ap, ◌∙◌}
 use Rattle.tcap_ber.specs.Reading.{span}
 use Rattle.tcap_parts.specs.Meaning.{component_of}
 use Rattle.tcap_parts.specs.Reading.{components_at, read_or_none}
