@@ -24,11 +24,11 @@ pub enum Reason {
     Missing,
     /// Octets stand after the last element of a structure.
     Trailing,
-    /// A component portion without a component (Q.773 4.2.2.1).
+    /// A component portion without a component (Q.773 4.2.2).
     EmptyComponents,
     /// A one-octet integer with more octets.
     BadSize,
-    /// A transaction ID of no octets or of over four (Q.773 4.2.1.3).
+    /// A transaction ID of no octets or of over four (Q.773 4.2.1).
     BadTransactionId,
     /// The indefinite length form (X.690 8.1.3.6), which this profile leaves out.
     Indefinite,

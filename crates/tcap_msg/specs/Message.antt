@@ -1,4 +1,4 @@
--- Messages (Q.773 4.2.1, tables 1 to 7).
+-- Messages (Q.773 4.2.1).
 use Rattle.std.specs.Prelude.{◌≡◌, ℕ, ◌<◌, ◌≤◌, ◌⊎◌, List, [], ◌++◌, length, Option}
 use Rattle.tcap_ber.specs.declared.fault.Reason.{Reason}
 use Rattle.tcap_ber.specs.declared.fault.Reason.TheVariants.{Cut, BadTransactionId}
@@ -10,7 +10,7 @@ use Rattle.tcap_parts.specs.Component.{portion}
 use Rattle.tcap_msg.specs.declared.message.Message.{Message}
 use Rattle.tcap_msg.specs.declared.message.Message.TheVariants.{Begin}
 
--- one to four octets (Q.773 4.2.1.3)
+-- one to four octets (Q.773 4.2.1)
 abbrev pub IsTransactionId : List ℕ → Type 0
 IsTransactionId octets = (0 < length octets) × (length octets ≤ 4)
 

@@ -1,4 +1,4 @@
-//! Transaction IDs (Q.773 4.2.1.3).
+//! Transaction IDs (Q.773 4.2.1).
 
 ghost use Rattle.std.specs.Prelude.{◌≡◌, ◌↔◌, IsSome, IfSome};
 ghost use Rattle.tcap_ber.specs.Reading.{Gives, element};

@@ -52,7 +52,7 @@ fn component_portion(window: Window) -> Result<(Option<PortionView>, Window), Fa
     Ok((Some(PortionView::read(found)?), rest))
 }
 
-/// The parts of a Begin, which are all of `content` (Q.773 table 2).
+/// The parts of a Begin, which are all of `content` (Q.773 4.2.1).
 #[tactic(auto, unfolding(crate::specs::Reading::begin_at))]
 fn view_begin(content: Window) -> Result<MessageView, Fault>
     ensures exact { Gives message_of result (begin_at (span content.entry)) }

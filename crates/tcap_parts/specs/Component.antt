@@ -1,4 +1,4 @@
--- Components and the component portion (Q.773 4.2.2, table 8).
+-- Components and the component portion (Q.773 4.2.2).
 use Rattle.std.specs.Prelude.{◌≡◌, ◌≢◌, ℕ, ◌⊎◌, ℤ, List, [], Option}
 use Rattle.tcap_ber.specs.declared.fault.Reason.TheVariants.{BadSize, CodeTooWide, EmptyComponents}
 use Rattle.tcap_ber.specs.Grammar.{Body, Field, required, parameter, ended, ◌⨾◌, each, structure, made, integer}

@@ -1,4 +1,4 @@
-//! Operation codes (Q.773 4.2.2.4).
+//! Operation codes (Q.773 4.2.2).
 
 /// An operation code.
 #[derive(Clone, Copy, Debug, PartialEq, Eq)]

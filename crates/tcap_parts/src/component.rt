@@ -40,7 +40,7 @@ const INTEGER: u8 = 0x02;
 
 const INVOKE: u8 = 0xA1;
 
-/// The invoke ID at the front of a window (Q.773 4.2.2.2).
+/// The invoke ID at the front of a window (Q.773 4.2.2).
 #[tactic(auto, unfolding(crate::specs::Reading::invoke_id_at))]
 fn invoke_id(window: Window) -> Result<(i8, Window), Fault>
     ensures exact { Gives (λ x. (x.0, span x.1)) result (invoke_id_at (span window.entry)) }
@@ -49,7 +49,7 @@ fn invoke_id(window: Window) -> Result<(i8, Window), Fault>
     Ok((octet_integer(found)?, rest))
 }
 
-/// The operation code at the front of a window (Q.773 4.2.2.4).
+/// The operation code at the front of a window (Q.773 4.2.2).
 #[tactic(auto, unfolding(crate::specs::Reading::code_at))]
 fn code(window: Window) -> Result<(Code, Window), Fault>
     ensures exact { Gives (λ x. (x.0, span x.1)) result (code_at (span window.entry)) }
@@ -59,7 +59,7 @@ fn code(window: Window) -> Result<(Code, Window), Fault>
     Ok((Code::Local(local), rest))
 }
 
-/// The parts of an Invoke, which are all of `content` (Q.773 table 8).
+/// The parts of an Invoke, which are all of `content` (Q.773 4.2.2).
 #[tactic(auto, unfolding(crate::specs::Reading::invoke_at))]
 fn view_invoke(content: Window) -> Result<ComponentView, Fault>
     ensures exact { Gives component_of result (invoke_at (span content.entry)) }

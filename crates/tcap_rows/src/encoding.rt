@@ -81,13 +81,26 @@ fn local_codes(rt: HostRuntime) -> Result<(), Fail> {
     for (local, contents) in CODES {
         let message = begin(rt.alloc(), 1, local, None)?;
         let octets = written(rt.alloc(), &message)?;
-        let len = contents.len() / 2;
+        let len = u8::try_from(contents.len() / 2)?;
+        assert!(rt; len <= 4, "{local}");
+        let front = [
+            0x62,
+            12 + len,
+            0x48,
+            1,
+            1,
+            0x6C,
+            7 + len,
+            0xA1,
+            5 + len,
+            2,
+            1,
+            1,
+            2,
+            len,
+        ];
+        let mut wanted = front.to_vec(rt.alloc())?;
         let code: Vec<u8> = hex::decode(rt.alloc(), contents)?;
-        let mut wanted = [0x62, 12, 0x48, 1, 1, 0x6C, 7, 0xA1, 5, 2, 1, 1, 2].to_vec(rt.alloc())?;
-        for place in [1, 6, 8] {
-            wanted[place] += len as u8;
-        }
-        wanted.push(len as u8)?;
         wanted.extend_from_slice(&code)?;
         assert_eq!(rt; octets, wanted, "{local}");
         assert_eq!(rt; encoded_len(&message), Some(octets.len()), "{local}");
@@ -102,6 +115,7 @@ fn invoke_ids(rt: HostRuntime) -> Result<(), Fail> {
         let message = begin(rt.alloc(), id, 45, None)?;
         let octets = written(rt.alloc(), &message)?;
         let mut wanted: Vec<u8> = hex::decode(rt.alloc(), BEGIN)?;
+        assert_eq!(rt; wanted.len(), 15);
         wanted[11] = octet;
         assert_eq!(rt; octets, wanted, "{id}");
     }
