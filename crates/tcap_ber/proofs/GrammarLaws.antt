@@ -19,7 +19,7 @@ use Rattle.tcap_ber.proofs.ElementLaws.{element_len_at_least, next_sound, next_c
 use Rattle.tcap_ber.proofs.OuterLaws.{raw_sound, raw_complete}
 
 -- the window where this front stands before this rest
-abbrev joint : ℕ → List ℕ → List ℕ → Span
+abbrev pub joint : ℕ → List ℕ → List ℕ → Span
 joint place front rest = record { octets = front ++ rest; place = place }
 
 -- a window behind a front is known by its octets and its place
@@ -29,12 +29,12 @@ is_after place front s e = ap (λ (p : ℕ). let w : Span = record { octets = s.
 -- ---- elements with a tag
 
 -- the test whether the octet is the whole tag, and what it means
-is_tag-true : (tag : ℕ) (octets : List ℕ) → is_tag tag octets ≡ true → octets ≡ tag ∷ []
+pub is_tag-true : (tag : ℕ) (octets : List ℕ) → is_tag tag octets ≡ true → octets ≡ tag ∷ []
 is_tag-true tag [] e = absurd cc
 is_tag-true tag (first ∷ []) e = ap (λ (x : ℕ). x ∷ []) (eqb-true first tag e)
 is_tag-true tag (first ∷ second ∷ more) e = absurd cc
 
-is_tag-itself : (tag : ℕ) → is_tag tag (tag ∷ []) ≡ true
+pub is_tag-itself : (tag : ℕ) → is_tag tag (tag ∷ []) ≡ true
 is_tag-itself tag = eq-eqb tag tag refl
 
 is_tag-false : (tag : ℕ) (octets : List ℕ) → is_tag tag octets ≡ false → octets ≢ tag ∷ []
@@ -55,11 +55,11 @@ required_sound tag s x e =
     ]
 
 -- the element of this content in these octets
-abbrev element_in : ℕ → ℕ → List ℕ → List ℕ → Element
+abbrev pub element_in : ℕ → ℕ → List ℕ → List ℕ → Element
 element_in place tag content octets = record { tag = tag ∷ []; content = record { octets = content; place = place + (length octets - length content) }; place = place }
 
 -- an element of the tag is read where it is required
-required_complete : (place tag : ℕ) (content octets rest : List ℕ) → IsElement (tag ∷ []) content octets
+pub required_complete : (place tag : ℕ) (content octets rest : List ℕ) → IsElement (tag ∷ []) content octets
     → required_at tag (joint place octets rest) ≡ Ok (element_in place tag content octets, after place octets rest)
 unfolding required_at
 required_complete place tag content octets rest e =
@@ -144,11 +144,11 @@ reads_required {V} tag body read reads = record {
     }
 
 -- the test whether the first octet is this one, and what it means
-is_next-true : (tag : ℕ) (octets : List ℕ) → is_next tag octets ≡ true → BeginsWith tag octets
+pub is_next-true : (tag : ℕ) (octets : List ℕ) → is_next tag octets ≡ true → BeginsWith tag octets
 is_next-true tag [] e = absurd cc
 is_next-true tag (first ∷ more) e = eqb-true first tag e
 
-is_next-begins : (tag : ℕ) (octets : List ℕ) → BeginsWith tag octets → is_next tag octets ≡ true
+pub is_next-begins : (tag : ℕ) (octets : List ℕ) → BeginsWith tag octets → is_next tag octets ≡ true
 is_next-begins tag [] b = absurd b
 is_next-begins tag (first ∷ more) b = eq-eqb first tag b
 
@@ -205,7 +205,7 @@ reads_optional {V} tag body read reads = record {
     complete place None (first ∷ more) rest h = absurd cc
 
 -- what is wrong where any element is read
-raw_fault : (s : Span) (f : Fault) → raw_at s ≡ Err f → IsElementFault s f.reason f.place
+pub raw_fault : (s : Span) (f : Fault) → raw_at s ≡ Err f → IsElementFault s f.reason f.place
 unfolding raw_at
 raw_fault s f e =
     elim (bind_err (next_at s) (raw_of s) f e) [

@@ -1,5 +1,5 @@
 -- What exact answers mean for the readers of elements.
-use Rattle.std.proofs.Common.{◌≡◌, ℕ, List, ◌++◌, Bool, true, false, Result, Ok, Err, sym, ap, subst, ◌∙◌, inl, inr}
+use Rattle.std.proofs.Common.{◌≡◌, ℕ, ◌+◌, ◌⊎◌, List, [], ◌∷◌, ◌++◌, length, Bool, true, false, Result, Ok, Err, sym, ap, subst, ◌∙◌, inl, inr}
 use Rattle.std.specs.Prelude.{IfOk, IfErr, IsOkAnd, ◌↔◌, IsTrue}
 use Rattle.tcap_ber.specs.declared.fault.Fault.{Fault}
 use Rattle.tcap_ber.specs.declared.fault.Reason.TheVariants.{BadInteger}
@@ -7,18 +7,19 @@ use Rattle.tcap_ber.specs.declared.element.Outer.{Outer}
 use Rattle.tcap_ber.specs.declared.element.Outer.TheVariants.{Whole, Need}
 use Rattle.tcap_ber.specs.declared.element.Tlv.{Tlv}
 use Rattle.tcap_ber.specs.declared.element.Window.{Window}
+use Rattle.tcap_ber.specs.declared.raw.RawView.{RawView}
 use Rattle.tcap_ber.specs.Element.{IsElement, IsRaw}
 use Rattle.tcap_ber.specs.Integer.{IsInteger}
 use Rattle.tcap_ber.specs.Header.{IsHeaderFault, BeginsElement, NeedsMore}
-use Rattle.tcap_ber.specs.Grammar.{Body, Field, IsElementFault, after}
+use Rattle.tcap_ber.specs.Grammar.{Body, Field, BeginsWith, IsMissing, IsElementFault, IsUnexpected, after}
 use Rattle.tcap_ber.specs.Found.{FindsElement, Taken}
 use Rattle.tcap_ber.specs.Reads.{ReadsField, ReadsBody}
 use Rattle.tcap_ber.specs.Span.{Span}
-use Rattle.tcap_ber.specs.Reading.{fault, Gives, Element, element, span, next_at, outer_at, is_raw, is_integer, integer_at}
+use Rattle.tcap_ber.specs.Reading.{fault, Gives, Element, element, span, next_at, required_at, is_tag, is_next, raw_at, outer_at, is_raw, is_integer, integer_at}
 use Rattle.tcap_ber.proofs.Steps.{chosen, ok_is, err_is, ok_not_err}
 use Rattle.tcap_ber.proofs.ElementLaws.{next_sound, next_complete, next_fault}
-use Rattle.tcap_ber.proofs.OuterLaws.{outer_whole, outer_of_element, outer_needs, outer_fault, outer_refused, is_raw_sound, is_raw_complete}
-use Rattle.tcap_ber.proofs.GrammarLaws.{is_integer_sound, is_integer_complete}
+use Rattle.tcap_ber.proofs.OuterLaws.{outer_whole, outer_of_element, outer_needs, outer_fault, outer_refused, is_raw_sound, is_raw_complete, raw_sound, raw_complete}
+use Rattle.tcap_ber.proofs.GrammarLaws.{is_integer_sound, is_integer_complete, required_sound, required_complete, required_fault, is_tag-true, is_tag-itself, is_next-true, is_next-begins, raw_fault}
 
 -- an exact answer is the one that reading gives
 gives_same : {A : Type 0} (r read : Result A Fault) → Gives (λ x. x) r read → read ≡ r
@@ -87,6 +88,60 @@ integer_invalid octets_of e (Err f) h =
       | inr k ↦ let same = err_is {A = List ℕ} (fault BadInteger e.place) f k.1 in
           (sym (ap (λ (x : Fault). x.reason) same), sym (ap (λ (x : Fault). x.place) same), λ i. let t : true ≡ false = sym (is_integer_complete e.content.octets i) ∙ k.0 in cc)
     ]
+
+-- ---- an element that has to be there
+
+pub required_found : (tag : ℕ) (s : Span) (r : Next) → Gives seen r (required_at tag s) → IfOk r (λ x. FindsElement s (element x.0) (span x.1) × (x.0.tag.octets.now ≡ tag ∷ []))
+required_found tag s (Ok x) e = required_sound tag s (seen x) e
+required_found tag s (Err f) e = tt
+
+pub required_only : (tag : ℕ) (s : Span) (r : Next) → Gives seen r (required_at tag s) → (content octets rest : List ℕ) → IsElement (tag ∷ []) content octets → s.octets ≡ octets ++ rest
+    → IsOkAnd r (λ x. (x.0.content.octets.now ≡ content) × (x.1.octets.now ≡ rest))
+required_only tag s (Ok x) e content octets rest h joined =
+    let there = ap (λ (o : List ℕ). required_at tag (record { octets = o; place = s.place })) joined ∙ required_complete s.place tag content octets rest h in
+    let same = ok_is (seen x) _ (sym e ∙ there) in
+    (ap (λ (y : Element × Span). y.0.content.octets) same, ap (λ (y : Element × Span). y.1.octets) same)
+required_only tag s (Err f) e content octets rest h joined =
+    let there = ap (λ (o : List ℕ). required_at tag (record { octets = o; place = s.place })) joined ∙ required_complete s.place tag content octets rest h in
+    ok_not_err {A = Element × Span} _ f (sym there ∙ e)
+
+pub required_faulty : (tag : ℕ) (s : Span) (r : Next) → Gives seen r (required_at tag s)
+    → IfErr r (λ f. IsMissing s f.reason f.place ⊎ IsElementFault s f.reason f.place ⊎ IsUnexpected tag s f.reason f.place)
+required_faulty tag s (Ok x) e = tt
+required_faulty tag s (Err f) e = required_fault tag s f e
+
+pub tag_iff : (tag : ℕ) (octets : List ℕ) (b : Bool) → b ≡ is_tag tag octets → IsTrue b ↔ (octets ≡ tag ∷ [])
+tag_iff tag octets b e = (λ t. is_tag-true tag octets (sym e ∙ t), λ h. e ∙ ap (is_tag tag) h ∙ is_tag-itself tag)
+
+pub begins_iff : (tag : ℕ) (octets : List ℕ) (b : Bool) → b ≡ is_next tag octets → IsTrue b ↔ BeginsWith tag octets
+begins_iff tag octets b e = (λ t. is_next-true tag octets (sym e ∙ t), λ h. e ∙ is_next-begins tag octets h)
+
+-- ---- any element
+
+abbrev pub NextRaw : Type 0
+NextRaw = Result (RawView × Window) Fault
+
+abbrev pub seen_raw : RawView × Window → List ℕ × Span
+seen_raw x = (x.0.octets.now, span x.1)
+
+pub raw_found : (s : Span) (r : NextRaw) → Gives seen_raw r (raw_at s)
+    → IfOk r (λ x. IsRaw x.0.octets.now × (s.octets ≡ x.0.octets.now ++ x.1.octets.now) × (x.1.place ≡ s.place + length x.0.octets.now))
+raw_found s (Ok x) e = raw_sound s (seen_raw x) e
+raw_found s (Err f) e = tt
+
+pub raw_only : (s : Span) (r : NextRaw) → Gives seen_raw r (raw_at s) → (octets rest : List ℕ) → IsRaw octets → s.octets ≡ octets ++ rest
+    → IsOkAnd r (λ x. (x.0.octets.now ≡ octets) × (x.1.octets.now ≡ rest))
+raw_only s (Ok x) e octets rest h joined =
+    let there = ap (λ (o : List ℕ). raw_at (record { octets = o; place = s.place })) joined ∙ raw_complete s.place octets rest h in
+    let same = ok_is (seen_raw x) _ (sym e ∙ there) in
+    (ap (λ (y : List ℕ × Span). y.0) same, ap (λ (y : List ℕ × Span). y.1.octets) same)
+raw_only s (Err f) e octets rest h joined =
+    let there = ap (λ (o : List ℕ). raw_at (record { octets = o; place = s.place })) joined ∙ raw_complete s.place octets rest h in
+    ok_not_err {A = List ℕ × Span} _ f (sym there ∙ e)
+
+pub raw_faulty : (s : Span) (r : NextRaw) → Gives seen_raw r (raw_at s) → IfErr r (λ f. IsElementFault s f.reason f.place)
+raw_faulty s (Ok x) e = tt
+raw_faulty s (Err f) e = raw_fault s f e
 
 -- ---- a reader of a part, and a reader of a body
 

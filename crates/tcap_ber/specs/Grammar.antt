@@ -179,12 +179,21 @@ made {V} make body = record {
   faulty = body.faulty;
 }
 
--- an INTEGER (X.690 8.3) of at most so many octets; wider ones are refused by that reason
+-- the contents of an INTEGER (X.690 8.3) of at most so many octets, and its number
+abbrev pub IsSmallInteger : ℕ → ℤ → List ℕ → Type 0
+IsSmallInteger limit n octets = IsInteger octets × (length octets ≤ limit) × (n ≡ signed octets)
+
+-- Contents that are none, or have more octets than that, which is refused by the reason given; the place
+-- is the element's.
+abbrev pub IsSmallIntegerFault : ℕ → Reason → ℕ → List ℕ → Reason → ℕ → Type 0
+IsSmallIntegerFault limit too_wide at octets reason place =
+    (place ≡ at)
+    × (((reason ≡ BadInteger) × (IsInteger octets → ⊥))
+    ⊎ ((reason ≡ too_wide) × IsInteger octets × (limit < length octets)))
+
+-- an INTEGER of at most so many octets; wider ones are refused by that reason
 abbrev pub integer : ℕ → Reason → Body ℤ
 integer limit too_wide = record {
-  spells = λ n octets. IsInteger octets × (length octets ≤ limit) × (n ≡ signed octets);
-  faulty = λ at s reason place.
-      (place ≡ at)
-      × (((reason ≡ BadInteger) × (IsInteger s.octets → ⊥))
-      ⊎ ((reason ≡ too_wide) × IsInteger s.octets × (limit < length s.octets)));
+  spells = IsSmallInteger limit;
+  faulty = λ at s reason place. IsSmallIntegerFault limit too_wide at s.octets reason place;
 }

@@ -1,6 +1,6 @@
 //! Windows of octets, and the elements in them (X.690 8.1.1).
 
-ghost use Rattle.std.specs.Prelude.{◌≡◌, ◌<◌, ◌≤◌, ◌+◌, ◌^◌, length};
+ghost use Rattle.std.specs.Prelude.{◌≡◌, ◌<◌, ◌≤◌, ◌+◌, ◌^◌, ◌∷◌, ◌↔◌, [], IsTrue, length};
 
 /// Octets that are read as one part of a message, and the place of the first of them in it.
 #[derive(Clone, Copy, Debug)]
@@ -13,7 +13,7 @@ pub struct Window<'a> {
 }
 
 /// A tag: its one to five octets. Tags are equal where their octets are.
-#[derive(Clone, Copy, Debug)]
+#[derive(Clone, Copy, Debug, PartialEq, Eq)]
 pub struct Tag<'a> {
     /// The octets of the tag.
     pub octets: &'a [u8],
@@ -66,13 +66,20 @@ impl<'a> Window<'a> {
 impl<'a> Tag<'a> {
     ghost use Rattle.tcap_ber.specs.Reading.{is_tag};
 
-    /// Whether the tag is this one octet.
-    pub fn is(self, octet: u8) -> bool
-        ensures { result ≡ is_tag octet self.entry.octets.now }
+    fn is_only(octets: &[u8], octet: u8) -> bool
+        ensures { result ≡ is_tag octet octets.now }
     {
-        match self.octets {
+        match octets {
             [only] => *only == octet,
             _ => false,
         }
+    }
+
+    /// Whether the tag is this one octet.
+    pub fn is(self, octet: u8) -> bool
+        ensures own { IsTrue result ↔ (self.entry.octets.now ≡ octet ∷ []) }
+        ensures exact { result ≡ is_tag octet self.entry.octets.now }
+    {
+        Tag::is_only(self.octets, octet)
     }
 }

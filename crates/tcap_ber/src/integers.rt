@@ -1,7 +1,8 @@
 //! Integers (X.690 8.3).
 
-ghost use Rattle.std.specs.Prelude.{◌≡◌, ◌<◌, ◌≤◌, IfOk, IfErr, ◌≤ℤ◌, ◌+ℤ◌, ◌*ℤ◌, pos, negsuc, [], ◌∷◌, length};
+ghost use Rattle.std.specs.Prelude.{◌≡◌, ◌<◌, ◌≤◌, ℤ, IfOk, IfErr, IsOkAnd, ◌≤ℤ◌, ◌+ℤ◌, ◌*ℤ◌, pos, negsuc, [], ◌∷◌, length};
 ghost use Rattle.tcap_ber.specs.Integer.{IsInteger, signed};
+ghost use Rattle.tcap_ber.specs.Grammar.{IsSmallInteger, IsSmallIntegerFault};
 ghost use Rattle.tcap_ber.specs.Reading.{Gives, element, integer_at, small_integer_at};
 
 use crate::element::Tlv;
@@ -78,10 +79,8 @@ fn number(octets: &[u8]) -> i32
     }
 }
 
-/// The number of an element that is to be an INTEGER of at most `limit` octets. `BadInteger` where its
-/// contents are none, `too_wide` where they have more octets, both at the element's first octet.
 #[tactic(auto, unfolding(crate::specs::Reading::small_integer_at))]
-pub fn small_integer(tlv: Tlv, limit: usize, too_wide: Reason) -> Result<i32, Fault>
+fn read_small(tlv: Tlv, limit: usize, too_wide: Reason) -> Result<i32, Fault>
     requires { limit ≤ 4 }
     ensures exact { Gives (λ x. x) result (small_integer_at limit too_wide (element tlv.entry)) }
 {
@@ -95,10 +94,20 @@ pub fn small_integer(tlv: Tlv, limit: usize, too_wide: Reason) -> Result<i32, Fa
     Ok(number(octets))
 }
 
-/// The number of an element that is to be an INTEGER of one octet. `BadInteger` where its contents are
-/// none, `BadSize` where they have more octets, both at the element's first octet.
+/// The number of an element that is to be an INTEGER of at most `limit` octets. `BadInteger` where its
+/// contents are none, `too_wide` where they have more octets, both at the element's first octet.
+pub fn small_integer(tlv: Tlv, limit: usize, too_wide: Reason) -> Result<i32, Fault>
+    requires { limit ≤ 4 }
+    ensures found { IfOk result (λ n. IsSmallInteger limit n tlv.entry.content.octets.now) }
+    ensures only { (n : ℤ) → IsSmallInteger limit n tlv.entry.content.octets.now → IsOkAnd result (λ m. m ≡ n) }
+    ensures faulty { IfErr result (λ fault. IsSmallIntegerFault limit too_wide tlv.entry.start tlv.entry.content.octets.now fault.reason fault.place) }
+    ensures exact { Gives (λ x. x) result (small_integer_at limit too_wide (element tlv.entry)) }
+{
+    read_small(tlv, limit, too_wide)
+}
+
 #[tactic(auto, unfolding(crate::specs::Reading::small_integer_at))]
-pub fn octet_integer(tlv: Tlv) -> Result<i8, Fault>
+fn read_octet(tlv: Tlv) -> Result<i8, Fault>
     ensures exact { Gives (λ x. x) result (small_integer_at 1 Reason.BadSize (element tlv.entry)) }
 {
     match integer(tlv)? {
@@ -108,4 +117,15 @@ pub fn octet_integer(tlv: Tlv) -> Result<i8, Fault>
             place: tlv.start,
         }),
     }
+}
+
+/// The number of an element that is to be an INTEGER of one octet. `BadInteger` where its contents are
+/// none, `BadSize` where they have more octets, both at the element's first octet.
+pub fn octet_integer(tlv: Tlv) -> Result<i8, Fault>
+    ensures found { IfOk result (λ n. IsSmallInteger 1 n tlv.entry.content.octets.now) }
+    ensures only { (n : ℤ) → IsSmallInteger 1 n tlv.entry.content.octets.now → IsOkAnd result (λ m. m ≡ n) }
+    ensures faulty { IfErr result (λ fault. IsSmallIntegerFault 1 Reason.BadSize tlv.entry.start tlv.entry.content.octets.now fault.reason fault.place) }
+    ensures exact { Gives (λ x. x) result (small_integer_at 1 Reason.BadSize (element tlv.entry)) }
+{
+    read_octet(tlv)
 }

@@ -9,7 +9,6 @@ mod failing;
 mod fault;
 mod header;
 mod integers;
-pub mod laws;
 mod put;
 mod raw;
 mod to_end;

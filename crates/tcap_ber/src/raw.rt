@@ -1,8 +1,10 @@
 //! Elements that are kept verbatim.
 
-ghost use Rattle.std.specs.Prelude.{◌≡◌, ◌<◌, length, true, IfOk, IfSome, IsSome, ◌↔◌, IsTrue};
+ghost use Rattle.std.specs.Prelude.{◌≡◌, ◌<◌, ◌+◌, ◌++◌, ℕ, List, Option, length, true, IfOk, IfErr, IsOkAnd, IfSome, IsSome, ◌↔◌, IsTrue};
 ghost use Rattle.std.specs.Option.{option_map};
 ghost use Rattle.tcap_ber.specs.Element.{IsRaw};
+ghost use Rattle.tcap_ber.specs.Grammar.{IsElementFault, parameter};
+ghost use Rattle.tcap_ber.specs.Found.{Taken};
 ghost use Rattle.tcap_ber.specs.Reading.{Gives, span, is_raw, raw_at, parameter_at};
 
 use crate::element::{Outer, Window};
@@ -66,9 +68,8 @@ impl<'a> RawView<'a> {
         }
     }
 
-    /// The element at the front of a window, and the window behind it.
     #[tactic(auto, unfolding(crate::specs::Reading::raw_at))]
-    pub fn next(window: Window<'a>) -> Result<(RawView<'a>, Window<'a>), Fault>
+    fn read_next(window: Window<'a>) -> Result<(RawView<'a>, Window<'a>), Fault>
         requires { 0 < length window.octets.now }
         ensures exact { Gives (λ x. (x.0.octets.now, span x.1)) result (raw_at (span window.entry)) }
     {
@@ -80,9 +81,24 @@ impl<'a> RawView<'a> {
         Ok((raw, rest))
     }
 
-    /// A parameter: the element that any octets left in the window have to be, or `None` where none are.
+    /// The element at the front of a window, and the window behind it. It is refused as by `next_tlv`.
+    pub fn next(window: Window<'a>) -> Result<(RawView<'a>, Window<'a>), Fault>
+        requires { 0 < length window.octets.now }
+        // What is read is the element that stands there, verbatim.
+        ensures found { IfOk result (λ x. IsRaw x.0.octets.now × (window.entry.octets.now ≡ x.0.octets.now ++ x.1.octets.now)
+            × (x.1.place ≡ window.entry.place + length x.0.octets.now)) }
+        // What stands there is read.
+        ensures only { (octets rest : List ℕ) → IsRaw octets → window.entry.octets.now ≡ octets ++ rest
+            → IsOkAnd result (λ x. (x.0.octets.now ≡ octets) × (x.1.octets.now ≡ rest)) }
+        // What is refused is faulty there.
+        ensures faulty { IfErr result (λ fault. IsElementFault (span window.entry) fault.reason fault.place) }
+        ensures exact { Gives (λ x. (x.0.octets.now, span x.1)) result (raw_at (span window.entry)) }
+    {
+        RawView::read_next(window)
+    }
+
     #[tactic(auto, unfolding(crate::specs::Reading::parameter_at))]
-    pub fn parameter(window: Window<'a>) -> Result<(Option<RawView<'a>>, Window<'a>), Fault>
+    fn read_parameter(window: Window<'a>) -> Result<(Option<RawView<'a>>, Window<'a>), Fault>
         ensures exact { Gives (λ x. (option_map (λ raw. raw.octets.now) x.0, span x.1)) result (parameter_at (span window.entry)) }
     {
         if window.octets.is_empty() {
@@ -90,6 +106,21 @@ impl<'a> RawView<'a> {
         }
         let (raw, rest) = RawView::next(window)?;
         Ok((Some(raw), rest))
+    }
+
+    /// A parameter: the element that any octets left in the window have to be, or `None` where none are.
+    /// It is refused as by `next_tlv`.
+    pub fn parameter(window: Window<'a>) -> Result<(Option<RawView<'a>>, Window<'a>), Fault>
+        // What is read is spelled there, and what is left is the window behind it.
+        ensures found { IfOk result (λ x. Taken parameter (span window.entry) (option_map (λ raw. raw.octets.now) x.0) (span x.1)) }
+        // What is spelled there is read.
+        ensures only { (value : Option (List ℕ)) → (octets rest : List ℕ) → parameter.spells value octets rest → window.entry.octets.now ≡ octets ++ rest
+            → IsOkAnd result (λ x. (option_map (λ raw. raw.octets.now) x.0 ≡ value) × (x.1.octets.now ≡ rest)) }
+        // What is refused is faulty there.
+        ensures faulty { IfErr result (λ fault. parameter.faulty (span window.entry) fault.reason fault.place) }
+        ensures exact { Gives (λ x. (option_map (λ raw. raw.octets.now) x.0, span x.1)) result (parameter_at (span window.entry)) }
+    {
+        RawView::read_parameter(window)
     }
 
     /// A copy of the octets of its own.

@@ -1,11 +1,12 @@
 //! Reading the elements of a window one after the other.
 
-ghost use Rattle.std.specs.Prelude.{◌≡◌, ◌<◌, ◌↔◌, ◌++◌, ℕ, List, length, Ok, Err, IfOk, IfErr, IsOkAnd};
+ghost use Rattle.std.specs.Prelude.{◌≡◌, ◌<◌, ◌⊎◌, ◌↔◌, ◌++◌, ◌∷◌, [], ℕ, List, length, Ok, Err, IfOk, IfErr, IsOk, IsOkAnd, IsTrue};
 ghost use Rattle.tcap_ber.specs.declared.element.Outer.{Outer};
 ghost use Rattle.tcap_ber.specs.declared.fault.Fault.{Fault};
+ghost use Rattle.tcap_ber.specs.declared.fault.Reason.{Reason};
 ghost use Rattle.tcap_ber.specs.Element.{IsElement};
 ghost use Rattle.tcap_ber.specs.Header.{BeginsElement, NeedsMore, IsHeaderFault};
-ghost use Rattle.tcap_ber.specs.Grammar.{IsElementFault};
+ghost use Rattle.tcap_ber.specs.Grammar.{BeginsWith, IsMissing, IsElementFault, IsUnexpected};
 ghost use Rattle.tcap_ber.specs.Found.{FindsElement};
 ghost use Rattle.tcap_ber.specs.Reading.{Gives, span, element, outer_at, next_at, required_at, is_next, end_at};
 
@@ -84,10 +85,8 @@ pub fn next_tlv(window: Window) -> Result<(Tlv, Window), Fault>
     read_next(window)
 }
 
-/// The first element of a window, which has to be there with this tag of one octet, and the window
-/// behind it. `Missing` where the window is empty, `UnexpectedTag` where another tag stands there.
 #[tactic(auto, unfolding(crate::specs::Reading::required_at))]
-pub fn required(window: Window, tag: u8) -> Result<(Tlv, Window), Fault>
+fn read_required(window: Window, tag: u8) -> Result<(Tlv, Window), Fault>
     ensures exact { Gives (λ x. (element x.0, span x.1)) result (required_at tag (span window.entry)) }
 {
     if window.octets.is_empty() {
@@ -107,9 +106,24 @@ pub fn required(window: Window, tag: u8) -> Result<(Tlv, Window), Fault>
     }
 }
 
-/// Whether the window begins with this octet, which is a whole tag: so an optional element of that tag
-/// stands there.
-pub fn begins_with(window: Window, tag: u8) -> bool
+/// The first element of a window, which has to be there with this tag of one octet, and the window
+/// behind it. `Missing` where the window is empty, `UnexpectedTag` where another tag stands there.
+pub fn required(window: Window, tag: u8) -> Result<(Tlv, Window), Fault>
+    // What is read is the element that stands there, and has this tag.
+    ensures found { IfOk result (λ x. FindsElement (span window.entry) (element x.0) (span x.1) × (x.0.tag.octets.now ≡ tag ∷ [])) }
+    // An element of this tag that stands there is read.
+    ensures only { (content octets rest : List ℕ) → IsElement (tag ∷ []) content octets → window.entry.octets.now ≡ octets ++ rest
+        → IsOkAnd result (λ x. (x.0.content.octets.now ≡ content) × (x.1.octets.now ≡ rest)) }
+    // What is refused is missing, or faulty itself, or has another tag.
+    ensures faulty { IfErr result (λ fault. IsMissing (span window.entry) fault.reason fault.place
+        ⊎ IsElementFault (span window.entry) fault.reason fault.place
+        ⊎ IsUnexpected tag (span window.entry) fault.reason fault.place) }
+    ensures exact { Gives (λ x. (element x.0, span x.1)) result (required_at tag (span window.entry)) }
+{
+    read_required(window, tag)
+}
+
+fn is_first(window: Window, tag: u8) -> bool
     ensures { result ≡ is_next tag window.entry.octets.now }
 {
     match window.octets {
@@ -118,8 +132,19 @@ pub fn begins_with(window: Window, tag: u8) -> bool
     }
 }
 
+/// Whether the window begins with this octet, which is a whole tag: so an optional element of that tag
+/// stands there.
+pub fn begins_with(window: Window, tag: u8) -> bool
+    ensures begins { IsTrue result ↔ BeginsWith tag window.entry.octets.now }
+    ensures exact { result ≡ is_next tag window.entry.octets.now }
+{
+    is_first(window, tag)
+}
+
 /// Nothing more may stand in the window: `Trailing` at its first octet.
 pub fn ended(window: Window) -> Result<(), Fault>
+    ensures ok { IsOk result ↔ (window.entry.octets.now ≡ []) }
+    ensures trailing { IfErr result (λ fault. (fault.reason ≡ Reason.Trailing) × (fault.place ≡ window.entry.place)) }
     ensures exact { Gives (λ x. x) result (end_at tt (span window.entry)) }
 {
     if window.octets.is_empty() {

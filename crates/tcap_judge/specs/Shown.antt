@@ -8,7 +8,7 @@ use Rattle.tcap_record.specs.declared.entry.Body.{Body}
 use Rattle.tcap_record.specs.declared.entry.Body.TheVariants.{Good, Bad}
 use Rattle.tcap_record.specs.declared.fault.FeedFault.{FeedFault}
 use Rattle.tcap_record.specs.FeedFault.{feed_number_of}
-use Rattle.tcap_record.specs.Reading.{IsReadAs}
+use Rattle.tcap_record.specs.Reading.{IsReadAs, EndsOnlyAtEnd, FailsOnlyByReader}
 use Rattle.tcap_record.specs.Lines.{line_end, lines_of}
 use Rattle.tcap_judge.specs.declared.status.Status.{Status}
 use Rattle.tcap_judge.specs.declared.status.Status.TheVariants as statuses
@@ -50,14 +50,16 @@ Prints entries end text status =
     ((text ≡ lines_of entries ++ end_line end) × (status ≡ (if has_fault entries end then statuses.Fault else statuses.Fine)))
     ⊎ ((count : ℕ) × (text ≡ lines_of (take count entries) ++ memory_line) × (status ≡ statuses.Fault))
 
--- What the reader told is these entries and the end behind them, and what the writer took is what is
--- printed of them.
-pub record Shows (untold untold' taken taken' : Option (List ℕ)) (status : Status) : Type 0 where
+-- What the reader told is these entries and the end behind them, which is its own end or its failure
+-- where it says so; and what the writer took is what is printed of them.
+pub record Shows (untold untold' : Option (List ℕ)) (failures failures' : ℕ) (taken taken' : Option (List ℕ)) (status : Status) : Type 0 where
   pub told : List ℕ
   pub entries : List Entry
   pub end : Result (Unit {0}) FeedFault
   pub text : List ℕ
   pub tells : Consumes untold untold' told
   pub is_read : IsReadAs entries end told
+  pub ended : EndsOnlyAtEnd untold' end
+  pub failed : FailsOnlyByReader failures failures' end
   pub prints : Prints entries end text status
   pub takes : Appends taken taken' text

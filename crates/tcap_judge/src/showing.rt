@@ -89,6 +89,7 @@ pub fn run_show<R: Read, W: Write>(
     writer: &mut W,
 ) -> Result<Status, WriteFailed>
     ensures shown { IfOk result (Shows (R.untold reader.old) (R.untold reader.new)
+        (R.failures reader.old) (R.failures reader.new)
         (W.taken writer.old) (W.taken writer.new)) }
     ensures counts { OnOk result (W.failures writer.new ≡ W.failures writer.old) }
     ensures failed { OnErr result (W.failures writer.new ≡ one_more (W.failures writer.old)) }

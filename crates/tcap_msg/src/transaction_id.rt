@@ -1,6 +1,7 @@
 //! Transaction IDs (Q.773 4.2.1).
 
-ghost use Rattle.std.specs.Prelude.{◌≡◌, ◌↔◌, IsSome, IfSome};
+ghost use Rattle.std.specs.Prelude.{◌≡◌, ◌↔◌, IsSome, IfSome, IfOk, IfErr};
+ghost use Rattle.tcap_ber.specs.declared.fault.Reason.{Reason};
 ghost use Rattle.tcap_ber.specs.Reading.{Gives, element};
 ghost use Rattle.tcap_msg.specs.Message.{IsTransactionId};
 ghost use Rattle.tcap_msg.specs.Reading.{transaction_id_of};
@@ -58,10 +59,33 @@ impl TransactionId {
     }
 }
 
+impl PartialEq for TransactionId {
+    ghost use Rattle.std.specs.Prelude.{nat_eq};
+    ghost use Rattle.std.specs.Cmp.{partial_equiv_from_equiv};
+    ghost use Rattle.std.specs.Cmp.Lexicographic.{pointwise, nat_list_eq_equiv};
+
+    ghost eq = { pointwise nat_eq };
+
+    ghost laws = { partial_equiv_from_equiv nat_list_eq_equiv };
+
+    fn eq(&self, other: &TransactionId) -> bool {
+        self.octets() == other.octets()
+    }
+}
+
+impl Eq for TransactionId {
+    ghost use Rattle.std.specs.Cmp.Lexicographic.{nat_list_eq_equiv};
+
+    ghost laws = { nat_list_eq_equiv };
+}
+
 impl<'a> TransactionIdView<'a> {
     /// The transaction ID that an element holds. `BadTransactionId` at the element where it holds no octets
     /// or over four.
     pub fn read(tlv: Tlv<'a>) -> Result<TransactionIdView<'a>, Fault>
+        ensures found { IfOk result (λ id. (id.octets.now ≡ tlv.entry.content.octets.now) × IsTransactionId id.octets.now) }
+        ensures faulty { IfErr result (λ fault. (fault.reason ≡ Reason.BadTransactionId) × (fault.place ≡ tlv.entry.start)
+            × (IsTransactionId tlv.entry.content.octets.now → ⊥)) }
         ensures exact { Gives (λ id. id.octets.now) result (transaction_id_of (element tlv.entry)) }
     {
         let octets = tlv.content.octets;

@@ -1,5 +1,6 @@
 -- What was read of a record, and how it ended.
-use Rattle.std.specs.Prelude.{◌≡◌, ℕ, ◌+◌, ◌-◌, ◌≤◌, ◌⊎◌, List, [], length, Result, Ok, Err}
+use Rattle.std.specs.Prelude.{◌≡◌, ℕ, ◌+◌, ◌-◌, ◌≤◌, ◌⊎◌, List, [], length, Option, Result, Ok, Err}
+use Rattle.std.specs.Io.KnownBytes.{IsAtEnd}
 use Rattle.tcap_ber.specs.Device.{one_more}
 use Rattle.tcap_record.specs.declared.entry.Entry.{Entry}
 use Rattle.tcap_record.specs.declared.fault.FeedFault.{FeedFault}
@@ -24,6 +25,11 @@ pub record IsReadAs (entries : List Entry) (end : Result (Unit {0}) FeedFault) (
   pub framed : Framed entries octets rest
   pub within : length entries ≤ entry_limit
   pub ends : Ends (length entries) (length octets) rest end
+
+-- that the record ends, be it with its last entry or within one, is answered only at the reader's end
+abbrev pub EndsOnlyAtEnd : Option (List ℕ) → Result (Unit {0}) FeedFault → Type 0
+EndsOnlyAtEnd untold (Ok _) = IsAtEnd untold
+EndsOnlyAtEnd untold (Err f) = f.reason ≡ feed.CutRecord → IsAtEnd untold
 
 -- a fault of the reader is answered only where it failed
 abbrev pub FailsOnlyByReader : ℕ → ℕ → Result (Unit {0}) FeedFault → Type 0

@@ -139,6 +139,7 @@ pub(crate) fn read_failed(
     requires { entries.old.items ≡ [] }
     ensures framed { IsReadAs entries.new.items result octets.now }
     ensures failed { IsErr result }
+    ensures uncut { IfErr result (λ fault. fault.reason ≢ FeedReason.CutRecord) }
 {
     match read_all(alloc, octets, entries) {
         Err(fault) if fault.reason != FeedReason::CutRecord => Err(fault),

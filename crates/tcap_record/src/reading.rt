@@ -1,10 +1,10 @@
 //! Reading a record from a device.
 
-ghost use Rattle.std.specs.Prelude.{ℕ, List, IsOk, MatchResult, Ok, Err, OnOk};
-ghost use Rattle.std.specs.Io.KnownBytes.{Consumes, IsAtEnd};
+ghost use Rattle.std.specs.Prelude.{ℕ, List, MatchResult, Ok, Err};
+ghost use Rattle.std.specs.Io.KnownBytes.{Consumes};
 ghost use Rattle.tcap_record.specs.declared.entry.Entry.{Entry};
 ghost use Rattle.tcap_record.specs.declared.fault.FeedFault.{FeedFault};
-ghost use Rattle.tcap_record.specs.Reading.{IsReadAs, FailsOnlyByReader};
+ghost use Rattle.tcap_record.specs.Reading.{IsReadAs, EndsOnlyAtEnd, FailsOnlyByReader};
 ghost use Rattle.tcap_record.specs.Framing.{outcome};
 
 use crate::entry::Record;
@@ -30,7 +30,7 @@ pub struct Reading {
 pub fn read_entries<R: Read>(alloc: Global, reader: &mut R) -> Reading
     ensures told { (told : List ℕ) × Consumes (R.untold reader.old) (R.untold reader.new) told
         × IsReadAs result.record.entries.items result.«end» told }
-    ensures ended { IsOk result.«end» → IsAtEnd (R.untold reader.new) }
+    ensures ended { EndsOnlyAtEnd (R.untold reader.new) result.«end» }
     ensures failed { FailsOnlyByReader (R.failures reader.old) (R.failures reader.new) result.«end» }
 {
     let mut octets = Vec::new(alloc);
@@ -52,7 +52,7 @@ pub fn read_record<R: Read>(alloc: Global, reader: &mut R) -> Result<Record, Fee
         × MatchResult result
         (λ made. IsReadAs made.entries.items (Ok tt) told)
         (λ fault. (entries : List Entry) × IsReadAs entries (Err fault) told) }
-    ensures ended { OnOk result (IsAtEnd (R.untold reader.new)) }
+    ensures ended { EndsOnlyAtEnd (R.untold reader.new) (outcome result) }
     ensures failed { FailsOnlyByReader (R.failures reader.old) (R.failures reader.new) (outcome result) }
 {
     let reading = read_entries(alloc, reader);

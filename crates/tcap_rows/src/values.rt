@@ -17,6 +17,21 @@ fn transaction_ids(rt: HostRuntime) -> Result<(), Fail> {
     Ok(())
 }
 
+/// Octets of transaction IDs, each of which is equal to itself alone.
+const IDS: [&[u8]; 6] = [&[0], &[1], &[0, 0], &[1, 0], &[1, 0, 0, 0], &[0, 0, 0, 1]];
+
+#[test]
+fn equal_transaction_ids(rt: HostRuntime) -> Result<(), Fail> {
+    for (at, octets) in IDS.iter().enumerate() {
+        let id = TransactionId::new(octets).ok_or("an ID")?;
+        for (other_at, other) in IDS.iter().enumerate() {
+            let other = TransactionId::new(other).ok_or("an ID")?;
+            assert_eq!(rt; id == other, at == other_at);
+        }
+    }
+    Ok(())
+}
+
 #[test]
 fn raw_elements(rt: HostRuntime) -> Result<(), Fail> {
     let raw = Raw::new(rt.alloc(), &[4, 1, 42])?.ok_or("an element")?;

@@ -1,9 +1,12 @@
-use Rattle.tcap_ber.specs.Reading.{span, element}
-use Rattle.tcap_ber.proofs.OuterLaws.{raw_there, rest_is_shorter}
+use Rattle.tcap_ber.specs.Reading.{span}
+use Rattle.tcap_ber.proofs.ResultLaws.{raw_found, raw_only, raw_faulty}
 use Rattle.tcap_ber.proofs.raw.RawView.next.Goals as goal
 
-pub overflow_sub-len : goal.overflow_sub-len
-overflow_sub-len c = rest_is_shorter (span c.args.window) (element c.in_ok-rest.field-0-0, span c.in_ok-rest.rest) c.in_ok-rest.ensures.exact
+pub returns-clause-found : goal.returns-clause-found
+returns-clause-found c = raw_found (span c.args.window) c.read_next.result c.read_next.ensures.exact
 
-pub invariant_of-raw : goal.invariant_of-raw
-invariant_of-raw c = record { whole = raw_there (span c.args.window) (element c.in_ok-rest.field-0-0, span c.in_ok-rest.rest) c.in_ok-rest.ensures.exact }
+pub returns-clause-only : goal.returns-clause-only
+returns-clause-only c = raw_only (span c.args.window) c.read_next.result c.read_next.ensures.exact
+
+pub returns-clause-faulty : goal.returns-clause-faulty
+returns-clause-faulty c = raw_faulty (span c.args.window) c.read_next.result c.read_next.ensures.exact
