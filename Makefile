@@ -1,6 +1,7 @@
 # `make demo` builds the program and shows a record; `make test` is the gate;
-# `make bench` prints how the time grows with the record.
-.PHONY: demo test bench tools
+# `make bench` prints how the time grows with the record; `make memory` lets each allocation of
+# a run fail in turn.
+.PHONY: demo test bench memory tools
 
 RECORD = examples/two_begins.hex
 
@@ -14,6 +15,9 @@ demo: tools
 
 bench: demo
 	@python3 bench/linear.py
+
+memory: tools
+	@python3 bench/memory.py
 
 test: tools
 	rt ci

@@ -1,0 +1,33 @@
+"""Lets each allocation of a run of `tcapjudge show` fail in turn. What is printed then has to be the lines of the first
+entries and `FAULT 99 0`, with status 3, or all lines, with status 0, where the program did without that memory. The last
+allocation is taken to be behind it where ten in a row change nothing."""
+
+import re
+import subprocess
+import sys
+
+RECORD = "examples/two_begins.hex"
+ENTRIES = ["0 A Begin otid=01\n  Invoke id=1 op=45\n", "1 B Begin otid=abcd\n  Invoke id=-1 op=56 parameter=04012a\n"]
+WHOLE = ("".join(ENTRIES), "0")
+CUT = [("".join(ENTRIES[:count]) + "FAULT 99 0\n", "3") for count in range(len(ENTRIES) + 1)]
+
+with open(RECORD) as file:
+    OCTETS = bytes.fromhex("".join(line for line in file if not line.startswith("#")))
+
+
+def shown(failing):
+    """What is printed, and the status, where the allocation of that number fails."""
+    command = ["rt", "try", "--fail-alloc", str(failing), "--", "show"]
+    run = subprocess.run(command, cwd="crates/tcapjudge", input=OCTETS, capture_output=True, check=False)
+    return run.stdout.decode(), re.search(r"run=ended status=(\d+)", run.stderr.decode())[1]
+
+
+cut, number = [], 0
+while number < 10 or number - max(cut, default=0) < 10:
+    number += 1
+    answer = shown(number)
+    if answer in CUT:
+        cut.append(number)
+    elif answer != WHOLE:
+        sys.exit(f"allocation {number}: {answer}")
+print(f"{max(cut, default=0)} allocations: {len(cut)} end in FAULT 99 0, and all lines are printed without the others")
