@@ -148,16 +148,16 @@ short_is_unfinished s h whole short = unfinished s
     omega (arith, total, len, a, b, short))
     (λ f wrong. ok_not_err (Some h) f (sym whole ∙ wrong))
 
-pub next_fault : (s : Span) (f : Fault) → next_at s ≡ Err f → IsElementFault s f.reason f.place
+pub next_fault : (s : Span) (f : Fault) → 0 < length s.octets → next_at s ≡ Err f → IsElementFault s f.reason f.place
 unfolding next_at
-next_fault s f e =
+next_fault s f some e =
     elim (bind_err (header_at s) (element_of s) f e) [
       | inl h ↦ inl (header_fault s f h)
       | inr a ↦ of_header a.0 a.1 a.2
     ]
   where
     overrun : IsUnfinished s.octets → fault Overrun s.place ≡ f → IsElementFault s f.reason f.place
-    overrun u k = subst (λ (x : Fault). IsElementFault s x.reason x.place) k (inr (refl, refl, u))
+    overrun u k = subst (λ (x : Fault). IsElementFault s x.reason x.place) k (inr (refl, refl, some, u))
 
     of_header : (h : Option Header) → header_at s ≡ Ok h → element_of s h ≡ Err f → IsElementFault s f.reason f.place
     of_header None a b = overrun (cut_is_unfinished s a) (err_is {A = Element × Span} (fault Overrun s.place) f b)

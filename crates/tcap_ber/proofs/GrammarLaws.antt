@@ -66,6 +66,9 @@ required_complete place tag content octets rest e =
     let some : length (octets ++ rest) ≡ 0 → ⊥ = λ (z : length (octets ++ rest) ≡ 0). omega (arith, z, length-append octets rest, element_len_at_least (tag ∷ []) content octets e) in
     rw (ne_eqb (length (octets ++ rest)) 0 some, next_complete place (tag ∷ []) content octets rest e, is_tag-itself tag) refl
 
+some_there : (n : ℕ) → (n ≡ 0 → ⊥) → 0 < n
+some_there n h = omega (arith, h)
+
 -- what is wrong where an element with this tag is required, but for its inside
 pub required_fault : (tag : ℕ) (s : Span) (f : Fault) → required_at tag s ≡ Err f
     → IsMissing s f.reason f.place ⊎ IsElementFault s f.reason f.place ⊎ IsUnexpected tag s f.reason f.place
@@ -74,7 +77,7 @@ required_fault tag s f e =
     elim (chosen (length s.octets == 0) _ _ (Err f) e) [
       | inl h ↦ inl (missing (nil_from_length s.octets (eqb-true (length s.octets) 0 h.0)) (err_is {A = Element × Span} (fault Missing s.place) f h.1))
       | inr h ↦ elim (bind_err (next_at s) (wanted tag s) f h.1) [
-        | inl k ↦ inr (inl (next_fault s f k))
+        | inl k ↦ inr (inl (next_fault s f (some_there (length s.octets) (eqb-false (length s.octets) 0 h.0)) k))
         | inr a ↦ elim (chosen (is_tag tag a.0.0.tag) _ _ (Err f) a.2) [
           | inl k ↦ absurd cc
           | inr k ↦ inr (inr (unexpected a.0 (next_sound s a.0 a.1) (is_tag-false tag a.0.0.tag k.0) (err_is {A = Element × Span} (fault UnexpectedTag s.place) f k.1)))
@@ -205,11 +208,11 @@ reads_optional {V} tag body read reads = record {
     complete place None (first ∷ more) rest h = absurd cc
 
 -- what is wrong where any element is read
-pub raw_fault : (s : Span) (f : Fault) → raw_at s ≡ Err f → IsElementFault s f.reason f.place
+pub raw_fault : (s : Span) (f : Fault) → 0 < length s.octets → raw_at s ≡ Err f → IsElementFault s f.reason f.place
 unfolding raw_at
-raw_fault s f e =
+raw_fault s f some e =
     elim (bind_err (next_at s) (raw_of s) f e) [
-      | inl h ↦ next_fault s f h
+      | inl h ↦ next_fault s f some h
       | inr a ↦ absurd cc
     ]
 
@@ -230,7 +233,7 @@ reads_parameter = record {
       elim (chosen (length s.octets == 0) _ _ (Err f) e) [
         | inl h ↦ absurd cc
         | inr h ↦ elim (bind_err (raw_at s) with_some f h.1) [
-          | inl k ↦ let filled = eqb-false (length s.octets) 0 h.0 in (omega (arith, filled), raw_fault s f k)
+          | inl k ↦ raw_fault s f (some_there (length s.octets) (eqb-false (length s.octets) 0 h.0)) k
           | inr a ↦ absurd cc
         ]
       ];

@@ -1,5 +1,5 @@
 -- What exact answers mean for the readers of elements.
-use Rattle.std.proofs.Common.{◌≡◌, ℕ, ◌+◌, ◌⊎◌, List, [], ◌∷◌, ◌++◌, length, Bool, true, false, Result, Ok, Err, sym, ap, subst, ◌∙◌, inl, inr}
+use Rattle.std.proofs.Common.{◌≡◌, ℕ, ◌+◌, ◌<◌, ◌⊎◌, List, [], ◌∷◌, ◌++◌, length, Bool, true, false, Result, Ok, Err, sym, ap, subst, ◌∙◌, inl, inr}
 use Rattle.std.specs.Prelude.{IfOk, IfErr, IsOkAnd, ◌↔◌, IsTrue}
 use Rattle.tcap_ber.specs.declared.fault.Fault.{Fault}
 use Rattle.tcap_ber.specs.declared.fault.Reason.TheVariants.{BadInteger}
@@ -51,9 +51,9 @@ pub next_found : (s : Span) (r : Next) → Gives seen r (next_at s) → IfOk r (
 next_found s (Ok x) e = next_sound s (seen x) e
 next_found s (Err f) e = tt
 
-pub next_faulty : (s : Span) (r : Next) → Gives seen r (next_at s) → IfErr r (λ f. IsElementFault s f.reason f.place)
-next_faulty s (Ok x) e = tt
-next_faulty s (Err f) e = next_fault s f e
+pub next_faulty : (s : Span) (r : Next) → 0 < length s.octets → Gives seen r (next_at s) → IfErr r (λ f. IsElementFault s f.reason f.place)
+next_faulty s (Ok x) some e = tt
+next_faulty s (Err f) some e = next_fault s f some e
 
 pub next_only : (s : Span) (r : Next) → Gives seen r (next_at s) → (tag content octets rest : List ℕ) → IsElement tag content octets → s.octets ≡ octets ++ rest
     → IsOkAnd r (λ x. (x.0.tag.octets.now ≡ tag) × (x.0.content.octets.now ≡ content) × (x.1.octets.now ≡ rest))
@@ -139,9 +139,9 @@ raw_only s (Err f) e octets rest h joined =
     let there = ap (λ (o : List ℕ). raw_at (record { octets = o; place = s.place })) joined ∙ raw_complete s.place octets rest h in
     ok_not_err {A = List ℕ × Span} _ f (sym there ∙ e)
 
-pub raw_faulty : (s : Span) (r : NextRaw) → Gives seen_raw r (raw_at s) → IfErr r (λ f. IsElementFault s f.reason f.place)
-raw_faulty s (Ok x) e = tt
-raw_faulty s (Err f) e = raw_fault s f e
+pub raw_faulty : (s : Span) (r : NextRaw) → 0 < length s.octets → Gives seen_raw r (raw_at s) → IfErr r (λ f. IsElementFault s f.reason f.place)
+raw_faulty s (Ok x) some e = tt
+raw_faulty s (Err f) some e = raw_fault s f some e
 
 -- ---- a reader of a part, and a reader of a body
 

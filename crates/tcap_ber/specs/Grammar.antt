@@ -29,11 +29,12 @@ pub record Content (V : Type 0) : Type 1 where
 
 -- ---- the element at a place
 
--- What is wrong with the header of the element at the front of a window, or with its fit.
+-- What is wrong with the header of the element at the front of a window, or with its fit: some of it is
+-- there, and the window ends before it does.
 abbrev pub IsElementFault : Span → Reason → ℕ → Type 0
 IsElementFault s reason place =
     ((offset : ℕ) × (place ≡ s.place + offset) × IsHeaderFault s.octets reason offset)
-    ⊎ ((reason ≡ Overrun) × (place ≡ s.place) × IsUnfinished s.octets)
+    ⊎ ((reason ≡ Overrun) × (place ≡ s.place) × (0 < length s.octets) × IsUnfinished s.octets)
 
 -- the window is empty where an element is required
 pub record IsMissing (s : Span) (reason : Reason) (place : ℕ) : Type 0 where
@@ -105,7 +106,7 @@ SpellsParameter None octets behind = (octets ≡ []) × (behind ≡ [])
 abbrev pub parameter : Field (Option (List ℕ))
 parameter = record {
   spells = SpellsParameter;
-  faulty = λ s reason place. (0 < length s.octets) × IsElementFault s reason place;
+  faulty = IsElementFault;
 }
 
 -- ---- contents

@@ -110,7 +110,7 @@ message_refused octets f e =
           | inr h ↦ elim h [
             | inl wrong ↦ elim wrong [
               | inl k ↦ let at : k.0 ≡ f.place = omega (arith, k.1) in inr (inl (subst (IsHeaderFault octets f.reason) at k.2))
-              | inr k ↦ absurd (k.2.no_element here.tag here.content here.element here.rest here.is_element here.joined)
+              | inr k ↦ absurd (k.3.no_element here.tag here.content here.element here.rest here.is_element here.joined)
             ]
             | inr k ↦ inr (inr k)
           ]

@@ -65,7 +65,7 @@ optional_within : {V : Type 0} (tag : ℕ) (body : Body V) → BodyWithin body �
 optional_within tag body within s reason place h = required_within tag body within s reason place h.1
 
 parameter_within : FieldWithin parameter
-parameter_within s reason place h = element_fault_within s reason place h.1
+parameter_within s reason place h = element_fault_within s reason place h
 
 -- ---- contents
 

@@ -9,4 +9,4 @@ pub returns-clause-only : goal.returns-clause-only
 returns-clause-only c = next_only (span c.args.window) c.read_next.result c.read_next.ensures.exact
 
 pub returns-clause-faulty : goal.returns-clause-faulty
-returns-clause-faulty c = next_faulty (span c.args.window) c.read_next.result c.read_next.ensures.exact
+returns-clause-faulty c = next_faulty (span c.args.window) c.read_next.result c.requires c.read_next.ensures.exact
