@@ -15,8 +15,7 @@ one_more count = min (count + 1) (2 ^ 64 - 1)
 abbrev pub CountsFailure : {A : Type 0} → ℕ → ℕ → Result A Failed → Type 0
 CountsFailure old new result = MatchResult result (λ _. new ≡ old) (λ _. new ≡ one_more old)
 
--- A read told the first n octets of the buffer at Ok n, and no octet only at the end or with no room;
--- a failed one told none.
+-- a read told the first n octets of the buffer at Ok n; a failed one told none
 abbrev pub Tells : Option (List ℕ) → Option (List ℕ) → Result ℕ Failed → List ℕ → Type 0
 Tells old new result buffer = MatchResult result (λ n. Consumes old new (take n buffer)) (λ _. Keeps old new)
 

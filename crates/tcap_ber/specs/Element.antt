@@ -7,8 +7,9 @@ IsContinued [] = ⊥
 IsContinued (octet ∷ []) = octet < 128
 IsContinued (octet ∷ next ∷ more) = (128 ≤ octet) × IsContinued (next ∷ more)
 
--- A tag is one octet whose low five bits aren't all ones (X.690 8.1.2.3), or one whose low five bits
--- are all ones and then one to four octets (8.1.2.4; at most four is this profile's limit).
+-- A tag is one octet whose low five bits aren't all ones (X.690 8.1.2.2), or one whose low five bits
+-- are all ones and then one to four octets (8.1.2.4; at most four is this profile's limit). The profile
+-- takes long tags of low numbers and with needless leading octets too, and compares tags by their octets.
 abbrev pub IsTag : List ℕ → Type 0
 IsTag [] = ⊥
 IsTag (first ∷ more) = ((first % 32 ≢ 31) × (more ≡ [])) ⊎ ((first % 32 ≡ 31) × IsContinued more × (length more ≤ 4))

@@ -82,7 +82,7 @@ required tag body = record {
       ⊎ IsFaultyInside tag body.faulty s reason place;
 }
 
--- the first of the octets is this one, which is a whole tag
+-- the first of the octets is this one; it says which tag stands there where this octet is a whole tag
 abbrev pub BeginsWith : ℕ → List ℕ → Type 0
 BeginsWith tag [] = ⊥
 BeginsWith tag (first ∷ more) = first ≡ tag

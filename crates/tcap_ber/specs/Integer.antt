@@ -2,8 +2,8 @@
 use Rattle.std.specs.Prelude.{◌≡◌, ℕ, ◌+◌, ◌-◌, ◌^◌, ◌<◌, ◌≤◌, ℤ, pos, negsuc, List, [], ◌∷◌, length, nat_lt, if◌then◌else◌}
 use Rattle.tcap_ber.specs.Element.{number}
 
--- The contents of an INTEGER: at least one octet, and where there are more, the first nine bits are
--- neither all zero nor all one (X.690 8.3.2).
+-- The contents of an INTEGER: at least one octet (X.690 8.3.1), and where there are more, the first nine
+-- bits are neither all zero nor all one (8.3.2).
 abbrev pub IsInteger : List ℕ → Type 0
 IsInteger [] = ⊥
 IsInteger (first ∷ []) = Unit {0}

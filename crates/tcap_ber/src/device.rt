@@ -4,7 +4,7 @@ ghost use Rattle.std.specs.Prelude.{◌≡◌, ℕ, ◌<◌, ◌≤◌, List, Op
 ghost use Rattle.std.specs.Io.KnownBytes.{IsAtEnd};
 ghost use Rattle.tcap_ber.specs.Device.{CountsFailure, Tells, Takes};
 
-/// A device failed. What it did is not known beyond that; the device counts its failures.
+/// A device failed. What it told or took at that, each call says; the device counts its failures.
 #[derive(Clone, Copy, Debug, PartialEq, Eq)]
 pub struct Failed;
 

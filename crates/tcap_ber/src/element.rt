@@ -2,12 +2,12 @@
 
 ghost use Rattle.std.specs.Prelude.{◌≡◌, ◌<◌, ◌≤◌, ◌+◌, ◌^◌, ◌∷◌, ◌↔◌, [], IsTrue, length};
 
-/// Octets that are read as one part of a message, and the place of the first of them in it.
+/// Octets that are read as one part of a whole, and the place of the first of them in it.
 #[derive(Clone, Copy, Debug)]
 pub struct Window<'a> {
     /// The octets of the part.
     pub octets: &'a [u8],
-    /// The place of the first of them, counted from the message's first octet.
+    /// The place of the first of them in the whole, a message or a record, whose first octet is at 0.
     pub place: u64,
     pub ghost fits: { place + length octets.now < 2 ^ 64 },
 }
@@ -51,7 +51,7 @@ impl<'a> Window<'a> {
         Window { octets, place: 0 }
     }
 
-    /// What is left of the window behind its first `len` octets.
+    /// What is left of the window behind its first `len` octets, of which it has to have so many.
     pub fn behind(self, len: usize) -> Window<'a>
         requires { len ≤ length self.octets.now }
         ensures { span result ≡ behind len (span self.entry) }

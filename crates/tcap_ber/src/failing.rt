@@ -1,6 +1,6 @@
 //! A device that fails in mid-stream, for tests.
 
-ghost use Rattle.std.specs.Prelude.{◌≡◌, ℕ, ◌<◌, ◌≤◌, length, take, Some, None, IfOk, OnOk, IsErr};
+ghost use Rattle.std.specs.Prelude.{◌≡◌, ℕ, ◌<◌, ◌≤◌, ◌⊎◌, length, take, Some, None, IfOk, OnOk, OnErr, IsErr};
 ghost use Rattle.std.specs.Io.KnownBytes.{Appends, IsAtEnd};
 ghost use Rattle.tcap_ber.specs.Device.{CountsFailure, Tells, Takes, Passes, failing_inner, failing_failures, failing_left};
 
@@ -52,10 +52,14 @@ impl<T: io::Read> Read for Failing<T> {
         ensures counts { CountsFailure (failing_failures self.old)
             (failing_failures self.new) result }
 
-        // It fails where no octet is left to go through, and then never again by itself.
+        // By itself it fails where no octet is left to go through, there alone, and then never again.
         ensures passes { IfOk result (Passes (failing_left self.old) (failing_left self.new)) }
         ensures fails { failing_left self.old ≡ Some 0 → 0 < length buffer.old
             → IsErr result × (failing_left self.new ≡ None) }
+        ensures early { failing_left self.new ≡ None
+            → (failing_left self.old ≡ None) ⊎ (failing_left self.old ≡ Some 0) }
+        ensures kept { OnErr result ((failing_left self.old ≡ Some 0)
+            ⊎ (failing_left self.new ≡ failing_left self.old)) }
         ensures once { failing_left self.old ≡ None → failing_left self.new ≡ None }
     {
         let Some(left) = self.left else {
@@ -83,12 +87,16 @@ impl<T: io::Write> Write for Failing<T> {
         ensures counts { CountsFailure (failing_failures self.old)
             (failing_failures self.new) result }
 
-        // It fails where more octets are given than are left to go through, and takes those.
+        // By itself it fails where more octets are given than are left to go through, there alone, and
+        // takes those.
         ensures passes { OnOk result
             (Passes (failing_left self.old) (failing_left self.new) (length octets.now)) }
         ensures cuts { failing_left self.new ≡ None → (left : ℕ) → failing_left self.old ≡ Some left
-            → Appends (T.contents (failing_inner self.old)) (T.contents (failing_inner self.new))
+            → (left < length octets.now)
+            × Appends (T.contents (failing_inner self.old)) (T.contents (failing_inner self.new))
             (take left octets.now) }
+        ensures kept { OnErr result ((failing_left self.new ≡ None)
+            ⊎ (failing_left self.new ≡ failing_left self.old)) }
         ensures once { failing_left self.old ≡ None → failing_left self.new ≡ None }
     {
         let Some(left) = self.left else {

@@ -24,7 +24,7 @@ pub enum Reason {
     Missing,
     /// Octets stand after the last element of a structure.
     Trailing,
-    /// A component portion without a component (Q.773 4.2.2).
+    /// A component portion without content (Q.773 4.2.2).
     EmptyComponents,
     /// A one-octet integer with more octets.
     BadSize,
@@ -60,11 +60,12 @@ impl Reason {
     }
 }
 
-/// A refusal: the reason and the place of the octet that it names, counted from 0.
+/// A refusal: the reason and a place, the octet where it stands or the end where octets are missing.
 #[derive(Clone, Copy, Debug, PartialEq, Eq)]
 pub struct Fault {
     /// Why the octets are refused.
     pub reason: Reason,
-    /// The octet that the reason names, counted from the first octet that was given.
+    /// The place, as the window that was read counts its octets: from 0 at the first octet of a whole
+    /// message or record.
     pub place: u64,
 }

@@ -94,8 +94,9 @@ fn read_small(tlv: Tlv, limit: usize, too_wide: Reason) -> Result<i32, Fault>
     Ok(number(octets))
 }
 
-/// The number of an element that is to be an INTEGER of at most `limit` octets. `BadInteger` where its
-/// contents are none, `too_wide` where they have more octets, both at the element's first octet.
+/// The number of an element that is to be an INTEGER of at most `limit` octets, which is at most 4
+/// (X.690 8.3). `BadInteger` where its contents are none, else `too_wide` where they have more octets, both
+/// at the element's first octet.
 pub fn small_integer(tlv: Tlv, limit: usize, too_wide: Reason) -> Result<i32, Fault>
     requires { limit ≤ 4 }
     ensures found { IfOk result (λ n. IsSmallInteger limit n tlv.entry.content.octets.now) }
@@ -119,8 +120,8 @@ fn read_octet(tlv: Tlv) -> Result<i8, Fault>
     }
 }
 
-/// The number of an element that is to be an INTEGER of one octet. `BadInteger` where its contents are
-/// none, `BadSize` where they have more octets, both at the element's first octet.
+/// The number of an element that is to be an INTEGER of one octet (X.690 8.3). `BadInteger` where its
+/// contents are none, else `BadSize` where they have more octets, both at the element's first octet.
 pub fn octet_integer(tlv: Tlv) -> Result<i8, Fault>
     ensures found { IfOk result (λ n. IsSmallInteger 1 n tlv.entry.content.octets.now) }
     ensures only { (n : ℤ) → IsSmallInteger 1 n tlv.entry.content.octets.now → IsOkAnd result (λ m. m ≡ n) }

@@ -7,8 +7,8 @@ ghost use Rattle.tcap_ber.specs.Device.{CountsFailure};
 
 use crate::device::{Failed, Write};
 
-/// The count of octets of the shortest header before a content of `content_len` octets, with any tag of
-/// one octet.
+/// The count of octets of the shortest header before a content of `content_len` octets, at most 65,535,
+/// with any tag of one octet (X.690 8.1.3).
 pub fn header_len(content_len: usize) -> usize
     requires { content_len ≤ 65535 }
     ensures exact { (tag : ℕ) → result ≡ length (shortest_header tag content_len) }
@@ -22,7 +22,7 @@ pub fn header_len(content_len: usize) -> usize
 }
 
 /// Writes the shortest header of an element with a tag of one octet and a content of `content_len`
-/// octets. `Failed` where the writer failed.
+/// octets, at most 65,535 (X.690 8.1.3). `Failed` where the writer failed.
 pub fn put_header<W: Write>(tag: u8, content_len: usize, writer: &mut W) -> Result<(), Failed>
     requires { content_len ≤ 65535 }
     ensures ok { OnOk result (Appends (W.taken writer.old) (W.taken writer.new) (shortest_header tag content_len)) }

@@ -81,7 +81,8 @@ impl<'a> RawView<'a> {
         Ok((raw, rest))
     }
 
-    /// The element at the front of a window, and the window behind it. It is refused as by `next_tlv`.
+    /// The element at the front of a window that is not empty, and the window behind it (X.690 8.1.1). The
+    /// faults are those of [`next_tlv`].
     pub fn next(window: Window<'a>) -> Result<(RawView<'a>, Window<'a>), Fault>
         requires { 0 < length window.octets.now }
         // What is read is the element that stands there, verbatim.
@@ -109,7 +110,7 @@ impl<'a> RawView<'a> {
     }
 
     /// A parameter: the element that any octets left in the window have to be, or `None` where none are.
-    /// It is refused as by `next_tlv`.
+    /// The faults are those of [`next_tlv`].
     pub fn parameter(window: Window<'a>) -> Result<(Option<RawView<'a>>, Window<'a>), Fault>
         // What is read is spelled there, and what is left is the window behind it.
         ensures found { IfOk result (λ x. Taken parameter (span window.entry) (option_map (λ raw. raw.octets.now) x.0) (span x.1)) }

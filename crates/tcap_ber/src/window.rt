@@ -29,8 +29,8 @@ fn read_outer(octets: &[u8]) -> Result<Outer, Fault>
     }
 }
 
-/// How `octets` begin: with a whole element of so many octets, or with a part of one, so that at least so
-/// many octets are needed in all. A fault where the header as far as it stands there is wrong, its place
+/// How `octets` begin: with a whole element of so many octets, or with none yet and no fault so far, so
+/// that at least so many octets are needed in all. A fault where the header as far as it stands there is wrong, its place
 /// counted from the first octet: `TagForm` and `TooLong` at 0, `LengthForm` and `Indefinite` at the first
 /// length octet (X.690 8.1.2, 8.1.3).
 pub fn outer(octets: &[u8]) -> Result<Outer, Fault>
@@ -69,8 +69,9 @@ fn read_next(window: Window) -> Result<(Tlv, Window), Fault>
     Ok((found, window.behind(len)))
 }
 
-/// The first element of a window, and the window behind it. `TagForm`, `TooLong` or `Overrun` at the
-/// element's first octet, `LengthForm` or `Indefinite` at its first length octet.
+/// The first element of a window that is not empty, and the window behind it (X.690 8.1.1). `TagForm`,
+/// `TooLong` or `Overrun` at the element's first octet, `LengthForm` or `Indefinite` at its first length
+/// octet.
 pub fn next_tlv(window: Window) -> Result<(Tlv, Window), Fault>
     requires { 0 < length window.octets.now }
     // What is read is the element that stands there, and its parts are those octets of the window.
@@ -107,7 +108,8 @@ fn read_required(window: Window, tag: u8) -> Result<(Tlv, Window), Fault>
 }
 
 /// The first element of a window, which has to be there with this tag of one octet, and the window
-/// behind it. `Missing` where the window is empty, `UnexpectedTag` where another tag stands there.
+/// behind it (X.690 8.1.1). `Missing` at the window's end where it is empty, `UnexpectedTag` at the
+/// element's first octet where it has another tag, else the faults of [`next_tlv`].
 pub fn required(window: Window, tag: u8) -> Result<(Tlv, Window), Fault>
     // What is read is the element that stands there, and has this tag.
     ensures found { IfOk result (λ x. FindsElement (span window.entry) (element x.0) (span x.1) × (x.0.tag.octets.now ≡ tag ∷ [])) }
@@ -132,8 +134,8 @@ fn is_first(window: Window, tag: u8) -> bool
     }
 }
 
-/// Whether the window begins with this octet, which is a whole tag: so an optional element of that tag
-/// stands there.
+/// Whether the first octet of the window is `tag`. Where that is a whole tag, it says whether an element
+/// of it stands there.
 pub fn begins_with(window: Window, tag: u8) -> bool
     ensures begins { IsTrue result ↔ BeginsWith tag window.entry.octets.now }
     ensures exact { result ≡ is_next tag window.entry.octets.now }
@@ -141,7 +143,7 @@ pub fn begins_with(window: Window, tag: u8) -> bool
     is_first(window, tag)
 }
 
-/// Nothing more may stand in the window: `Trailing` at its first octet.
+/// Nothing more may stand in the window: `Trailing` at its first octet where something does.
 pub fn ended(window: Window) -> Result<(), Fault>
     ensures ok { IsOk result ↔ (window.entry.octets.now ≡ []) }
     ensures trailing { IfErr result (λ fault. (fault.reason ≡ Reason.Trailing) × (fault.place ≡ window.entry.place)) }

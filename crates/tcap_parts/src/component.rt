@@ -83,9 +83,10 @@ fn read_component(window: Window) -> Result<(ComponentView, Window), Fault>
     Ok((view_invoke(found.content)?, rest))
 }
 
-/// The first component of a window that is not empty, lent from its octets, and the window behind it. A
-/// fault is the first from left to right, its place counted from the message's first octet
-/// (Q.773 4.2.2).
+/// The first component of a window that is not empty, lent from its octets, and the window behind it
+/// (Q.773 4.2.2). A fault is the first from left to right: those of [`required`] for the component and
+/// its parts, `BadInteger` or `BadSize` at the invoke ID, `BadInteger` or `CodeTooWide` at the operation
+/// code, those of [`RawView::parameter`], and `Trailing` behind the parameter.
 pub fn view_component(window: Window) -> Result<(ComponentView, Window), Fault>
     requires { 0 < length window.octets.now }
     // What is read is spelled there.

@@ -91,7 +91,7 @@ impl<'a> PortionView<'a> {
     }
 
     /// The component portion that an element of tag 6C holds, lent from its octets. `EmptyComponents` at
-    /// the element where it holds no component, else the first fault from left to right in its content
+    /// the element where it has no content, else the first fault from left to right in its content
     /// (Q.773 4.2.2).
     pub fn read(tlv: Tlv<'a>) -> Result<PortionView<'a>, Fault>
         // What is read is spelled by all of the content.
