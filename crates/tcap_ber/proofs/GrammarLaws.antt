@@ -1,5 +1,6 @@
--- Readers of parts, contents and bodies: what they read is spelled so, what is spelled so they read, and
--- what they refuse is faulty there. One law for each word of the grammar.
+-- Readers of parts, contents and bodies: what they read is spelled so, what is spelled so they read, what
+-- they refuse is faulty there, and what is faulty there they refuse by that fault. One law for each word
+-- of the grammar.
 use Rattle.std.proofs.Common.{zero, suc, ◌≡◌, ◌≢◌, ℕ, ◌+◌, ◌-◌, ◌<◌, ◌≤◌, ◌⊎◌, true, false, List, [], ◌∷◌, ◌++◌, length, Option, Some, None, Result, Ok, Err, refl, sym, ap, subst, ◌∙◌, inl, inr, arith, ℤ}
 use Rattle.std.specs.Prelude.{not, ◌&&◌, nat_lt, ◌==◌, if◌then◌else◌}
 use Rattle.std.proofs.lemmas.Bool.{ltb-true, ltb-false, lt-ltb, le-ltb, eqb-true, eqb-false, eq-eqb, ne_eqb, and_parts, and_from, both_ways, not-true, not_from_false, false_from_ne_true}
@@ -16,6 +17,7 @@ use Rattle.tcap_ber.specs.Span.{Span}
 use Rattle.tcap_ber.specs.Reading.{◌>>=◌, fault, Element, next_at, is_tag, is_next, wanted, required_at, raw_of, raw_at, is_integer, integer_at, within, small_integer_at, with_body, with_some, optional_at, parameter_at, end_at, each_at, each_of}
 use Rattle.tcap_ber.proofs.Steps.{chosen, bind_ok, bind_err, ok_is, err_is, ok_not_err}
 use Rattle.tcap_ber.proofs.ElementLaws.{element_len_at_least, next_sound, next_complete, next_fault}
+use Rattle.tcap_ber.proofs.FaultLaws.{refused_by, element_fault_some, raw_refused, required_refused}
 use Rattle.tcap_ber.proofs.OuterLaws.{raw_sound, raw_complete}
 
 -- the window where this front stands before this rest
@@ -68,6 +70,10 @@ required_complete place tag content octets rest e =
 
 some_there : (n : ℕ) → (n ≡ 0 → ⊥) → 0 < n
 some_there n h = omega (arith, h)
+
+-- some are not none
+not_none : (n : ℕ) → 0 < n → n ≡ 0 → ⊥
+not_none n some none = omega (arith, some, none)
 
 -- what is wrong where an element with this tag is required, but for its inside
 pub required_fault : (tag : ℕ) (s : Span) (f : Fault) → required_at tag s ≡ Err f
@@ -125,6 +131,7 @@ reads_required {V} tag body read reads = record {
           | inr b ↦ absurd cc
         ]
       ];
+  stops = stops;
 }
   where
     taken : (s : Span) (e : Element) (r : Span) (v : V) → FindsElement s e r → e.tag ≡ tag ∷ [] → body.spells v e.content.octets → Taken (required tag body) s v r
@@ -145,6 +152,14 @@ reads_required {V} tag body read reads = record {
       inside = subst (λ (p : ℕ). body.faulty s.place (record { octets = e.content.octets; place = p }) f.reason f.place) found.content_place
           (subst (λ (p : ℕ). body.faulty p e.content f.reason f.place) found.place wrong);
     }
+
+    stops : (s : Span) (f : Fault) → (required tag body).faulty s f.reason f.place → (required_at tag s >>= with_body read) ≡ Err f
+    stops s f (inl m) = rw (required_refused tag s f (inl m)) refl
+    stops s f (inr (inl w)) = rw (required_refused tag s f (inr (inl w))) refl
+    stops s f (inr (inr (inl u))) = rw (required_refused tag s f (inr (inr u))) refl
+    stops s f (inr (inr (inr h))) =
+        let there = ap (λ (x : List ℕ). required_at tag (record { octets = x; place = s.place })) h.joined ∙ required_complete s.place tag h.content h.octets h.rest h.is_element in
+        rw (there, reads.stops (element_in s.place tag h.content h.octets) f h.inside) refl
 
 -- the test whether the first octet is this one, and what it means
 pub is_next-true : (tag : ℕ) (octets : List ℕ) → is_next tag octets ≡ true → BeginsWith tag octets
@@ -193,6 +208,7 @@ reads_optional {V} tag body read reads = record {
         ]
         | inr h ↦ absurd cc
       ];
+  stops = λ s f wrong. rw (is_next-begins tag s.octets wrong.0, one.stops s f wrong.1) refl;
 }
   where
     one : ReadsField (required tag body) (value_at tag read)
@@ -237,6 +253,7 @@ reads_parameter = record {
           | inr a ↦ absurd cc
         ]
       ];
+  stops = λ s f wrong. rw (ne_eqb (length s.octets) 0 (not_none (length s.octets) (element_fault_some s f.reason f.place wrong)), raw_refused s f wrong) refl;
 }
   where
     complete : (place : ℕ) (v : Option (List ℕ)) (front rest : List ℕ) → SpellsParameter v front rest
@@ -262,6 +279,7 @@ reads_ended {W} w = record {
             let some = eqb-false (length s.octets) 0 h.0 in
             (omega (arith, some), sym (ap (λ (x : Fault). x.reason) k), sym (ap (λ (x : Fault). x.place) k))
       ];
+  stops = λ s f wrong. rw (ne_eqb (length s.octets) 0 (not_none (length s.octets) wrong.0)) (refused_by f Trailing s.place wrong.1 wrong.2);
 }
 
 pub reads_then : {V W U : Type 0} (first : Field V) (others : Content W) (make : V × W → U) (read : Span → Result (V × Span) Fault) (go_on : V → Span → Result U Fault)
@@ -289,6 +307,13 @@ reads_then first others make read go_on one all = record {
               behind = subst (λ (r : Span). others.faulty r f.reason f.place) (is_after s.place t.front a.0.1 t.place) ((all a.0.0).refuses a.0.1 f a.2);
             })
       ];
+  stops = λ s f wrong.
+      elim wrong [
+        | inl h ↦ ap (λ r. r >>= λ x. go_on x.0 x.1) (one.stops s f h)
+        | inr h ↦
+            let here = ap (λ (y : List ℕ). read (record { octets = y; place = s.place })) h.joined ∙ one.complete s.place h.value h.front h.rest h.is_first in
+            ap (λ r. r >>= λ x. go_on x.0 x.1) here ∙ (all h.value).stops (after s.place h.front h.rest) f h.behind
+      ];
 }
 
 pub reads_structure : {V W : Type 0} (content : Content V) (make : V → W) (read : Span → Result W Fault) → ReadsContent content make read
@@ -297,6 +322,7 @@ reads_structure content make read reads = record {
   sound = λ e w h. reads.sound e.content w h;
   complete = λ e w h. reads.complete e.content h.0 h.2 ∙ ap (λ x. Ok x) (sym h.1);
   refuses = λ e f h. reads.refuses e.content f h;
+  stops = λ e f h. reads.stops e.content f h;
 }
 
 -- the test whether these are the contents of an INTEGER, and what it means
@@ -338,6 +364,7 @@ reads_made {V} {W} make body read reads = record {
         | inl k ↦ reads.refuses e f k
         | inr a ↦ absurd cc
       ];
+  stops = λ e f h. rw (reads.stops e f h) refl;
 }
 
 pub reads_integer : (limit : ℕ) (too_wide : Reason) → ReadsBody (integer limit too_wide) (small_integer_at limit too_wide)
@@ -361,6 +388,7 @@ reads_integer limit too_wide = record {
           | inr k ↦ absurd cc
         ]
       ];
+  stops = λ e f h. stops e f h.0 h.1;
 }
   where
     read : (e : Element) (v : ℤ) (octets : List ℕ) → IsInteger e.content.octets → e.content.octets ≡ octets → within limit too_wide e octets ≡ Ok v → (integer limit too_wide).spells v e.content.octets
@@ -382,6 +410,14 @@ reads_integer limit too_wide = record {
           | inr k ↦ absurd cc
         ]
 
+    stops : (e : Element) (f : Fault) → f.place ≡ e.place
+        → ((f.reason ≡ BadInteger) × (IsInteger e.content.octets → ⊥)) ⊎ ((f.reason ≡ too_wide) × IsInteger e.content.octets × (limit < length e.content.octets))
+        → small_integer_at limit too_wide e ≡ Err f
+    stops e f at (inl h) =
+        let none = false_from_ne_true _ (λ t. h.1 (is_integer_sound e.content.octets t)) in
+        rw none (refused_by f BadInteger e.place h.0 at)
+    stops e f at (inr h) = rw (is_integer_complete e.content.octets h.1, lt-ltb limit (length e.content.octets) h.2) (refused_by f too_wide e.place h.0 at)
+
 -- two chains are one where they go on alike behind what was read
 bind_same : {A B : Type 0} (r : Result A Fault) (f g : A → Result B Fault) → ((x : A) → r ≡ Ok x → f x ≡ g x) → (r >>= f) ≡ (r >>= g)
 bind_same (Ok x) f g same = same x refl
@@ -397,6 +433,12 @@ item_is_shorter : {V : Type 0} (item : Field V) (read : Span → Result (V × Sp
 item_is_shorter item read reads has s x e =
     let t = reads.sound s x.0 x.1 e in
     omega (arith, ap length t.joined, length-append t.front x.1.octets, has x.0 t.front x.1.octets t.is_part)
+
+-- where an item is wrong, some octets are left
+pub wrong_after_some : {V : Type 0} (item : Field V) → HasOctets item → (vs : List V) (s : Span) (reason : Reason) (place : ℕ)
+    → IsFaultyAfter item vs s reason place → 0 < length s.octets
+wrong_after_some item has [] s reason place h = h.0
+wrong_after_some item has (v ∷ vs) s reason place h = omega (arith, ap length h.2, length-append h.0 h.1, has v h.0 h.1 h.3)
 
 -- of an empty window no items are read
 each_at-empty : {V : Type 0} (read : Span → Result (V × Span) Fault) (n : ℕ) (s : Span) → length s.octets ≡ 0 → each_at read n s ≡ Ok []
@@ -439,6 +481,7 @@ reads_each {V} item read reads has = record {
   sound = λ s vs e. (vs, refl, sound (length s.octets) s vs e);
   complete = λ s vs h. complete (length s.octets) s vs (omega arith) h;
   refuses = λ s f e. refuses (length s.octets) s f (omega arith) e;
+  stops = λ s f h. stops (length s.octets) s f h.0 (omega arith) h.1;
 }
   where
     sound : (n : ℕ) (s : Span) (vs : List V) → each_at read n s ≡ Ok vs → SpellsEach item vs s.octets
@@ -486,3 +529,13 @@ reads_each {V} item read reads has = record {
         behind_item n s f x e wrong =
             let t = reads.sound s x.0 x.1 e in
             (x.0 ∷ wrong.0, (t.front, x.1.octets, t.joined, t.is_part, subst (λ (r : Span). IsFaultyAfter item wrong.0 r f.reason f.place) (is_after s.place t.front x.1 t.place) wrong.1))
+
+    stops : (n : ℕ) (s : Span) (f : Fault) (vs : List V) → length s.octets ≤ n → IsFaultyAfter item vs s f.reason f.place → each_at read n s ≡ Err f
+    stops zero s f vs room h = absurd (omega (arith, room, wrong_after_some item has vs s f.reason f.place h))
+    stops (suc n) s f [] room h = rw (ne_eqb (length s.octets) 0 (not_none (length s.octets) h.0), reads.stops s f h.1) refl
+    stops (suc n) s f (v ∷ vs) room h =
+        let total : length s.octets ≡ length h.0 + length h.1 = ap length h.2 ∙ length-append h.0 h.1 in
+        let some = has v h.0 h.1 h.3 in
+        let filled : length s.octets ≡ 0 → ⊥ = λ (z : length s.octets ≡ 0). omega (arith, z, total, some) in
+        let here : read s ≡ Ok (v, after s.place h.0 h.1) = ap (λ (y : List ℕ). read (record { octets = y; place = s.place })) h.2 ∙ reads.complete s.place v h.0 h.1 h.3 in
+        rw (ne_eqb (length s.octets) 0 filled, here, stops n (after s.place h.0 h.1) f vs (omega (arith, total, some, room)) h.4) refl

@@ -3,6 +3,7 @@ pub mod Steps
 pub mod TagLaws
 pub mod HeaderLaws
 pub mod ElementLaws
+pub mod FaultLaws
 pub mod OuterLaws
 pub mod GrammarLaws
 pub mod ResultLaws

@@ -1,5 +1,5 @@
--- What it means that octets are read exactly: what is read is spelled so, what is spelled so is read, and
--- what is refused is faulty there.
+-- What it means that octets are read exactly: what is read is spelled so, what is spelled so is read,
+-- what is refused is faulty there, and what is faulty there is refused by that fault.
 use Rattle.std.specs.Prelude.{◌≡◌, ℕ, List, ◌++◌, Result, Ok, Err}
 use Rattle.tcap_ber.specs.declared.fault.Fault.{Fault}
 use Rattle.tcap_ber.specs.Grammar.{Body, Field, Content, after}
@@ -12,15 +12,18 @@ pub record ReadsField {V : Type 0} (part : Field V) (read : Span → Result (V �
   pub sound : (s : Span) (v : V) (rest : Span) → read s ≡ Ok (v, rest) → Taken part s v rest
   pub complete : (place : ℕ) (v : V) (front rest : List ℕ) → part.spells v front rest → read (record { octets = front ++ rest; place = place }) ≡ Ok (v, after place front rest)
   pub refuses : (s : Span) (f : Fault) → read s ≡ Err f → part.faulty s f.reason f.place
+  pub stops : (s : Span) (f : Fault) → part.faulty s f.reason f.place → read s ≡ Err f
 
 -- a reader of the content of an element
 pub record ReadsBody {V : Type 0} (body : Body V) (read : Element → Result V Fault) : Type 0 where
   pub sound : (e : Element) (v : V) → read e ≡ Ok v → body.spells v e.content.octets
   pub complete : (e : Element) (v : V) → body.spells v e.content.octets → read e ≡ Ok v
   pub refuses : (e : Element) (f : Fault) → read e ≡ Err f → body.faulty e.place e.content f.reason f.place
+  pub stops : (e : Element) (f : Fault) → body.faulty e.place e.content f.reason f.place → read e ≡ Err f
 
 -- a reader of what is left of a structure, which makes a value of the parts
 pub record ReadsContent {V W : Type 0} (content : Content V) (make : V → W) (read : Span → Result W Fault) : Type 0 where
   pub sound : (s : Span) (w : W) → read s ≡ Ok w → (v : V) × (w ≡ make v) × content.spells v s.octets
   pub complete : (s : Span) (v : V) → content.spells v s.octets → read s ≡ Ok (make v)
   pub refuses : (s : Span) (f : Fault) → read s ≡ Err f → content.faulty s f.reason f.place
+  pub stops : (s : Span) (f : Fault) → content.faulty s f.reason f.place → read s ≡ Err f
