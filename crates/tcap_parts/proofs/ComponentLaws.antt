@@ -1,5 +1,5 @@
--- Components are read exactly: what is read is spelled so, what is spelled so is read, and what is refused
--- is faulty there.
+-- Components are read exactly: what is read is spelled so, what is spelled so is read, what is refused is
+-- faulty there, and what is faulty there is refused by that fault.
 use Rattle.std.proofs.Common.{[], ◌∷◌, arith}
 use Rattle.tcap_ber.specs.declared.fault.Reason.TheVariants.{BadSize, CodeTooWide}
 use Rattle.tcap_ber.specs.Grammar.{required, parameter, ended, ◌⨾◌, integer}

@@ -1,7 +1,7 @@
 -- Reading components one after the other, as a loop does.
 use Rattle.std.proofs.Common.{◌≡◌, ◌≢◌, ℕ, ◌<◌, Bool, true, false, List, [], ◌∷◌, ◌++◌, length, Result, Ok, Err, refl, sym, ap, subst, ◌∙◌, inl, inr, arith, append_assoc}
 use Rattle.std.specs.Prelude.{◌==◌}
-use Rattle.std.proofs.lemmas.Bool.{ne_eqb, eqb-true, eqb-false}
+use Rattle.std.proofs.lemmas.Bool.{ne_eqb, eq-eqb, eqb-true, eqb-false}
 use Rattle.std.proofs.lemmas.List.{append-nil, length-append, nil_from_length}
 use Rattle.tcap_ber.specs.declared.fault.Fault.{Fault}
 use Rattle.tcap_ber.specs.declared.fault.Reason.TheVariants.{EmptyComponents}
@@ -9,7 +9,8 @@ use Rattle.tcap_ber.specs.Span.{Span}
 use Rattle.tcap_ber.specs.Reading.{◌>>=◌, fault, Element}
 use Rattle.tcap_ber.proofs.Steps.{chosen, err_is}
 use Rattle.tcap_ber.specs.Reads.{ReadsBody, ReadsContent}
-use Rattle.tcap_ber.proofs.GrammarLaws.{each_of-empty, each_of-step, reads_each}
+use Rattle.tcap_ber.proofs.FaultLaws.{refused_by}
+use Rattle.tcap_ber.proofs.GrammarLaws.{wrong_after_some, each_of-empty, each_of-step, reads_each}
 use Rattle.tcap_parts.specs.declared.component.Component.{Component}
 use Rattle.tcap_parts.specs.Component.{component, portion}
 use Rattle.tcap_ber.specs.Grammar.{each}
@@ -95,6 +96,7 @@ reads_portion = record {
   sound = λ e cs read. sound e cs read;
   complete = λ e cs spelled. complete e cs spelled;
   refuses = λ e f refused. refuses e f refused;
+  stops = λ e f wrong. stops e f wrong;
 }
   where
     none_spelled : (cs : List Component) (octets : List ℕ) → portion.spells cs octets → length octets ≡ 0 → ⊥
@@ -125,3 +127,9 @@ reads_portion = record {
               inl (nil_from_length e.content.octets (eqb-true (length e.content.octets) 0 h.0), sym (ap (λ (x : Fault). x.reason) k), sym (ap (λ (x : Fault). x.place) k))
           | inr h ↦ inr (reads_components.refuses e.content f h.1)
         ]
+
+    stops : (e : Element) (f : Fault) → portion.faulty e.place e.content f.reason f.place → portion_at e ≡ Err f
+    stops e f (inl h) = rw (eq-eqb (length e.content.octets) 0 (ap length h.0)) (refused_by f EmptyComponents e.place h.1 h.2)
+    stops e f (inr h) =
+        let some = wrong_after_some component component_has_octets h.0 e.content f.reason f.place h.1 in
+        rw (ne_eqb (length e.content.octets) 0 (λ z. omega (arith, some, z))) (reads_components.stops e.content f h)
