@@ -1,14 +1,15 @@
--- Begins are read exactly: what is read is spelled so, what is spelled so is read, and what is refused is
--- faulty there.
+-- Begins are read exactly: what is read is spelled so, what is spelled so is read, what is refused is
+-- faulty there, and what is faulty there is refused by that fault.
 use Rattle.std.proofs.Common.{◌≡◌, ℕ, true, false, List, length, Ok, Err, sym, ap, ◌∙◌, inl, inr, arith}
 use Rattle.std.specs.Prelude.{nat_lt}
-use Rattle.std.proofs.lemmas.Bool.{ltb-true, lt-ltb, and_parts, and_from}
+use Rattle.std.proofs.lemmas.Bool.{ltb-true, lt-ltb, and_parts, and_from, false_from_ne_true}
 use Rattle.tcap_ber.specs.declared.fault.Fault.{Fault}
 use Rattle.tcap_ber.specs.declared.fault.Reason.TheVariants.{BadTransactionId}
 use Rattle.tcap_ber.specs.Grammar.{required, optional, ended, ◌⨾◌}
 use Rattle.tcap_ber.specs.Reading.{◌>>=◌, fault, end_at, required_at, with_body}
 use Rattle.tcap_ber.proofs.Steps.{chosen, ok_is, err_is}
 use Rattle.tcap_ber.specs.Reads.{ReadsField, ReadsBody, ReadsContent}
+use Rattle.tcap_ber.proofs.FaultLaws.{refused_by}
 use Rattle.tcap_ber.proofs.GrammarLaws.{reads_required, reads_optional, reads_ended, reads_then, reads_structure}
 use Rattle.tcap_parts.specs.Component.{portion}
 use Rattle.tcap_parts.specs.Reading.{portion_at}
@@ -41,6 +42,7 @@ reads_transaction_id = record {
         | inr h ↦ let k = err_is {A = List ℕ} (fault BadTransactionId e.place) f h.1 in
             (λ id. let t : true ≡ false = sym (id_is e.content.octets id) ∙ h.0 in cc, sym (ap (λ (x : Fault). x.reason) k), sym (ap (λ (x : Fault). x.place) k))
       ];
+  stops = λ e f wrong. rw (false_from_ne_true _ (λ t. wrong.0 (is_id e.content.octets t))) (refused_by f BadTransactionId e.place wrong.1 wrong.2);
 }
 
 reads_otid : ReadsField (required 0x48 transaction_id) otid_at

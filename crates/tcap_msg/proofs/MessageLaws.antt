@@ -1,4 +1,5 @@
--- Messages are read exactly, and what is refused is refused for ever.
+-- Messages are read exactly, what is faulty is refused by that one fault, and what is refused is refused
+-- for ever.
 use Rattle.std.proofs.Common.{◌≡◌, ◌≢◌, ℕ, List, [], ◌∷◌, ◌++◌, length, take, Result, Ok, Err, refl, sym, ap, subst, ◌∙◌, inl, inr, arith, append_assoc}
 use Rattle.std.proofs.lemmas.List.{take_at, length-append}
 use Rattle.tcap_ber.specs.declared.fault.Fault.{Fault}
@@ -7,15 +8,16 @@ use Rattle.tcap_ber.specs.declared.fault.Reason.TheVariants as reasons
 use Rattle.tcap_ber.specs.declared.element.Outer.{Outer}
 use Rattle.tcap_ber.specs.declared.element.Outer.TheVariants.{Whole, Need}
 use Rattle.tcap_ber.specs.Element.{IsElement}
-use Rattle.tcap_ber.specs.Header.{HasLengthOctet, IsHeaderFault}
+use Rattle.tcap_ber.specs.Header.{HasLengthOctet, IsHeaderFault, IsUnfinished}
 use Rattle.tcap_ber.specs.Grammar.{after}
 use Rattle.tcap_ber.specs.Span.{Span}
 use Rattle.tcap_ber.specs.Reading.{◌>>=◌, fault, Element, outer_at, required_at, with_body}
 use Rattle.tcap_ber.proofs.Steps.{bind_ok, bind_err, ok_is, err_is, ok_not_err}
 use Rattle.tcap_ber.proofs.ElementLaws.{element_len_at_least}
+use Rattle.tcap_ber.proofs.FaultLaws.{refused_by}
 use Rattle.tcap_ber.proofs.OuterLaws.{outer_whole, outer_of_element, outer_needs, outer_fault, outer_refused, whole_is}
 use Rattle.tcap_msg.specs.declared.message.Message.{Message}
-use Rattle.tcap_msg.specs.Message.{Spells, whole, IsFaulty, BeginsNoMessage, IsNeverMessage}
+use Rattle.tcap_msg.specs.Message.{Spells, message, whole, IsFaulty, BeginsNoMessage, IsNeverMessage}
 use Rattle.tcap_msg.specs.Reading.{begin_at, with_len, in_outer, message_at}
 use Rattle.tcap_msg.proofs.BeginLaws.{reads_message}
 
@@ -61,6 +63,16 @@ counted_err r n f e =
       | inl h ↦ chained_err r (with_body begin_in) f h
       | inr a ↦ elim (bind_err (begin_at a.0.0.content) (λ m. Ok (m, n)) f a.2) [
         | inl h ↦ chained r a.0 (with_body begin_in) (Err f) a.1 (chained_err (begin_at a.0.0.content) (λ v. Ok (v, a.0.1)) f h)
+        | inr b ↦ absurd cc
+      ]
+    ]
+
+counted_stops : (r : Result (Element × Span) Fault) (n : ℕ) (f : Fault) → (r >>= with_body begin_in) ≡ Err f → (r >>= with_len n) ≡ Err f
+counted_stops r n f e =
+    elim (bind_err r (with_body begin_in) f e) [
+      | inl h ↦ chained_err r (with_len n) f h
+      | inr a ↦ elim (bind_err (begin_at a.0.0.content) (λ v. Ok (v, a.0.1)) f a.2) [
+        | inl h ↦ chained r a.0 (with_len n) (Err f) a.1 (chained_err (begin_at a.0.0.content) (λ m. Ok (m, n)) f h)
         | inr b ↦ absurd cc
       ]
     ]
@@ -115,6 +127,38 @@ message_refused octets f e =
             | inr k ↦ inr (inr k)
           ]
         ]
+
+-- octets that end before their outer element does are refused as cut
+cut_stops : (octets : List ℕ) → IsUnfinished octets → message_at octets ≡ Err (fault reasons.Cut (length octets))
+unfolding message_at
+cut_stops octets u = of_outer (outer_at octets) refl
+  where
+    of_outer : (r : Result Outer Fault) → outer_at octets ≡ r → (r >>= in_outer octets) ≡ Err (fault reasons.Cut (length octets))
+    of_outer (Err g) e = absurd (u.no_fault g.reason g.place (outer_fault octets g e))
+    of_outer (Ok (Need n)) e = refl
+    of_outer (Ok (Whole n)) e =
+        let here = outer_whole octets n e in
+        absurd (u.no_element here.tag here.content here.element here.rest here.is_element here.joined)
+
+-- what is wrong where a message is required is answered where a whole element begins the octets
+element_stops : (octets : List ℕ) (f : Fault) (tag content element rest : List ℕ) → IsElement tag content element → octets ≡ element ++ rest
+    → message.faulty (whole octets) f.reason f.place → message_at octets ≡ Err f
+unfolding message_at
+element_stops octets f tag content element rest e joined wrong =
+    chained (outer_at octets) (Whole (length element)) (in_outer octets) (Err f) (ap outer_at joined ∙ outer_of_element tag content element rest e)
+    (counted_stops (required_at 0x62 (whole octets)) (length element) f (reads_message.stops (whole octets) f wrong))
+
+-- what is faulty is refused by that very fault
+pub message_stops : (octets : List ℕ) (f : Fault) → IsFaulty octets f.reason f.place → message_at octets ≡ Err f
+unfolding message_at
+message_stops octets f (inl h) = cut_stops octets h.2 ∙ refused_by f reasons.Cut (length octets) h.0 h.1
+message_stops octets f (inr (inl h)) = chained_err (outer_at octets) (in_outer octets) f (outer_refused octets f.reason f.place h)
+message_stops octets f (inr (inr (inl u))) = element_stops octets f u.other u.content u.octets u.rest u.is_element u.joined (inr (inr (inl u)))
+message_stops octets f (inr (inr (inr h))) = element_stops octets f (0x62 ∷ []) h.content h.octets h.rest h.is_element h.joined (inr (inr (inr h)))
+
+-- octets have one fault at most
+pub one_fault : (octets : List ℕ) (f g : Fault) → IsFaulty octets f.reason f.place → IsFaulty octets g.reason g.place → f ≡ g
+one_fault octets f g a b = err_is {A = Message × ℕ} f g (sym (message_stops octets f a) ∙ message_stops octets g b)
 
 -- ---- for ever
 
