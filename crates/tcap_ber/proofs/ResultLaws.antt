@@ -18,8 +18,14 @@ use Rattle.tcap_ber.specs.Span.{Span}
 use Rattle.tcap_ber.specs.Reading.{fault, Gives, Element, element, span, next_at, required_at, is_tag, is_next, raw_at, outer_at, is_raw, is_integer, integer_at}
 use Rattle.tcap_ber.proofs.Steps.{chosen, ok_is, err_is, ok_not_err}
 use Rattle.tcap_ber.proofs.ElementLaws.{next_sound, next_complete, next_fault}
+use Rattle.tcap_ber.proofs.FaultLaws.{next_refused, raw_refused, required_refused}
 use Rattle.tcap_ber.proofs.OuterLaws.{outer_whole, outer_of_element, outer_needs, outer_fault, outer_refused, is_raw_sound, is_raw_complete, raw_sound, raw_complete}
 use Rattle.tcap_ber.proofs.GrammarLaws.{is_integer_sound, is_integer_complete, required_sound, required_complete, required_fault, is_tag-true, is_tag-itself, is_next-true, is_next-begins, raw_fault}
+
+-- an exact answer is a fault exactly where reading gives that fault
+pub gives_err : {X Y : Type 0} (view : X → Y) (r : Result X Fault) (read : Result Y Fault) → Gives view r read → (f : Fault) → (r ≡ Err f) ↔ (read ≡ Err f)
+gives_err view (Ok x) read e f = (λ k. absurd cc, λ k. absurd (ok_not_err (view x) f (sym e ∙ k)))
+gives_err {X} view (Err g) read e f = (λ k. e ∙ ap (λ h. Err h) (err_is {A = X} g f k), λ k. ap (λ h. Err h) (err_is g f (sym e ∙ k)))
 
 -- an exact answer is the one that reading gives
 gives_same : {A : Type 0} (r read : Result A Fault) → Gives (λ x. x) r read → read ≡ r
@@ -51,9 +57,8 @@ pub next_found : (s : Span) (r : Next) → Gives seen r (next_at s) → IfOk r (
 next_found s (Ok x) e = next_sound s (seen x) e
 next_found s (Err f) e = tt
 
-pub next_faulty : (s : Span) (r : Next) → 0 < length s.octets → Gives seen r (next_at s) → IfErr r (λ f. IsElementFault s f.reason f.place)
-next_faulty s (Ok x) some e = tt
-next_faulty s (Err f) some e = next_fault s f some e
+pub next_faulty : (s : Span) (r : Next) → 0 < length s.octets → Gives seen r (next_at s) → (f : Fault) → (r ≡ Err f) ↔ IsElementFault s f.reason f.place
+next_faulty s r some e f = let k = gives_err seen r (next_at s) e f in (λ h. next_fault s f some (k.0 h), λ w. k.1 (next_refused s f w))
 
 pub next_only : (s : Span) (r : Next) → Gives seen r (next_at s) → (tag content octets rest : List ℕ) → IsElement tag content octets → s.octets ≡ octets ++ rest
     → IsOkAnd r (λ x. (x.0.tag.octets.now ≡ tag) × (x.0.content.octets.now ≡ content) × (x.1.octets.now ≡ rest))
@@ -106,9 +111,8 @@ required_only tag s (Err f) e content octets rest h joined =
     ok_not_err {A = Element × Span} _ f (sym there ∙ e)
 
 pub required_faulty : (tag : ℕ) (s : Span) (r : Next) → Gives seen r (required_at tag s)
-    → IfErr r (λ f. IsMissing s f.reason f.place ⊎ IsElementFault s f.reason f.place ⊎ IsUnexpected tag s f.reason f.place)
-required_faulty tag s (Ok x) e = tt
-required_faulty tag s (Err f) e = required_fault tag s f e
+    → (f : Fault) → (r ≡ Err f) ↔ (IsMissing s f.reason f.place ⊎ IsElementFault s f.reason f.place ⊎ IsUnexpected tag s f.reason f.place)
+required_faulty tag s r e f = let k = gives_err seen r (required_at tag s) e f in (λ h. required_fault tag s f (k.0 h), λ w. k.1 (required_refused tag s f w))
 
 pub tag_iff : (tag : ℕ) (octets : List ℕ) (b : Bool) → b ≡ is_tag tag octets → IsTrue b ↔ (octets ≡ tag ∷ [])
 tag_iff tag octets b e = (λ t. is_tag-true tag octets (sym e ∙ t), λ h. e ∙ ap (is_tag tag) h ∙ is_tag-itself tag)
@@ -139,9 +143,8 @@ raw_only s (Err f) e octets rest h joined =
     let there = ap (λ (o : List ℕ). raw_at (record { octets = o; place = s.place })) joined ∙ raw_complete s.place octets rest h in
     ok_not_err {A = List ℕ × Span} _ f (sym there ∙ e)
 
-pub raw_faulty : (s : Span) (r : NextRaw) → 0 < length s.octets → Gives seen_raw r (raw_at s) → IfErr r (λ f. IsElementFault s f.reason f.place)
-raw_faulty s (Ok x) some e = tt
-raw_faulty s (Err f) some e = raw_fault s f some e
+pub raw_faulty : (s : Span) (r : NextRaw) → 0 < length s.octets → Gives seen_raw r (raw_at s) → (f : Fault) → (r ≡ Err f) ↔ IsElementFault s f.reason f.place
+raw_faulty s r some e f = let k = gives_err seen_raw r (raw_at s) e f in (λ h. raw_fault s f some (k.0 h), λ w. k.1 (raw_refused s f w))
 
 -- ---- a reader of a part, and a reader of a body
 
@@ -162,9 +165,9 @@ field_only {V} part read reads meaning s (Err f) e v front rest spelled joined =
     ok_not_err {A = V × Span} _ f (sym there ∙ e)
 
 pub field_faulty : {V X : Type 0} (part : Field V) (read : Span → Result (V × Span) Fault) → ReadsField part read → (meaning : X → V) (s : Span) (r : Result (X × Window) Fault)
-    → Gives (λ x. (meaning x.0, span x.1)) r (read s) → IfErr r (λ f. part.faulty s f.reason f.place)
-field_faulty part read reads meaning s (Ok x) e = tt
-field_faulty part read reads meaning s (Err f) e = reads.refuses s f e
+    → Gives (λ x. (meaning x.0, span x.1)) r (read s) → (f : Fault) → (r ≡ Err f) ↔ part.faulty s f.reason f.place
+field_faulty part read reads meaning s r e f =
+    let k = gives_err (λ x. (meaning x.0, span x.1)) r (read s) e f in (λ h. reads.refuses s f (k.0 h), λ w. k.1 (reads.stops s f w))
 
 pub body_found : {V X : Type 0} (body : Body V) (read : Element → Result V Fault) → ReadsBody body read → (meaning : X → V) (e : Element) (r : Result X Fault)
     → Gives meaning r (read e) → IfOk r (λ x. body.spells (meaning x) e.content.octets)
@@ -177,6 +180,5 @@ body_only body read reads meaning e (Ok x) h v spelled = ok_is (meaning x) v (sy
 body_only {V} body read reads meaning e (Err f) h v spelled = ok_not_err {A = V} v f (sym (reads.complete e v spelled) ∙ h)
 
 pub body_faulty : {V X : Type 0} (body : Body V) (read : Element → Result V Fault) → ReadsBody body read → (meaning : X → V) (e : Element) (r : Result X Fault)
-    → Gives meaning r (read e) → IfErr r (λ f. body.faulty e.place e.content f.reason f.place)
-body_faulty body read reads meaning e (Ok x) h = tt
-body_faulty body read reads meaning e (Err f) h = reads.refuses e f h
+    → Gives meaning r (read e) → (f : Fault) → (r ≡ Err f) ↔ body.faulty e.place e.content f.reason f.place
+body_faulty body read reads meaning e r h f = let k = gives_err meaning r (read e) h f in (λ x. reads.refuses e f (k.0 x), λ w. k.1 (reads.stops e f w))

@@ -1,6 +1,7 @@
 //! Integers (X.690 8.3).
 
-ghost use Rattle.std.specs.Prelude.{◌≡◌, ◌<◌, ◌≤◌, ℤ, IfOk, IfErr, IsOkAnd, ◌≤ℤ◌, ◌+ℤ◌, ◌*ℤ◌, pos, negsuc, [], ◌∷◌, length};
+ghost use Rattle.std.specs.Prelude.{◌≡◌, ◌<◌, ◌≤◌, ◌↔◌, ℤ, Err, IfOk, IfErr, IsOkAnd, ◌≤ℤ◌, ◌+ℤ◌, ◌*ℤ◌, pos, negsuc, [], ◌∷◌, length};
+ghost use Rattle.tcap_ber.specs.declared.fault.Fault.{Fault};
 ghost use Rattle.tcap_ber.specs.Integer.{IsInteger, signed};
 ghost use Rattle.tcap_ber.specs.Grammar.{IsSmallInteger, IsSmallIntegerFault};
 ghost use Rattle.tcap_ber.specs.Reading.{Gives, element, integer_at, small_integer_at};
@@ -101,7 +102,8 @@ pub fn small_integer(tlv: Tlv, limit: usize, too_wide: Reason) -> Result<i32, Fa
     requires { limit ≤ 4 }
     ensures found { IfOk result (λ n. IsSmallInteger limit n tlv.entry.content.octets.now) }
     ensures only { (n : ℤ) → IsSmallInteger limit n tlv.entry.content.octets.now → IsOkAnd result (λ m. m ≡ n) }
-    ensures faulty { IfErr result (λ fault. IsSmallIntegerFault limit too_wide tlv.entry.start tlv.entry.content.octets.now fault.reason fault.place) }
+    ensures faulty { (fault : Fault) → (result ≡ Err fault)
+        ↔ IsSmallIntegerFault limit too_wide tlv.entry.start tlv.entry.content.octets.now fault.reason fault.place }
     ensures exact { Gives (λ x. x) result (small_integer_at limit too_wide (element tlv.entry)) }
 {
     read_small(tlv, limit, too_wide)
@@ -125,7 +127,8 @@ fn read_octet(tlv: Tlv) -> Result<i8, Fault>
 pub fn octet_integer(tlv: Tlv) -> Result<i8, Fault>
     ensures found { IfOk result (λ n. IsSmallInteger 1 n tlv.entry.content.octets.now) }
     ensures only { (n : ℤ) → IsSmallInteger 1 n tlv.entry.content.octets.now → IsOkAnd result (λ m. m ≡ n) }
-    ensures faulty { IfErr result (λ fault. IsSmallIntegerFault 1 Reason.BadSize tlv.entry.start tlv.entry.content.octets.now fault.reason fault.place) }
+    ensures faulty { (fault : Fault) → (result ≡ Err fault)
+        ↔ IsSmallIntegerFault 1 Reason.BadSize tlv.entry.start tlv.entry.content.octets.now fault.reason fault.place }
     ensures exact { Gives (λ x. x) result (small_integer_at 1 Reason.BadSize (element tlv.entry)) }
 {
     read_octet(tlv)

@@ -1,7 +1,8 @@
 //! Elements that are kept verbatim.
 
-ghost use Rattle.std.specs.Prelude.{◌≡◌, ◌<◌, ◌+◌, ◌++◌, ℕ, List, Option, length, true, IfOk, IfErr, IsOkAnd, IfSome, IsSome, ◌↔◌, IsTrue};
+ghost use Rattle.std.specs.Prelude.{◌≡◌, ◌<◌, ◌+◌, ◌++◌, ℕ, List, Option, Err, length, true, IfOk, IsOkAnd, IfSome, IsSome, ◌↔◌, IsTrue};
 ghost use Rattle.std.specs.Option.{option_map};
+ghost use Rattle.tcap_ber.specs.declared.fault.Fault.{Fault};
 ghost use Rattle.tcap_ber.specs.Element.{IsRaw};
 ghost use Rattle.tcap_ber.specs.Grammar.{IsElementFault, parameter};
 ghost use Rattle.tcap_ber.specs.Found.{Taken};
@@ -91,8 +92,8 @@ impl<'a> RawView<'a> {
         // What stands there is read.
         ensures only { (octets rest : List ℕ) → IsRaw octets → window.entry.octets.now ≡ octets ++ rest
             → IsOkAnd result (λ x. (x.0.octets.now ≡ octets) × (x.1.octets.now ≡ rest)) }
-        // What is refused is faulty there.
-        ensures faulty { IfErr result (λ fault. IsElementFault (span window.entry) fault.reason fault.place) }
+        // What is refused is faulty there, and what is faulty is refused by that fault.
+        ensures faulty { (fault : Fault) → (result ≡ Err fault) ↔ IsElementFault (span window.entry) fault.reason fault.place }
         ensures exact { Gives (λ x. (x.0.octets.now, span x.1)) result (raw_at (span window.entry)) }
     {
         RawView::read_next(window)
@@ -117,8 +118,8 @@ impl<'a> RawView<'a> {
         // What is spelled there is read.
         ensures only { (value : Option (List ℕ)) → (octets rest : List ℕ) → parameter.spells value octets rest → window.entry.octets.now ≡ octets ++ rest
             → IsOkAnd result (λ x. (option_map (λ raw. raw.octets.now) x.0 ≡ value) × (x.1.octets.now ≡ rest)) }
-        // What is refused is faulty there.
-        ensures faulty { IfErr result (λ fault. parameter.faulty (span window.entry) fault.reason fault.place) }
+        // What is refused is faulty there, and what is faulty is refused by that fault.
+        ensures faulty { (fault : Fault) → (result ≡ Err fault) ↔ parameter.faulty (span window.entry) fault.reason fault.place }
         ensures exact { Gives (λ x. (option_map (λ raw. raw.octets.now) x.0, span x.1)) result (parameter_at (span window.entry)) }
     {
         RawView::read_parameter(window)

@@ -79,8 +79,8 @@ pub fn next_tlv(window: Window) -> Result<(Tlv, Window), Fault>
     // What stands there is read.
     ensures only { (tag content octets rest : List ℕ) → IsElement tag content octets → window.entry.octets.now ≡ octets ++ rest
         → IsOkAnd result (λ x. (x.0.tag.octets.now ≡ tag) × (x.0.content.octets.now ≡ content) × (x.1.octets.now ≡ rest)) }
-    // What is refused is faulty there.
-    ensures faulty { IfErr result (λ fault. IsElementFault (span window.entry) fault.reason fault.place) }
+    // What is refused is faulty there, and what is faulty is refused by that fault.
+    ensures faulty { (fault : Fault) → (result ≡ Err fault) ↔ IsElementFault (span window.entry) fault.reason fault.place }
     ensures exact { Gives (λ x. (element x.0, span x.1)) result (next_at (span window.entry)) }
 {
     read_next(window)
@@ -116,8 +116,8 @@ pub fn required(window: Window, tag: u8) -> Result<(Tlv, Window), Fault>
     // An element of this tag that stands there is read.
     ensures only { (content octets rest : List ℕ) → IsElement (tag ∷ []) content octets → window.entry.octets.now ≡ octets ++ rest
         → IsOkAnd result (λ x. (x.0.content.octets.now ≡ content) × (x.1.octets.now ≡ rest)) }
-    // What is refused is missing, or faulty itself, or has another tag.
-    ensures faulty { IfErr result (λ fault. IsMissing (span window.entry) fault.reason fault.place
+    // It is refused exactly where it is missing, or faulty itself, or has another tag.
+    ensures faulty { (fault : Fault) → (result ≡ Err fault) ↔ (IsMissing (span window.entry) fault.reason fault.place
         ⊎ IsElementFault (span window.entry) fault.reason fault.place
         ⊎ IsUnexpected tag (span window.entry) fault.reason fault.place) }
     ensures exact { Gives (λ x. (element x.0, span x.1)) result (required_at tag (span window.entry)) }

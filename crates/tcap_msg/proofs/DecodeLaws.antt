@@ -1,17 +1,18 @@
 -- What exact reading means for a view and for a value.
-use Rattle.std.proofs.Common.{◌≡◌, ◌≢◌, ℕ, List, ◌++◌, length, Result, Ok, Err, sym, ap, ◌∙◌}
-use Rattle.std.specs.Prelude.{IfOk, IfErr, IsOkAnd}
+use Rattle.std.proofs.Common.{◌≡◌, ◌≢◌, ℕ, List, ◌++◌, length, Result, Ok, Err, sym, ap, subst, ◌∙◌}
+use Rattle.std.specs.Prelude.{IfOk, IfErr, IsOkAnd, ◌↔◌}
 use Rattle.tcap_ber.specs.declared.fault.Fault.{Fault}
 use Rattle.tcap_ber.specs.declared.fault.Reason.TheVariants as reasons
 use Rattle.tcap_ber.specs.Reading.{Gives}
 use Rattle.tcap_ber.proofs.Steps.{ok_is}
+use Rattle.tcap_ber.proofs.ResultLaws.{gives_err}
 use Rattle.tcap_msg.specs.declared.message.Message.{Message}
 use Rattle.tcap_msg.specs.declared.message.DecodeFault.{DecodeFault}
 use Rattle.tcap_msg.specs.declared.message.DecodeFault.TheVariants as faults
 use Rattle.tcap_msg.specs.Message.{Spells, BeginsWithMessage, BeginsNoMessage, IsNeverMessage, IsFaulty}
 use Rattle.tcap_msg.specs.Reading.{message_at}
 use Rattle.tcap_msg.specs.Decode.{Decodes, IfRefused}
-use Rattle.tcap_msg.proofs.MessageLaws.{message_sound, message_complete, message_refused, begins_no_message, never_message}
+use Rattle.tcap_msg.proofs.MessageLaws.{message_sound, message_complete, message_refused, message_stops, begins_no_message, never_message}
 
 begins : (octets : List ℕ) (x : Message × ℕ) → message_at octets ≡ Ok x → BeginsWithMessage x.0 x.1 octets
 begins octets x e =
@@ -36,9 +37,9 @@ view_only meaning octets (Ok x) e m front rest spelled joined =
 view_only meaning octets (Err f) e m front rest spelled joined = absurd (begins_no_message octets f e m front rest spelled joined)
 
 pub view_faulty : {X : Type 0} (meaning : X → Message) (octets : List ℕ) (r : Result (X × ℕ) Fault) → Gives (λ x. (meaning x.0, x.1)) r (message_at octets)
-    → IfErr r (λ f. IsFaulty octets f.reason f.place)
-view_faulty meaning octets (Ok x) e = tt
-view_faulty meaning octets (Err f) e = message_refused octets f e
+    → (f : Fault) → (r ≡ Err f) ↔ IsFaulty octets f.reason f.place
+view_faulty meaning octets r e f =
+    let k = gives_err (λ x. (meaning x.0, x.1)) r (message_at octets) e f in (λ h. message_refused octets f (k.0 h), λ w. k.1 (message_stops octets f w))
 
 pub view_none : {X : Type 0} (meaning : X → Message) (octets : List ℕ) (r : Result (X × ℕ) Fault) → Gives (λ x. (meaning x.0, x.1)) r (message_at octets)
     → IfErr r (λ f. BeginsNoMessage octets)
@@ -66,6 +67,9 @@ pub value_faulty : (octets : List ℕ) (r : Result (Message × ℕ) DecodeFault)
 value_faulty octets (Ok x) e = tt
 value_faulty octets (Err (faults.Fault f)) e = message_refused octets f e
 value_faulty octets (Err faults.Memory) e = tt
+
+pub value_refused : (octets : List ℕ) (r : Result (Message × ℕ) DecodeFault) → Decodes r (message_at octets) → (f : Fault) → IsFaulty octets f.reason f.place → Decodes r (Err f)
+value_refused octets r e f wrong = subst (λ (read : Result (Message × ℕ) Fault). Decodes r read) (message_stops octets f wrong) e
 
 pub value_none : (octets : List ℕ) (r : Result (Message × ℕ) DecodeFault) → Decodes r (message_at octets) → IfRefused r (λ f. BeginsNoMessage octets)
 value_none octets (Ok x) e = tt

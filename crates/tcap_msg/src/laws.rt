@@ -2,9 +2,10 @@
 
 ghost use Rattle.std.specs.Prelude.{◌≡◌, ℕ, List, [], ◌++◌, length, Ok, Some};
 ghost use Rattle.std.specs.List.{All};
+ghost use Rattle.tcap_ber.specs.declared.fault.Fault.{Fault};
 ghost use Rattle.tcap_parts.specs.Valid.{IsComponent};
 ghost use Rattle.tcap_msg.specs.declared.message.Message.{Message};
-ghost use Rattle.tcap_msg.specs.Message.{Spells};
+ghost use Rattle.tcap_msg.specs.Message.{Spells, IsFaulty};
 ghost use Rattle.tcap_msg.specs.Canonical.{canonical};
 ghost use Rattle.tcap_msg.specs.Reading.{message_at};
 ghost use Rattle.tcap_msg.specs.Valid.{IsMessage};
@@ -20,6 +21,11 @@ pub fn one_message()
 /// No spelling of a message begins another.
 pub fn no_longer_spelling()
     ensures { (octets more : List ℕ) (m m' : Message) → Spells m octets → Spells m' (octets ++ more) → more ≡ [] }
+{}
+
+/// Octets have at most one fault.
+pub fn one_fault()
+    ensures { (octets : List ℕ) (f f' : Fault) → IsFaulty octets f.reason f.place → IsFaulty octets f'.reason f'.place → f ≡ f' }
 {}
 
 /// The canonical spelling of a message spells it.

@@ -1,8 +1,9 @@
 //! Messages (Q.773 4.2.1) as values.
 
-ghost use Rattle.std.specs.Prelude.{◌≡◌, ◌≢◌, ℕ, ◌++◌, List, length, Ok, IfOk};
+ghost use Rattle.std.specs.Prelude.{◌≡◌, ◌≢◌, ℕ, ◌++◌, List, length, Ok, Err, IfOk};
 ghost use Rattle.tcap_msg.specs.declared.message.DecodeFault.{DecodeFault};
 ghost use Rattle.tcap_msg.specs.Decode.{Decodes, IfRefused};
+ghost use Rattle.tcap_ber.specs.declared.fault.Fault.{Fault};
 ghost use Rattle.tcap_ber.specs.declared.fault.Reason.{Reason};
 ghost use Rattle.tcap_msg.specs.Message.{Spells, BeginsWithMessage, BeginsNoMessage, IsNeverMessage, IsFaulty};
 ghost use Rattle.tcap_msg.specs.Reading.{message_at};
@@ -63,12 +64,14 @@ pub fn decode(alloc: Global, octets: &[u8]) -> Result<(Message, usize), DecodeFa
     // What is spelled by octets at the front is read, unless memory runs out.
     ensures only { (m : Message) (front rest : List ℕ) → Spells m front → octets.now ≡ front ++ rest
         → Decodes result (Ok (m, length front)) }
-    // What is refused is faulty there, and begins with no message.
+    // What is refused is faulty there, and what is faulty is refused by that fault, unless memory runs out.
     ensures faulty { IfRefused result (λ fault. IsFaulty octets.now fault.reason fault.place) }
+    ensures refused { (fault : Fault) → IsFaulty octets.now fault.reason fault.place → Decodes result (Err fault) }
+    // What is refused begins with no message.
     ensures none { IfRefused result (λ fault. BeginsNoMessage octets.now) }
     // But for octets that end too early, whatever comes behind.
     ensures never { IfRefused result (λ fault. fault.reason ≢ Reason.Cut → IsNeverMessage octets.now) }
-    // Which fault it is: the first.
+    // As one function of the octets.
     ensures exact { Decodes result (message_at octets.now) }
 {
     read(alloc, octets)

@@ -1,6 +1,7 @@
 //! Messages as views of the octets that were read.
 
-ghost use Rattle.std.specs.Prelude.{◌≡◌, ◌≢◌, ℕ, ◌++◌, List, length, IfOk, IfErr, IsOkAnd};
+ghost use Rattle.std.specs.Prelude.{◌≡◌, ◌≢◌, ℕ, ◌++◌, List, length, IfOk, IfErr, IsOkAnd, ◌↔◌, Err};
+ghost use Rattle.tcap_ber.specs.declared.fault.Fault.{Fault};
 ghost use Rattle.std.specs.Option.{option_map};
 ghost use Rattle.tcap_ber.specs.Reading.{Gives, span};
 ghost use Rattle.tcap_parts.specs.Meaning.{components_of};
@@ -92,12 +93,13 @@ pub fn view(octets: &[u8]) -> Result<(MessageView, usize), Fault>
     // What is spelled by octets at the front is read.
     ensures only { (m : Message) (front rest : List ℕ) → Spells m front → octets.now ≡ front ++ rest
         → IsOkAnd result (λ x. (message_of x.0 ≡ m) × (x.1 ≡ length front)) }
-    // What is refused is faulty there, and begins with no message.
-    ensures faulty { IfErr result (λ fault. IsFaulty octets.now fault.reason fault.place) }
+    // What is refused is faulty there, and what is faulty is refused by that fault.
+    ensures faulty { (fault : Fault) → (result ≡ Err fault) ↔ IsFaulty octets.now fault.reason fault.place }
+    // What is refused begins with no message.
     ensures none { IfErr result (λ fault. BeginsNoMessage octets.now) }
     // But for octets that end too early, whatever comes behind.
     ensures never { IfErr result (λ fault. fault.reason ≢ Reason.Cut → IsNeverMessage octets.now) }
-    // Which fault it is: the first.
+    // As one function of the octets.
     ensures exact { Gives (λ x. (message_of x.0, x.1)) result (message_at octets.now) }
 {
     read(octets)

@@ -6,7 +6,8 @@ use Rattle.tcap_ber.specs.Grammar.{required, parameter, ended, ◌⨾◌, intege
 use Rattle.tcap_ber.specs.Reading.{◌>>=◌, small_integer_at, parameter_at, end_at}
 use Rattle.tcap_ber.proofs.ElementLaws.{element_len_at_least}
 use Rattle.tcap_ber.specs.Reads.{ReadsField, ReadsBody, ReadsContent}
-use Rattle.tcap_ber.proofs.GrammarLaws.{HasOctets, reads_required, reads_parameter, reads_ended, reads_then, reads_structure, reads_integer, reads_made}
+use Rattle.tcap_ber.proofs.EachLaws.{HasOctets}
+use Rattle.tcap_ber.proofs.GrammarLaws.{reads_required, reads_parameter, reads_ended, reads_then, reads_structure, reads_integer, reads_made}
 use Rattle.tcap_parts.specs.declared.code.Code.TheVariants.{Local}
 use Rattle.tcap_parts.specs.declared.component.Component.TheVariants.{Invoke}
 use Rattle.tcap_parts.specs.Component.{invoke_id, local_code, make_invoke, invoke, component}

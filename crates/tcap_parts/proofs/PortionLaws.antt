@@ -10,7 +10,7 @@ use Rattle.tcap_ber.specs.Reading.{◌>>=◌, fault, Element}
 use Rattle.tcap_ber.proofs.Steps.{chosen, err_is}
 use Rattle.tcap_ber.specs.Reads.{ReadsBody, ReadsContent}
 use Rattle.tcap_ber.proofs.FaultLaws.{refused_by}
-use Rattle.tcap_ber.proofs.GrammarLaws.{wrong_after_some, each_of-empty, each_of-step, reads_each}
+use Rattle.tcap_ber.proofs.EachLaws.{wrong_after_some, each_of-empty, each_of-step, reads_each}
 use Rattle.tcap_parts.specs.declared.component.Component.{Component}
 use Rattle.tcap_parts.specs.Component.{component, portion}
 use Rattle.tcap_ber.specs.Grammar.{each}

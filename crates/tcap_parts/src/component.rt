@@ -1,6 +1,7 @@
 //! Components (Q.773 4.2.2).
 
-ghost use Rattle.std.specs.Prelude.{◌≡◌, ◌<◌, ◌++◌, ℕ, List, length, IfOk, IfErr, IsOkAnd};
+ghost use Rattle.std.specs.Prelude.{◌≡◌, ◌<◌, ◌↔◌, ◌++◌, ℕ, List, length, Err, IfOk, IsOkAnd};
+ghost use Rattle.tcap_ber.specs.declared.fault.Fault.{Fault};
 ghost use Rattle.tcap_ber.specs.Found.{Taken};
 ghost use Rattle.tcap_ber.specs.Reading.{Gives, span, element};
 ghost use Rattle.tcap_parts.specs.declared.component.Component.{Component};
@@ -94,8 +95,8 @@ pub fn view_component(window: Window) -> Result<(ComponentView, Window), Fault>
     // What is spelled there is read.
     ensures only { (c : Component) (front rest : List ℕ) → SpellsComponent c front → window.entry.octets.now ≡ front ++ rest
         → IsOkAnd result (λ x. (component_of x.0 ≡ c) × (x.1.octets.now ≡ rest)) }
-    // What is refused is faulty there.
-    ensures faulty { IfErr result (λ fault. component.faulty (span window.entry) fault.reason fault.place) }
+    // What is refused is faulty there, and what is faulty is refused by that fault.
+    ensures faulty { (fault : Fault) → (result ≡ Err fault) ↔ component.faulty (span window.entry) fault.reason fault.place }
     ensures exact { Gives (λ x. (component_of x.0, span x.1)) result (component_at (span window.entry)) }
 {
     read_component(window)

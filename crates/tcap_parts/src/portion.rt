@@ -1,6 +1,7 @@
 //! The component portion (Q.773 4.2.2): one component after the other, and at least one.
 
 ghost use Rattle.std.specs.Prelude.{◌≡◌, ◌≢◌, [], ◌<◌, ◌↔◌, length, true, IfOk, IfSome, IsSome, OnOk, IfErr, Err, List, IsOkAnd};
+ghost use Rattle.tcap_ber.specs.declared.fault.Fault.{Fault};
 ghost use Rattle.tcap_parts.specs.declared.component.Component.{Component};
 ghost use Rattle.tcap_parts.specs.Component.{portion, SpellsPortion};
 ghost use Rattle.tcap_ber.specs.Reading.{Gives, span, element};
@@ -99,8 +100,8 @@ impl<'a> PortionView<'a> {
         // What is spelled by all of the content is read.
         ensures only { (components : List Component) → SpellsPortion components tlv.entry.content.octets.now
             → IsOkAnd result (λ view. components_of view ≡ components) }
-        // What is refused is faulty there.
-        ensures faulty { IfErr result (λ fault. portion.faulty tlv.entry.start (span tlv.entry.content) fault.reason fault.place) }
+        // What is refused is faulty there, and what is faulty is refused by that fault.
+        ensures faulty { (fault : Fault) → (result ≡ Err fault) ↔ portion.faulty tlv.entry.start (span tlv.entry.content) fault.reason fault.place }
         ensures exact { Gives components_of result (portion_at (element tlv.entry)) }
     {
         PortionView::from_content(tlv)
