@@ -1,5 +1,5 @@
 -- The command line of `tcapjudge`.
-use Rattle.std.specs.Prelude.{◌≡◌, ◌≢◌, Bool, true, false, List, Option, Some, codes, option_map}
+use Rattle.std.specs.Prelude.{◌≡◌, ◌≢◌, Bool, true, false, List, ℕ, Option, Some, codes, option_map, if◌then◌else◌}
 use Rattle.clap.specs.Words.{App, Kinds, IsAmong, Text, kind_of, new_app}
 use Rattle.clap.specs.Words.{subcommand_of, with_subcommand}
 use Rattle.clap.specs.Simple.{new_shape, on_top}
@@ -45,6 +45,11 @@ is_help_kind _ = false
 abbrev pub is_help : WordsFault → Bool
 is_help Memory = false
 is_help (Words e) = is_help_kind (kind_of e)
+
+-- the exit status: 0 for help, 4 for wrong words, 3 where memory ran out
+abbrev pub words_status : WordsFault → ℕ
+words_status Memory = 3
+words_status (Words e) = if is_help_kind (kind_of e) then 0 else 4
 
 -- what an error of clap is as a fault
 abbrev pub Becomes : Error → WordsFault → Type 0

@@ -3,7 +3,7 @@
 ghost use Rattle.std.specs.Prelude.{◌≡◌, ◌∷◌, [], IfErr, IfOk, MatchResult, codes, true};
 ghost use Rattle.clap.specs.Words.{app_of, fault_of, kind_of, takes};
 ghost use Rattle.clap.specs.Walk.{Text, texts};
-ghost use Rattle.tcap_judge.specs.Words.{Asks, Becomes, IsFaultOf, IsMemory, is_help, tool};
+ghost use Rattle.tcap_judge.specs.Words.{Asks, Becomes, IsFaultOf, IsMemory, is_help, tool, words_status};
 
 use crate::asked::Request;
 use clap::error::ErrorKind;
@@ -28,6 +28,18 @@ impl WordsFault {
         match self {
             WordsFault::Words(error) => matches!(error.kind(), ErrorKind::DisplayHelp),
             WordsFault::Memory => false,
+        }
+    }
+
+    /// The exit status of the program: 0 where the words ask for help, 4 where they are wrong, 3 where
+    /// memory ran out.
+    pub fn status(&self) -> u8
+        ensures { result ≡ words_status self.now }
+    {
+        match self {
+            WordsFault::Words(_) if self.is_help() => 0,
+            WordsFault::Words(_) => 4,
+            WordsFault::Memory => 3,
         }
     }
 }

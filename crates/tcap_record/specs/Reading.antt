@@ -31,7 +31,11 @@ abbrev pub EndsOnlyAtEnd : Option (List ℕ) → Result (Unit {0}) FeedFault →
 EndsOnlyAtEnd untold (Ok _) = IsAtEnd untold
 EndsOnlyAtEnd untold (Err f) = f.reason ≡ feed.CutRecord → IsAtEnd untold
 
--- a fault of the reader is answered only where it failed
+-- How often the reader failed: once where that is answered, never where the record ends, be it within an
+-- entry, and at most once in any case, so that nothing is read behind its failure.
 abbrev pub FailsOnlyByReader : ℕ → ℕ → Result (Unit {0}) FeedFault → Type 0
 FailsOnlyByReader old new (Ok _) = new ≡ old
-FailsOnlyByReader old new (Err f) = f.reason ≡ feed.Read → new ≡ one_more old
+FailsOnlyByReader old new (Err f) =
+    (f.reason ≡ feed.Read → new ≡ one_more old)
+    × (f.reason ≡ feed.CutRecord → new ≡ old)
+    × ((new ≡ old) ⊎ (new ≡ one_more old))

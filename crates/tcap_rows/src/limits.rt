@@ -2,6 +2,7 @@
 
 use std::test::Fail;
 use tcap_ber::Counted;
+use tcap_judge::run_show;
 use tcap_record::{FeedReason, read_entries, read_record};
 
 #[test]
@@ -20,5 +21,18 @@ fn entries(rt: HostRuntime) -> Result<(), Fail> {
     let fault = reading.end.err().ok_or("a fault")?;
     assert_eq!(rt; fault.reason, FeedReason::TooManyEntries);
     assert_eq!(rt; fault.place, 600_000);
+    let mut writer = Counted::new(Vec::new(rt.alloc()));
+    let status = run_show(
+        rt.alloc(),
+        &mut Counted::new(octets.as_slice()),
+        &mut writer,
+    )?;
+    let printed = writer.into_inner();
+    assert_eq!(rt; status.number(), 3);
+    assert_eq!(rt;
+        printed.iter().filter(|octet| **octet == b'\n').count(),
+        100_001
+    );
+    assert!(rt; printed.ends_with(b"\n99999 A Begin otid=01\nFAULT 22 600000\n"));
     Ok(())
 }

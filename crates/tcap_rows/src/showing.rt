@@ -6,7 +6,7 @@ use tcap_ber::{Counted, Failing};
 use tcap_judge::{Status, run_show};
 
 /// Octets as hexadecimal digits, what is printed of them, and the status.
-const ROWS: [(&str, &str, u8); 10] = [
+const ROWS: [(&str, &str, u8); 11] = [
     // A Begin with an Invoke, its length in the short form and padded.
     (
         "41620d4801016c08a10602010102012d",
@@ -33,6 +33,8 @@ const ROWS: [(&str, &str, u8); 10] = [
         3,
     ),
     ("4162054801016c00", "0 A FAULT 11 6\n", 3),
+    // A message without content lacks its transaction ID.
+    ("416200", "0 A FAULT 9 3\n", 3),
     // Behind a bad entry the rest is read.
     (
         "4162054801016c00426203480101",
@@ -50,6 +52,13 @@ const FIRST: [u8; 16] = [
 ];
 
 const FIRST_LINES: &str = "0 A Begin otid=01\n  Invoke id=1 op=45\n";
+
+/// Two entries, of which the second is bad, and a fault of the record.
+const FAULTY: [u8; 15] = [
+    0x41, 0x62, 0x03, 0x48, 0x01, 0x01, 0x42, 0x62, 0x05, 0x48, 0x01, 0x01, 0x6C, 0x00, 0x43,
+];
+
+const FAULTY_LINES: &str = "0 A Begin otid=01\n1 B FAULT 11 12\nFAULT 20 14\n";
 
 /// The octets that hexadecimal digits stand for.
 fn octets_of(alloc: Global, text: &str) -> Result<Vec<u8>, Fail> {
@@ -104,6 +113,40 @@ fn failing_reader(rt: HostRuntime) -> Result<(), Fail> {
     wanted.push_str("FAULT 23 20\n")?;
     assert_eq!(rt; writer.into_inner().as_slice(), wanted.as_bytes());
     assert_eq!(rt; status.number(), 3);
+    Ok(())
+}
+
+#[test]
+fn failing_within_an_entry(rt: HostRuntime) -> Result<(), Fail> {
+    for count in 0..FIRST.len() {
+        let mut reader = Failing::new(FIRST.as_slice(), count);
+        let mut writer = Counted::new(Vec::new(rt.alloc()));
+        let status = run_show(rt.alloc(), &mut reader, &mut writer)?;
+        let wanted = format!(in rt.alloc(); "FAULT 23 {count}\n")?;
+        assert_eq!(rt;
+            writer.into_inner().as_slice(),
+            wanted.as_bytes(),
+            "{count}"
+        );
+        assert_eq!(rt; status.number(), 3, "{count}");
+    }
+    Ok(())
+}
+
+#[test]
+fn failing_at_any_line(rt: HostRuntime) -> Result<(), Fail> {
+    for count in 0..FAULTY_LINES.len() + 1 {
+        let mut reader = Counted::new(FAULTY.as_slice());
+        let mut writer = Failing::new(Vec::new(rt.alloc()), count);
+        let answer = run_show(rt.alloc(), &mut reader, &mut writer);
+        assert_eq!(rt; answer.is_err(), count < FAULTY_LINES.len(), "{count}");
+        let written = writer.into_inner();
+        assert_eq!(rt;
+            written.as_slice(),
+            &FAULTY_LINES.as_bytes()[..count],
+            "{count}"
+        );
+    }
     Ok(())
 }
 

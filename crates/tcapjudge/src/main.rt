@@ -8,8 +8,8 @@ use std::{env, io};
 use tcap_ber::Counted;
 use tcap_judge::{Request, Status, WordsFault, request, run_show};
 
-/// The exit status where the words of the command are wrong.
-const WRONG_WORDS: u8 = 4;
+/// The exit status where a word of the command is not text, so that it is not for `clap` to say.
+const NO_TEXT: u8 = 4;
 
 /// Asks what the words behind the program's name ask for, and does it.
 fn run(rt: &HostRuntime) -> io::Result<u8> {
@@ -18,8 +18,8 @@ fn run(rt: &HostRuntime) -> io::Result<u8> {
         Ok(args) => args,
         Err(error) if error.kind() == io::ErrorKind::OutOfMemory => return Err(error),
         Err(_) => {
-            eprintln!(rt; "error: a word of the command is not text")?;
-            return Ok(WRONG_WORDS);
+            let _ = eprintln!(rt; "error: a word of the command is not text");
+            return Ok(NO_TEXT);
         }
     };
     let texts: Vec<String> = args.collect(alloc)?;
@@ -29,11 +29,11 @@ fn run(rt: &HostRuntime) -> io::Result<u8> {
         Err(WordsFault::Memory) => Err(io::Error::from(io::ErrorKind::OutOfMemory)),
         Err(fault) if fault.is_help() => {
             print!(rt; "{fault}")?;
-            Ok(0)
+            Ok(fault.status())
         }
         Err(fault) => {
-            eprint!(rt; "{fault}")?;
-            Ok(WRONG_WORDS)
+            let _ = eprint!(rt; "{fault}");
+            Ok(fault.status())
         }
     }
 }
@@ -43,10 +43,12 @@ fn show(rt: &HostRuntime) -> io::Result<u8> {
     let mut reader = Counted::new(rt.reader());
     let mut writer = Counted::new(BufWriter::new(rt.alloc(), io::writer(rt))?);
     let shown = run_show(rt.alloc(), &mut reader, &mut writer);
-    let status = match (shown, writer.flush()) {
-        (Ok(status), Ok(())) => status,
-        _ => Status::Fault,
+    let status = match shown {
+        Ok(status) => writer.flush().map_or(Status::Fault, |()| status),
+        Err(_) => Status::Fault,
     };
+    // Behind a failure nothing more is written: what the buffer still holds is dropped.
+    let _ = writer.into_inner().into_parts();
     Ok(status.number())
 }
 

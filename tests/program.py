@@ -1,0 +1,48 @@
+"""Runs the built program and looks at what no contract holds: to which stream it prints, and its exit status."""
+
+import subprocess
+import sys
+
+PROGRAM = "crates/tcapjudge/out/tcapjudge"
+BEGIN = bytes.fromhex("416203480101")
+LINE = b"0 A Begin otid=01\n"
+SOME = object()
+
+# The words, the standard input, and then the standard output, the standard error and the exit status that are wanted.
+ROWS = [
+    (["show"], BEGIN, LINE, b"", 0),
+    (["show"], b"", b"", b"", 0),
+    (["show"], BEGIN + b"\x43", LINE + b"FAULT 20 6\n", b"", 3),
+    (["show"], bytes.fromhex("4162054801016c00"), b"0 A FAULT 11 6\n", b"", 3),
+    ([], b"", b"", SOME, 4),
+    (["shew"], b"", b"", SOME, 4),
+    (["show", "x"], b"", b"", SOME, 4),
+    (["--version"], b"", b"", SOME, 4),
+    ([b"\xff"], b"", b"", b"error: a word of the command is not text\n", 4),
+    (["--help"], b"", SOME, b"", 0),
+    (["help"], b"", SOME, b"", 0),
+    (["show", "--help"], b"", SOME, b"", 0),
+]
+
+# The same where the standard output takes nothing.
+FULL = [(["show"], BEGIN, 3), (["show"], BEGIN * 2000, 3), (["--help"], b"", 3), (["shew"], b"", 4)]
+
+
+def is_wanted(found, wanted):
+    return found != b"" if wanted is SOME else found == wanted
+
+
+wrong = 0
+for words, given, out, error, status in ROWS:
+    run = subprocess.run([PROGRAM, *words], input=given, capture_output=True, check=False)
+    if not (is_wanted(run.stdout, out) and is_wanted(run.stderr, error) and run.returncode == status):
+        wrong += 1
+        print(f"{words}: {run.returncode} {run.stdout} {run.stderr}")
+for words, given, status in FULL:
+    with open("/dev/full", "wb") as full:
+        run = subprocess.run([PROGRAM, *words], input=given, stdout=full, stderr=subprocess.DEVNULL, check=False)
+    if run.returncode != status:
+        wrong += 1
+        print(f"{words}, no standard output: {run.returncode}")
+print(f"{len(ROWS) + len(FULL)} runs of the program, {wrong} wrong")
+sys.exit(wrong != 0)
