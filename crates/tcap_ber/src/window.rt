@@ -30,9 +30,9 @@ fn read_outer(octets: &[u8]) -> Result<Outer, Fault>
 }
 
 /// How `octets` begin: with a whole element of so many octets, or with none yet and no fault so far, so
-/// that at least so many octets are needed in all. A fault where the header as far as it stands there is wrong, its place
-/// counted from the first octet: `TagForm` and `TooLong` at 0, `LengthForm` and `Indefinite` at the first
-/// length octet (X.690 8.1.2, 8.1.3).
+/// that at least so many octets are needed in all. A fault where the header as far as it stands there is
+/// wrong, its place counted from the first octet: `TagForm` and `TooLong` at 0, `LengthForm` and
+/// `Indefinite` at the first length octet (X.690 8.1.2, 8.1.3).
 pub fn outer(octets: &[u8]) -> Result<Outer, Fault>
     ensures whole { (n : ℕ) → (result ≡ Ok (Outer.Whole n)) ↔ BeginsElement octets.now n }
     ensures need { (n : ℕ) → result ≡ Ok (Outer.Need n) → NeedsMore octets.now n }

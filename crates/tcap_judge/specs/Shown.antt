@@ -50,8 +50,8 @@ Prints entries end text status =
     ((text ≡ lines_of entries ++ end_line end) × (status ≡ (if has_fault entries end then statuses.Fault else statuses.Fine)))
     ⊎ ((count : ℕ) × (text ≡ lines_of (take count entries) ++ memory_line) × (status ≡ statuses.Fault))
 
--- What the reader told is these entries and the end behind them, which is its own end or its failure
--- where it says so; and what the writer took is what is printed of them.
+-- What the reader told is these entries and the end behind them, which is the reader's own end, or its
+-- failure, where it says so; and what the writer took is what is printed of them.
 pub record Shows (untold untold' : Option (List ℕ)) (failures failures' : ℕ) (taken taken' : Option (List ℕ)) (status : Status) : Type 0 where
   pub told : List ℕ
   pub entries : List Entry
