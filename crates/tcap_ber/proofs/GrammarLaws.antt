@@ -68,10 +68,11 @@ required_complete place tag content octets rest e =
     let some : length (octets ++ rest) ≡ 0 → ⊥ = λ (z : length (octets ++ rest) ≡ 0). omega (arith, z, length-append octets rest, element_len_at_least (tag ∷ []) content octets e) in
     rw (ne_eqb (length (octets ++ rest)) 0 some, next_complete place (tag ∷ []) content octets rest e, is_tag-itself tag) refl
 
-some_there : (n : ℕ) → (n ≡ 0 → ⊥) → 0 < n
-some_there n h = omega (arith, h)
+-- a count that is not zero
+some_left : (n : ℕ) → (n ≡ 0 → ⊥) → 0 < n
+some_left n h = omega (arith, h)
 
--- some are not none
+-- and the way back
 pub not_none : (n : ℕ) → 0 < n → n ≡ 0 → ⊥
 not_none n some none = omega (arith, some, none)
 
@@ -83,7 +84,7 @@ required_fault tag s f e =
     elim (chosen (length s.octets == 0) _ _ (Err f) e) [
       | inl h ↦ inl (missing (nil_from_length s.octets (eqb-true (length s.octets) 0 h.0)) (err_is {A = Element × Span} (fault Missing s.place) f h.1))
       | inr h ↦ elim (bind_err (next_at s) (wanted tag s) f h.1) [
-        | inl k ↦ inr (inl (next_fault s f (some_there (length s.octets) (eqb-false (length s.octets) 0 h.0)) k))
+        | inl k ↦ inr (inl (next_fault s f (some_left (length s.octets) (eqb-false (length s.octets) 0 h.0)) k))
         | inr a ↦ elim (chosen (is_tag tag a.0.0.tag) _ _ (Err f) a.2) [
           | inl k ↦ absurd cc
           | inr k ↦ inr (inr (unexpected a.0 (next_sound s a.0 a.1) (is_tag-false tag a.0.0.tag k.0) (err_is {A = Element × Span} (fault UnexpectedTag s.place) f k.1)))
@@ -249,7 +250,7 @@ reads_parameter = record {
       elim (chosen (length s.octets == 0) _ _ (Err f) e) [
         | inl h ↦ absurd cc
         | inr h ↦ elim (bind_err (raw_at s) with_some f h.1) [
-          | inl k ↦ raw_fault s f (some_there (length s.octets) (eqb-false (length s.octets) 0 h.0)) k
+          | inl k ↦ raw_fault s f (some_left (length s.octets) (eqb-false (length s.octets) 0 h.0)) k
           | inr a ↦ absurd cc
         ]
       ];
