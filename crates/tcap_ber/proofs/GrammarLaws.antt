@@ -39,7 +39,7 @@ is_tag-true tag (first ∷ second ∷ more) e = absurd cc
 pub is_tag-itself : (tag : ℕ) → is_tag tag (tag ∷ []) ≡ true
 is_tag-itself tag = eq-eqb tag tag refl
 
-is_tag-false : (tag : ℕ) (octets : List ℕ) → is_tag tag octets ≡ false → octets ≢ tag ∷ []
+pub is_tag-false : (tag : ℕ) (octets : List ℕ) → is_tag tag octets ≡ false → octets ≢ tag ∷ []
 is_tag-false tag octets e same = let k : true ≡ false = sym (is_tag-itself tag) ∙ sym (ap (is_tag tag) same) ∙ e in cc
 
 -- an element that was read where one with this tag is required has it

@@ -1,7 +1,7 @@
 -- The numbers of the reasons.
 use Rattle.std.specs.Prelude.{ℕ}
 use Rattle.tcap_ber.specs.declared.fault.Reason.{Reason}
-use Rattle.tcap_ber.specs.declared.fault.Reason.TheVariants.{Cut, LengthForm, TooLong, TagForm, Overrun, BadInteger, UnexpectedTag, Missing, Trailing, EmptyComponents, BadSize, BadTransactionId, Indefinite, CodeTooWide}
+use Rattle.tcap_ber.specs.declared.fault.Reason.TheVariants.{Cut, LengthForm, TooLong, TagForm, Overrun, BadInteger, BadObjectId, UnexpectedTag, Missing, Trailing, EmptyComponents, BadSize, BadTransactionId, Indefinite, CodeTooWide}
 
 -- the number that a line of output gives for a reason
 abbrev pub number_of : Reason → ℕ
@@ -11,6 +11,7 @@ number_of TooLong = 3
 number_of TagForm = 4
 number_of Overrun = 5
 number_of BadInteger = 6
+number_of BadObjectId = 7
 number_of UnexpectedTag = 8
 number_of Missing = 9
 number_of Trailing = 10

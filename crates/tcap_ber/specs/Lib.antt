@@ -9,3 +9,6 @@ pub mod Reading
 pub mod Found
 pub mod Reads
 pub mod Canonical
+pub mod Choice
+pub mod ObjectId
+pub mod Small

@@ -2,7 +2,7 @@
 use Rattle.std.specs.Prelude.{Bool, true, false, not, ◌&&◌, ℤ, ◌≡◌, ℕ, zero, suc, ◌+◌, ◌-◌, ◌%◌, List, [], ◌∷◌, length, take, drop, Option, Some, None, Result, Ok, Err, nat_lt, ◌==◌, if◌then◌else◌}
 use Rattle.tcap_ber.specs.declared.fault.Fault.{Fault}
 use Rattle.tcap_ber.specs.declared.fault.Reason.{Reason}
-use Rattle.tcap_ber.specs.declared.fault.Reason.TheVariants.{LengthForm, TooLong, BadInteger, TagForm, Overrun, Missing, UnexpectedTag, Trailing, Indefinite}
+use Rattle.tcap_ber.specs.declared.fault.Reason.TheVariants.{LengthForm, TooLong, BadInteger, BadObjectId, TagForm, Overrun, Missing, UnexpectedTag, Trailing, BadSize, Indefinite}
 use Rattle.tcap_ber.specs.declared.header.Header.{Header}
 use Rattle.tcap_ber.specs.declared.element.Window.{Window}
 use Rattle.tcap_ber.specs.declared.element.Tlv.{Tlv}
@@ -194,3 +194,46 @@ each_at read (suc n) s =
 -- an item has at least one octet, so no more items than octets are read
 unfoldable pub each_of : {V : Type 0} → (Span → Result (V × Span) Fault) → Span → Result (List V) Fault
 each_of read s = each_at read (length s.octets) s
+
+-- ---- a choice
+
+-- the first element of a window, which has to be there
+unfoldable pub some_at : Span → Result (Element × Span) Fault
+some_at s = if length s.octets == 0 then Err (fault Missing s.place) else next_at s
+
+-- one of several elements, which is read by its tag
+abbrev pub one_of_at : {V : Type 0} → (Element → Result V Fault) → Span → Result (V × Span) Fault
+one_of_at read s = some_at s >>= with_body read
+
+-- an element with this tag, and one with another
+abbrev pub tagged_at : {V : Type 0} → ℕ → (Element → Result V Fault) → (Element → Result V Fault) → Element → Result V Fault
+tagged_at tag read others e = if is_tag tag e.tag then read e else others e
+
+-- an element that is none of them
+abbrev pub refused_at : {V : Type 0} → Reason → Element → Result V Fault
+refused_at refusal e = Err (fault refusal e.place)
+
+-- ---- object identifiers and small numbers
+
+-- whether octets are subidentifiers up to the end; start says whether one begins with the first of them
+abbrev pub are_subidentifiers : Bool → List ℕ → Bool
+are_subidentifiers start [] = start
+are_subidentifiers start (octet ∷ more) = not (start && (octet == 128)) && are_subidentifiers (nat_lt octet 128) more
+
+-- whether these are the contents of an OBJECT IDENTIFIER
+abbrev pub is_object_id : List ℕ → Bool
+is_object_id octets = not (length octets == 0) && are_subidentifiers true octets
+
+-- an OBJECT IDENTIFIER's contents
+unfoldable pub object_id_at : Element → Result (List ℕ) Fault
+object_id_at e = if is_object_id e.content.octets then Ok e.content.octets else Err (fault BadObjectId e.place)
+
+-- the number that an INTEGER's contents are, where they are one octet below 128
+abbrev pub small_in : ℕ → List ℕ → Result ℕ Fault
+small_in place [] = Err (fault BadSize place)
+small_in place (n ∷ []) = if nat_lt n 128 then Ok n else Err (fault BadSize place)
+small_in place (first ∷ second ∷ more) = Err (fault BadSize place)
+
+-- the number of an INTEGER of one octet that is not negative
+unfoldable pub small_at : Element → Result ℕ Fault
+small_at e = integer_at e >>= small_in e.place

@@ -3,6 +3,7 @@
 use Rattle.std.specs.Prelude.{◌≡◌, ℕ, List, ◌++◌, Result, Ok, Err}
 use Rattle.tcap_ber.specs.declared.fault.Fault.{Fault}
 use Rattle.tcap_ber.specs.Grammar.{Body, Field, Content, after}
+use Rattle.tcap_ber.specs.Choice.{Choice}
 use Rattle.tcap_ber.specs.Found.{Taken}
 use Rattle.tcap_ber.specs.Span.{Span}
 use Rattle.tcap_ber.specs.Reading.{Element}
@@ -20,6 +21,13 @@ pub record ReadsBody {V : Type 0} (body : Body V) (read : Element → Result V F
   pub complete : (e : Element) (v : V) → body.spells v e.content.octets → read e ≡ Ok v
   pub refuses : (e : Element) (f : Fault) → read e ≡ Err f → body.faulty e.place e.content f.reason f.place
   pub stops : (e : Element) (f : Fault) → body.faulty e.place e.content f.reason f.place → read e ≡ Err f
+
+-- a reader of the elements of a choice, each by its tag
+pub record ReadsChoice {V : Type 0} (choice : Choice V) (read : Element → Result V Fault) : Type 0 where
+  pub sound : (e : Element) (v : V) → read e ≡ Ok v → choice.spells v e.tag e.content.octets
+  pub complete : (e : Element) (v : V) → choice.spells v e.tag e.content.octets → read e ≡ Ok v
+  pub refuses : (e : Element) (f : Fault) → read e ≡ Err f → choice.faulty e.tag e.place e.content f.reason f.place
+  pub stops : (e : Element) (f : Fault) → choice.faulty e.tag e.place e.content f.reason f.place → read e ≡ Err f
 
 -- a reader of what is left of a structure, which makes a value of the parts
 pub record ReadsContent {V W : Type 0} (content : Content V) (make : V → W) (read : Span → Result W Fault) : Type 0 where

@@ -18,6 +18,8 @@ pub enum Reason {
     Overrun,
     /// An INTEGER that is empty or has a needless leading octet (X.690 8.3).
     BadInteger,
+    /// An OBJECT IDENTIFIER that is empty or whose subidentifiers are not whole and shortest (X.690 8.19).
+    BadObjectId,
     /// A required element's place holds another tag.
     UnexpectedTag,
     /// A required element's place is the end of its window.
@@ -26,7 +28,7 @@ pub enum Reason {
     Trailing,
     /// A component portion without content (Q.773 4.2.2).
     EmptyComponents,
-    /// A one-octet integer with more octets.
+    /// A one-octet integer with more octets, or a negative one where none may stand.
     BadSize,
     /// A transaction ID of no octets or of over four (Q.773 4.2.1).
     BadTransactionId,
@@ -48,6 +50,7 @@ impl Reason {
             Reason::TagForm => 4,
             Reason::Overrun => 5,
             Reason::BadInteger => 6,
+            Reason::BadObjectId => 7,
             Reason::UnexpectedTag => 8,
             Reason::Missing => 9,
             Reason::Trailing => 10,

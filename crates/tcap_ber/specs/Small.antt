@@ -1,0 +1,20 @@
+-- Integers of one octet that are not negative.
+use Rattle.std.specs.Prelude.{◌≡◌, ℕ, ◌<◌, ◌⊎◌, List, [], ◌∷◌}
+use Rattle.tcap_ber.specs.declared.fault.Reason.TheVariants.{BadInteger, BadSize}
+use Rattle.tcap_ber.specs.Integer.{IsInteger}
+use Rattle.tcap_ber.specs.Grammar.{Body}
+
+-- one octet, a number from 0 to 127
+abbrev pub IsSmall : ℕ → List ℕ → Type 0
+IsSmall n octets = (octets ≡ n ∷ []) × (n < 128)
+
+-- An INTEGER of one octet that is not negative (X.690 8.3). Contents that are no INTEGER are refused first,
+-- then those of more octets and those of negative numbers; the place is the element's.
+abbrev pub small : Body ℕ
+small = record {
+  spells = IsSmall;
+  faulty = λ at s reason place.
+      (place ≡ at)
+      × (((reason ≡ BadInteger) × (IsInteger s.octets → ⊥))
+      ⊎ ((reason ≡ BadSize) × IsInteger s.octets × ((n : ℕ) → IsSmall n s.octets → ⊥)));
+}
