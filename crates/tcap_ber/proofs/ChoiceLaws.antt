@@ -1,20 +1,21 @@
 -- Readers of a choice: what they read is spelled so, what is spelled so they read, what they refuse is
 -- faulty there, and what is faulty there they refuse by that fault.
 use Rattle.std.proofs.Common.{◌≡◌, ◌≢◌, ℕ, ◌+◌, ◌-◌, ◌<◌, ◌⊎◌, true, false, List, [], ◌∷◌, ◌++◌, length, Result, Ok, Err, refl, sym, ap, subst, ◌∙◌, inl, inr, arith}
-use Rattle.std.specs.Prelude.{◌==◌, if◌then◌else◌}
+use Rattle.std.specs.Prelude.{◌==◌, if◌then◌else◌, ◌↔◌, IsOk}
 use Rattle.std.proofs.lemmas.Bool.{eq-eqb, eqb-true, eqb-false, ne_eqb, false_from_ne_true}
 use Rattle.std.proofs.lemmas.List.{length-append, nil_from_length}
 use Rattle.tcap_ber.specs.declared.fault.Fault.{Fault}
 use Rattle.tcap_ber.specs.declared.fault.Reason.{Reason}
-use Rattle.tcap_ber.specs.declared.fault.Reason.TheVariants.{Missing}
+use Rattle.tcap_ber.specs.declared.fault.Reason.TheVariants.{Missing, BadSize}
 use Rattle.tcap_ber.specs.Element.{IsElement}
 use Rattle.tcap_ber.specs.Grammar.{Body, IsMissing, IsElementFault, after}
 use Rattle.tcap_ber.specs.Choice.{Choice, ◌▹◌, ◌∣◌, others_are, IsFaultyChoice, one_of}
+use Rattle.tcap_ber.specs.Small.{null}
 use Rattle.tcap_ber.specs.Found.{FindsElement, Taken}
 use Rattle.tcap_ber.specs.Reads.{ReadsField, ReadsBody, ReadsChoice}
 use Rattle.tcap_ber.specs.Span.{Span}
-use Rattle.tcap_ber.specs.Reading.{◌>>=◌, fault, Element, next_at, is_tag, with_body, some_at, one_of_at, tagged_at, refused_at}
-use Rattle.tcap_ber.proofs.Steps.{chosen, bind_ok, bind_err, ok_is, err_is}
+use Rattle.tcap_ber.specs.Reading.{◌>>=◌, Gives, fault, Element, next_at, is_tag, with_body, some_at, one_of_at, tagged_at, refused_at, null_at}
+use Rattle.tcap_ber.proofs.Steps.{chosen, bind_ok, bind_err, ok_is, err_is, ok_not_err}
 use Rattle.tcap_ber.proofs.ElementLaws.{element_len_at_least, next_sound, next_complete, next_fault}
 use Rattle.tcap_ber.proofs.FaultLaws.{refused_by, element_fault_some, next_refused}
 use Rattle.tcap_ber.proofs.GrammarLaws.{joint, is_tag-true, is_tag-false, is_tag-itself, not_none}
@@ -146,3 +147,28 @@ reads_one_of {V} choice read reads = record {
     stops s f (inr (inr h)) =
         let there = ap (λ (x : List ℕ). some_at (record { octets = x; place = s.place })) h.joined ∙ some_complete s.place h.tag h.content h.octets h.rest h.is_element in
         rw (there, reads.stops (any_element_in s.place h.tag h.content h.octets) f h.inside) refl
+
+-- ---- NULL
+
+pub reads_null : ReadsBody null null_at
+unfolding null_at
+reads_null = record {
+  sound = λ e v h.
+      elim (chosen (length e.content.octets == 0) _ _ (Ok v) h) [
+        | inl k ↦ nil_from_length e.content.octets (eqb-true (length e.content.octets) 0 k.0)
+        | inr k ↦ absurd cc
+      ];
+  complete = λ e v h. rw (eq-eqb (length e.content.octets) 0 (ap length h)) refl;
+  refuses = λ e f h.
+      elim (chosen (length e.content.octets == 0) _ _ (Err f) h) [
+        | inl k ↦ absurd cc
+        | inr k ↦ let same = err_is {A = Unit {0}} (fault BadSize e.place) f k.1 in
+            let some = eqb-false (length e.content.octets) 0 k.0 in
+            (omega (arith, some), sym (ap (λ (x : Fault). x.reason) same), sym (ap (λ (x : Fault). x.place) same))
+      ];
+  stops = λ e f h. rw (ne_eqb (length e.content.octets) 0 (not_none (length e.content.octets) h.0)) (refused_by f BadSize e.place h.1 h.2);
+}
+
+pub null_iff : (e : Element) (r : Result (Unit {0}) Fault) → Gives (λ x. x) r (null_at e) → IsOk r ↔ (e.content.octets ≡ [])
+null_iff e (Ok x) h = (λ _. reads_null.sound e x h, λ _. refl)
+null_iff e (Err f) h = (λ k. absurd cc, λ none. absurd (ok_not_err {A = Unit {0}} tt f (sym (reads_null.complete e tt none) ∙ h)))

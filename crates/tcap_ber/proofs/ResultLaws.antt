@@ -15,11 +15,12 @@ use Rattle.tcap_ber.specs.Grammar.{Body, Field, BeginsWith, IsMissing, IsElement
 use Rattle.tcap_ber.specs.Found.{FindsElement, Taken}
 use Rattle.tcap_ber.specs.Reads.{ReadsField, ReadsBody}
 use Rattle.tcap_ber.specs.Span.{Span}
-use Rattle.tcap_ber.specs.Reading.{fault, Gives, Element, element, span, next_at, required_at, is_tag, is_next, raw_at, outer_at, is_raw, is_integer, integer_at}
+use Rattle.tcap_ber.specs.Reading.{fault, Gives, Element, element, span, next_at, some_at, required_at, is_tag, is_next, raw_at, outer_at, is_raw, is_integer, integer_at}
 use Rattle.tcap_ber.proofs.Steps.{chosen, ok_is, err_is, ok_not_err}
 use Rattle.tcap_ber.proofs.ElementLaws.{next_sound, next_complete, next_fault}
 use Rattle.tcap_ber.proofs.FaultLaws.{next_refused, raw_refused, required_refused}
 use Rattle.tcap_ber.proofs.OuterLaws.{outer_whole, outer_of_element, outer_needs, outer_fault, outer_refused, is_raw_sound, is_raw_complete, raw_sound, raw_complete}
+use Rattle.tcap_ber.proofs.ChoiceLaws.{some_sound, some_complete, some_fault, some_refused}
 use Rattle.tcap_ber.proofs.GrammarLaws.{is_integer_sound, is_integer_complete, required_sound, required_complete, required_fault, is_tag-true, is_tag-itself, is_next-true, is_next-begins, raw_fault}
 
 -- an exact answer is a fault exactly where reading gives that fault
@@ -94,7 +95,26 @@ integer_invalid octets_of e (Err f) h =
           (sym (ap (λ (x : Fault). x.reason) same), sym (ap (λ (x : Fault). x.place) same), λ i. let t : true ≡ false = sym (is_integer_complete e.content.octets i) ∙ k.0 in cc)
     ]
 
--- ---- an element that has to be there
+-- ---- an element that has to be there, of any tag
+
+pub any_found : (s : Span) (r : Next) → Gives seen r (some_at s) → IfOk r (λ x. FindsElement s (element x.0) (span x.1))
+any_found s (Ok x) e = some_sound s (seen x) e
+any_found s (Err f) e = tt
+
+pub any_only : (s : Span) (r : Next) → Gives seen r (some_at s) → (tag content octets rest : List ℕ) → IsElement tag content octets → s.octets ≡ octets ++ rest
+    → IsOkAnd r (λ x. (x.0.tag.octets.now ≡ tag) × (x.0.content.octets.now ≡ content) × (x.1.octets.now ≡ rest))
+any_only s (Ok x) e tag content octets rest h joined =
+    let there = ap (λ (o : List ℕ). some_at (record { octets = o; place = s.place })) joined ∙ some_complete s.place tag content octets rest h in
+    let same = ok_is (seen x) _ (sym e ∙ there) in
+    (ap (λ (y : Element × Span). y.0.tag) same, ap (λ (y : Element × Span). y.0.content.octets) same, ap (λ (y : Element × Span). y.1.octets) same)
+any_only s (Err f) e tag content octets rest h joined =
+    let there = ap (λ (o : List ℕ). some_at (record { octets = o; place = s.place })) joined ∙ some_complete s.place tag content octets rest h in
+    ok_not_err {A = Element × Span} _ f (sym there ∙ e)
+
+pub any_faulty : (s : Span) (r : Next) → Gives seen r (some_at s) → (f : Fault) → (r ≡ Err f) ↔ (IsMissing s f.reason f.place ⊎ IsElementFault s f.reason f.place)
+any_faulty s r e f = let k = gives_err seen r (some_at s) e f in (λ h. some_fault s f (k.0 h), λ w. k.1 (some_refused s f w))
+
+-- ---- an element that has to be there with a tag
 
 pub required_found : (tag : ℕ) (s : Span) (r : Next) → Gives seen r (required_at tag s) → IfOk r (λ x. FindsElement s (element x.0) (span x.1) × (x.0.tag.octets.now ≡ tag ∷ []))
 required_found tag s (Ok x) e = required_sound tag s (seen x) e

@@ -237,3 +237,7 @@ small_in place (first ∷ second ∷ more) = Err (fault BadSize place)
 -- the number of an INTEGER of one octet that is not negative
 unfoldable pub small_at : Element → Result ℕ Fault
 small_at e = integer_at e >>= small_in e.place
+
+-- NULL, which has no content
+unfoldable pub null_at : Element → Result (Unit {0}) Fault
+null_at e = if length e.content.octets == 0 then Ok tt else Err (fault BadSize e.place)

@@ -1,5 +1,5 @@
--- Integers of one octet that are not negative.
-use Rattle.std.specs.Prelude.{◌≡◌, ℕ, ◌<◌, ◌⊎◌, List, [], ◌∷◌}
+-- Integers of one octet that are not negative, and NULL.
+use Rattle.std.specs.Prelude.{◌≡◌, ℕ, ◌<◌, ◌⊎◌, List, [], ◌∷◌, length}
 use Rattle.tcap_ber.specs.declared.fault.Reason.TheVariants.{BadInteger, BadSize}
 use Rattle.tcap_ber.specs.Integer.{IsInteger}
 use Rattle.tcap_ber.specs.Grammar.{Body}
@@ -17,4 +17,11 @@ small = record {
       (place ≡ at)
       × (((reason ≡ BadInteger) × (IsInteger s.octets → ⊥))
       ⊎ ((reason ≡ BadSize) × IsInteger s.octets × ((n : ℕ) → IsSmall n s.octets → ⊥)));
+}
+
+-- NULL has no content (X.690 8.8.2); one with content is refused at the element
+abbrev pub null : Body (Unit {0})
+null = record {
+  spells = λ _ octets. octets ≡ [];
+  faulty = λ at s reason place. (0 < length s.octets) × (reason ≡ BadSize) × (place ≡ at);
 }

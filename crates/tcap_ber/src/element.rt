@@ -2,6 +2,8 @@
 
 ghost use Rattle.std.specs.Prelude.{◌≡◌, ◌<◌, ◌≤◌, ◌+◌, ◌^◌, ◌∷◌, ◌↔◌, [], IsTrue, length};
 
+use crate::fault::{Fault, Reason};
+
 /// Octets that are read as one part of a whole, and the place of the first of them in it.
 #[derive(Clone, Copy, Debug)]
 pub struct Window<'a> {
@@ -59,6 +61,20 @@ impl<'a> Window<'a> {
         Window {
             octets: &self.octets[len..],
             place: self.place + len as u64,
+        }
+    }
+}
+
+impl<'a> Tlv<'a> {
+    ghost use Rattle.tcap_ber.specs.Reading.{fault};
+
+    /// The refusal of the element for this reason, at its first octet.
+    pub fn refused(self, reason: Reason) -> Fault
+        ensures { result ≡ fault reason self.entry.start }
+    {
+        Fault {
+            reason,
+            place: self.start,
         }
     }
 }

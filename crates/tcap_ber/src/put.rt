@@ -42,6 +42,18 @@ pub fn put_header<W: Write>(tag: u8, content_len: usize, writer: &mut W) -> Resu
     }
 }
 
+/// Writes the shortest element with a tag of one octet around `content`, of at most 65,535 octets
+/// (X.690 8.1.3). `Failed` where the writer failed.
+pub fn put_element<W: Write>(tag: u8, content: &[u8], writer: &mut W) -> Result<(), Failed>
+    requires { length content.now ≤ 65535 }
+    ensures ok { OnOk result (Appends (W.taken writer.old) (W.taken writer.new)
+        (shortest_header tag (length content.now) ++ content.now)) }
+    ensures counts { CountsFailure (W.failures writer.old) (W.failures writer.new) result }
+{
+    put_header(tag, content.len(), writer)?;
+    writer.write_all(content)
+}
+
 /// The count of octets of the contents of an INTEGER (X.690 8.3.2).
 pub fn integer_len(value: i32) -> usize
     ensures exact { result ≡ integer_len value }

@@ -8,7 +8,7 @@ ghost use Rattle.tcap_ber.specs.Element.{IsElement};
 ghost use Rattle.tcap_ber.specs.Header.{BeginsElement, NeedsMore, IsHeaderFault};
 ghost use Rattle.tcap_ber.specs.Grammar.{BeginsWith, IsMissing, IsElementFault, IsUnexpected};
 ghost use Rattle.tcap_ber.specs.Found.{FindsElement};
-ghost use Rattle.tcap_ber.specs.Reading.{Gives, span, element, outer_at, next_at, required_at, is_next, end_at};
+ghost use Rattle.tcap_ber.specs.Reading.{Gives, span, element, outer_at, next_at, required_at, some_at, is_next, end_at};
 
 use crate::element::{Outer, Tag, Tlv, Window};
 use crate::fault::{Fault, Reason};
@@ -84,6 +84,35 @@ pub fn next_tlv(window: Window) -> Result<(Tlv, Window), Fault>
     ensures exact { Gives (λ x. (element x.0, span x.1)) result (next_at (span window.entry)) }
 {
     read_next(window)
+}
+
+#[tactic(auto, unfolding(crate::specs::Reading::some_at))]
+fn read_any(window: Window) -> Result<(Tlv, Window), Fault>
+    ensures exact { Gives (λ x. (element x.0, span x.1)) result (some_at (span window.entry)) }
+{
+    if window.octets.is_empty() {
+        return Err(Fault {
+            reason: Reason::Missing,
+            place: window.place,
+        });
+    }
+    next_tlv(window)
+}
+
+/// The first element of a window, which has to be there, with any tag, and the window behind it
+/// (X.690 8.1.1). `Missing` at the window's end where it is empty, else the faults of [`next_tlv`].
+pub fn required_any(window: Window) -> Result<(Tlv, Window), Fault>
+    // What is read is the element that stands there, and its parts are those octets of the window.
+    ensures found { IfOk result (λ x. FindsElement (span window.entry) (element x.0) (span x.1)) }
+    // What stands there is read.
+    ensures only { (tag content octets rest : List ℕ) → IsElement tag content octets → window.entry.octets.now ≡ octets ++ rest
+        → IsOkAnd result (λ x. (x.0.tag.octets.now ≡ tag) × (x.0.content.octets.now ≡ content) × (x.1.octets.now ≡ rest)) }
+    // It is refused exactly where it is missing or faulty itself.
+    ensures faulty { (fault : Fault) → (result ≡ Err fault) ↔ (IsMissing (span window.entry) fault.reason fault.place
+        ⊎ IsElementFault (span window.entry) fault.reason fault.place) }
+    ensures exact { Gives (λ x. (element x.0, span x.1)) result (some_at (span window.entry)) }
+{
+    read_any(window)
 }
 
 #[tactic(auto, unfolding(crate::specs::Reading::required_at))]

@@ -1,18 +1,46 @@
 -- What views of components stand for.
-use Rattle.std.specs.Prelude.{List}
+use Rattle.std.specs.Prelude.{ℕ, List, Option}
 use Rattle.std.specs.Option.{option_map}
+use Rattle.tcap_ber.specs.declared.raw.RawView.{RawView}
+use Rattle.tcap_ber.specs.Reading.{span}
+use Rattle.tcap_parts.specs.declared.code.Code.{Code}
+use Rattle.tcap_parts.specs.declared.code.Code.TheVariants as codes
+use Rattle.tcap_parts.specs.declared.code.CodeView.{CodeView}
+use Rattle.tcap_parts.specs.declared.code.CodeView.TheVariants as code_views
+use Rattle.tcap_parts.specs.declared.component.ResultBody.{ResultBody}
+use Rattle.tcap_parts.specs.declared.component.ResultBodyView.{ResultBodyView}
 use Rattle.tcap_parts.specs.declared.component.Component.{Component}
 use Rattle.tcap_parts.specs.declared.component.Component.TheVariants as owned
 use Rattle.tcap_parts.specs.declared.component.ComponentView.{ComponentView}
 use Rattle.tcap_parts.specs.declared.component.ComponentView.TheVariants as views
 use Rattle.tcap_parts.specs.declared.portion.PortionView.{PortionView}
+use Rattle.tcap_parts.specs.declared.portion.Components.{Components}
 use Rattle.tcap_parts.specs.Reading.{components_at, read_or_none}
-use Rattle.tcap_ber.specs.Reading.{span}
+
+-- the code that a view lends
+abbrev pub code_of : CodeView → Code
+code_of (code_views.Local n) = codes.Local n
+code_of (code_views.Global id) = codes.Global id.octets.now
+
+-- the parameter that a view lends
+abbrev pub parameter_of : Option RawView → Option (List ℕ)
+parameter_of parameter = option_map (λ raw. raw.octets.now) parameter
+
+-- what a Return Result carries that a view lends
+abbrev pub body_of : ResultBodyView → ResultBody
+body_of view = record { code = code_of view.code; parameter = parameter_of view.parameter }
 
 -- the component that a view lends
 abbrev pub component_of : ComponentView → Component
-component_of (views.Invoke id code parameter) = owned.Invoke id code (option_map (λ raw. raw.octets.now) parameter)
+component_of (views.Invoke id linked code parameter) = owned.Invoke id linked (code_of code) (parameter_of parameter)
+component_of (views.ReturnResult last id body) = owned.ReturnResult last id (option_map body_of body)
+component_of (views.ReturnError id code parameter) = owned.ReturnError id (code_of code) (parameter_of parameter)
+component_of (views.Reject id problem) = owned.Reject id problem
 
 -- the components of a portion that a view lends
 abbrev pub components_of : PortionView → List Component
 components_of view = read_or_none (components_at (span view.content))
+
+-- the components that a cursor has still to give
+abbrev pub components_left : Components → List Component
+components_left cursor = read_or_none (components_at (span cursor.rest))
