@@ -23,7 +23,7 @@ pub use fault::{Fault, Reason};
 pub use header::CONTENT_LIMIT;
 pub use integers::{integer, octet_integer, small_integer};
 pub use nulls::null;
-pub use put::{header_len, integer_len, put_element, put_header, put_integer};
+pub use put::{element_len, header_len, integer_len, put_element, put_header, put_integer};
 pub use raw::{Raw, RawView};
 pub use to_end::{ReadError, read_to_end};
 pub use window::{begins_with, ended, next_tlv, outer, required, required_any};

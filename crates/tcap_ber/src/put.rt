@@ -1,11 +1,13 @@
 //! Elements as they are written: with the shortest definite length (X.690 8.1.3).
 
-ghost use Rattle.std.specs.Prelude.{◌≡◌, ℕ, ◌++◌, ◌≤◌, length, OnOk};
+ghost use Rattle.std.specs.Prelude.{◌≡◌, ℕ, List, Some, ◌++◌, ◌≤◌, length, OnOk, IfSome};
 ghost use Rattle.std.specs.Io.KnownBytes.{Appends};
-ghost use Rattle.tcap_ber.specs.Canonical.{shortest_header, number_octets, integer_len, integer_octets};
+ghost use Rattle.std.specs.Option.{option_map};
+ghost use Rattle.tcap_ber.specs.Canonical.{element_around, shortest_header, number_octets, integer_len, integer_octets};
 ghost use Rattle.tcap_ber.specs.Device.{CountsFailure};
 
 use crate::device::{Failed, Write};
+use crate::header::CONTENT_LIMIT;
 
 /// The count of octets of the shortest header before a content of `content_len` octets, at most 65,535,
 /// with any tag of one octet (X.690 8.1.3).
@@ -19,6 +21,19 @@ pub fn header_len(content_len: usize) -> usize
         0x80..=0xff => 3,
         _ => 4,
     }
+}
+
+/// The count of octets of the shortest element with any tag of one octet around a content of `content_len`
+/// octets; `None` exactly where that is over 65,535 (X.690 8.1.3).
+pub fn element_len(content_len: usize) -> Option<usize>
+    ensures exact { (tag : ℕ) (content : List ℕ) → content_len ≡ length content
+        → result ≡ option_map length (element_around tag (Some content)) }
+    ensures most { IfSome result (λ n. n ≤ 65539) }
+{
+    if content_len > CONTENT_LIMIT {
+        return None;
+    }
+    Some(header_len(content_len) + content_len)
 }
 
 /// Writes the shortest header of an element with a tag of one octet and a content of `content_len`

@@ -21,37 +21,53 @@ abbrev pub parameter_octets : Option (List ℕ) → List ℕ
 parameter_octets None = []
 parameter_octets (Some raw) = raw
 
+-- an operation code or an error code, and a parameter
+abbrev pub canonical_coded : Code → Option (List ℕ) → Option (List ℕ)
+canonical_coded code parameter = canonical_code code ⧺ Some (parameter_octets parameter)
+
 abbrev pub canonical_linked : Option ℤ → Option (List ℕ)
 canonical_linked None = Some []
 canonical_linked (Some id) = canonical_integer 0x80 id
 
 abbrev pub canonical_body : Option ResultBody → Option (List ℕ)
 canonical_body None = Some []
-canonical_body (Some body) = element_around 0x30 (canonical_code body.code ⧺ Some (parameter_octets body.parameter))
+canonical_body (Some body) = element_around 0x30 (canonical_coded body.code body.parameter)
 
 abbrev pub canonical_rejected : Option ℤ → Option (List ℕ)
 canonical_rejected None = element_around 0x05 (Some [])
 canonical_rejected (Some id) = canonical_integer 0x02 id
 
-abbrev pub canonical_problem : Problem → Option (List ℕ)
-canonical_problem (problems.General n) = element_around 0x80 (Some (n ∷ []))
-canonical_problem (problems.Invoke n) = element_around 0x81 (Some (n ∷ []))
-canonical_problem (problems.ReturnResult n) = element_around 0x82 (Some (n ∷ []))
-canonical_problem (problems.ReturnError n) = element_around 0x83 (Some (n ∷ []))
+abbrev pub problem_tag : Problem → ℕ
+problem_tag (problems.General n) = 0x80
+problem_tag (problems.Invoke n) = 0x81
+problem_tag (problems.ReturnResult n) = 0x82
+problem_tag (problems.ReturnError n) = 0x83
 
--- the tag of a Return Result, the last one or not
-abbrev pub result_tag : Bool → ℕ
-result_tag true = 0xA2
-result_tag false = 0xA7
+abbrev pub problem_number : Problem → ℕ
+problem_number (problems.General n) = n
+problem_number (problems.Invoke n) = n
+problem_number (problems.ReturnResult n) = n
+problem_number (problems.ReturnError n) = n
+
+abbrev pub canonical_problem : Problem → Option (List ℕ)
+canonical_problem problem = element_around (problem_tag problem) (Some (problem_number problem ∷ []))
+
+abbrev pub component_tag : Component → ℕ
+component_tag (Invoke id linked code parameter) = 0xA1
+component_tag (ReturnResult true id body) = 0xA2
+component_tag (ReturnResult false id body) = 0xA7
+component_tag (ReturnError id code parameter) = 0xA3
+component_tag (Reject id problem) = 0xA4
+
+abbrev pub canonical_content : Component → Option (List ℕ)
+canonical_content (Invoke id linked code parameter) = canonical_integer 0x02 id ⧺ canonical_linked linked ⧺ canonical_coded code parameter
+canonical_content (ReturnResult last id body) = canonical_integer 0x02 id ⧺ canonical_body body
+canonical_content (ReturnError id code parameter) = canonical_integer 0x02 id ⧺ canonical_coded code parameter
+canonical_content (Reject id problem) = canonical_rejected id ⧺ canonical_problem problem
 
 -- it exists where no content is over the limit
 abbrev pub canonical_component : Component → Option (List ℕ)
-canonical_component (Invoke id linked code parameter) =
-    element_around 0xA1 (canonical_integer 0x02 id ⧺ canonical_linked linked ⧺ canonical_code code ⧺ Some (parameter_octets parameter))
-canonical_component (ReturnResult last id body) = element_around (result_tag last) (canonical_integer 0x02 id ⧺ canonical_body body)
-canonical_component (ReturnError id code parameter) =
-    element_around 0xA3 (canonical_integer 0x02 id ⧺ canonical_code code ⧺ Some (parameter_octets parameter))
-canonical_component (Reject id problem) = element_around 0xA4 (canonical_rejected id ⧺ canonical_problem problem)
+canonical_component c = element_around (component_tag c) (canonical_content c)
 
 -- one after the other
 abbrev pub canonical_components : List Component → Option (List ℕ)

@@ -1,8 +1,82 @@
-//! Operation codes (Q.773 4.2.2).
+//! Operation codes and error codes (Q.773 4.2.2).
 
-/// An operation code.
-#[derive(Clone, Copy, Debug, PartialEq, Eq)]
+ghost use Rattle.std.specs.Prelude.{◌≡◌, IfOk};
+ghost use Rattle.tcap_ber.specs.Reading.{Gives, span};
+ghost use Rattle.tcap_parts.specs.Meaning.{code_of};
+ghost use Rattle.tcap_parts.specs.Reading.{code_at};
+
+use std::alloc::{AllocError, Global};
+use tcap_ber::{
+    Fault, ObjectId, ObjectIdView, Reason, Window, object_id, required_any, small_integer,
+};
+
+/// An operation code or an error code.
+#[derive(Debug, Drop)]
 pub enum Code {
     /// A local code, an integer of one to four octets.
     Local(i32),
+    /// A global code, an object identifier.
+    Global(ObjectId),
+}
+
+/// An operation code or an error code, a global one lent from the octets that were read.
+#[derive(Clone, Copy, Debug)]
+pub enum CodeView<'a> {
+    /// A local code, an integer of one to four octets.
+    Local(i32),
+    /// A global code, an object identifier.
+    Global(ObjectIdView<'a>),
+}
+
+/// The tag of an INTEGER, which a local code is.
+pub(crate) const LOCAL: u8 = 0x02;
+
+/// The tag of an OBJECT IDENTIFIER, which a global code is.
+pub(crate) const GLOBAL: u8 = 0x06;
+
+/// The code at the front of a window, and the window behind it (Q.773 4.2.2).
+#[tactic(auto, unfolding(crate::specs::Reading::code_at))]
+pub(crate) fn read_code(window: Window) -> Result<(CodeView, Window), Fault>
+    ensures exact { Gives (λ x. (code_of x.0, span x.1)) result (code_at (span window.entry)) }
+{
+    let (found, rest) = required_any(window)?;
+    if found.tag.is(LOCAL) {
+        let local = small_integer(found, 4, Reason::CodeTooWide)?;
+        Ok((CodeView::Local(local), rest))
+    } else if found.tag.is(GLOBAL) {
+        Ok((CodeView::Global(object_id(found)?), rest))
+    } else {
+        Err(found.refused(Reason::UnexpectedTag))
+    }
+}
+
+impl<'a> CodeView<'a> {
+    /// The code as a value of its own.
+    pub fn to_code(self, alloc: Global) -> Result<Code, AllocError>
+        ensures { IfOk result (λ code. code ≡ code_of self.entry) }
+    {
+        match self {
+            CodeView::Local(local) => Ok(Code::Local(local)),
+            CodeView::Global(id) => Ok(Code::Global(id.to_object_id(alloc)?)),
+        }
+    }
+}
+
+impl Code {
+    /// The code, lent.
+    pub fn view(&self) -> CodeView<'_>
+        ensures { code_of result ≡ self.now }
+    {
+        match self {
+            Code::Local(local) => CodeView::Local(*local),
+            Code::Global(id) => CodeView::Global(id.view()),
+        }
+    }
+
+    /// An equal code of its own.
+    pub fn copy(&self, alloc: Global) -> Result<Code, AllocError>
+        ensures { IfOk result (λ code. code ≡ self.now) }
+    {
+        self.view().to_code(alloc)
+    }
 }

@@ -1,105 +1,127 @@
 //! Components (Q.773 4.2.2).
 
-ghost use Rattle.std.specs.Prelude.{◌≡◌, ◌<◌, ◌↔◌, ◌++◌, ℕ, List, length, Err, IfOk, IsOkAnd};
-ghost use Rattle.tcap_ber.specs.declared.fault.Fault.{Fault};
-ghost use Rattle.tcap_ber.specs.Found.{Taken};
-ghost use Rattle.tcap_ber.specs.Reading.{Gives, span, element};
-ghost use Rattle.tcap_parts.specs.declared.component.Component.{Component};
-ghost use Rattle.tcap_parts.specs.Component.{component, SpellsComponent};
-ghost use Rattle.tcap_parts.specs.Meaning.{component_of};
-ghost use Rattle.tcap_parts.specs.Reading.{invoke_id_at, code_at, invoke_at, component_at};
+ghost use Rattle.std.specs.Prelude.{◌≡◌, IfOk};
+ghost use Rattle.tcap_parts.specs.Meaning.{parameter_of, body_of, component_of};
 
-use crate::code::Code;
+use crate::code::{Code, CodeView};
+use crate::problem::Problem;
 use std::alloc::{AllocError, Global};
-use tcap_ber::{
-    Fault, Raw, RawView, Reason, Window, ended, octet_integer, required, small_integer,
-};
+use tcap_ber::{Raw, RawView};
 
 /// A component.
 #[derive(Debug, Drop)]
 pub enum Component {
-    /// An Invoke: its invoke ID, its operation code and its parameter, one element with any tag.
+    /// An Invoke: its invoke ID, the ID of the invocation that it is linked to, its operation code and its
+    /// parameter, one element with any tag.
     Invoke {
+        id: i8,
+        linked: Option<i8>,
+        code: Code,
+        parameter: Option<Raw>,
+    },
+    /// A Return Result: whether it is the last one, the ID of the invocation that it answers, and what it
+    /// carries.
+    ReturnResult {
+        last: bool,
+        id: i8,
+        body: Option<ResultBody>,
+    },
+    /// A Return Error: the ID of the invocation that it answers, its error code and its parameter.
+    ReturnError {
         id: i8,
         code: Code,
         parameter: Option<Raw>,
     },
+    /// A Reject: the invoke ID of the component that it rejects, `None` where that is not known, and the
+    /// problem.
+    Reject { id: Option<i8>, problem: Problem },
 }
 
-/// A component whose parameter is lent from the octets that were read.
+/// What a Return Result carries: the operation code and the parameter.
+#[derive(Debug, Drop)]
+pub struct ResultBody {
+    pub code: Code,
+    pub parameter: Option<Raw>,
+}
+
+/// A component whose global code and parameter are lent from octets.
 #[derive(Clone, Copy, Debug)]
 pub enum ComponentView<'a> {
-    /// An Invoke: its invoke ID, its operation code and its parameter.
+    /// An Invoke: its invoke ID, the ID of the invocation that it is linked to, its operation code and its
+    /// parameter.
     Invoke {
         id: i8,
-        code: Code,
+        linked: Option<i8>,
+        code: CodeView<'a>,
         parameter: Option<RawView<'a>>,
     },
+    /// A Return Result: whether it is the last one, the ID of the invocation that it answers, and what it
+    /// carries.
+    ReturnResult {
+        last: bool,
+        id: i8,
+        body: Option<ResultBodyView<'a>>,
+    },
+    /// A Return Error: the ID of the invocation that it answers, its error code and its parameter.
+    ReturnError {
+        id: i8,
+        code: CodeView<'a>,
+        parameter: Option<RawView<'a>>,
+    },
+    /// A Reject: the invoke ID of the component that it rejects, `None` where that is not known, and the
+    /// problem.
+    Reject { id: Option<i8>, problem: Problem },
 }
 
-const INTEGER: u8 = 0x02;
-
-const INVOKE: u8 = 0xA1;
-
-/// The invoke ID at the front of a window (Q.773 4.2.2).
-#[tactic(auto, unfolding(crate::specs::Reading::invoke_id_at))]
-fn invoke_id(window: Window) -> Result<(i8, Window), Fault>
-    ensures exact { Gives (λ x. (x.0, span x.1)) result (invoke_id_at (span window.entry)) }
-{
-    let (found, rest) = required(window, INTEGER)?;
-    Ok((octet_integer(found)?, rest))
+/// What a Return Result carries, lent: the operation code and the parameter.
+#[derive(Clone, Copy, Debug)]
+pub struct ResultBodyView<'a> {
+    pub code: CodeView<'a>,
+    pub parameter: Option<RawView<'a>>,
 }
 
-/// The operation code at the front of a window (Q.773 4.2.2).
-#[tactic(auto, unfolding(crate::specs::Reading::code_at))]
-fn code(window: Window) -> Result<(Code, Window), Fault>
-    ensures exact { Gives (λ x. (x.0, span x.1)) result (code_at (span window.entry)) }
+/// The parameter as a value of its own.
+fn to_parameter(parameter: Option<RawView>, alloc: Global) -> Result<Option<Raw>, AllocError>
+    ensures { IfOk result (λ made. made ≡ parameter_of parameter.entry) }
 {
-    let (found, rest) = required(window, INTEGER)?;
-    let local = small_integer(found, 4, Reason::CodeTooWide)?;
-    Ok((Code::Local(local), rest))
+    match parameter {
+        Some(raw) => Ok(Some(raw.to_raw(alloc)?)),
+        None => Ok(None),
+    }
 }
 
-/// The parts of an Invoke, which are all of `content` (Q.773 4.2.2).
-#[tactic(auto, unfolding(crate::specs::Reading::invoke_at))]
-fn view_invoke(content: Window) -> Result<ComponentView, Fault>
-    ensures exact { Gives component_of result (invoke_at (span content.entry)) }
+/// The parameter, lent.
+fn view_of(parameter: &Option<Raw>) -> Option<RawView<'_>>
+    ensures { parameter_of result ≡ parameter.now }
 {
-    let (id, rest) = invoke_id(content)?;
-    let (code, rest) = code(rest)?;
-    let (parameter, rest) = RawView::parameter(rest)?;
-    ended(rest)?;
-    Ok(ComponentView::Invoke {
-        id,
-        code,
-        parameter,
-    })
+    match parameter {
+        Some(raw) => Some(raw.view()),
+        None => None,
+    }
 }
 
-#[tactic(auto, unfolding(crate::specs::Reading::component_at))]
-fn read_component(window: Window) -> Result<(ComponentView, Window), Fault>
-    ensures exact { Gives (λ x. (component_of x.0, span x.1)) result (component_at (span window.entry)) }
-{
-    let (found, rest) = required(window, INVOKE)?;
-    Ok((view_invoke(found.content)?, rest))
+impl<'a> ResultBodyView<'a> {
+    /// What the Return Result carries as a value of its own.
+    pub fn to_result_body(self, alloc: Global) -> Result<ResultBody, AllocError>
+        ensures { IfOk result (λ made. made ≡ body_of self.entry) }
+    {
+        Ok(ResultBody {
+            code: self.code.to_code(alloc)?,
+            parameter: to_parameter(self.parameter, alloc)?,
+        })
+    }
 }
 
-/// The first component of a window that is not empty, lent from its octets, and the window behind it
-/// (Q.773 4.2.2). A fault is the first from left to right: those of [`required`] for the component and
-/// its parts, `BadInteger` or `BadSize` at the invoke ID, `BadInteger` or `CodeTooWide` at the operation
-/// code, those of [`RawView::parameter`], and `Trailing` behind the parameter.
-pub fn view_component(window: Window) -> Result<(ComponentView, Window), Fault>
-    requires { 0 < length window.octets.now }
-    // What is read is spelled there.
-    ensures found { IfOk result (λ x. Taken component (span window.entry) (component_of x.0) (span x.1)) }
-    // What is spelled there is read.
-    ensures only { (c : Component) (front rest : List ℕ) → SpellsComponent c front → window.entry.octets.now ≡ front ++ rest
-        → IsOkAnd result (λ x. (component_of x.0 ≡ c) × (x.1.octets.now ≡ rest)) }
-    // What is refused is faulty there, and what is faulty is refused by that fault.
-    ensures faulty { (fault : Fault) → (result ≡ Err fault) ↔ component.faulty (span window.entry) fault.reason fault.place }
-    ensures exact { Gives (λ x. (component_of x.0, span x.1)) result (component_at (span window.entry)) }
-{
-    read_component(window)
+impl ResultBody {
+    /// What the Return Result carries, lent.
+    pub fn view(&self) -> ResultBodyView<'_>
+        ensures { body_of result ≡ self.now }
+    {
+        ResultBodyView {
+            code: self.code.view(),
+            parameter: view_of(&self.parameter),
+        }
+    }
 }
 
 impl<'a> ComponentView<'a> {
@@ -110,19 +132,74 @@ impl<'a> ComponentView<'a> {
         match self {
             ComponentView::Invoke {
                 id,
+                linked,
                 code,
                 parameter,
-            } => {
-                let parameter = match parameter {
-                    Some(raw) => Some(raw.to_raw(alloc)?),
+            } => Ok(Component::Invoke {
+                id,
+                linked,
+                code: code.to_code(alloc)?,
+                parameter: to_parameter(parameter, alloc)?,
+            }),
+            ComponentView::ReturnResult { last, id, body } => {
+                let body = match body {
+                    Some(body) => Some(body.to_result_body(alloc)?),
                     None => None,
                 };
-                Ok(Component::Invoke {
-                    id,
-                    code,
-                    parameter,
-                })
+                Ok(Component::ReturnResult { last, id, body })
             }
+            ComponentView::ReturnError {
+                id,
+                code,
+                parameter,
+            } => Ok(Component::ReturnError {
+                id,
+                code: code.to_code(alloc)?,
+                parameter: to_parameter(parameter, alloc)?,
+            }),
+            ComponentView::Reject { id, problem } => Ok(Component::Reject { id, problem }),
+        }
+    }
+}
+
+impl Component {
+    /// The component, lent.
+    pub fn view(&self) -> ComponentView<'_>
+        ensures { component_of result ≡ self.now }
+    {
+        match self {
+            Component::Invoke {
+                id,
+                linked,
+                code,
+                parameter,
+            } => ComponentView::Invoke {
+                id: *id,
+                linked: *linked,
+                code: code.view(),
+                parameter: view_of(parameter),
+            },
+            Component::ReturnResult { last, id, body } => ComponentView::ReturnResult {
+                last: *last,
+                id: *id,
+                body: match body {
+                    Some(body) => Some(body.view()),
+                    None => None,
+                },
+            },
+            Component::ReturnError {
+                id,
+                code,
+                parameter,
+            } => ComponentView::ReturnError {
+                id: *id,
+                code: code.view(),
+                parameter: view_of(parameter),
+            },
+            Component::Reject { id, problem } => ComponentView::Reject {
+                id: *id,
+                problem: *problem,
+            },
         }
     }
 }

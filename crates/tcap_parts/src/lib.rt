@@ -5,9 +5,13 @@
 mod code;
 mod component;
 mod portion;
+mod problem;
+mod reading;
 mod writing;
 
-pub use code::Code;
-pub use component::{Component, ComponentView, view_component};
-pub use portion::{Portion, PortionView};
+pub use code::{Code, CodeView};
+pub use component::{Component, ComponentView, ResultBody, ResultBodyView};
+pub use portion::{Components, Portion, PortionView};
+pub use problem::Problem;
+pub use reading::view_component;
 pub use writing::{len_components, write_components};

@@ -7,7 +7,8 @@ ghost use Rattle.tcap_parts.specs.Component.{portion, SpellsPortion};
 ghost use Rattle.tcap_ber.specs.Reading.{Gives, span, element};
 ghost use Rattle.tcap_parts.specs.Reading.{components_at, portion_at, is_read};
 
-use crate::component::{Component, view_component};
+use crate::component::{Component, ComponentView};
+use crate::reading::view_component;
 use std::alloc::{AllocError, Global};
 use std::marker::Model;
 use tcap_ber::{Fault, Reason, Tlv, Window};
@@ -18,6 +19,14 @@ pub struct PortionView<'a> {
     content: Window<'a>,
     pub ghost whole: { is_read (components_at (span content)) ≡ true },
     pub ghost some: { 0 < length content.octets.now },
+}
+
+/// The components of a portion, one after the other, lent from the octets that were read. Each costs the
+/// time of reading it.
+#[derive(Clone, Copy, Debug, Drop)]
+pub struct Components<'a> {
+    rest: Window<'a>,
+    pub ghost whole: { is_read (components_at (span rest)) ≡ true },
 }
 
 /// Components, at least one.
@@ -73,7 +82,7 @@ fn check_components(content: Window) -> Result<(), Fault>
 }
 
 impl<'a> PortionView<'a> {
-    ghost use Rattle.tcap_parts.specs.Meaning.{components_of};
+    ghost use Rattle.tcap_parts.specs.Meaning.{components_of, components_left};
 
     #[tactic(auto, unfolding(crate::specs::Reading::portion_at))]
     fn from_content(tlv: Tlv<'a>) -> Result<PortionView<'a>, Fault>
@@ -107,19 +116,43 @@ impl<'a> PortionView<'a> {
         PortionView::from_content(tlv)
     }
 
+    /// The components, one after the other.
+    pub fn components(self) -> Components<'a>
+        ensures { components_left result ≡ components_of self.entry }
+    {
+        Components { rest: self.content }
+    }
+
     /// The components as values of their own.
     pub fn to_portion(self, alloc: Global) -> Result<Portion, AllocError>
         ensures { IfOk result (λ portion. portion ≡ components_of self.entry) }
     {
         let mut components = Vec::new(alloc);
-        let mut rest = self.content;
-        while !rest.octets.is_empty() {
-            let Ok((component, behind)) = view_component(rest) else {
-                unreachable!()
-            };
+        for component in self.components() {
             components.push(component.to_component(alloc)?)?;
-            rest = behind;
         }
         Ok(Portion { components })
+    }
+}
+
+impl<'a> Iterator for Components<'a> {
+    ghost use Rattle.std.specs.Iterator.{item_count, YieldsFirstBy};
+    ghost use Rattle.tcap_parts.specs.Meaning.{component_of, components_left};
+
+    type Item = ComponentView<'a>;
+
+    ghost next_gives = { YieldsFirstBy component_of components_left };
+
+    ghost remaining = { item_count components_left };
+
+    fn next(&mut self) -> Option<ComponentView<'a>> {
+        if self.rest.octets.is_empty() {
+            return None;
+        }
+        let Ok((component, rest)) = view_component(self.rest) else {
+            unreachable!()
+        };
+        self.rest = rest;
+        Some(component)
     }
 }

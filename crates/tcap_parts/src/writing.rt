@@ -1,54 +1,120 @@
 //! Components as they are written: with the shortest definite lengths, parameters verbatim.
 
-ghost use Rattle.std.specs.Prelude.{◌≡◌, ℕ, ◌++◌, ◌^◌, ◌<◌, List, length, Some, IsSome, OnOk};
-ghost use Rattle.std.specs.Option.{option_map};
-ghost use Rattle.std.specs.Io.KnownBytes.{Appends};
+ghost use Rattle.std.specs.Prelude.{◌≡◌, ℕ, ◌^◌, ◌<◌, ◌≤◌, List, length, Some, IfSome, OnOk};
+ghost use Rattle.std.specs.Option.{option_map, IsSome};
 ghost use Rattle.tcap_ber.specs.Device.{CountsFailure};
-ghost use Rattle.tcap_parts.specs.Canonical.{parameter_octets, canonical_component, canonical_portion};
-ghost use Rattle.tcap_parts.specs.Writing.{integer_element, component_content};
+ghost use Rattle.tcap_parts.specs.Canonical.{canonical_integer, canonical_code, canonical_coded, canonical_linked, canonical_body, canonical_rejected, canonical_problem, component_tag, canonical_content, canonical_component, canonical_portion, parameter_octets, problem_tag, problem_number};
+ghost use Rattle.tcap_parts.specs.Meaning.{code_of, parameter_of, body_of, component_of};
+ghost use Rattle.tcap_parts.specs.Writing.{Written};
 
-use crate::code::Code;
-use crate::component::Component;
+use crate::code::{CodeView, GLOBAL, LOCAL};
+use crate::component::{Component, ComponentView, ResultBodyView};
+use crate::problem::Problem;
 use tcap_ber::{
-    CONTENT_LIMIT, Failed, Raw, Write, header_len, integer_len, put_header, put_integer,
+    CONTENT_LIMIT, Failed, RawView, Write, element_len, integer_len, put_element, put_header,
+    put_integer,
 };
 
 const INTEGER: u8 = 0x02;
 
-const INVOKE: u8 = 0xA1;
+const NULL: u8 = 0x05;
+
+const SEQUENCE: u8 = 0x30;
+
+const LINKED_ID: u8 = 0x80;
+
+/// The count of octets of an INTEGER with a tag of one octet.
+fn len_integer(value: i32) -> usize
+    ensures exact { (tag : ℕ) → option_map length (canonical_integer tag value) ≡ Some result }
+    ensures most { result ≤ 6 }
+{
+    2 + integer_len(value)
+}
 
 /// The count of octets of a parameter: 0 where there is none.
-fn len_parameter(parameter: &Option<Raw>) -> usize
-    ensures exact { result ≡ length (parameter_octets parameter.now) }
+fn len_parameter(parameter: Option<RawView>) -> usize
+    ensures exact { result ≡ length (parameter_octets (parameter_of parameter.entry)) }
     ensures within { result < 2 ^ 63 }
 {
     match parameter {
-        Some(raw) => raw.octets().len(),
+        Some(raw) => raw.octets.len(),
         None => 0,
     }
 }
 
-/// The count of octets of the content of a component.
-fn len_content(component: &Component) -> usize
-    ensures exact { result ≡ length (component_content component.now) }
+/// The count of octets of a code; `None` exactly where its content is over 65,535 octets.
+fn len_code(code: CodeView) -> Option<usize>
+    ensures exact { result ≡ option_map length (canonical_code (code_of code.entry)) }
+    ensures most { IfSome result (λ n. n ≤ 65539) }
 {
-    let Component::Invoke {
-        id,
-        code: Code::Local(code),
-        parameter,
-    } = component;
-    4 + integer_len(i32::from(*id)) + integer_len(*code) + len_parameter(parameter)
+    match code {
+        CodeView::Local(local) => Some(len_integer(local)),
+        CodeView::Global(id) => element_len(id.octets.len()),
+    }
 }
 
-/// The count of octets of a component; `None` exactly where its content is over 65,535 octets.
-fn len_component(component: &Component) -> Option<usize>
-    ensures exact { result ≡ option_map length (canonical_component component.now) }
+/// The count of octets of a code and a parameter; `None` exactly where a content is over 65,535 octets.
+fn len_coded(code: CodeView, parameter: Option<RawView>) -> Option<usize>
+    ensures exact { result ≡ option_map length (canonical_coded (code_of code.entry) (parameter_of parameter.entry)) }
+    ensures most { IfSome result (λ n. n < 2 ^ 63 + 65539) }
 {
-    let content_len = len_content(component);
-    if content_len > CONTENT_LIMIT {
-        return None;
+    Some(len_code(code)? + len_parameter(parameter))
+}
+
+/// The count of octets of what a Return Result carries, 0 where it carries nothing; `None` exactly where a
+/// content is over 65,535 octets.
+fn len_body(body: Option<ResultBodyView>) -> Option<usize>
+    ensures exact { result ≡ option_map length (canonical_body (option_map body_of body.entry)) }
+    ensures most { IfSome result (λ n. n ≤ 65539) }
+{
+    match body {
+        Some(body) => element_len(len_coded(body.code, body.parameter)?),
+        None => Some(0),
     }
-    Some(header_len(content_len) + content_len)
+}
+
+/// The count of octets of a component's content; `None` exactly where a content inside is over 65,535
+/// octets.
+fn len_content(component: ComponentView) -> Option<usize>
+    ensures exact { result ≡ option_map length (canonical_content (component_of component.entry)) }
+{
+    match component {
+        ComponentView::Invoke {
+            id,
+            linked,
+            code,
+            parameter,
+        } => {
+            let linked_len = match linked {
+                Some(linked) => len_integer(i32::from(linked)),
+                None => 0,
+            };
+            Some(len_integer(i32::from(id)) + linked_len + len_coded(code, parameter)?)
+        }
+        ComponentView::ReturnResult { id, body, .. } => {
+            Some(len_integer(i32::from(id)) + len_body(body)?)
+        }
+        ComponentView::ReturnError {
+            id,
+            code,
+            parameter,
+        } => Some(len_integer(i32::from(id)) + len_coded(code, parameter)?),
+        ComponentView::Reject { id, .. } => {
+            let id_len = match id {
+                Some(id) => len_integer(i32::from(id)),
+                None => 2,
+            };
+            Some(id_len + 3)
+        }
+    }
+}
+
+/// The count of octets of a component; `None` exactly where a content is over 65,535 octets.
+fn len_component(component: ComponentView) -> Option<usize>
+    ensures exact { result ≡ option_map length (canonical_component (component_of component.entry)) }
+    ensures most { IfSome result (λ n. n ≤ 65539) }
+{
+    element_len(len_content(component)?)
 }
 
 /// The count of octets of the content of a component portion that is these components; `None` exactly
@@ -58,7 +124,7 @@ pub fn len_components(components: &[Component]) -> Option<usize>
 {
     let mut total = 0;
     for component in components {
-        total += len_component(component)?;
+        total += len_component(component.view())?;
         if total > CONTENT_LIMIT {
             return None;
         }
@@ -66,54 +132,154 @@ pub fn len_components(components: &[Component]) -> Option<usize>
     Some(total)
 }
 
-/// Writes the parameter, if there is one. `Failed` where the writer failed.
-fn write_parameter<W: Write>(parameter: &Option<Raw>, writer: &mut W) -> Result<(), Failed>
-    ensures ok { OnOk result (Appends (W.taken writer.old) (W.taken writer.new) (parameter_octets parameter.now)) }
+/// Writes a code. `Failed` where the writer failed.
+fn write_code<W: Write>(code: CodeView, writer: &mut W) -> Result<(), Failed>
+    requires { IsSome (canonical_code (code_of code)) }
+    ensures ok { OnOk result (Written (canonical_code (code_of code.entry)) (W.taken writer.old) (W.taken writer.new)) }
     ensures counts { CountsFailure (W.failures writer.old) (W.failures writer.new) result }
 {
+    match code {
+        CodeView::Local(local) => put_integer(LOCAL, local, writer),
+        CodeView::Global(id) => put_element(GLOBAL, id.octets, writer),
+    }
+}
+
+/// Writes a code and a parameter. `Failed` where the writer failed.
+fn write_coded<W: Write>(
+    code: CodeView,
+    parameter: Option<RawView>,
+    writer: &mut W,
+) -> Result<(), Failed>
+    requires { IsSome (canonical_coded (code_of code) (parameter_of parameter)) }
+    ensures ok { OnOk result (Written (canonical_coded (code_of code.entry) (parameter_of parameter.entry)) (W.taken writer.old) (W.taken writer.new)) }
+    ensures counts { CountsFailure (W.failures writer.old) (W.failures writer.new) result }
+{
+    write_code(code, writer)?;
     match parameter {
-        Some(raw) => writer.write_all(raw.octets()),
+        Some(raw) => writer.write_all(raw.octets),
         None => Ok(()),
     }
 }
 
-/// Writes the parts of an Invoke. `Failed` where the writer failed.
-fn write_invoke<W: Write>(
-    id: i32,
-    code: i32,
-    parameter: &Option<Raw>,
-    writer: &mut W,
-) -> Result<(), Failed>
-    ensures ok { OnOk result (Appends (W.taken writer.old) (W.taken writer.new)
-        (integer_element id ++ integer_element code ++ parameter_octets parameter.now)) }
+/// Writes what a Return Result carries, where it carries something. `Failed` where the writer failed.
+fn write_body<W: Write>(body: Option<ResultBodyView>, writer: &mut W) -> Result<(), Failed>
+    requires { IsSome (canonical_body (option_map body_of body)) }
+    ensures ok { OnOk result (Written (canonical_body (option_map body_of body.entry)) (W.taken writer.old) (W.taken writer.new)) }
     ensures counts { CountsFailure (W.failures writer.old) (W.failures writer.new) result }
 {
-    put_integer(INTEGER, id, writer)?;
-    put_integer(INTEGER, code, writer)?;
-    write_parameter(parameter, writer)
+    let Some(body) = body else {
+        return Ok(());
+    };
+    let Some(len) = len_coded(body.code, body.parameter) else {
+        unreachable!()
+    };
+    put_header(SEQUENCE, len, writer)?;
+    write_coded(body.code, body.parameter, writer)
+}
+
+/// Writes a linked ID, where there is one. `Failed` where the writer failed.
+fn write_linked<W: Write>(linked: Option<i8>, writer: &mut W) -> Result<(), Failed>
+    ensures ok { OnOk result (Written (canonical_linked linked.entry) (W.taken writer.old) (W.taken writer.new)) }
+    ensures counts { CountsFailure (W.failures writer.old) (W.failures writer.new) result }
+{
+    match linked {
+        Some(id) => put_integer(LINKED_ID, i32::from(id), writer),
+        None => Ok(()),
+    }
+}
+
+/// Writes the invoke ID of a Reject, or NULL. `Failed` where the writer failed.
+fn write_rejected<W: Write>(id: Option<i8>, writer: &mut W) -> Result<(), Failed>
+    ensures ok { OnOk result (Written (canonical_rejected id.entry) (W.taken writer.old) (W.taken writer.new)) }
+    ensures counts { CountsFailure (W.failures writer.old) (W.failures writer.new) result }
+{
+    match id {
+        Some(id) => put_integer(INTEGER, i32::from(id), writer),
+        None => put_element(NULL, &[], writer),
+    }
+}
+
+/// The tag and the number of a problem (Q.773 4.2.2).
+fn problem_parts(problem: Problem) -> (u8, u8)
+    ensures tag { result.0 ≡ problem_tag problem }
+    ensures number { result.1 ≡ problem_number problem }
+{
+    match problem {
+        Problem::General(number) => (0x80, number.number()),
+        Problem::Invoke(number) => (0x81, number.number()),
+        Problem::ReturnResult(number) => (0x82, number.number()),
+        Problem::ReturnError(number) => (0x83, number.number()),
+    }
+}
+
+/// Writes a problem. `Failed` where the writer failed.
+fn write_problem<W: Write>(problem: Problem, writer: &mut W) -> Result<(), Failed>
+    ensures ok { OnOk result (Written (canonical_problem problem) (W.taken writer.old) (W.taken writer.new)) }
+    ensures counts { CountsFailure (W.failures writer.old) (W.failures writer.new) result }
+{
+    let (tag, number) = problem_parts(problem);
+    put_element(tag, &[number], writer)
 }
 
 /// Writes the content of a component. `Failed` where the writer failed.
-fn write_content<W: Write>(component: &Component, writer: &mut W) -> Result<(), Failed>
-    ensures ok { OnOk result (Appends (W.taken writer.old) (W.taken writer.new) (component_content component.now)) }
+fn write_content<W: Write>(component: ComponentView, writer: &mut W) -> Result<(), Failed>
+    requires { IsSome (canonical_content (component_of component)) }
+    ensures ok { OnOk result (Written (canonical_content (component_of component.entry)) (W.taken writer.old) (W.taken writer.new)) }
     ensures counts { CountsFailure (W.failures writer.old) (W.failures writer.new) result }
 {
-    let Component::Invoke {
-        id,
-        code: Code::Local(code),
-        parameter,
-    } = component;
-    write_invoke(i32::from(*id), *code, parameter, writer)
+    match component {
+        ComponentView::Invoke {
+            id,
+            linked,
+            code,
+            parameter,
+        } => {
+            put_integer(INTEGER, i32::from(id), writer)?;
+            write_linked(linked, writer)?;
+            write_coded(code, parameter, writer)
+        }
+        ComponentView::ReturnResult { id, body, .. } => {
+            put_integer(INTEGER, i32::from(id), writer)?;
+            write_body(body, writer)
+        }
+        ComponentView::ReturnError {
+            id,
+            code,
+            parameter,
+        } => {
+            put_integer(INTEGER, i32::from(id), writer)?;
+            write_coded(code, parameter, writer)
+        }
+        ComponentView::Reject { id, problem } => {
+            write_rejected(id, writer)?;
+            write_problem(problem, writer)
+        }
+    }
+}
+
+/// The tag of a component (Q.773 4.2.2).
+fn tag(component: ComponentView) -> u8
+    ensures { result ≡ component_tag (component_of component.entry) }
+{
+    match component {
+        ComponentView::Invoke { .. } => 0xA1,
+        ComponentView::ReturnResult { last: true, .. } => 0xA2,
+        ComponentView::ReturnResult { last: false, .. } => 0xA7,
+        ComponentView::ReturnError { .. } => 0xA3,
+        ComponentView::Reject { .. } => 0xA4,
+    }
 }
 
 /// Writes a component that is within the limit. `Failed` where the writer failed.
-fn write_component<W: Write>(component: &Component, writer: &mut W) -> Result<(), Failed>
-    requires { IsSome (canonical_component component.now) }
-    ensures ok { OnOk result ((octets : List ℕ) → canonical_component component.now ≡ Some octets
-        → Appends (W.taken writer.old) (W.taken writer.new) octets) }
+fn write_component<W: Write>(component: ComponentView, writer: &mut W) -> Result<(), Failed>
+    requires { IsSome (canonical_component (component_of component)) }
+    ensures ok { OnOk result (Written (canonical_component (component_of component.entry)) (W.taken writer.old) (W.taken writer.new)) }
     ensures counts { CountsFailure (W.failures writer.old) (W.failures writer.new) result }
 {
-    put_header(INVOKE, len_content(component), writer)?;
+    let Some(len) = len_content(component) else {
+        unreachable!()
+    };
+    put_header(tag(component), len, writer)?;
     write_content(component, writer)
 }
 
@@ -126,7 +292,7 @@ pub fn write_components<W: Write>(components: &[Component], writer: &mut W) -> R
     ensures counts { CountsFailure (W.failures writer.old) (W.failures writer.new) result }
 {
     for component in components {
-        write_component(component, writer)?;
+        write_component(component.view(), writer)?;
     }
     Ok(())
 }
