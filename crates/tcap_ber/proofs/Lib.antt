@@ -11,3 +11,5 @@ pub mod EachLaws
 pub mod ResultLaws
 pub mod CanonicalLaws
 pub mod PutLaws
+pub mod ObjectIdLaws
+pub mod SmallLaws

@@ -154,4 +154,13 @@ impl Raw {
     {
         self.octets.as_slice()
     }
+
+    /// The octets, lent.
+    pub fn view(&self) -> RawView<'_>
+        ensures { result.octets.now ≡ self.now }
+    {
+        RawView {
+            octets: &self.octets,
+        }
+    }
 }
