@@ -10,6 +10,14 @@ use crate::fault::{Fault, Reason};
 use crate::integers::integer;
 use std::marker::Model;
 
+/// A number from 0 to 127, as views of octets hold it.
+#[derive(Clone, Copy, Debug)]
+pub struct SmallView {
+    /// The number.
+    pub number: u8,
+    pub ghost small: { number < 128 },
+}
+
 /// A number from 0 to 127.
 #[derive(Clone, Copy, Debug, PartialEq, Eq)]
 pub struct Small {
@@ -48,14 +56,34 @@ impl Small {
     {
         self.number
     }
+
+    /// The number as views hold it.
+    pub fn view(self) -> SmallView
+        ensures { result.number ≡ self }
+    {
+        SmallView {
+            number: self.number,
+        }
+    }
+}
+
+impl SmallView {
+    /// The number as a value of its own.
+    pub fn to_small(self) -> Small
+        ensures { result ≡ self.number }
+    {
+        Small {
+            number: self.number,
+        }
+    }
 }
 
 #[tactic(auto, unfolding(crate::specs::Reading::small_at))]
-fn read_small_number(tlv: Tlv) -> Result<Small, Fault>
-    ensures exact { Gives (λ n. n) result (small_at (element tlv.entry)) }
+fn read_small_number(tlv: Tlv) -> Result<SmallView, Fault>
+    ensures exact { Gives (λ n. n.number) result (small_at (element tlv.entry)) }
 {
     match integer(tlv)? {
-        [number] if *number < 0x80 => Ok(Small { number: *number }),
+        [number] if *number < 0x80 => Ok(SmallView { number: *number }),
         _ => Err(Fault {
             reason: Reason::BadSize,
             place: tlv.start,
@@ -66,15 +94,15 @@ fn read_small_number(tlv: Tlv) -> Result<Small, Fault>
 /// The number of an element that is to be an INTEGER of one octet that is not negative (X.690 8.3).
 /// `BadInteger` where its contents are no INTEGER, else `BadSize` where they have more octets or the number is
 /// negative, both at the element's first octet.
-pub fn small_number(tlv: Tlv) -> Result<Small, Fault>
+pub fn small_number(tlv: Tlv) -> Result<SmallView, Fault>
     // What is read is spelled by the contents.
-    ensures found { IfOk result (λ n. small.spells n tlv.entry.content.octets.now) }
+    ensures found { IfOk result (λ n. small.spells n.number tlv.entry.content.octets.now) }
     // What they spell is read.
-    ensures only { (value : ℕ) → small.spells value tlv.entry.content.octets.now → IsOkAnd result (λ n. n ≡ value) }
+    ensures only { (value : ℕ) → small.spells value tlv.entry.content.octets.now → IsOkAnd result (λ n. n.number ≡ value) }
     // What is refused is faulty there, and what is faulty is refused by that fault.
     ensures faulty { (fault : Fault) → (result ≡ Err fault)
         ↔ small.faulty tlv.entry.start (span tlv.entry.content) fault.reason fault.place }
-    ensures exact { Gives (λ n. n) result (small_at (element tlv.entry)) }
+    ensures exact { Gives (λ n. n.number) result (small_at (element tlv.entry)) }
 {
     read_small_number(tlv)
 }

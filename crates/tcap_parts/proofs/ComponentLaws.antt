@@ -1,10 +1,10 @@
 -- Components are read exactly: what is read is spelled so, what is spelled so is read, what is refused is
 -- faulty there, and what is faulty there is refused by that fault.
-use Rattle.std.proofs.Common.{◌×◌, ℕ, ℤ, Bool, true, false, List, Option, Some, None, Result, Ok, arith}
+use Rattle.std.proofs.Common.{ℕ, ℤ, Bool, true, false, List, Option, Some, None, Result, Ok, arith}
 use Rattle.tcap_ber.specs.declared.fault.Fault.{Fault}
 use Rattle.tcap_ber.specs.declared.fault.Reason.TheVariants.{BadSize, UnexpectedTag, CodeTooWide}
 use Rattle.tcap_ber.specs.Span.{Span}
-use Rattle.tcap_ber.specs.Grammar.{Body, Content, required, optional, parameter, ended, ◌⨾◌, integer}
+use Rattle.tcap_ber.specs.Grammar.{Body, Content, required, optional, parameter, ended, ◌⨾◌, made, integer}
 use Rattle.tcap_ber.specs.Choice.{Choice, ◌▹◌, ◌∣◌, others_are, one_of}
 use Rattle.tcap_ber.specs.ObjectId.{object_id}
 use Rattle.tcap_ber.specs.Small.{small, null}
@@ -60,7 +60,7 @@ reads_rejected_id =
     (reads_others UnexpectedTag)))
 
 -- a problem of one kind
-reads_problem_of : (make : ℕ → Problem) → ReadsBody _ (λ e. small_at e >>= λ n. Ok (make n))
+reads_problem_of : (make : ℕ → Problem) → ReadsBody (made make small) (λ e. small_at e >>= λ n. Ok (make n))
 reads_problem_of make = reads_made make small small_at reads_small
 
 reads_problem : ReadsField (one_of problem) problem_at

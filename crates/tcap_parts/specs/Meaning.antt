@@ -7,6 +7,10 @@ use Rattle.tcap_parts.specs.declared.code.Code.{Code}
 use Rattle.tcap_parts.specs.declared.code.Code.TheVariants as codes
 use Rattle.tcap_parts.specs.declared.code.CodeView.{CodeView}
 use Rattle.tcap_parts.specs.declared.code.CodeView.TheVariants as code_views
+use Rattle.tcap_parts.specs.declared.problem.Problem.{Problem}
+use Rattle.tcap_parts.specs.declared.problem.Problem.TheVariants as problems
+use Rattle.tcap_parts.specs.declared.problem.ProblemView.{ProblemView}
+use Rattle.tcap_parts.specs.declared.problem.ProblemView.TheVariants as problem_views
 use Rattle.tcap_parts.specs.declared.component.ResultBody.{ResultBody}
 use Rattle.tcap_parts.specs.declared.component.ResultBodyView.{ResultBodyView}
 use Rattle.tcap_parts.specs.declared.component.Component.{Component}
@@ -30,12 +34,19 @@ parameter_of parameter = option_map (λ raw. raw.octets.now) parameter
 abbrev pub body_of : ResultBodyView → ResultBody
 body_of view = record { code = code_of view.code; parameter = parameter_of view.parameter }
 
+-- the problem that a view holds
+abbrev pub problem_of : ProblemView → Problem
+problem_of (problem_views.General n) = problems.General n.number
+problem_of (problem_views.Invoke n) = problems.Invoke n.number
+problem_of (problem_views.ReturnResult n) = problems.ReturnResult n.number
+problem_of (problem_views.ReturnError n) = problems.ReturnError n.number
+
 -- the component that a view lends
 abbrev pub component_of : ComponentView → Component
 component_of (views.Invoke id linked code parameter) = owned.Invoke id linked (code_of code) (parameter_of parameter)
 component_of (views.ReturnResult last id body) = owned.ReturnResult last id (option_map body_of body)
 component_of (views.ReturnError id code parameter) = owned.ReturnError id (code_of code) (parameter_of parameter)
-component_of (views.Reject id problem) = owned.Reject id problem
+component_of (views.Reject id problem) = owned.Reject id (problem_of problem)
 
 -- the components of a portion that a view lends
 abbrev pub components_of : PortionView → List Component

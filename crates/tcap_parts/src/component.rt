@@ -4,7 +4,7 @@ ghost use Rattle.std.specs.Prelude.{◌≡◌, IfOk};
 ghost use Rattle.tcap_parts.specs.Meaning.{parameter_of, body_of, component_of};
 
 use crate::code::{Code, CodeView};
-use crate::problem::Problem;
+use crate::problem::{Problem, ProblemView};
 use std::alloc::{AllocError, Global};
 use tcap_ber::{Raw, RawView};
 
@@ -70,7 +70,7 @@ pub enum ComponentView<'a> {
     },
     /// A Reject: the invoke ID of the component that it rejects, `None` where that is not known, and the
     /// problem.
-    Reject { id: Option<i8>, problem: Problem },
+    Reject { id: Option<i8>, problem: ProblemView },
 }
 
 /// What a Return Result carries, lent: the operation code and the parameter.
@@ -157,7 +157,10 @@ impl<'a> ComponentView<'a> {
                 code: code.to_code(alloc)?,
                 parameter: to_parameter(parameter, alloc)?,
             }),
-            ComponentView::Reject { id, problem } => Ok(Component::Reject { id, problem }),
+            ComponentView::Reject { id, problem } => Ok(Component::Reject {
+                id,
+                problem: problem.to_problem(),
+            }),
         }
     }
 }
@@ -198,7 +201,7 @@ impl Component {
             },
             Component::Reject { id, problem } => ComponentView::Reject {
                 id: *id,
-                problem: *problem,
+                problem: problem.view(),
             },
         }
     }

@@ -12,6 +12,6 @@ mod writing;
 pub use code::{Code, CodeView};
 pub use component::{Component, ComponentView, ResultBody, ResultBodyView};
 pub use portion::{Components, Portion, PortionView};
-pub use problem::Problem;
+pub use problem::{Problem, ProblemView};
 pub use reading::view_component;
 pub use writing::{len_components, write_components};

@@ -1,15 +1,16 @@
 //! Components as they are written: with the shortest definite lengths, parameters verbatim.
 
-ghost use Rattle.std.specs.Prelude.{◌≡◌, ℕ, ◌^◌, ◌<◌, ◌≤◌, List, length, Some, IfSome, OnOk};
+ghost use Rattle.std.specs.Prelude.{◌≡◌, ℕ, ◌^◌, ◌+◌, ◌<◌, ◌≤◌, List, length, Some, IfSome, OnOk};
 ghost use Rattle.std.specs.Option.{option_map, IsSome};
+ghost use Rattle.std.specs.Io.KnownBytes.{Appends};
 ghost use Rattle.tcap_ber.specs.Device.{CountsFailure};
 ghost use Rattle.tcap_parts.specs.Canonical.{canonical_integer, canonical_code, canonical_coded, canonical_linked, canonical_body, canonical_rejected, canonical_problem, component_tag, canonical_content, canonical_component, canonical_portion, parameter_octets, problem_tag, problem_number};
-ghost use Rattle.tcap_parts.specs.Meaning.{code_of, parameter_of, body_of, component_of};
+ghost use Rattle.tcap_parts.specs.Meaning.{code_of, parameter_of, body_of, problem_of, component_of};
 ghost use Rattle.tcap_parts.specs.Writing.{Written};
 
 use crate::code::{CodeView, GLOBAL, LOCAL};
 use crate::component::{Component, ComponentView, ResultBodyView};
-use crate::problem::Problem;
+use crate::problem::ProblemView;
 use tcap_ber::{
     CONTENT_LIMIT, Failed, RawView, Write, element_len, integer_len, put_element, put_header,
     put_integer,
@@ -179,7 +180,7 @@ fn write_body<W: Write>(body: Option<ResultBodyView>, writer: &mut W) -> Result<
 
 /// Writes a linked ID, where there is one. `Failed` where the writer failed.
 fn write_linked<W: Write>(linked: Option<i8>, writer: &mut W) -> Result<(), Failed>
-    ensures ok { OnOk result (Written (canonical_linked linked.entry) (W.taken writer.old) (W.taken writer.new)) }
+    ensures ok { OnOk result (Written (canonical_linked linked) (W.taken writer.old) (W.taken writer.new)) }
     ensures counts { CountsFailure (W.failures writer.old) (W.failures writer.new) result }
 {
     match linked {
@@ -190,7 +191,7 @@ fn write_linked<W: Write>(linked: Option<i8>, writer: &mut W) -> Result<(), Fail
 
 /// Writes the invoke ID of a Reject, or NULL. `Failed` where the writer failed.
 fn write_rejected<W: Write>(id: Option<i8>, writer: &mut W) -> Result<(), Failed>
-    ensures ok { OnOk result (Written (canonical_rejected id.entry) (W.taken writer.old) (W.taken writer.new)) }
+    ensures ok { OnOk result (Written (canonical_rejected id) (W.taken writer.old) (W.taken writer.new)) }
     ensures counts { CountsFailure (W.failures writer.old) (W.failures writer.new) result }
 {
     match id {
@@ -200,21 +201,21 @@ fn write_rejected<W: Write>(id: Option<i8>, writer: &mut W) -> Result<(), Failed
 }
 
 /// The tag and the number of a problem (Q.773 4.2.2).
-fn problem_parts(problem: Problem) -> (u8, u8)
-    ensures tag { result.0 ≡ problem_tag problem }
-    ensures number { result.1 ≡ problem_number problem }
+fn problem_parts(problem: ProblemView) -> (u8, u8)
+    ensures tag { result.0 ≡ problem_tag (problem_of problem) }
+    ensures number { result.1 ≡ problem_number (problem_of problem) }
 {
     match problem {
-        Problem::General(number) => (0x80, number.number()),
-        Problem::Invoke(number) => (0x81, number.number()),
-        Problem::ReturnResult(number) => (0x82, number.number()),
-        Problem::ReturnError(number) => (0x83, number.number()),
+        ProblemView::General(number) => (0x80, number.number),
+        ProblemView::Invoke(number) => (0x81, number.number),
+        ProblemView::ReturnResult(number) => (0x82, number.number),
+        ProblemView::ReturnError(number) => (0x83, number.number),
     }
 }
 
 /// Writes a problem. `Failed` where the writer failed.
-fn write_problem<W: Write>(problem: Problem, writer: &mut W) -> Result<(), Failed>
-    ensures ok { OnOk result (Written (canonical_problem problem) (W.taken writer.old) (W.taken writer.new)) }
+fn write_problem<W: Write>(problem: ProblemView, writer: &mut W) -> Result<(), Failed>
+    ensures ok { OnOk result (Written (canonical_problem (problem_of problem)) (W.taken writer.old) (W.taken writer.new)) }
     ensures counts { CountsFailure (W.failures writer.old) (W.failures writer.new) result }
 {
     let (tag, number) = problem_parts(problem);
