@@ -14,7 +14,7 @@ use Rattle.tcap_ber.proofs.EachLaws.{wrong_after_some, each_of-empty, each_of-st
 use Rattle.tcap_parts.specs.declared.component.Component.{Component}
 use Rattle.tcap_parts.specs.Component.{component, portion}
 use Rattle.tcap_ber.specs.Grammar.{each}
-use Rattle.tcap_parts.specs.Reading.{component_at, components_at, portion_at, is_read}
+use Rattle.tcap_parts.specs.Reading.{component_at, components_at, portion_at, is_read, read_or_none}
 use Rattle.tcap_parts.proofs.ComponentLaws.{reads_component, component_has_octets}
 
 -- what was read before, and what is still read
@@ -84,6 +84,26 @@ one_more all front items s c made rest some e m i so_far =
 
 pub rest_is_read : (s : Span) (c : Component) (rest : Span) → 0 < length s.octets → component_at s ≡ Ok (c, rest) → is_read (components_at rest) ≡ is_read (components_at s)
 rest_is_read s c rest some e = sym (is_read-with_front (c ∷ []) (components_at rest)) ∙ ap is_read (sym (components_step s c rest some e))
+
+-- what a cursor gives: the first component, and then those of the rest
+pub left_step : (s : Span) (c : Component) (rest : Span) → 0 < length s.octets → component_at s ≡ Ok (c, rest) → is_read (components_at s) ≡ true
+    → read_or_none (components_at s) ≡ c ∷ read_or_none (components_at rest)
+left_step s c rest some e read = ap read_or_none (components_step s c rest some e) ∙ behind (components_at rest) (rest_is_read s c rest some e ∙ read)
+  where
+    behind : (r : Result (List Component) Fault) → is_read r ≡ true → read_or_none (with_front (c ∷ []) r) ≡ c ∷ read_or_none r
+    behind (Ok cs) k = refl
+    behind (Err f) k = absurd cc
+
+pub left_end : (s : Span) → length s.octets ≡ 0 → read_or_none (components_at s) ≡ []
+left_end s e = ap read_or_none (components_end s e)
+
+-- components that are some
+pub some_left : (s : Span) → 0 < length s.octets → is_read (components_at s) ≡ true → read_or_none (components_at s) ≢ []
+some_left s some read = of_it (components_at s) refl
+  where
+    of_it : (r : Result (List Component) Fault) → components_at s ≡ r → read_or_none (components_at s) ≢ []
+    of_it (Ok cs) e = λ none. some_are_read s cs some e (sym (ap read_or_none e) ∙ none)
+    of_it (Err f) e = absurd (not_read (components_at s) f read e)
 
 -- the loop's end
 pub all_are_read : (all : Span) (front : List Component) (s : Span) → length s.octets ≡ 0 → components_at all ≡ with_front front (components_at s) → components_at all ≡ Ok front
