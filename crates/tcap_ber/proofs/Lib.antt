@@ -13,3 +13,4 @@ pub mod CanonicalLaws
 pub mod PutLaws
 pub mod ObjectIdLaws
 pub mod SmallLaws
+pub mod WithinLaws

@@ -3,7 +3,7 @@
 ghost use Rattle.std.specs.Prelude.{◌≡◌, ℕ, List, [], ◌++◌, length, Ok, Some};
 ghost use Rattle.std.specs.List.{All};
 ghost use Rattle.tcap_ber.specs.declared.fault.Fault.{Fault};
-ghost use Rattle.tcap_parts.specs.Valid.{IsComponent};
+ghost use Rattle.tcap_parts.specs.Valid.{IsId, IsOptionalId, IsCode, IsParameter, IsResultBody, IsProblem, IsComponent};
 ghost use Rattle.tcap_msg.specs.declared.message.Message.{Message};
 ghost use Rattle.tcap_msg.specs.Message.{Spells, IsFaulty};
 ghost use Rattle.tcap_msg.specs.Canonical.{canonical};
@@ -11,7 +11,8 @@ ghost use Rattle.tcap_msg.specs.Reading.{message_at};
 ghost use Rattle.tcap_msg.specs.Valid.{IsMessage};
 
 use crate::message::Message;
-use tcap_parts::{Code, Component};
+use tcap_ber::Raw;
+use tcap_parts::{Code, Component, Problem, ResultBody};
 
 /// Octets spell at most one message.
 pub fn one_message()
@@ -39,19 +40,94 @@ pub fn read_again()
         → message_at (octets ++ more) ≡ Ok (m, length octets) }
 {}
 
+fn is_id(id: &i8)
+    ensures { IsId id.now }
+{
+    // Reading a number tells its range.
+    let _ = *id;
+}
+
+fn is_optional_id(id: &Option<i8>)
+    ensures { IsOptionalId id.now }
+{
+    if let Some(id) = id {
+        is_id(id);
+    }
+}
+
+fn is_code(code: &Code)
+    ensures { IsCode code.now }
+{
+    match code {
+        Code::Local(local) => {
+            let _ = *local;
+        }
+        Code::Global(id) => {
+            id.octets();
+        }
+    }
+}
+
+fn is_parameter(parameter: &Option<Raw>)
+    ensures { IsParameter parameter.now }
+{
+    if let Some(raw) = parameter {
+        raw.octets();
+    }
+}
+
+fn is_result_body(body: &Option<ResultBody>)
+    ensures { IsResultBody body.now }
+{
+    if let Some(body) = body {
+        is_code(&body.code);
+        is_parameter(&body.parameter);
+    }
+}
+
+fn is_problem(problem: &Problem)
+    ensures { IsProblem problem.now }
+{
+    match problem {
+        Problem::General(number) => number.number(),
+        Problem::Invoke(number) => number.number(),
+        Problem::ReturnResult(number) => number.number(),
+        Problem::ReturnError(number) => number.number(),
+    };
+}
+
 fn is_component(component: &Component)
     ensures { IsComponent component.now }
 {
-    let Component::Invoke {
-        id,
-        code,
-        parameter,
-    } = component;
-    let Code::Local(local) = code;
-    // Reading numbers tells their ranges.
-    let _ = (*id, *local);
-    if let Some(raw) = parameter {
-        raw.octets();
+    match component {
+        Component::Invoke {
+            id,
+            linked,
+            code,
+            parameter,
+        } => {
+            is_id(id);
+            is_optional_id(linked);
+            is_code(code);
+            is_parameter(parameter);
+        }
+        Component::ReturnResult { id, body, .. } => {
+            is_id(id);
+            is_result_body(body);
+        }
+        Component::ReturnError {
+            id,
+            code,
+            parameter,
+        } => {
+            is_id(id);
+            is_code(code);
+            is_parameter(parameter);
+        }
+        Component::Reject { id, problem } => {
+            is_optional_id(id);
+            is_problem(problem);
+        }
     }
 }
 

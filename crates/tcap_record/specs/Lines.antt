@@ -1,13 +1,16 @@
 -- The text that `show` prints, line by line.
-use Rattle.std.specs.Prelude.{ℕ, ℤ, suc, List, [], ◌∷◌, ◌++◌, Option, Some, None, codes}
+use Rattle.std.specs.Prelude.{Bool, true, false, ℕ, ℤ, suc, List, [], ◌∷◌, ◌++◌, Option, Some, None, codes}
 use Rattle.std.specs.List.{flat_map}
 use Rattle.std.specs.Fmt.{decimal, signed_decimal}
 use Rattle.hex.specs.Hex.{encode_lower}
 use Rattle.tcap_ber.specs.Fault.{number_of}
 use Rattle.tcap_parts.specs.declared.code.Code.{Code}
-use Rattle.tcap_parts.specs.declared.code.Code.TheVariants.{Local}
+use Rattle.tcap_parts.specs.declared.code.Code.TheVariants.{Local, Global}
+use Rattle.tcap_parts.specs.declared.problem.Problem.{Problem}
+use Rattle.tcap_parts.specs.declared.problem.Problem.TheVariants as problems
+use Rattle.tcap_parts.specs.declared.component.ResultBody.{ResultBody}
 use Rattle.tcap_parts.specs.declared.component.Component.{Component}
-use Rattle.tcap_parts.specs.declared.component.Component.TheVariants.{Invoke}
+use Rattle.tcap_parts.specs.declared.component.Component.TheVariants.{Invoke, ReturnResult, ReturnError, Reject}
 use Rattle.tcap_msg.specs.declared.message.Message.{Message}
 use Rattle.tcap_msg.specs.declared.message.Message.TheVariants.{Begin}
 use Rattle.tcap_record.specs.declared.entry.End.{End}
@@ -23,21 +26,51 @@ abbrev pub name_of_end : End → List ℕ
 name_of_end ends.A = codes "A"
 name_of_end ends.B = codes "B"
 
+-- a local code as a number, a global one as g: and its octets
 abbrev pub code_text : Code → List ℕ
 code_text (Local n) = signed_decimal n
+code_text (Global id) = codes "g:" ++ encode_lower id
 
 abbrev pub parameter_text : Option (List ℕ) → List ℕ
 parameter_text None = []
 parameter_text (Some raw) = codes " parameter=" ++ encode_lower raw
 
--- the line of an Invoke
-abbrev pub invoke_line : ℤ → Code → Option (List ℕ) → List ℕ
-invoke_line id code parameter =
-    codes "  Invoke id=" ++ signed_decimal id ++ codes " op=" ++ code_text code ++ parameter_text parameter ++ line_end
+abbrev pub linked_text : Option ℤ → List ℕ
+linked_text None = []
+linked_text (Some id) = codes " linked=" ++ signed_decimal id
+
+-- an operation code and a parameter
+abbrev pub operation_text : Code → Option (List ℕ) → List ℕ
+operation_text code parameter = codes " op=" ++ code_text code ++ parameter_text parameter
+
+abbrev pub result_name : Bool → List ℕ
+result_name true = codes "ReturnResultLast"
+result_name false = codes "ReturnResultNotLast"
+
+abbrev pub result_body_text : Option ResultBody → List ℕ
+result_body_text None = []
+result_body_text (Some body) = operation_text body.code body.parameter
+
+abbrev pub rejected_text : Option ℤ → List ℕ
+rejected_text None = codes "null"
+rejected_text (Some id) = signed_decimal id
+
+abbrev pub problem_text : Problem → List ℕ
+problem_text (problems.General n) = codes " general=" ++ decimal n
+problem_text (problems.Invoke n) = codes " invoke=" ++ decimal n
+problem_text (problems.ReturnResult n) = codes " result=" ++ decimal n
+problem_text (problems.ReturnError n) = codes " error=" ++ decimal n
+
+-- a component
+abbrev pub component_text : Component → List ℕ
+component_text (Invoke id linked code parameter) = codes "Invoke id=" ++ signed_decimal id ++ linked_text linked ++ operation_text code parameter
+component_text (ReturnResult last id body) = result_name last ++ codes " id=" ++ signed_decimal id ++ result_body_text body
+component_text (ReturnError id code parameter) = codes "ReturnError id=" ++ signed_decimal id ++ codes " error=" ++ code_text code ++ parameter_text parameter
+component_text (Reject id problem) = codes "Reject id=" ++ rejected_text id ++ problem_text problem
 
 -- the line of a component
 abbrev pub component_line : Component → List ℕ
-component_line (Invoke id code parameter) = invoke_line id code parameter
+component_line component = codes "  " ++ component_text component ++ line_end
 
 abbrev pub component_lines : Option (List Component) → List ℕ
 component_lines None = []
