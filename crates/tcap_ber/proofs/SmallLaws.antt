@@ -12,6 +12,7 @@ use Rattle.tcap_ber.proofs.Steps.{chosen, bind_ok, bind_err, ok_is, err_is}
 use Rattle.tcap_ber.proofs.FaultLaws.{refused_by}
 use Rattle.tcap_ber.proofs.GrammarLaws.{is_integer_sound, is_integer_complete}
 
+-- the contents of an INTEGER as one octet below 128, and what reading them so means
 small_in_sound : (place : ℕ) (octets : List ℕ) (n : ℕ) → small_in place octets ≡ Ok n → IsSmall n octets
 small_in_sound place [] n e = absurd cc
 small_in_sound place (octet ∷ []) n e =
