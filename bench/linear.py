@@ -1,5 +1,5 @@
 """Shows that `tcapjudge show` takes time linear in the octets: prints the ratio of the times for a record and for one
-of twice as many entries, of entries of few octets and of entries of many. Build the program first (`make demo`)."""
+of twice as many entries, of entries of few octets and of entries of many. Build the program first (`make program`)."""
 
 import subprocess
 import time

@@ -44,5 +44,5 @@ for words, given, status in FULL:
     if run.returncode != status:
         wrong += 1
         print(f"{words}, no standard output: {run.returncode}")
-print(f"{len(ROWS) + len(FULL)} runs of the program, {wrong} wrong")
+print(f"{len(ROWS) + len(FULL) - wrong} passed, {wrong} failed")
 sys.exit(wrong != 0)
