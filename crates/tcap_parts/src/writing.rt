@@ -32,6 +32,14 @@ fn len_integer(value: i32) -> usize
     2 + integer_len(value)
 }
 
+/// The count of octets of an invoke ID or a linked ID.
+fn len_id(id: i8) -> usize
+    ensures exact { (tag : ℕ) → option_map length (canonical_integer tag id) ≡ Some result }
+    ensures most { result ≤ 6 }
+{
+    len_integer(i32::from(id))
+}
+
 /// The count of octets of a parameter: 0 where there is none.
 fn len_parameter(parameter: Option<RawView>) -> usize
     ensures exact { result ≡ length (parameter_octets (parameter_of parameter.entry)) }
@@ -74,6 +82,28 @@ fn len_body(body: Option<ResultBodyView>) -> Option<usize>
     }
 }
 
+/// The count of octets of a linked ID, 0 where there is none.
+fn len_linked(linked: Option<i8>) -> usize
+    ensures exact { option_map length (canonical_linked linked) ≡ Some result }
+    ensures most { result ≤ 6 }
+{
+    match linked {
+        Some(id) => len_id(id),
+        None => 0,
+    }
+}
+
+/// The count of octets of the invoke ID of a Reject, or of NULL.
+fn len_rejected(id: Option<i8>) -> usize
+    ensures exact { option_map length (canonical_rejected id) ≡ Some result }
+    ensures most { result ≤ 6 }
+{
+    match id {
+        Some(id) => len_id(id),
+        None => 2,
+    }
+}
+
 /// The count of octets of a component's content; `None` exactly where a content inside is over 65,535
 /// octets.
 fn len_content(component: ComponentView) -> Option<usize>
@@ -85,28 +115,14 @@ fn len_content(component: ComponentView) -> Option<usize>
             linked,
             code,
             parameter,
-        } => {
-            let linked_len = match linked {
-                Some(linked) => len_integer(i32::from(linked)),
-                None => 0,
-            };
-            Some(len_integer(i32::from(id)) + linked_len + len_coded(code, parameter)?)
-        }
-        ComponentView::ReturnResult { id, body, .. } => {
-            Some(len_integer(i32::from(id)) + len_body(body)?)
-        }
+        } => { Some(len_id(id) + len_linked(linked) + len_coded(code, parameter)?) }
+        ComponentView::ReturnResult { id, body, .. } => { Some(len_id(id) + len_body(body)?) }
         ComponentView::ReturnError {
             id,
             code,
             parameter,
-        } => Some(len_integer(i32::from(id)) + len_coded(code, parameter)?),
-        ComponentView::Reject { id, .. } => {
-            let id_len = match id {
-                Some(id) => len_integer(i32::from(id)),
-                None => 2,
-            };
-            Some(id_len + 3)
-        }
+        } => Some(len_id(id) + len_coded(code, parameter)?),
+        ComponentView::Reject { id, .. } => Some(len_rejected(id) + 3),
     }
 }
 
@@ -131,6 +147,14 @@ pub fn len_components(components: &[Component]) -> Option<usize>
         }
     }
     Some(total)
+}
+
+/// Writes an invoke ID or a linked ID. `Failed` where the writer failed.
+fn write_id<W: Write>(tag: u8, id: i8, writer: &mut W) -> Result<(), Failed>
+    ensures ok { OnOk result (Written (canonical_integer tag id) (W.taken writer.old) (W.taken writer.new)) }
+    ensures counts { CountsFailure (W.failures writer.old) (W.failures writer.new) result }
+{
+    put_integer(tag, i32::from(id), writer)
 }
 
 /// Writes a code. `Failed` where the writer failed.
@@ -184,7 +208,7 @@ fn write_linked<W: Write>(linked: Option<i8>, writer: &mut W) -> Result<(), Fail
     ensures counts { CountsFailure (W.failures writer.old) (W.failures writer.new) result }
 {
     match linked {
-        Some(id) => put_integer(LINKED_ID, i32::from(id), writer),
+        Some(id) => write_id(LINKED_ID, id, writer),
         None => Ok(()),
     }
 }
@@ -195,7 +219,7 @@ fn write_rejected<W: Write>(id: Option<i8>, writer: &mut W) -> Result<(), Failed
     ensures counts { CountsFailure (W.failures writer.old) (W.failures writer.new) result }
 {
     match id {
-        Some(id) => put_integer(INTEGER, i32::from(id), writer),
+        Some(id) => write_id(INTEGER, id, writer),
         None => put_element(NULL, &[], writer),
     }
 }
@@ -235,12 +259,12 @@ fn write_content<W: Write>(component: ComponentView, writer: &mut W) -> Result<(
             code,
             parameter,
         } => {
-            put_integer(INTEGER, i32::from(id), writer)?;
+            write_id(INTEGER, id, writer)?;
             write_linked(linked, writer)?;
             write_coded(code, parameter, writer)
         }
         ComponentView::ReturnResult { id, body, .. } => {
-            put_integer(INTEGER, i32::from(id), writer)?;
+            write_id(INTEGER, id, writer)?;
             write_body(body, writer)
         }
         ComponentView::ReturnError {
@@ -248,7 +272,7 @@ fn write_content<W: Write>(component: ComponentView, writer: &mut W) -> Result<(
             code,
             parameter,
         } => {
-            put_integer(INTEGER, i32::from(id), writer)?;
+            write_id(INTEGER, id, writer)?;
             write_coded(code, parameter, writer)
         }
         ComponentView::Reject { id, problem } => {
