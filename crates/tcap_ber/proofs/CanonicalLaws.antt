@@ -1,10 +1,12 @@
--- The canonical spellings of headers and of integers are such spellings.
-use Rattle.std.proofs.Common.{◌≡◌, ◌≢◌, ℕ, ◌+◌, ◌-◌, ◌/◌, ◌%◌, ◌^◌, ◌<◌, ◌≤◌, ◌⊎◌, true, false, cond, List, [], ◌∷◌, ◌++◌, length, Option, Some, None, refl, sym, ap, subst, ◌∙◌, inl, inr, arith, ℤ}
+-- The canonical spellings of headers, of integers and of parts of structures are such spellings.
+use Rattle.std.proofs.Common.{◌≡◌, ◌≢◌, ℕ, ◌+◌, ◌-◌, ◌/◌, ◌%◌, ◌^◌, ◌<◌, ◌≤◌, ◌⊎◌, true, false, cond, List, [], ◌∷◌, ◌++◌, length, Option, Some, None, refl, sym, ap, subst, ◌∙◌, inl, inr, arith, ℤ, append_assoc}
 use Rattle.std.specs.Prelude.{nat_lt, nat_le, pos, negsuc}
 use Rattle.std.proofs.lemmas.Bool.{ltb-true, ltb-false, lt-ltb, le-ltb, leb-true}
+use Rattle.std.proofs.lemmas.List.{append-nil}
 use Rattle.tcap_ber.specs.Element.{IsElement, IsLength, number, content_limit}
 use Rattle.tcap_ber.specs.Integer.{IsInteger, signed}
-use Rattle.tcap_ber.specs.Grammar.{IsElementOf}
+use Rattle.tcap_ber.specs.Grammar.{Field, Content, IsElementOf, BeginsWith, ended, ◌⨾◌}
+use Rattle.tcap_ber.specs.Choice.{Choice, IsOneOf}
 use Rattle.tcap_ber.specs.Canonical.{shortest_length, shortest_header, element_around, ◌⧺◌, number_octets, magnitude, integer_len, integer_octets}
 use Rattle.tcap_ber.proofs.Steps.{chosen}
 
@@ -207,3 +209,47 @@ pub element_of-spells : (tag : ℕ) (spells : List ℕ → Type 0) (content octe
     → element_around tag (Some content) ≡ Some octets → IsElementOf tag spells octets
 element_of-spells tag spells content octets short inside e =
     element_around-spells tag spells (Some content) octets short (λ c k. subst spells (some_is content c k) inside) e
+
+-- ---- choices
+
+-- tags of one octet differ where the octets do
+pub apart : {a b : ℕ} → a ≢ b → a ∷ [] ≢ b ∷ []
+apart other e = other cc
+
+-- an element around what such a content is, is one of the choice
+pub one_around-spells : {V : Type 0} (choice : Choice V) (v : V) (tag : ℕ) (x : Option (List ℕ)) (octets : List ℕ) → tag % 32 ≢ 31
+    → ((content : List ℕ) → x ≡ Some content → choice.spells v (tag ∷ []) content) → element_around tag x ≡ Some octets → IsOneOf choice v octets
+one_around-spells choice v tag x octets short inside e =
+    let a = element_around-spells tag (choice.spells v (tag ∷ [])) x octets short inside e in
+    record { tag = tag ∷ []; content = a.content; is_element = a.is_element; inside = a.inside }
+
+-- an element around a content that is there
+pub one_of-spells : {V : Type 0} (choice : Choice V) (v : V) (tag : ℕ) (content octets : List ℕ) → tag % 32 ≢ 31
+    → choice.spells v (tag ∷ []) content → element_around tag (Some content) ≡ Some octets → IsOneOf choice v octets
+one_of-spells choice v tag content octets short inside e =
+    one_around-spells choice v tag (Some content) octets short (λ c k. subst (choice.spells v (tag ∷ [])) (some_is content c k) inside) e
+
+-- ---- parts
+
+-- an element begins with its tag
+pub begins_with-tag : (tag other : ℕ) (x : Option (List ℕ)) (octets behind : List ℕ) → element_around tag x ≡ Some octets → BeginsWith other (octets ++ behind) → tag ≡ other
+begins_with-tag tag other x octets behind e =
+    subst (λ (o : List ℕ). BeginsWith other (o ++ behind) → tag ≡ other) (sym (element_around-is tag x octets e).octets_are) (λ begins. begins)
+
+pub join_assoc : (x y z : Option (List ℕ)) → x ⧺ y ⧺ z ≡ x ⧺ (y ⧺ z)
+join_assoc None y z = refl
+join_assoc (Some a) None z = refl
+join_assoc (Some a) (Some b) None = refl
+join_assoc (Some a) (Some b) (Some c) = ap there (append_assoc a b c)
+
+-- a part, and what stands behind it
+pub then-spells : {V W : Type 0} (first : Field V) (others : Content W) (v : V) (w : W) (x y : Option (List ℕ)) (octets : List ℕ)
+    → ((front rest : List ℕ) → x ≡ Some front → y ≡ Some rest → first.spells v front rest) → ((rest : List ℕ) → y ≡ Some rest → others.spells w rest)
+    → x ⧺ y ≡ Some octets → (first ⨾ others).spells (v, w) octets
+then-spells first others v w x y octets is_first are_others e =
+    let j = join-is x y octets e in
+    record { front = j.front; rest = j.rest; joined = j.octets_are; is_first = is_first j.front j.rest j.is_front j.is_rest; are_others = are_others j.rest j.is_rest }
+
+-- a part, and nothing behind it
+pub last-spells : {V : Type 0} (first : Field V) (v : V) (octets : List ℕ) → first.spells v octets [] → (first ⨾ ended).spells (v, tt) octets
+last-spells first v octets is_first = record { front = octets; rest = []; joined = sym (append-nil octets); is_first = is_first; are_others = refl }
