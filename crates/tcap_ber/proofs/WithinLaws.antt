@@ -112,19 +112,22 @@ null_within at s reason place before h = omega (arith, h.2, before)
 
 -- ---- choices
 
-abbrev pub ChoiceWithin : {V : Type 0} → Choice V → Type 0
-ChoiceWithin choice = (tag : List ℕ) (at : ℕ) (s : Span) (reason : Reason) (place : ℕ) → at ≤ s.place → choice.faulty tag at s reason place → IsWithin s place
+pub record ChoiceWithin {V : Type 0} (choice : Choice V) : Type 0 where
+  pub within : (tag : List ℕ) (at : ℕ) (s : Span) (reason : Reason) (place : ℕ) → at ≤ s.place → choice.faulty tag at s reason place → IsWithin s place
 
 pub others_within : (V : Type 0) (refusal : Reason) → ChoiceWithin (others_are {V = V} refusal)
-others_within V refusal tag at s reason place before h = omega (arith, h.1, before)
+others_within V refusal = record { within = λ tag at s reason place before h. omega (arith, h.1, before) }
 
 pub tagged_within : {V : Type 0} (one : ℕ) (body : Body V) (others : Choice V) → BodyWithin body → ChoiceWithin others → ChoiceWithin (one ▹ body ∣ others)
-tagged_within one body others here there tag at s reason place before (inl h) = here at s reason place before h.1
-tagged_within one body others here there tag at s reason place before (inr h) = there tag at s reason place before h.1
+tagged_within one body others here there = record { within = within }
+  where
+    within : (tag : List ℕ) (at : ℕ) (s : Span) (reason : Reason) (place : ℕ) → at ≤ s.place → (one ▹ body ∣ others).faulty tag at s reason place → IsWithin s place
+    within tag at s reason place before (inl h) = here at s reason place before h.1
+    within tag at s reason place before (inr h) = there.within tag at s reason place before h.1
 
 pub one_of_within : {V : Type 0} (choice : Choice V) → ChoiceWithin choice → FieldWithin (one_of choice)
-one_of_within choice within s reason place (inl h) = omega (arith, h.place_is)
-one_of_within choice within s reason place (inr (inl h)) = element_fault_within s reason place h
-one_of_within choice within s reason place (inr (inr h)) =
-    let inner = within h.tag s.place (record { octets = h.content; place = s.place + (length h.octets - length h.content) }) reason place (omega arith) h.inside in
+one_of_within choice all s reason place (inl h) = omega (arith, h.place_is)
+one_of_within choice all s reason place (inr (inl h)) = element_fault_within s reason place h
+one_of_within choice all s reason place (inr (inr h)) =
+    let inner = all.within h.tag s.place (record { octets = h.content; place = s.place + (length h.octets - length h.content) }) reason place (omega arith) h.inside in
     omega (arith, inner, element_len h.tag h.content h.octets h.is_element, ap length h.joined, length-append h.octets h.rest)

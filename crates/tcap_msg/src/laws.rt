@@ -44,7 +44,7 @@ fn is_id(id: &i8)
     ensures { IsId id.now }
 {
     // Reading a number tells its range.
-    let _ = *id;
+    let _id = *id;
 }
 
 fn is_optional_id(id: &Option<i8>)
@@ -60,7 +60,7 @@ fn is_code(code: &Code)
 {
     match code {
         Code::Local(local) => {
-            let _ = *local;
+            let _local = *local;
         }
         Code::Global(id) => {
             id.octets();

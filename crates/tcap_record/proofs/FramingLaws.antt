@@ -25,7 +25,8 @@ use Rattle.tcap_record.specs.Framed.{octet_of, IsBody, FramedFrom, IsEndOctet, I
 use Rattle.tcap_record.specs.Framing.{feed_fault, end_in, body_of, body_at, len_of, len_at, entry_of, with_len, with_end, entry_at}
 use Rattle.tcap_record.specs.Reading.{EndsAs, IsReadAs}
 use Rattle.tcap_msg.proofs.MessageLaws.{message_sound, message_complete, message_refused}
-use Rattle.tcap_record.proofs.PlaceLaws.{header_fault_within, faulty_within}
+use Rattle.tcap_ber.proofs.WithinLaws.{header_fault_within}
+use Rattle.tcap_record.proofs.PlaceLaws.{faulty_within}
 
 -- ---- places
 

@@ -39,9 +39,15 @@ abbrev pub linked_text : Option ℤ → List ℕ
 linked_text None = []
 linked_text (Some id) = codes " linked=" ++ signed_decimal id
 
--- an operation code and a parameter
+-- an operation code or an error code, and a parameter
+abbrev pub coded_text : Code → Option (List ℕ) → List ℕ
+coded_text code parameter = code_text code ++ parameter_text parameter
+
 abbrev pub operation_text : Code → Option (List ℕ) → List ℕ
-operation_text code parameter = codes " op=" ++ code_text code ++ parameter_text parameter
+operation_text code parameter = codes " op=" ++ coded_text code parameter
+
+abbrev pub error_code_text : Code → Option (List ℕ) → List ℕ
+error_code_text code parameter = codes " error=" ++ coded_text code parameter
 
 abbrev pub result_name : Bool → List ℕ
 result_name true = codes "ReturnResultLast"
@@ -65,7 +71,7 @@ problem_text (problems.ReturnError n) = codes " error=" ++ decimal n
 abbrev pub component_text : Component → List ℕ
 component_text (Invoke id linked code parameter) = codes "Invoke id=" ++ signed_decimal id ++ linked_text linked ++ operation_text code parameter
 component_text (ReturnResult last id body) = result_name last ++ codes " id=" ++ signed_decimal id ++ result_body_text body
-component_text (ReturnError id code parameter) = codes "ReturnError id=" ++ signed_decimal id ++ codes " error=" ++ code_text code ++ parameter_text parameter
+component_text (ReturnError id code parameter) = codes "ReturnError id=" ++ signed_decimal id ++ error_code_text code parameter
 component_text (Reject id problem) = codes "Reject id=" ++ rejected_text id ++ problem_text problem
 
 -- the line of a component

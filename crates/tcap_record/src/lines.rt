@@ -6,7 +6,7 @@ ghost use Rattle.std.specs.String.{string_bytes};
 ghost use Rattle.std.specs.Option.{option_map};
 ghost use Rattle.tcap_parts.specs.declared.component.Component.TheVariants as Component;
 ghost use Rattle.tcap_parts.specs.Meaning.{code_of, parameter_of, body_of, problem_of, component_of};
-ghost use Rattle.tcap_record.specs.Lines.{name_of_end, code_text, parameter_text, operation_text, problem_text, component_text, component_line, begin_text, message_text, body_text, entry_lines};
+ghost use Rattle.tcap_record.specs.Lines.{name_of_end, code_text, parameter_text, coded_text, operation_text, error_code_text, result_name, problem_text, component_text, component_line, begin_text, message_text, body_text, entry_lines};
 
 use crate::entry::{Body, End, Entry};
 use std::alloc::{AllocError, Global};
@@ -54,7 +54,20 @@ fn push_code(alloc: Global, text: &mut String, code: CodeView) -> Result<(), All
     }
 }
 
-/// Appends an operation code and a parameter.
+/// Appends an operation code or an error code, and a parameter.
+fn push_coded(
+    alloc: Global,
+    text: &mut String,
+    code: CodeView,
+    parameter: Option<RawView>,
+) -> Result<(), AllocError>
+    ensures { OnOk result (string_bytes text.new ≡ string_bytes text.old ++ coded_text (code_of code.entry) (parameter_of parameter.entry)) }
+{
+    push_code(alloc, text, code)?;
+    push_parameter(alloc, text, parameter)
+}
+
+/// Appends an operation code and a parameter, named.
 fn push_operation(
     alloc: Global,
     text: &mut String,
@@ -64,8 +77,20 @@ fn push_operation(
     ensures { OnOk result (string_bytes text.new ≡ string_bytes text.old ++ operation_text (code_of code.entry) (parameter_of parameter.entry)) }
 {
     write!(text, " op=")?;
-    push_code(alloc, text, code)?;
-    push_parameter(alloc, text, parameter)
+    push_coded(alloc, text, code, parameter)
+}
+
+/// Appends an error code and a parameter, named.
+fn push_error_code(
+    alloc: Global,
+    text: &mut String,
+    code: CodeView,
+    parameter: Option<RawView>,
+) -> Result<(), AllocError>
+    ensures { OnOk result (string_bytes text.new ≡ string_bytes text.old ++ error_code_text (code_of code.entry) (parameter_of parameter.entry)) }
+{
+    write!(text, " error=")?;
+    push_coded(alloc, text, code, parameter)
 }
 
 /// Appends an Invoke.
@@ -87,6 +112,17 @@ fn push_invoke(
     push_operation(alloc, text, code, parameter)
 }
 
+/// The name of a Return Result, the last one or not.
+fn name_of_result(last: bool) -> &'static str
+    ensures { result.now ≡ result_name last }
+{
+    if last {
+        "ReturnResultLast"
+    } else {
+        "ReturnResultNotLast"
+    }
+}
+
 /// Appends a Return Result.
 fn push_result(
     alloc: Global,
@@ -98,11 +134,7 @@ fn push_result(
     ensures { OnOk result (string_bytes text.new ≡ string_bytes text.old
         ++ component_text (Component.ReturnResult last id (option_map body_of body.entry))) }
 {
-    let name = if last {
-        "ReturnResultLast"
-    } else {
-        "ReturnResultNotLast"
-    };
+    let name = name_of_result(last);
     write!(text, "{name} id={id}")?;
     match body {
         Some(body) => push_operation(alloc, text, body.code, body.parameter),
@@ -121,9 +153,8 @@ fn push_error(
     ensures { OnOk result (string_bytes text.new ≡ string_bytes text.old
         ++ component_text (Component.ReturnError id (code_of code.entry) (parameter_of parameter.entry))) }
 {
-    write!(text, "ReturnError id={id} error=")?;
-    push_code(alloc, text, code)?;
-    push_parameter(alloc, text, parameter)
+    write!(text, "ReturnError id={id}")?;
+    push_error_code(alloc, text, code, parameter)
 }
 
 /// Appends a problem.
