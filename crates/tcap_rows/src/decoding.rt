@@ -12,7 +12,7 @@ const BEGIN: &str = "620d4801016c08a10602010102012d";
 const PADDED: &str = "62810d4801016c08a10602010102012d";
 
 /// Octets as hexadecimal digits, and the number and the place of the reason why they are refused.
-const REFUSED: [(&str, u8, u64); 24] = [
+const REFUSED: [(&str, u8, u64); 42] = [
     ("", 1, 0),
     ("63", 1, 1),
     ("630348", 1, 3),
@@ -34,9 +34,31 @@ const REFUSED: [(&str, u8, u64); 24] = [
     ("620a4801016c05a103020101", 9, 12),
     ("620e4801016c09a1070202010102012d", 14, 9),
     ("62114801016c0ca10a02010102050100000000", 17, 12),
-    ("620c4801016c07a1050201010600", 8, 12),
-    ("620d4801016c08a20602010102012d", 8, 7),
-    ("62104801016c0ba109020105800101020130", 8, 12),
+    // Object identifiers: without octets, without an end, with a needless octet in front of a subidentifier.
+    ("620c4801016c07a1050201010600", 7, 12),
+    ("620d4801016c08a106020101060180", 7, 12),
+    ("620e4801016c09a1070201010602802a", 7, 12),
+    ("620e4801016c09a10702010106022a86", 7, 12),
+    ("620f4801016c0aa30802010106032a8001", 7, 12),
+    // Another component, another element for a code, a linked ID, a problem.
+    ("620d4801016c08a50602010102012d", 8, 7),
+    ("620c4801016c07a105050002012d", 8, 9),
+    ("620d4801016c08a10602010104012d", 8, 12),
+    ("620d4801016c08a406020101840100", 8, 12),
+    ("62114801016c0ca10a02010180020001020130", 6, 12),
+    ("62114801016c0ca10a02010180020102020130", 14, 12),
+    // A problem that is negative or of two octets, a NULL with content, another element in its place.
+    ("620d4801016c08a406020101820180", 14, 12),
+    ("620e4801016c09a40702010182020100", 14, 12),
+    ("620e4801016c09a40702010182020001", 6, 12),
+    ("620d4801016c08a406050100800100", 14, 9),
+    ("620c4801016c07a4050400800100", 8, 9),
+    ("620c4801016c07a4050201018000", 6, 12),
+    // What a Return Result carries: nothing, a code of another tag, octets behind the parameter.
+    ("620c4801016c07a2050201013000", 9, 14),
+    ("620e4801016c09a70702010130020400", 8, 14),
+    ("62134801016c0ea20c020101300702012d05000500", 10, 19),
+    ("62114801016c0ca20a020101300302012d0500", 10, 17),
     // Two elements at the parameter's place.
     ("62114801016c0ca10a02010102012d05000500", 10, 17),
 ];
@@ -63,6 +85,7 @@ fn is_begin(message: &Message) -> bool {
         [
             Component::Invoke {
                 id: 1,
+                linked: None,
                 code: Code::Local(45),
                 parameter: None,
             },

@@ -40,6 +40,7 @@ fn begin(alloc: Global, id: i8, local: i32, parameter: Option<Raw>) -> Result<Me
     let mut components = Vec::new(alloc);
     components.push(Component::Invoke {
         id,
+        linked: None,
         code: Code::Local(local),
         parameter,
     })?;

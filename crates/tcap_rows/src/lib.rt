@@ -3,6 +3,8 @@
 #![tactic(auto)]
 
 #[cfg(test)]
+mod components;
+#[cfg(test)]
 mod decoding;
 #[cfg(test)]
 mod devices;

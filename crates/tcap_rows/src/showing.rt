@@ -6,7 +6,7 @@ use tcap_ber::{Counted, Failing};
 use tcap_judge::{Status, run_show};
 
 /// Octets as hexadecimal digits, what is printed of them, and the status.
-const ROWS: [(&str, &str, u8); 11] = [
+const ROWS: [(&str, &str, u8); 12] = [
     // A Begin with an Invoke, its length in the short form and padded.
     (
         "41620d4801016c08a10602010102012d",
@@ -40,6 +40,12 @@ const ROWS: [(&str, &str, u8); 11] = [
         "4162054801016c00426203480101",
         "0 A FAULT 11 6\n1 B Begin otid=01\n",
         3,
+    ),
+    // Components of each kind.
+    (
+        "41622d4801016c28a10c02010580010106042a864801a708020102300302012da306020101020122a406020101810107",
+        "0 A Begin otid=01\n  Invoke id=5 linked=1 op=g:2a864801\n  ReturnResultNotLast id=2 op=45\n  ReturnError id=1 error=34\n  Reject id=1 invoke=7\n",
+        0,
     ),
     // Faults of the record.
     ("4162804801010000", "FAULT 16 2\n", 3),

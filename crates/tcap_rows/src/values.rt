@@ -1,7 +1,7 @@
 //! Values that are made of octets and lists.
 
 use std::test::Fail;
-use tcap_ber::Raw;
+use tcap_ber::{ObjectId, Raw, Small};
 use tcap_msg::TransactionId;
 use tcap_parts::{Code, Component, Portion};
 
@@ -41,12 +41,41 @@ fn raw_elements(rt: HostRuntime) -> Result<(), Fail> {
     Ok(())
 }
 
+/// Octets that are no contents of an OBJECT IDENTIFIER.
+const NO_IDS: [&[u8]; 5] = [&[], &[0x80], &[0x2A, 0x80], &[0x80, 1], &[0x2A, 0x80, 1]];
+
+#[test]
+fn object_identifiers(rt: HostRuntime) -> Result<(), Fail> {
+    for octets in NO_IDS {
+        assert!(rt; ObjectId::new(rt.alloc(), octets)?.is_none());
+    }
+    let long = ObjectId::new(rt.alloc(), &[0x2A, 0x86, 0x80, 1])?.ok_or("an identifier")?;
+    assert_eq!(rt; long.octets(), [0x2A, 0x86, 0x80, 1].as_slice());
+    assert_eq!(rt; long.view().octets, long.octets());
+    let short = ObjectId::new(rt.alloc(), &[0])?.ok_or("an identifier")?;
+    assert!(rt; short != long);
+    assert!(rt; short.copy(rt.alloc())? == short);
+    Ok(())
+}
+
+#[test]
+fn small_numbers(rt: HostRuntime) -> Result<(), Fail> {
+    assert!(rt; Small::new(128).is_none());
+    for number in [0, 1, 127] {
+        let small = Small::new(number).ok_or("a number")?;
+        assert_eq!(rt; small.number(), number);
+        assert_eq!(rt; small.view().to_small(), small);
+    }
+    Ok(())
+}
+
 #[test]
 fn portions(rt: HostRuntime) -> Result<(), Fail> {
     assert!(rt; Portion::new(Vec::new(rt.alloc())).is_none());
     let mut components = Vec::new(rt.alloc());
     components.push(Component::Invoke {
         id: 1,
+        linked: None,
         code: Code::Local(45),
         parameter: None,
     })?;

@@ -1,0 +1,232 @@
+//! Each kind of component: decoded, shown, lent, copied and encoded again.
+
+use std::alloc::Global;
+use std::test::Fail;
+use tcap_ber::{Counted, ObjectId, Small};
+use tcap_judge::run_show;
+use tcap_msg::{Message, MessageView, TransactionId, decode, encode, encoded_len, view};
+use tcap_parts::{Code, Component, ComponentView, Portion, Problem, ResultBody};
+
+/// Components with the shortest lengths, as hexadecimal digits, and their lines.
+const COMPONENTS: [(&str, &str); 16] = [
+    ("a10602010102012d", "Invoke id=1 op=45"),
+    ("a1090201ff80010102012d", "Invoke id=-1 linked=1 op=45"),
+    (
+        "a11002010580018006042a8648010402abcd",
+        "Invoke id=5 linked=-128 op=g:2a864801 parameter=0402abcd",
+    ),
+    ("a1080201010203008000", "Invoke id=1 op=32768"),
+    ("a203020101", "ReturnResultLast id=1"),
+    ("a208020101300302012d", "ReturnResultLast id=1 op=45"),
+    (
+        "a20d020180300806022a030402abcd",
+        "ReturnResultLast id=-128 op=g:2a03 parameter=0402abcd",
+    ),
+    ("a703020102", "ReturnResultNotLast id=2"),
+    (
+        "a70a02010230050201ff0500",
+        "ReturnResultNotLast id=2 op=-1 parameter=0500",
+    ),
+    ("a306020101020122", "ReturnError id=1 error=34"),
+    (
+        "a30902010106012a0401aa",
+        "ReturnError id=1 error=g:2a parameter=0401aa",
+    ),
+    ("a406020101800102", "Reject id=1 general=2"),
+    ("a4050500800100", "Reject id=null general=0"),
+    ("a406020101810107", "Reject id=1 invoke=7"),
+    ("a40602010182017f", "Reject id=1 result=127"),
+    ("a406020101830104", "Reject id=1 error=4"),
+];
+
+/// A Begin with transaction ID 01 around components, which are shorter than 100 octets.
+fn begin(alloc: Global, components: &str) -> Result<Vec<u8>, Fail> {
+    let components: Vec<u8> = hex::decode(alloc, components)?;
+    let len = u8::try_from(components.len())?;
+    let outer = len.checked_add(5).ok_or("a short one")?;
+    let mut octets = [0x62, outer, 0x48, 1, 1, 0x6C, len].to_vec(alloc)?;
+    octets.extend_from_slice(&components)?;
+    Ok(octets)
+}
+
+/// What is written of the message.
+fn written(alloc: Global, message: &Message) -> Result<Vec<u8>, Fail> {
+    let mut writer = Counted::new(Vec::new(alloc));
+    if encode(message, &mut writer).is_err() {
+        return Err(Fail::from("it encodes"));
+    }
+    Ok(writer.into_inner())
+}
+
+/// The lines of a Begin with these components.
+fn shown(alloc: Global, components: &str) -> Result<Vec<u8>, Fail> {
+    let mut octets = [0x41].to_vec(alloc)?;
+    octets.extend_from_slice(&begin(alloc, components)?)?;
+    let mut writer = Counted::new(Vec::new(alloc));
+    run_show(alloc, &mut Counted::new(octets.as_slice()), &mut writer)?;
+    Ok(writer.into_inner())
+}
+
+#[test]
+fn lines(rt: HostRuntime) -> Result<(), Fail> {
+    for (component, line) in COMPONENTS {
+        let wanted = format!(in rt.alloc(); "0 A Begin otid=01\n  {line}\n")?;
+        let printed = shown(rt.alloc(), component)?;
+        assert_eq!(rt; printed.as_slice(), wanted.as_bytes(), "{line}");
+    }
+    Ok(())
+}
+
+#[test]
+fn encoded_again(rt: HostRuntime) -> Result<(), Fail> {
+    for (component, line) in COMPONENTS {
+        let octets = begin(rt.alloc(), component)?;
+        let (message, count) = decode(rt.alloc(), &octets).ok().ok_or("a message")?;
+        assert_eq!(rt; count, octets.len(), "{line}");
+        assert_eq!(rt; encoded_len(&message), Some(count), "{line}");
+        assert_eq!(rt; written(rt.alloc(), &message)?, octets, "{line}");
+    }
+    Ok(())
+}
+
+/// Components whose lengths are padded, and what is written of them.
+const PADDED: [(&str, &str); 3] = [
+    ("a28103020101", "a203020101"),
+    ("a7820009020102308103020100", "a7080201023003020100"),
+    ("a48109028200010181810107", "a406020101810107"),
+];
+
+#[test]
+fn padded(rt: HostRuntime) -> Result<(), Fail> {
+    for (component, wanted) in PADDED {
+        let octets = begin(rt.alloc(), component)?;
+        let (message, _) = decode(rt.alloc(), &octets).ok().ok_or("a message")?;
+        let wanted = begin(rt.alloc(), wanted)?;
+        assert_eq!(rt; written(rt.alloc(), &message)?, wanted, "{component}");
+    }
+    Ok(())
+}
+
+/// One component of each kind, and their octets.
+fn each_kind(alloc: Global) -> Result<Vec<Component>, Fail> {
+    let global = ObjectId::new(alloc, &[0x2A, 0x86, 0x48, 1])?.ok_or("an identifier")?;
+    let mut components = Vec::new(alloc);
+    components.push(Component::Invoke {
+        id: 5,
+        linked: Some(1),
+        code: Code::Global(global),
+        parameter: None,
+    })?;
+    components.push(Component::ReturnResult {
+        last: false,
+        id: 2,
+        body: Some(ResultBody {
+            code: Code::Local(45),
+            parameter: None,
+        }),
+    })?;
+    components.push(Component::ReturnError {
+        id: 1,
+        code: Code::Local(34),
+        parameter: None,
+    })?;
+    components.push(Component::Reject {
+        id: Some(1),
+        problem: Problem::Invoke(Small::new(7).ok_or("a number")?),
+    })?;
+    Ok(components)
+}
+
+const EACH_KIND: &str =
+    "a10c02010580010106042a864801a708020102300302012da306020101020122a406020101810107";
+
+#[test]
+fn made_by_hand(rt: HostRuntime) -> Result<(), Fail> {
+    let message = Message::Begin {
+        otid: TransactionId::new(&[1]).ok_or("an ID")?,
+        components: Some(Portion::new(each_kind(rt.alloc())?).ok_or("components")?),
+    };
+    let octets = begin(rt.alloc(), EACH_KIND)?;
+    assert_eq!(rt; written(rt.alloc(), &message)?, octets);
+    Ok(())
+}
+
+/// Each component lent, made a value again, and put into a message of its own.
+#[test]
+fn lent(rt: HostRuntime) -> Result<(), Fail> {
+    let mut components = Vec::new(rt.alloc());
+    for component in &each_kind(rt.alloc())? {
+        components.push(component.view().to_component(rt.alloc())?)?;
+    }
+    let message = Message::Begin {
+        otid: TransactionId::new(&[1]).ok_or("an ID")?,
+        components: Some(Portion::new(components).ok_or("components")?),
+    };
+    let octets = begin(rt.alloc(), EACH_KIND)?;
+    assert_eq!(rt; written(rt.alloc(), &message)?, octets);
+    Ok(())
+}
+
+/// A portion's components, one after the other.
+#[test]
+fn one_after_the_other(rt: HostRuntime) -> Result<(), Fail> {
+    let octets = begin(rt.alloc(), EACH_KIND)?;
+    let (message, _) = view(&octets).ok().ok_or("a message")?;
+    let MessageView::Begin { components, .. } = message;
+    let portion = components.ok_or("components")?;
+    let mut tags = Vec::new(rt.alloc());
+    for component in portion.components() {
+        tags.push(match component {
+            ComponentView::Invoke { .. } => 1,
+            ComponentView::ReturnResult { .. } => 2,
+            ComponentView::ReturnError { .. } => 3,
+            ComponentView::Reject { .. } => 4,
+        })?;
+    }
+    assert_eq!(rt; tags.as_slice(), [1, 2, 3, 4].as_slice());
+    Ok(())
+}
+
+/// The count of a message's components, one after the other.
+fn count(message: MessageView) -> usize {
+    let MessageView::Begin { components, .. } = message;
+    let mut count = 0_usize;
+    if let Some(portion) = components {
+        for _ in portion.components() {
+            count = count.saturating_add(1);
+        }
+    }
+    count
+}
+
+/// The greatest count of components of a Begin with an ID of one octet, each of five octets.
+#[test]
+fn many(rt: HostRuntime) -> Result<(), Fail> {
+    // 65,525 octets of content behind 7 others.
+    let front = [0x62, 0x82, 0xFF, 0xFC, 0x48, 1, 1, 0x6C, 0x82, 0xFF, 0xF5];
+    let mut octets = front.to_vec(rt.alloc())?;
+    for _ in 0..13_105 {
+        octets.extend_from_slice(&[0xA2, 3, 2, 1, 1])?;
+    }
+    let (message, len) = view(&octets).ok().ok_or("a message")?;
+    assert_eq!(rt; len, octets.len());
+    assert_eq!(rt; count(message), 13_105);
+    let (message, _) = decode(rt.alloc(), &octets).ok().ok_or("a message")?;
+    assert_eq!(rt; written(rt.alloc(), &message)?, octets);
+    Ok(())
+}
+
+#[test]
+fn copied_codes(rt: HostRuntime) -> Result<(), Fail> {
+    let local = Code::Local(45).copy(rt.alloc())?;
+    assert!(rt; matches!(local, Code::Local(45)));
+    let id = ObjectId::new(rt.alloc(), &[0x2A, 3])?.ok_or("an identifier")?;
+    assert!(rt; id.copy(rt.alloc())? == id);
+    let global = Code::Global(id).copy(rt.alloc())?;
+    let is_global = match &global {
+        Code::Global(id) => id.octets() == [0x2A, 3].as_slice(),
+        Code::Local(_) => false,
+    };
+    assert!(rt; is_global);
+    Ok(())
+}
