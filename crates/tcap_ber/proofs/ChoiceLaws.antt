@@ -1,7 +1,7 @@
 -- Readers of a choice: what they read is spelled so, what is spelled so they read, what they refuse is
 -- faulty there, and what is faulty there they refuse by that fault.
-use Rattle.std.proofs.Common.{◌≡◌, ◌≢◌, ℕ, ◌+◌, ◌-◌, ◌<◌, ◌⊎◌, true, false, List, [], ◌∷◌, ◌++◌, length, Result, Ok, Err, refl, sym, ap, subst, ◌∙◌, inl, inr, arith}
-use Rattle.std.specs.Prelude.{◌==◌, if◌then◌else◌, ◌↔◌, IsOk}
+use Rattle.std.proofs.Common.{◌≡◌, ◌≢◌, ℕ, ◌+◌, ◌-◌, ◌⊎◌, true, false, List, [], ◌∷◌, ◌++◌, length, Result, Ok, Err, refl, sym, ap, subst, ◌∙◌, inl, inr, arith}
+use Rattle.std.specs.Prelude.{◌==◌, ◌↔◌, IsOk}
 use Rattle.std.proofs.lemmas.Bool.{eq-eqb, eqb-true, eqb-false, ne_eqb, false_from_ne_true}
 use Rattle.std.proofs.lemmas.List.{length-append, nil_from_length}
 use Rattle.tcap_ber.specs.declared.fault.Fault.{Fault}
@@ -14,7 +14,7 @@ use Rattle.tcap_ber.specs.Small.{null}
 use Rattle.tcap_ber.specs.Found.{FindsElement, Taken}
 use Rattle.tcap_ber.specs.Reads.{ReadsField, ReadsBody, ReadsChoice}
 use Rattle.tcap_ber.specs.Span.{Span}
-use Rattle.tcap_ber.specs.Reading.{◌>>=◌, Gives, fault, Element, next_at, is_tag, with_body, some_at, one_of_at, tagged_at, refused_at, null_at}
+use Rattle.tcap_ber.specs.Reading.{Gives, fault, Element, is_tag, with_body, some_at, one_of_at, tagged_at, refused_at, null_at}
 use Rattle.tcap_ber.proofs.Steps.{chosen, bind_ok, bind_err, ok_is, err_is, ok_not_err}
 use Rattle.tcap_ber.proofs.ElementLaws.{element_len_at_least, next_sound, next_complete, next_fault}
 use Rattle.tcap_ber.proofs.FaultLaws.{refused_by, element_fault_some, next_refused}

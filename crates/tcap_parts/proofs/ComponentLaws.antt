@@ -1,16 +1,14 @@
 -- Components are read exactly: what is read is spelled so, what is spelled so is read, what is refused is
 -- faulty there, and what is faulty there is refused by that fault.
-use Rattle.std.proofs.Common.{ℕ, ℤ, Bool, true, false, List, Option, Some, None, Result, Ok, arith}
-use Rattle.tcap_ber.specs.declared.fault.Fault.{Fault}
+use Rattle.std.proofs.Common.{ℕ, Bool, true, false, List, Option, Some, None, Ok, arith}
 use Rattle.tcap_ber.specs.declared.fault.Reason.TheVariants.{BadSize, UnexpectedTag, CodeTooWide}
-use Rattle.tcap_ber.specs.Span.{Span}
-use Rattle.tcap_ber.specs.Grammar.{Body, Content, required, optional, parameter, ended, ◌⨾◌, made, integer}
-use Rattle.tcap_ber.specs.Choice.{Choice, ◌▹◌, ◌∣◌, others_are, one_of}
+use Rattle.tcap_ber.specs.Grammar.{required, optional, parameter, ended, ◌⨾◌, made, integer}
+use Rattle.tcap_ber.specs.Choice.{◌▹◌, ◌∣◌, others_are, one_of}
 use Rattle.tcap_ber.specs.ObjectId.{object_id}
 use Rattle.tcap_ber.specs.Small.{small, null}
-use Rattle.tcap_ber.specs.Reading.{◌>>=◌, Element, small_integer_at, small_at, null_at, object_id_at, parameter_at, end_at, tagged_at, refused_at}
+use Rattle.tcap_ber.specs.Reading.{◌>>=◌, small_integer_at, small_at, null_at, object_id_at, parameter_at, end_at, tagged_at, refused_at}
 use Rattle.tcap_ber.proofs.ElementLaws.{element_len_at_least}
-use Rattle.tcap_ber.specs.Reads.{ReadsField, ReadsBody, ReadsContent, ReadsChoice}
+use Rattle.tcap_ber.specs.Reads.{ReadsField, ReadsBody, ReadsContent}
 use Rattle.tcap_ber.proofs.EachLaws.{HasOctets}
 use Rattle.tcap_ber.proofs.GrammarLaws.{reads_required, reads_optional, reads_parameter, reads_ended, reads_then, reads_structure, reads_integer, reads_made}
 use Rattle.tcap_ber.proofs.ChoiceLaws.{reads_tagged, reads_others, reads_one_of, reads_null}
@@ -20,8 +18,6 @@ use Rattle.tcap_parts.specs.declared.code.Code.{Code}
 use Rattle.tcap_parts.specs.declared.code.Code.TheVariants.{Local, Global}
 use Rattle.tcap_parts.specs.declared.problem.Problem.{Problem}
 use Rattle.tcap_parts.specs.declared.problem.Problem.TheVariants as problems
-use Rattle.tcap_parts.specs.declared.component.ResultBody.{ResultBody}
-use Rattle.tcap_parts.specs.declared.component.Component.{Component}
 use Rattle.tcap_parts.specs.declared.component.Component.TheVariants.{Invoke, ReturnResult, ReturnError, Reject}
 use Rattle.tcap_parts.specs.Component.{invoke_id, code, make_invoke, invoke, make_body, result_body, make_result, return_result, make_error, return_error, rejected_id, problem, make_reject, reject, components, component}
 use Rattle.tcap_parts.specs.Reading.{invoke_id_at, linked_id_at, local_code_of, global_code_of, code_at, invoke_at, result_body_at, optional_body_at, return_result_at, return_error_at, some_id_of, no_id_of, rejected_id_at, problem_at, reject_at, component_at}

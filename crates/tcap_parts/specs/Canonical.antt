@@ -1,5 +1,5 @@
 -- The one spelling of components that is written: shortest definite lengths, parameters verbatim.
-use Rattle.std.specs.Prelude.{Bool, true, false, ℕ, ℤ, List, [], ◌∷◌, length, Option, Some, None, nat_le, if◌then◌else◌}
+use Rattle.std.specs.Prelude.{true, false, ℕ, ℤ, List, [], ◌∷◌, length, Option, Some, None, nat_le, if◌then◌else◌}
 use Rattle.tcap_ber.specs.Element.{content_limit}
 use Rattle.tcap_ber.specs.Canonical.{◌⧺◌, element_around, integer_octets}
 use Rattle.tcap_parts.specs.declared.code.Code.{Code}

@@ -34,7 +34,10 @@ pub enum Component {
     },
     /// A Reject: the invoke ID of the component that it rejects, `None` where that is not known, and the
     /// problem.
-    Reject { id: Option<i8>, problem: Problem },
+    Reject {
+        id: Option<i8>,
+        problem: Problem,
+    },
 }
 
 /// What a Return Result carries: the operation code and the parameter.
@@ -70,7 +73,10 @@ pub enum ComponentView<'a> {
     },
     /// A Reject: the invoke ID of the component that it rejects, `None` where that is not known, and the
     /// problem.
-    Reject { id: Option<i8>, problem: ProblemView },
+    Reject {
+        id: Option<i8>,
+        problem: ProblemView,
+    },
 }
 
 /// What a Return Result carries, lent: the operation code and the parameter.

@@ -1,7 +1,7 @@
-use Rattle.std.proofs.Common.{◌≡◌, [], ◌∷◌, length, ap, sym, ◌∙◌, arith, rules}
+use Rattle.std.proofs.Common.{length, ap, ◌∙◌, rules}
 use Rattle.tcap_ber.specs.Reading.{span}
-use Rattle.tcap_parts.specs.Meaning.{component_of, components_left}
-use Rattle.tcap_parts.specs.Reading.{components_at, is_read}
+use Rattle.tcap_parts.specs.Meaning.{component_of}
+use Rattle.tcap_parts.specs.Reading.{components_at}
 use Rattle.tcap_parts.proofs.PortionLaws.{components_fault, left_end, left_step, rest_is_read, not_read, not_empty, is_empty}
 use Rattle.tcap_parts.proofs.portion.ComponentsIterator.next.Goals as goal
 
