@@ -172,11 +172,7 @@ fn push_problem(text: &mut String, problem: ProblemView) -> Result<(), AllocErro
 }
 
 /// Appends a Reject.
-fn push_reject(
-    text: &mut String,
-    id: Option<i8>,
-    problem: ProblemView,
-) -> Result<(), AllocError>
+fn push_reject(text: &mut String, id: Option<i8>, problem: ProblemView) -> Result<(), AllocError>
     ensures { OnOk result (string_bytes text.new ≡ string_bytes text.old ++ component_text (Component.Reject id (problem_of problem))) }
 {
     match id {
