@@ -6,8 +6,13 @@ import re
 import subprocess
 import sys
 
-RECORD = "examples/two_begins.hex"
-ENTRIES = ["0 A Begin otid=01\n  Invoke id=1 op=45\n", "1 B Begin otid=abcd\n  Invoke id=-1 op=56 parameter=04012a\n"]
+RECORD = "examples/components.hex"
+ENTRIES = [
+    "0 A Begin otid=01\n  Invoke id=5 linked=1 op=g:2a864801\n  ReturnResultNotLast id=2 op=45\n"
+    "  ReturnError id=1 error=34\n  Reject id=1 invoke=7\n",
+    "1 B Begin otid=02\n  ReturnResultLast id=1\n  Reject id=null general=0\n  Reject id=2 result=1\n"
+    "  Reject id=3 error=2\n",
+]
 WHOLE = ("".join(ENTRIES), "0")
 CUT = [("".join(ENTRIES[:count]) + "FAULT 99 0\n", "3") for count in range(len(ENTRIES) + 1)]
 

@@ -6,6 +6,7 @@ pub mod ElementLaws
 pub mod FaultLaws
 pub mod OuterLaws
 pub mod GrammarLaws
+pub mod BodyLaws
 pub mod ChoiceLaws
 pub mod EachLaws
 pub mod ResultLaws

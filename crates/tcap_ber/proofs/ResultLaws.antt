@@ -21,7 +21,8 @@ use Rattle.tcap_ber.proofs.ElementLaws.{next_sound, next_complete, next_fault}
 use Rattle.tcap_ber.proofs.FaultLaws.{next_refused, raw_refused, required_refused}
 use Rattle.tcap_ber.proofs.OuterLaws.{outer_whole, outer_of_element, outer_needs, outer_fault, outer_refused, is_raw_sound, is_raw_complete, raw_sound, raw_complete}
 use Rattle.tcap_ber.proofs.ChoiceLaws.{some_sound, some_complete, some_fault, some_refused}
-use Rattle.tcap_ber.proofs.GrammarLaws.{is_integer_sound, is_integer_complete, required_sound, required_complete, required_fault, is_tag-true, is_tag-itself, is_next-true, is_next-begins, raw_fault}
+use Rattle.tcap_ber.proofs.GrammarLaws.{required_sound, required_complete, required_fault, is_tag-true, is_tag-itself, is_next-true, is_next-begins, raw_fault}
+use Rattle.tcap_ber.proofs.BodyLaws.{is_integer_sound, is_integer_complete}
 
 -- an exact answer is a fault exactly where reading gives that fault
 pub gives_err : {X Y : Type 0} (view : X → Y) (r : Result X Fault) (read : Result Y Fault) → Gives view r read → (f : Fault) → (r ≡ Err f) ↔ (read ≡ Err f)

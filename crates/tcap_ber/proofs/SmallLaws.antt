@@ -10,7 +10,7 @@ use Rattle.tcap_ber.specs.Reads.{ReadsBody}
 use Rattle.tcap_ber.specs.Reading.{fault, Element, is_integer, integer_at, small_in, small_at}
 use Rattle.tcap_ber.proofs.Steps.{chosen, bind_ok, bind_err, ok_is, err_is}
 use Rattle.tcap_ber.proofs.FaultLaws.{refused_by}
-use Rattle.tcap_ber.proofs.GrammarLaws.{is_integer_sound, is_integer_complete}
+use Rattle.tcap_ber.proofs.BodyLaws.{is_integer_sound, is_integer_complete}
 
 -- the contents of an INTEGER as one octet below 128, and what reading them so means
 small_in_sound : (place : ℕ) (octets : List ℕ) (n : ℕ) → small_in place octets ≡ Ok n → IsSmall n octets

@@ -28,7 +28,7 @@ pub enum Reason {
     Trailing,
     /// A component portion without content (Q.773 4.2.2).
     EmptyComponents,
-    /// A one-octet integer with more octets, or a negative one where none may stand.
+    /// A one-octet integer with more octets, a negative one where none may stand, or a NULL with content.
     BadSize,
     /// A transaction ID of no octets or of over four (Q.773 4.2.1).
     BadTransactionId,

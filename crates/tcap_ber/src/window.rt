@@ -115,24 +115,15 @@ pub fn required_any(window: Window) -> Result<(Tlv, Window), Fault>
     read_any(window)
 }
 
-#[tactic(auto, unfolding(crate::specs::Reading::required_at))]
+#[tactic(auto, unfolding(crate::specs::Reading::required_at, crate::specs::Reading::some_at))]
 fn read_required(window: Window, tag: u8) -> Result<(Tlv, Window), Fault>
     ensures exact { Gives (λ x. (element x.0, span x.1)) result (required_at tag (span window.entry)) }
 {
-    if window.octets.is_empty() {
-        return Err(Fault {
-            reason: Reason::Missing,
-            place: window.place,
-        });
-    }
-    let (found, rest) = next_tlv(window)?;
+    let (found, rest) = required_any(window)?;
     if found.tag.is(tag) {
         Ok((found, rest))
     } else {
-        Err(Fault {
-            reason: Reason::UnexpectedTag,
-            place: window.place,
-        })
+        Err(found.refused(Reason::UnexpectedTag))
     }
 }
 

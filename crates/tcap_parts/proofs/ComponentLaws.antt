@@ -10,7 +10,8 @@ use Rattle.tcap_ber.specs.Reading.{◌>>=◌, small_integer_at, small_at, null_a
 use Rattle.tcap_ber.proofs.ElementLaws.{element_len_at_least}
 use Rattle.tcap_ber.specs.Reads.{ReadsField, ReadsBody, ReadsContent}
 use Rattle.tcap_ber.proofs.EachLaws.{HasOctets}
-use Rattle.tcap_ber.proofs.GrammarLaws.{reads_required, reads_optional, reads_parameter, reads_ended, reads_then, reads_structure, reads_integer, reads_made}
+use Rattle.tcap_ber.proofs.GrammarLaws.{reads_required, reads_optional, reads_parameter, reads_ended, reads_then, reads_structure}
+use Rattle.tcap_ber.proofs.BodyLaws.{reads_integer, reads_made}
 use Rattle.tcap_ber.proofs.ChoiceLaws.{reads_tagged, reads_others, reads_one_of, reads_null}
 use Rattle.tcap_ber.proofs.ObjectIdLaws.{reads_object_id}
 use Rattle.tcap_ber.proofs.SmallLaws.{reads_small}

@@ -1,6 +1,7 @@
 //! Operation codes and error codes (Q.773 4.2.2).
 
-ghost use Rattle.std.specs.Prelude.{◌≡◌, IfOk};
+ghost use Rattle.std.specs.Prelude.{◌≡◌, ℤ, IfOk, IsOk};
+ghost use Rattle.tcap_parts.specs.declared.code.Code.TheVariants as Code;
 ghost use Rattle.tcap_ber.specs.Reading.{Gives, span};
 ghost use Rattle.tcap_parts.specs.Meaning.{code_of};
 ghost use Rattle.tcap_parts.specs.Reading.{code_at};
@@ -51,9 +52,10 @@ pub(crate) fn read_code(window: Window) -> Result<(CodeView, Window), Fault>
 }
 
 impl<'a> CodeView<'a> {
-    /// The code as a value of its own.
+    /// The code as a value of its own. A local one takes no memory.
     pub fn to_code(self, alloc: Global) -> Result<Code, AllocError>
-        ensures { IfOk result (λ code. code ≡ code_of self.entry) }
+        ensures made { IfOk result (λ code. code ≡ code_of self.entry) }
+        ensures local { (n : ℤ) → code_of self.entry ≡ Code.Local n → IsOk result }
     {
         match self {
             CodeView::Local(local) => Ok(Code::Local(local)),
@@ -73,9 +75,10 @@ impl Code {
         }
     }
 
-    /// An equal code of its own.
+    /// An equal code of its own. A local one takes no memory.
     pub fn copy(&self, alloc: Global) -> Result<Code, AllocError>
-        ensures { IfOk result (λ code. code ≡ self.now) }
+        ensures made { IfOk result (λ code. code ≡ self.now) }
+        ensures local { (n : ℤ) → self.now ≡ Code.Local n → IsOk result }
     {
         self.view().to_code(alloc)
     }

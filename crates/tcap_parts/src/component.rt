@@ -1,6 +1,8 @@
 //! Components (Q.773 4.2.2).
 
-ghost use Rattle.std.specs.Prelude.{◌≡◌, IfOk};
+ghost use Rattle.std.specs.Prelude.{◌≡◌, ℤ, Option, IfOk, IsOk};
+ghost use Rattle.tcap_parts.specs.declared.problem.Problem.{Problem};
+ghost use Rattle.tcap_parts.specs.declared.component.Component.TheVariants as Component;
 ghost use Rattle.tcap_parts.specs.Meaning.{parameter_of, body_of, component_of};
 
 use crate::code::{Code, CodeView};
@@ -43,7 +45,9 @@ pub enum Component {
 /// What a Return Result carries: the operation code and the parameter.
 #[derive(Debug, Drop)]
 pub struct ResultBody {
+    /// The operation code.
     pub code: Code,
+    /// The parameter, one element with any tag.
     pub parameter: Option<Raw>,
 }
 
@@ -82,7 +86,9 @@ pub enum ComponentView<'a> {
 /// What a Return Result carries, lent: the operation code and the parameter.
 #[derive(Clone, Copy, Debug)]
 pub struct ResultBodyView<'a> {
+    /// The operation code.
     pub code: CodeView<'a>,
+    /// The parameter, one element with any tag.
     pub parameter: Option<RawView<'a>>,
 }
 
@@ -131,9 +137,10 @@ impl ResultBody {
 }
 
 impl<'a> ComponentView<'a> {
-    /// The component as a value of its own.
+    /// The component as a value of its own. A Reject takes no memory.
     pub fn to_component(self, alloc: Global) -> Result<Component, AllocError>
-        ensures { IfOk result (λ made. made ≡ component_of self.entry) }
+        ensures made { IfOk result (λ made. made ≡ component_of self.entry) }
+        ensures reject { (id : Option ℤ) (problem : Problem) → component_of self.entry ≡ Component.Reject id problem → IsOk result }
     {
         match self {
             ComponentView::Invoke {

@@ -23,7 +23,7 @@ pub struct PortionView<'a> {
 
 /// The components of a portion, one after the other, lent from the octets that were read. Each costs the
 /// time of reading it.
-#[derive(Clone, Copy, Debug, Drop)]
+#[derive(Debug, Drop)]
 pub struct Components<'a> {
     rest: Window<'a>,
     pub ghost whole: { is_read (components_at (span rest)) ≡ true },

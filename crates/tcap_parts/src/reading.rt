@@ -172,16 +172,15 @@ fn read_component(window: Window) -> Result<(ComponentView, Window), Fault>
     Ok((component, rest))
 }
 
-/// The first component of a window that is not empty, lent from its octets, and the window behind it
-/// (Q.773 4.2.2).
+/// The first component of a window, lent from its octets, and the window behind it (Q.773 4.2.2).
 ///
 /// A fault is the first from left to right: those of [`required_any`] for the component, a code, a problem
 /// and what a Reject is about, and `UnexpectedTag` where they have none of their tags; those of
-/// [`required`] for the invoke ID; `BadInteger` or `BadSize` at an invoke ID, a linked ID or a problem;
+/// [`required`] for the invoke ID; those of [`tcap_ber::next_tlv`] at a linked ID and at what a Return Result
+/// carries; `BadInteger` or `BadSize` at an invoke ID, a linked ID or a problem;
 /// `BadInteger` or `CodeTooWide` at a local code, `BadObjectId` at a global one; `BadSize` at a NULL with
 /// content; those of [`RawView::parameter`]; and `Trailing` behind the last part.
 pub fn view_component(window: Window) -> Result<(ComponentView, Window), Fault>
-    requires { 0 < length window.octets.now }
     // What is read is spelled there.
     ensures found { IfOk result (λ x. Taken component (span window.entry) (component_of x.0) (span x.1)) }
     // What is spelled there is read.

@@ -12,7 +12,7 @@ const BEGIN: &str = "620d4801016c08a10602010102012d";
 const PADDED: &str = "62810d4801016c08a10602010102012d";
 
 /// Octets as hexadecimal digits, and the number and the place of the reason why they are refused.
-const REFUSED: [(&str, u8, u64); 42] = [
+const REFUSED: [(&str, u8, u64); 43] = [
     ("", 1, 0),
     ("63", 1, 1),
     ("630348", 1, 3),
@@ -59,6 +59,7 @@ const REFUSED: [(&str, u8, u64); 42] = [
     ("620e4801016c09a70702010130020400", 8, 14),
     ("62134801016c0ea20c020101300702012d05000500", 10, 19),
     ("62114801016c0ca20a020101300302012d0500", 10, 17),
+    ("620d4801016c08a20602010102012d", 10, 12),
     // Two elements at the parameter's place.
     ("62114801016c0ca10a02010102012d05000500", 10, 17),
 ];

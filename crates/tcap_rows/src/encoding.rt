@@ -155,6 +155,8 @@ fn failing_writer(rt: HostRuntime) -> Result<(), Fail> {
             encode(&message, &mut writer) == Err(EncodeFault::Write),
             "{count}"
         );
+        let octets = writer.into_inner();
+        assert_eq!(rt; octets.as_slice(), &wanted[..count], "{count}");
         assert_eq!(rt; written(rt.alloc(), &message)?, wanted, "{count}");
     }
     Ok(())

@@ -1,6 +1,6 @@
 use Rattle.tcap_ber.specs.Grammar.{integer}
 use Rattle.tcap_ber.specs.Reading.{element, small_integer_at}
-use Rattle.tcap_ber.proofs.GrammarLaws.{reads_integer}
+use Rattle.tcap_ber.proofs.BodyLaws.{reads_integer}
 use Rattle.tcap_ber.proofs.ResultLaws.{body_found, body_only, body_faulty}
 use Rattle.tcap_ber.proofs.integers.small_integer.Goals as goal
 
