@@ -8,11 +8,11 @@ use Rattle.std.proofs.lemmas.List.{length-append, nil_from_length}
 use Rattle.tcap_ber.specs.declared.fault.Fault.{Fault}
 use Rattle.tcap_ber.specs.declared.fault.Reason.TheVariants.{Missing, UnexpectedTag, Trailing}
 use Rattle.tcap_ber.specs.Element.{IsElement}
-use Rattle.tcap_ber.specs.Grammar.{Body, Field, Content, IsElementFault, IsMissing, IsUnexpected, IsFaultyInside, BeginsWith, SpellsOptional, SpellsParameter, required, optional, parameter, ended, ◌⨾◌, structure, made, after}
+use Rattle.tcap_ber.specs.Grammar.{Body, Field, Content, IsElementFault, IsMissing, IsUnexpected, IsFaultyInside, BeginsWith, SpellsOptional, SpellsParameter, required, optional, parameter, ended, ◌⨾▹◌, ◌⨾◌, structure, made, single, absent, after}
 use Rattle.tcap_ber.specs.Found.{FindsElement, Taken}
 use Rattle.tcap_ber.specs.Reads.{ReadsField, ReadsBody, ReadsContent}
 use Rattle.tcap_ber.specs.Span.{Span}
-use Rattle.tcap_ber.specs.Reading.{◌>>=◌, fault, Element, next_at, is_tag, is_next, wanted, required_at, raw_of, raw_at, with_body, with_some, optional_at, parameter_at, end_at}
+use Rattle.tcap_ber.specs.Reading.{◌>>=◌, fault, Element, next_at, is_tag, is_next, wanted, required_at, raw_of, raw_at, with_body, with_some, optional_at, parameter_at, end_at, single_at, absent_at}
 use Rattle.tcap_ber.proofs.Steps.{chosen, bind_ok, bind_err, ok_is, err_is}
 use Rattle.tcap_ber.proofs.ElementLaws.{element_len_at_least, next_sound, next_complete, next_fault}
 use Rattle.tcap_ber.proofs.FaultLaws.{refused_by, element_fault_some, raw_refused, required_refused}
@@ -281,10 +281,10 @@ reads_ended {W} w = record {
   stops = λ s f wrong. rw (ne_eqb (length s.octets) 0 (not_none (length s.octets) wrong.0)) (refused_by f Trailing s.place wrong.1 wrong.2);
 }
 
-pub reads_then : {V W U : Type 0} (first : Field V) (others : Content W) (make : V × W → U) (read : Span → Result (V × Span) Fault) (go_on : V → Span → Result U Fault)
-    → ReadsField first read → ((v : V) → ReadsContent others (λ w. make (v, w)) (go_on v))
-    → ReadsContent (first ⨾ others) make (λ s. read s >>= λ x. go_on x.0 x.1)
-reads_then first others make read go_on one all = record {
+pub reads_then_by : {V W U : Type 0} (first : Field V) (others : V → Content W) (make : V × W → U) (read : Span → Result (V × Span) Fault) (go_on : V → Span → Result U Fault)
+    → ReadsField first read → ((v : V) → ReadsContent (others v) (λ w. make (v, w)) (go_on v))
+    → ReadsContent (first ⨾▹ others) make (λ s. read s >>= λ x. go_on x.0 x.1)
+reads_then_by first others make read go_on one all = record {
   sound = λ s u e.
       let a = bind_ok (read s) (λ x. go_on x.0 x.1) u e in
       let t = one.sound s a.0.0 a.0.1 a.1 in
@@ -303,7 +303,7 @@ reads_then first others make read go_on one all = record {
               rest = a.0.1.octets;
               joined = t.joined;
               is_first = t.is_part;
-              behind = subst (λ (r : Span). others.faulty r f.reason f.place) (is_after s.place t.front a.0.1 t.place) ((all a.0.0).refuses a.0.1 f a.2);
+              behind = subst (λ (r : Span). (others a.0.0).faulty r f.reason f.place) (is_after s.place t.front a.0.1 t.place) ((all a.0.0).refuses a.0.1 f a.2);
             })
       ];
   stops = λ s f wrong.
@@ -315,6 +315,11 @@ reads_then first others make read go_on one all = record {
       ];
 }
 
+pub reads_then : {V W U : Type 0} (first : Field V) (others : Content W) (make : V × W → U) (read : Span → Result (V × Span) Fault) (go_on : V → Span → Result U Fault)
+    → ReadsField first read → ((v : V) → ReadsContent others (λ w. make (v, w)) (go_on v))
+    → ReadsContent (first ⨾ others) make (λ s. read s >>= λ x. go_on x.0 x.1)
+reads_then first others make read go_on one all = reads_then_by first (λ _. others) make read go_on one all
+
 pub reads_structure : {V W : Type 0} (content : Content V) (make : V → W) (read : Span → Result W Fault) → ReadsContent content make read
     → ReadsBody (made make (structure content)) (λ e. read e.content)
 reads_structure content make read reads = record {
@@ -322,4 +327,23 @@ reads_structure content make read reads = record {
   complete = λ e w h. reads.complete e.content h.0 h.2 ∙ ap (λ x. Ok x) (sym h.1);
   refuses = λ e f h. reads.refuses e.content f h;
   stops = λ e f h. reads.stops e.content f h;
+}
+
+pub reads_single : {V : Type 0} (part : Field V) (read : Span → Result (V × Span) Fault) → ReadsField part read → ReadsBody (single part) (λ e. single_at read e.content)
+reads_single part read one =
+    reads_structure (part ⨾ ended) (λ parts. parts.0) (single_at read)
+    (reads_then part ended (λ parts. parts.0) read (λ v s. end_at v s) one (λ v. reads_ended v))
+
+pub reads_absent : (V : Type 0) → ReadsField (absent {V = V}) absent_at
+reads_absent V = record {
+  sound = λ s v rest e.
+      let none : Option V × Span = (None, s) in
+      subst (λ (y : Option V × Span). Taken absent s y.0 y.1) (ok_is none (v, rest) e) (record { front = []; joined = refl; place = omega arith; is_part = (refl, refl) });
+  complete = λ place v front rest h.
+      let same : place ≡ place + 0 = omega arith in
+      let read : Result (Option V × Span) Fault = absent_at (record { octets = rest; place = place }) in
+      let gone : read ≡ Ok (None, record { octets = rest; place = place + 0 }) = ap (λ (p : ℕ). Ok (None, record { octets = rest; place = p })) same in
+      rw (h.0, h.1) gone;
+  refuses = λ s f e. absurd cc;
+  stops = λ s f h. absurd h;
 }

@@ -5,7 +5,7 @@ use Rattle.tcap_ber.specs.declared.fault.Reason.{Reason}
 use Rattle.tcap_ber.specs.declared.fault.Reason.TheVariants as reasons
 use Rattle.tcap_ber.specs.Span.{Span}
 use Rattle.tcap_ber.specs.Header.{IsHeaderFault, HasLengthOctet}
-use Rattle.tcap_ber.specs.Grammar.{Body, Field, Content, IsElementFault, IsFaultyInside, IsFaultyAfter, required, optional, parameter, ended, after, ◌⨾◌, each, structure, made, integer}
+use Rattle.tcap_ber.specs.Grammar.{Body, Field, Content, IsElementFault, IsFaultyInside, IsFaultyAfter, required, optional, parameter, verbatim, absent, ended, after, ◌⨾▹◌, ◌⨾◌, each, structure, made, single, integer}
 use Rattle.tcap_ber.specs.Choice.{Choice, ◌▹◌, ◌∣◌, others_are, one_of}
 use Rattle.tcap_ber.specs.ObjectId.{object_id}
 use Rattle.tcap_ber.specs.Small.{small, null}
@@ -42,6 +42,8 @@ header_fault_within octets reasons.UnexpectedTag place h = absurd h
 header_fault_within octets reasons.Missing place h = absurd h
 header_fault_within octets reasons.Trailing place h = absurd h
 header_fault_within octets reasons.EmptyComponents place h = absurd h
+header_fault_within octets reasons.BadVersion place h = absurd h
+header_fault_within octets reasons.DialogueSyntax place h = absurd h
 header_fault_within octets reasons.BadSize place h = absurd h
 header_fault_within octets reasons.BadTransactionId place h = absurd h
 header_fault_within octets reasons.CodeTooWide place h = absurd h
@@ -66,6 +68,14 @@ required_within tag body within s reason place (inr (inr (inr h))) = inside_with
 pub optional_within : {V : Type 0} (tag : ℕ) (body : Body V) → BodyWithin body → FieldWithin (optional tag body)
 optional_within tag body within s reason place h = required_within tag body within s reason place h.1
 
+pub verbatim_within : (tag : ℕ) → FieldWithin (verbatim tag)
+verbatim_within tag s reason place (inl h) = omega (arith, h.place_is)
+verbatim_within tag s reason place (inr (inl h)) = element_fault_within s reason place h
+verbatim_within tag s reason place (inr (inr h)) = omega (arith, h.place_is)
+
+pub absent_within : (V : Type 0) → FieldWithin (absent {V = V})
+absent_within V s reason place h = absurd h
+
 pub parameter_within : FieldWithin parameter
 parameter_within s reason place h = element_fault_within s reason place h
 
@@ -77,10 +87,13 @@ ended_within s reason place h = omega (arith, h.2)
 behind_within : (s : Span) (front rest : List ℕ) (place : ℕ) → s.octets ≡ front ++ rest → IsWithin (after s.place front rest) place → IsWithin s place
 behind_within s front rest place joined within = omega (arith, ap length joined, length-append front rest, within)
 
+pub then_by_within : {V W : Type 0} (first : Field V) (others : V → Content W) → FieldWithin first → ((v : V) → ContentWithin (others v)) → ContentWithin (first ⨾▹ others)
+then_by_within first others here there s reason place (inl h) = here s reason place h
+then_by_within first others here there s reason place (inr h) =
+    behind_within s h.front h.rest place h.joined (there h.value (after s.place h.front h.rest) reason place h.behind)
+
 pub then_within : {V W : Type 0} (first : Field V) (others : Content W) → FieldWithin first → ContentWithin others → ContentWithin (first ⨾ others)
-then_within first others here there s reason place (inl h) = here s reason place h
-then_within first others here there s reason place (inr h) =
-    behind_within s h.front h.rest place h.joined (there (after s.place h.front h.rest) reason place h.behind)
+then_within first others here there = then_by_within first (λ _. others) here (λ _. there)
 
 after_within : {V : Type 0} (item : Field V) → FieldWithin item → (vs : List V) (s : Span) (reason : Reason) (place : ℕ) → IsFaultyAfter item vs s reason place → IsWithin s place
 after_within item within [] s reason place h = within s reason place h.1
@@ -94,6 +107,9 @@ each_within item within s reason place h = after_within item within h.0 s reason
 
 pub structure_within : {V : Type 0} (content : Content V) → ContentWithin content → BodyWithin (structure content)
 structure_within content within at s reason place before h = within s reason place h
+
+pub single_within : {V : Type 0} (part : Field V) → FieldWithin part → BodyWithin (single part)
+single_within part within at s reason place before h = then_within part ended within ended_within s reason place h
 
 pub integer_within : (limit : ℕ) (too_wide : Reason) → BodyWithin (integer limit too_wide)
 integer_within limit too_wide at s reason place before h = omega (arith, h.0, before)

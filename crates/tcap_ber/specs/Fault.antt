@@ -1,7 +1,7 @@
 -- The numbers of the reasons.
 use Rattle.std.specs.Prelude.{ℕ}
 use Rattle.tcap_ber.specs.declared.fault.Reason.{Reason}
-use Rattle.tcap_ber.specs.declared.fault.Reason.TheVariants.{Cut, LengthForm, TooLong, TagForm, Overrun, BadInteger, BadObjectId, UnexpectedTag, Missing, Trailing, EmptyComponents, BadSize, BadTransactionId, Indefinite, CodeTooWide}
+use Rattle.tcap_ber.specs.declared.fault.Reason.TheVariants.{Cut, LengthForm, TooLong, TagForm, Overrun, BadInteger, BadObjectId, UnexpectedTag, Missing, Trailing, EmptyComponents, BadVersion, DialogueSyntax, BadSize, BadTransactionId, Indefinite, CodeTooWide}
 
 -- the number that a line of output gives for a reason
 abbrev pub number_of : Reason → ℕ
@@ -16,6 +16,8 @@ number_of UnexpectedTag = 8
 number_of Missing = 9
 number_of Trailing = 10
 number_of EmptyComponents = 11
+number_of BadVersion = 12
+number_of DialogueSyntax = 13
 number_of BadSize = 14
 number_of BadTransactionId = 15
 number_of Indefinite = 16

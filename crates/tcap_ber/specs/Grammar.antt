@@ -109,6 +109,20 @@ parameter = record {
   faulty = IsElementFault;
 }
 
+-- an element with this tag, kept verbatim
+abbrev pub verbatim : ℕ → Field (List ℕ)
+verbatim tag = record {
+  spells = λ v octets behind. IsElementOf tag (λ content. Unit {0}) octets × (v ≡ octets);
+  faulty = λ s reason place. IsMissing s reason place ⊎ IsElementFault s reason place ⊎ IsUnexpected tag s reason place;
+}
+
+-- no element: whatever stands there is none of it
+abbrev pub absent : {V : Type 0} → Field (Option V)
+absent = record {
+  spells = λ v octets behind. (v ≡ None) × (octets ≡ []);
+  faulty = λ s reason place. ⊥;
+}
+
 -- ---- contents
 
 -- nothing more stands there
@@ -122,29 +136,34 @@ ended = record {
 abbrev pub after : ℕ → List ℕ → List ℕ → Span
 after place front rest = record { octets = rest; place = place + length front }
 
-pub record SpellsThen {V W : Type 0} (first : Field V) (others : Content W) (x : V × W) (octets : List ℕ) : Type 0 where
+pub record SpellsThen {V W : Type 0} (first : Field V) (others : V → Content W) (x : V × W) (octets : List ℕ) : Type 0 where
   pub front : List ℕ
   pub rest : List ℕ
   pub joined : octets ≡ front ++ rest
   pub is_first : first.spells x.0 front rest
-  pub are_others : others.spells x.1 rest
+  pub are_others : (others x.0).spells x.1 rest
 
 -- the first part is there, and something is wrong behind it
-pub record IsFaultyBehind {V : Type 0} (first : Field V) (faulty : Span → Reason → ℕ → Type 0) (s : Span) (reason : Reason) (place : ℕ) : Type 0 where
+pub record IsFaultyBehind {V : Type 0} (first : Field V) (faulty : V → Span → Reason → ℕ → Type 0) (s : Span) (reason : Reason) (place : ℕ) : Type 0 where
   pub value : V
   pub front : List ℕ
   pub rest : List ℕ
   pub joined : s.octets ≡ front ++ rest
   pub is_first : first.spells value front rest
-  pub behind : faulty (after s.place front rest) reason place
+  pub behind : faulty value (after s.place front rest) reason place
+
+infixr 4 ◌⨾▹◌
+-- a part, and then others, which it decides
+abbrev pub ◌⨾▹◌ : {V W : Type 0} → Field V → (V → Content W) → Content (V × W)
+first ⨾▹ others = record {
+  spells = SpellsThen first others;
+  faulty = λ s reason place. first.faulty s reason place ⊎ IsFaultyBehind first (λ v. (others v).faulty) s reason place;
+}
 
 infixr 4 ◌⨾◌
 -- a part, and then others
 abbrev pub ◌⨾◌ : {V W : Type 0} → Field V → Content W → Content (V × W)
-first ⨾ others = record {
-  spells = SpellsThen first others;
-  faulty = λ s reason place. first.faulty s reason place ⊎ IsFaultyBehind first others.faulty s reason place;
-}
+first ⨾ others = first ⨾▹ (λ _. others)
 
 abbrev pub SpellsEach : {V : Type 0} → Field V → List V → List ℕ → Type 0
 SpellsEach item [] octets = octets ≡ []
@@ -179,6 +198,10 @@ made {V} make body = record {
   spells = λ w octets. (v : V) × (w ≡ make v) × body.spells v octets;
   faulty = body.faulty;
 }
+
+-- this one part, and nothing behind it
+abbrev pub single : {V : Type 0} → Field V → Body V
+single part = made (λ parts. parts.0) (structure (part ⨾ ended))
 
 -- the contents of an INTEGER (X.690 8.3) of at most so many octets, and its number
 abbrev pub IsSmallInteger : ℕ → ℤ → List ℕ → Type 0

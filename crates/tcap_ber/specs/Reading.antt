@@ -163,6 +163,14 @@ raw_at s = next_at s >>= raw_of s
 
 -- ---- for the words of the grammar
 
+-- the first element of a window, which has to be there with this tag, as its octets
+unfoldable pub verbatim_at : ℕ → Span → Result (List ℕ × Span) Fault
+verbatim_at tag s = required_at tag s >>= raw_of s
+
+-- a part that does not stand there
+abbrev pub absent_at : {V : Type 0} → Span → Result (Option V × Span) Fault
+absent_at s = Ok (None, s)
+
 -- the element's value, and what is left behind the element
 abbrev pub with_body : {V : Type 0} → (Element → Result V Fault) → Element × Span → Result (V × Span) Fault
 with_body read found = read found.0 >>= λ v. Ok (v, found.1)
@@ -183,6 +191,10 @@ parameter_at s = if length s.octets == 0 then Ok (None, s) else raw_at s >>= wit
 -- nothing more may stand there
 abbrev pub end_at : {W : Type 0} → W → Span → Result W Fault
 end_at w s = if length s.octets == 0 then Ok w else Err (fault Trailing s.place)
+
+-- one part, which is all of a content
+abbrev pub single_at : {V : Type 0} → (Span → Result (V × Span) Fault) → Span → Result V Fault
+single_at read s = read s >>= λ x. end_at x.0 x.1
 
 -- the items of a content one after the other, at most n of them
 abbrev pub each_at : {V : Type 0} → (Span → Result (V × Span) Fault) → ℕ → Span → Result (List V) Fault

@@ -28,6 +28,11 @@ pub enum Reason {
     Trailing,
     /// A component portion without content (Q.773 4.2.2).
     EmptyComponents,
+    /// A protocol version that is no BIT STRING of a few bits with version 1 set, this profile's limit (Q.773 4.2.3).
+    BadVersion,
+    /// A dialogue portion in another abstract syntax than Q.773's, or a PDU that its syntax has not
+    /// (Q.773 4.2.3).
+    DialogueSyntax,
     /// A one-octet integer with more octets, a negative one where none may stand, or a NULL with content.
     BadSize,
     /// A transaction ID of no octets or of over four (Q.773 4.2.1).
@@ -55,6 +60,8 @@ impl Reason {
             Reason::Missing => 9,
             Reason::Trailing => 10,
             Reason::EmptyComponents => 11,
+            Reason::BadVersion => 12,
+            Reason::DialogueSyntax => 13,
             Reason::BadSize => 14,
             Reason::BadTransactionId => 15,
             Reason::Indefinite => 16,

@@ -4,13 +4,13 @@ ghost use Rattle.std.specs.Prelude.{◌≡◌, ◌<◌, ◌+◌, ◌++◌, ℕ, 
 ghost use Rattle.std.specs.Option.{option_map};
 ghost use Rattle.tcap_ber.specs.declared.fault.Fault.{Fault};
 ghost use Rattle.tcap_ber.specs.Element.{IsRaw};
-ghost use Rattle.tcap_ber.specs.Grammar.{IsElementFault, parameter};
+ghost use Rattle.tcap_ber.specs.Grammar.{IsElementFault, parameter, verbatim};
 ghost use Rattle.tcap_ber.specs.Found.{Taken};
-ghost use Rattle.tcap_ber.specs.Reading.{Gives, span, is_raw, raw_at, parameter_at};
+ghost use Rattle.tcap_ber.specs.Reading.{Gives, span, is_raw, raw_at, verbatim_at, parameter_at};
 
 use crate::element::{Outer, Window};
 use crate::fault::Fault;
-use crate::window::{next_tlv, outer};
+use crate::window::{next_tlv, outer, required};
 use std::alloc::{AllocError, Global};
 use std::marker::Model;
 
@@ -97,6 +97,39 @@ impl<'a> RawView<'a> {
         ensures exact { Gives (λ x. (x.0.octets.now, span x.1)) result (raw_at (span window.entry)) }
     {
         RawView::read_next(window)
+    }
+
+    #[tactic(auto, unfolding(crate::specs::Reading::verbatim_at))]
+    fn read_required(
+        window: Window<'a>,
+        tag: u8,
+    ) -> Result<(RawView<'a>, Window<'a>), Fault>
+        ensures exact { Gives (λ x. (x.0.octets.now, span x.1)) result (verbatim_at tag (span window.entry)) }
+    {
+        let (_, rest) = required(window, tag)?;
+        let len = window.octets.len() - rest.octets.len();
+        let raw = RawView {
+            octets: &window.octets[..len],
+        };
+        Ok((raw, rest))
+    }
+
+    /// The element at the front of a window, which has to be there with this tag of one octet, and the
+    /// window behind it (X.690 8.1.1). The faults are those of [`required`](crate::required).
+    pub fn required(
+        window: Window<'a>,
+        tag: u8,
+    ) -> Result<(RawView<'a>, Window<'a>), Fault>
+        // What is read is the element that stands there, verbatim, and has this tag.
+        ensures found { IfOk result (λ x. Taken (verbatim tag) (span window.entry) x.0.octets.now (span x.1)) }
+        // An element of this tag that stands there is read.
+        ensures only { (value octets rest : List ℕ) → (verbatim tag).spells value octets rest → window.entry.octets.now ≡ octets ++ rest
+            → IsOkAnd result (λ x. (x.0.octets.now ≡ value) × (x.1.octets.now ≡ rest)) }
+        // What is refused is faulty there, and what is faulty is refused by that fault.
+        ensures faulty { (fault : Fault) → (result ≡ Err fault) ↔ (verbatim tag).faulty (span window.entry) fault.reason fault.place }
+        ensures exact { Gives (λ x. (x.0.octets.now, span x.1)) result (verbatim_at tag (span window.entry)) }
+    {
+        RawView::read_required(window, tag)
     }
 
     #[tactic(auto, unfolding(crate::specs::Reading::parameter_at))]
