@@ -15,3 +15,4 @@ pub mod PutLaws
 pub mod ObjectIdLaws
 pub mod SmallLaws
 pub mod WithinLaws
+pub mod VerbatimLaws

@@ -207,6 +207,16 @@ each_at read (suc n) s =
 unfoldable pub each_of : {V : Type 0} → (Span → Result (V × Span) Fault) → Span → Result (List V) Fault
 each_of read s = each_at read (length s.octets) s
 
+-- whether reading gave a value
+abbrev pub is_read : {A : Type 0} → Result A Fault → Bool
+is_read (Ok x) = true
+is_read (Err f) = false
+
+-- the items that were read
+abbrev pub read_or_none : {A : Type 0} → Result (List A) Fault → List A
+read_or_none (Ok xs) = xs
+read_or_none (Err f) = []
+
 -- ---- a choice
 
 -- the first element of a window, which has to be there

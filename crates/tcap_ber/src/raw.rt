@@ -107,9 +107,9 @@ impl<'a> RawView<'a> {
         ensures exact { Gives (λ x. (x.0.octets.now, span x.1)) result (verbatim_at tag (span window.entry)) }
     {
         let (_, rest) = required(window, tag)?;
-        let len = window.octets.len() - rest.octets.len();
+        let count = window.octets.len() - rest.octets.len();
         let raw = RawView {
-            octets: &window.octets[..len],
+            octets: &window.octets[..count],
         };
         Ok((raw, rest))
     }

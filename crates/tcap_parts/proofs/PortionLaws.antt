@@ -6,7 +6,7 @@ use Rattle.std.proofs.lemmas.List.{append-nil, length-append, nil_from_length}
 use Rattle.tcap_ber.specs.declared.fault.Fault.{Fault}
 use Rattle.tcap_ber.specs.declared.fault.Reason.TheVariants.{EmptyComponents}
 use Rattle.tcap_ber.specs.Span.{Span}
-use Rattle.tcap_ber.specs.Reading.{◌>>=◌, fault, Element}
+use Rattle.tcap_ber.specs.Reading.{◌>>=◌, fault, Element, is_read, read_or_none}
 use Rattle.tcap_ber.proofs.Steps.{chosen, err_is}
 use Rattle.tcap_ber.specs.Reads.{ReadsBody, ReadsContent}
 use Rattle.tcap_ber.proofs.FaultLaws.{refused_by}
@@ -14,7 +14,7 @@ use Rattle.tcap_ber.proofs.EachLaws.{wrong_after_some, each_of-empty, each_of-st
 use Rattle.tcap_parts.specs.declared.component.Component.{Component}
 use Rattle.tcap_parts.specs.Component.{component, portion}
 use Rattle.tcap_ber.specs.Grammar.{each}
-use Rattle.tcap_parts.specs.Reading.{component_at, components_at, portion_at, is_read, read_or_none}
+use Rattle.tcap_parts.specs.Reading.{component_at, components_at, portion_at}
 use Rattle.tcap_parts.proofs.ComponentLaws.{reads_component, component_has_octets}
 
 -- what was read before, and what is still read

@@ -2,7 +2,7 @@
 use Rattle.std.specs.Prelude.{ℕ, List, Option}
 use Rattle.std.specs.Option.{option_map}
 use Rattle.tcap_ber.specs.declared.raw.RawView.{RawView}
-use Rattle.tcap_ber.specs.Reading.{span}
+use Rattle.tcap_ber.specs.Reading.{span, read_or_none}
 use Rattle.tcap_parts.specs.declared.code.Code.{Code}
 use Rattle.tcap_parts.specs.declared.code.Code.TheVariants as codes
 use Rattle.tcap_parts.specs.declared.code.CodeView.{CodeView}
@@ -17,9 +17,13 @@ use Rattle.tcap_parts.specs.declared.component.Component.{Component}
 use Rattle.tcap_parts.specs.declared.component.Component.TheVariants as owned
 use Rattle.tcap_parts.specs.declared.component.ComponentView.{ComponentView}
 use Rattle.tcap_parts.specs.declared.component.ComponentView.TheVariants as views
+use Rattle.tcap_parts.specs.declared.portion.OctetPortion.{OctetPortion}
 use Rattle.tcap_parts.specs.declared.portion.PortionView.{PortionView}
-use Rattle.tcap_parts.specs.declared.portion.Components.{Components}
-use Rattle.tcap_parts.specs.Reading.{components_at, read_or_none}
+use Rattle.tcap_parts.specs.declared.portion.PortionView.TheVariants as portion_views
+use Rattle.tcap_parts.specs.declared.components.OctetComponents.{OctetComponents}
+use Rattle.tcap_parts.specs.declared.components.Components.{Components}
+use Rattle.tcap_parts.specs.declared.components.Components.TheVariants as cursors
+use Rattle.tcap_parts.specs.Reading.{components_at}
 
 -- the code that a view lends
 abbrev pub code_of : CodeView → Code
@@ -48,10 +52,20 @@ component_of (views.ReturnResult last id body) = owned.ReturnResult last id (opt
 component_of (views.ReturnError id code parameter) = owned.ReturnError id (code_of code) (parameter_of parameter)
 component_of (views.Reject id problem) = owned.Reject id (problem_of problem)
 
+-- the components of a portion that octets spell
+abbrev pub octet_components_of : OctetPortion → List Component
+octet_components_of portion = read_or_none (components_at (span portion.content))
+
 -- the components of a portion that a view lends
 abbrev pub components_of : PortionView → List Component
-components_of view = read_or_none (components_at (span view.content))
+components_of (portion_views.Octets portion) = octet_components_of portion
+components_of (portion_views.Value portion) = portion.now
+
+-- the components that a cursor over octets has still to give
+abbrev pub octet_components_left : OctetComponents → List Component
+octet_components_left cursor = read_or_none (components_at (span cursor.rest))
 
 -- the components that a cursor has still to give
 abbrev pub components_left : Components → List Component
-components_left cursor = read_or_none (components_at (span cursor.rest))
+components_left (cursors.Octets cursor) = octet_components_left cursor
+components_left (cursors.Values components) = components.now

@@ -104,13 +104,3 @@ components_at s = each_of component_at s
 
 unfoldable pub portion_at : Element → Result (List Component) Fault
 portion_at e = if length e.content.octets == 0 then Err (fault EmptyComponents e.place) else components_at e.content
-
--- whether reading gave a value
-abbrev pub is_read : {A : Type 0} → Result A Fault → Bool
-is_read (Ok x) = true
-is_read (Err f) = false
-
--- the items that were read
-abbrev pub read_or_none : {A : Type 0} → Result (List A) Fault → List A
-read_or_none (Ok xs) = xs
-read_or_none (Err f) = []

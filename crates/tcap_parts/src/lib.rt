@@ -4,6 +4,7 @@
 
 mod code;
 mod component;
+mod components;
 mod portion;
 mod problem;
 mod reading;
@@ -11,7 +12,8 @@ mod writing;
 
 pub use code::{Code, CodeView};
 pub use component::{Component, ComponentView, ResultBody, ResultBodyView};
-pub use portion::{Components, Portion, PortionView};
+pub use components::{Components, OctetComponents};
+pub use portion::{OctetPortion, Portion, PortionView};
 pub use problem::{Problem, ProblemView};
 pub use reading::view_component;
 pub use writing::{len_components, write_components};

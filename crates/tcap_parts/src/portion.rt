@@ -4,29 +4,31 @@ ghost use Rattle.std.specs.Prelude.{◌≡◌, ◌≢◌, [], ◌<◌, ◌↔◌
 ghost use Rattle.tcap_ber.specs.declared.fault.Fault.{Fault};
 ghost use Rattle.tcap_parts.specs.declared.component.Component.{Component};
 ghost use Rattle.tcap_parts.specs.Component.{portion, SpellsPortion};
-ghost use Rattle.tcap_ber.specs.Reading.{Gives, span, element};
-ghost use Rattle.tcap_parts.specs.Reading.{components_at, portion_at, is_read};
+ghost use Rattle.tcap_ber.specs.Reading.{Gives, span, element, is_read};
+ghost use Rattle.tcap_parts.specs.Reading.{components_at, portion_at};
 
 use crate::component::{Component, ComponentView};
+use crate::components::{Components, OctetComponents};
 use crate::reading::view_component;
 use std::alloc::{AllocError, Global};
 use std::marker::Model;
 use tcap_ber::{Fault, Reason, Tlv, Window};
 
-/// A component portion, lent from the octets that were read.
+/// A component portion as octets, which are components up to their end.
 #[derive(Clone, Copy, Debug)]
-pub struct PortionView<'a> {
+pub struct OctetPortion<'a> {
     content: Window<'a>,
     pub ghost whole: { is_read (components_at (span content)) ≡ true },
     pub ghost some: { 0 < length content.octets.now },
 }
 
-/// The components of a portion, one after the other, lent from the octets that were read. Each costs the
-/// time of reading it.
-#[derive(Debug, Drop)]
-pub struct Components<'a> {
-    rest: Window<'a>,
-    pub ghost whole: { is_read (components_at (span rest)) ≡ true },
+/// A component portion, lent from the octets that were read or from a value.
+#[derive(Clone, Copy, Debug)]
+pub enum PortionView<'a> {
+    /// Its octets.
+    Octets(OctetPortion<'a>),
+    /// This value.
+    Value(&'a Portion),
 }
 
 /// Components, at least one.
@@ -47,6 +49,8 @@ impl Model for Portion {
 }
 
 impl Portion {
+    ghost use Rattle.tcap_parts.specs.Meaning.{components_of};
+
     /// The components as a portion; `None` exactly where there are none.
     pub fn new(components: Vec<Component>) -> Option<Portion>
         ensures found { IfSome result (λ portion. portion ≡ components.items) }
@@ -66,6 +70,20 @@ impl Portion {
     {
         self.components.as_slice()
     }
+
+    /// The portion, lent.
+    pub fn view(&self) -> PortionView<'_>
+        ensures { components_of result ≡ self.now }
+    {
+        PortionView::Value(self)
+    }
+
+    /// An equal portion of its own.
+    pub fn copy(&self, alloc: Global) -> Result<Portion, AllocError>
+        ensures { IfOk result (λ portion. portion ≡ self.now) }
+    {
+        self.view().to_portion(alloc)
+    }
 }
 
 /// Reads each component of `content`, and refuses it at the first fault.
@@ -82,7 +100,7 @@ fn check_components(content: Window) -> Result<(), Fault>
 }
 
 impl<'a> PortionView<'a> {
-    ghost use Rattle.tcap_parts.specs.Meaning.{components_of, components_left};
+    ghost use Rattle.tcap_parts.specs.Meaning.{component_of, components_of, components_left};
 
     #[tactic(auto, unfolding(crate::specs::Reading::portion_at))]
     fn from_content(tlv: Tlv<'a>) -> Result<PortionView<'a>, Fault>
@@ -95,9 +113,9 @@ impl<'a> PortionView<'a> {
             });
         }
         check_components(tlv.content)?;
-        Ok(PortionView {
+        Ok(PortionView::Octets(OctetPortion {
             content: tlv.content,
-        })
+        }))
     }
 
     /// The component portion that an element of tag 6C holds, lent from its octets. `EmptyComponents` at
@@ -120,7 +138,34 @@ impl<'a> PortionView<'a> {
     pub fn components(self) -> Components<'a>
         ensures { components_left result ≡ components_of self.entry }
     {
-        Components { rest: self.content }
+        match self {
+            PortionView::Octets(portion) => Components::Octets(OctetComponents {
+                rest: portion.content,
+            }),
+            PortionView::Value(portion) => Components::Values(portion.items()),
+        }
+    }
+
+    /// The count of the components. Where they are octets, it costs the time of reading them.
+    pub fn count(self) -> usize
+        ensures { result ≡ length (components_of self.entry) }
+    {
+        match self {
+            PortionView::Octets(_) => self.components().count(),
+            PortionView::Value(portion) => portion.items().len(),
+        }
+    }
+
+    /// The component with that index, from 0, of which there has to be one. Where the components are octets, it
+    /// costs the time of reading those before it too.
+    pub fn component(self, index: usize) -> ComponentView<'a>
+        requires { index < length (components_of self) }
+        ensures { slice_get (components_of self.entry) index ≡ Some (component_of result) }
+    {
+        match self {
+            PortionView::Octets(_) => self.components().nth(index).unwrap(),
+            PortionView::Value(portion) => portion.items()[index].view(),
+        }
     }
 
     /// The components as values of their own.
@@ -132,27 +177,5 @@ impl<'a> PortionView<'a> {
             components.push(component.to_component(alloc)?)?;
         }
         Ok(Portion { components })
-    }
-}
-
-impl<'a> Iterator for Components<'a> {
-    ghost use Rattle.std.specs.Iterator.{item_count, YieldsFirstBy};
-    ghost use Rattle.tcap_parts.specs.Meaning.{component_of, components_left};
-
-    type Item = ComponentView<'a>;
-
-    ghost next_gives = { YieldsFirstBy component_of components_left };
-
-    ghost remaining = { item_count components_left };
-
-    fn next(&mut self) -> Option<ComponentView<'a>> {
-        if self.rest.octets.is_empty() {
-            return None;
-        }
-        let Ok((component, rest)) = view_component(self.rest) else {
-            unreachable!()
-        };
-        self.rest = rest;
-        Some(component)
     }
 }

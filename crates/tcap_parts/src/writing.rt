@@ -5,11 +5,12 @@ ghost use Rattle.std.specs.Option.{option_map, IsSome};
 ghost use Rattle.std.specs.Io.KnownBytes.{Appends};
 ghost use Rattle.tcap_ber.specs.Device.{CountsFailure};
 ghost use Rattle.tcap_parts.specs.Canonical.{canonical_integer, canonical_code, canonical_coded, canonical_linked, canonical_body, canonical_rejected, canonical_problem, component_tag, canonical_content, canonical_component, canonical_portion, parameter_octets, problem_tag, problem_number};
-ghost use Rattle.tcap_parts.specs.Meaning.{code_of, parameter_of, body_of, problem_of, component_of};
+ghost use Rattle.tcap_parts.specs.Meaning.{code_of, parameter_of, body_of, problem_of, component_of, components_of};
 ghost use Rattle.tcap_parts.specs.Writing.{Written};
 
 use crate::code::{CodeView, GLOBAL, LOCAL};
-use crate::component::{Component, ComponentView, ResultBodyView};
+use crate::component::{ComponentView, ResultBodyView};
+use crate::portion::PortionView;
 use crate::problem::ProblemView;
 use tcap_ber::{
     CONTENT_LIMIT, Failed, RawView, Write, element_len, integer_len, put_element, put_header,
@@ -134,14 +135,14 @@ fn len_component(component: ComponentView) -> Option<usize>
     element_len(len_content(component)?)
 }
 
-/// The count of octets of the content of a component portion that is these components; `None` exactly
-/// where a content, the portion's own included, is over 65,535 octets. It takes no memory.
-pub fn len_components(components: &[Component]) -> Option<usize>
-    ensures { result ≡ option_map length (canonical_portion components.now) }
+/// The count of octets of the content of a component portion; `None` exactly where a content, the portion's
+/// own included, is over 65,535 octets. It takes no memory.
+pub fn len_components(portion: PortionView) -> Option<usize>
+    ensures { result ≡ option_map length (canonical_portion (components_of portion.entry)) }
 {
     let mut total = 0;
-    for component in components {
-        total += len_component(component.view())?;
+    for component in portion.components() {
+        total += len_component(component)?;
         if total > CONTENT_LIMIT {
             return None;
         }
@@ -308,16 +309,15 @@ fn write_component<W: Write>(component: ComponentView, writer: &mut W) -> Result
     write_content(component, writer)
 }
 
-/// Writes components one after the other, which are within the limits. `Failed` where the writer failed.
-/// It takes no memory.
-pub fn write_components<W: Write>(components: &[Component], writer: &mut W) -> Result<(), Failed>
-    requires { IsSome (canonical_portion components.now) }
-    ensures ok { OnOk result ((octets : List ℕ) → canonical_portion components.now ≡ Some octets
-        → Appends (W.taken writer.old) (W.taken writer.new) octets) }
+/// Writes the content of a component portion that is within the limits: its components one after the other.
+/// `Failed` where the writer failed. It takes no memory.
+pub fn write_components<W: Write>(portion: PortionView, writer: &mut W) -> Result<(), Failed>
+    requires { IsSome (canonical_portion (components_of portion)) }
+    ensures ok { OnOk result (Written (canonical_portion (components_of portion.entry)) (W.taken writer.old) (W.taken writer.new)) }
     ensures counts { CountsFailure (W.failures writer.old) (W.failures writer.new) result }
 {
-    for component in components {
-        write_component(component.view(), writer)?;
+    for component in portion.components() {
+        write_component(component, writer)?;
     }
     Ok(())
 }

@@ -1,7 +1,7 @@
 use Rattle.std.proofs.Common.{◌≡◌, length, Err}
 use Rattle.tcap_ber.specs.declared.fault.Fault.{Fault}
-use Rattle.tcap_ber.specs.Reading.{span}
-use Rattle.tcap_parts.specs.Reading.{components_at, is_read}
+use Rattle.tcap_ber.specs.Reading.{span, is_read}
+use Rattle.tcap_parts.specs.Reading.{components_at}
 use Rattle.tcap_parts.proofs.portion.check_components.Given as goal
 
 abbrev pub invariant-loop-rest : goal.invariant-loop-rest
