@@ -4,3 +4,10 @@ pub mod Reading
 pub mod Canonical
 pub mod Valid
 pub mod Writing
+pub mod Info
+pub mod InfoReading
+pub mod Dialogue
+pub mod DialogueReading
+pub mod DialogueMeaning
+pub mod DialogueCanonical
+pub mod DialogueValid

@@ -6,6 +6,7 @@ ghost use Rattle.tcap_ber.specs.Reading.{Gives, span};
 ghost use Rattle.tcap_parts.specs.Meaning.{code_of};
 ghost use Rattle.tcap_parts.specs.Reading.{code_at};
 
+use crate::tags::{INTEGER, OBJECT_ID};
 use std::alloc::{AllocError, Global};
 use tcap_ber::{
     Fault, ObjectId, ObjectIdView, Reason, Window, object_id, required_any, small_integer,
@@ -29,22 +30,16 @@ pub enum CodeView<'a> {
     Global(ObjectIdView<'a>),
 }
 
-/// The tag of an INTEGER, which a local code is.
-pub(crate) const LOCAL: u8 = 0x02;
-
-/// The tag of an OBJECT IDENTIFIER, which a global code is.
-pub(crate) const GLOBAL: u8 = 0x06;
-
 /// The code at the front of a window, and the window behind it (Q.773 4.2.2).
 #[tactic(auto, unfolding(crate::specs::Reading::code_at))]
 pub(crate) fn read_code(window: Window) -> Result<(CodeView, Window), Fault>
     ensures exact { Gives (λ x. (code_of x.0, span x.1)) result (code_at (span window.entry)) }
 {
     let (found, rest) = required_any(window)?;
-    if found.tag.is(LOCAL) {
+    if found.tag.is(INTEGER) {
         let local = small_integer(found, 4, Reason::CodeTooWide)?;
         Ok((CodeView::Local(local), rest))
-    } else if found.tag.is(GLOBAL) {
+    } else if found.tag.is(OBJECT_ID) {
         Ok((CodeView::Global(object_id(found)?), rest))
     } else {
         Err(found.refused(Reason::UnexpectedTag))

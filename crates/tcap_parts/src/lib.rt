@@ -1,18 +1,27 @@
-//! The component portion of TCAP messages (Q.773 4.2.2): its components, each read into a view that
+//! The parts of TCAP messages (Q.773): components, and the PDUs of dialogue portions, each read into a view that
 //! borrows the octets, and the values that are made of views.
 #![tactic(auto)]
 
 mod code;
 mod component;
 mod components;
+mod dialogue;
+mod dialogue_reading;
+mod dialogue_writing;
+mod info;
 mod portion;
 mod problem;
 mod reading;
+mod tags;
 mod writing;
 
 pub use code::{Code, CodeView};
 pub use component::{Component, ComponentView, ResultBody, ResultBodyView};
 pub use components::{Components, OctetComponents};
+pub use dialogue::{Dialogue, DialogueView, Source, SourceView};
+pub use dialogue_reading::view_dialogue;
+pub use dialogue_writing::{len_dialogue, write_dialogue};
+pub use info::{Info, InfoView};
 pub use portion::{OctetPortion, Portion, PortionView};
 pub use problem::{Problem, ProblemView};
 pub use reading::view_component;

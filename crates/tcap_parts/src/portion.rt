@@ -1,6 +1,6 @@
 //! The component portion (Q.773 4.2.2): one component after the other, and at least one.
 
-ghost use Rattle.std.specs.Prelude.{◌≡◌, ◌≢◌, [], ◌<◌, ◌↔◌, length, true, IfOk, IfSome, IsSome, OnOk, IfErr, Err, List, IsOkAnd};
+ghost use Rattle.std.specs.Prelude.{◌≡◌, ◌≢◌, [], ◌<◌, ◌↔◌, length, slice_get, true, Some, IfOk, IfSome, IsSome, OnOk, IfErr, Err, List, IsOkAnd};
 ghost use Rattle.tcap_ber.specs.declared.fault.Fault.{Fault};
 ghost use Rattle.tcap_parts.specs.declared.component.Component.{Component};
 ghost use Rattle.tcap_parts.specs.Component.{portion, SpellsPortion};

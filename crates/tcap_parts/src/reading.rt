@@ -13,27 +13,12 @@ ghost use Rattle.tcap_parts.specs.Reading.{invoke_id_at, linked_id_at, rejected_
 use crate::code::read_code;
 use crate::component::{ComponentView, ResultBodyView};
 use crate::problem::read_problem;
+use crate::tags::{
+    INTEGER, INVOKE, LINKED_ID, NULL, REJECT, RETURN_ERROR, RETURN_RESULT_LAST, RETURN_RESULT_NOT_LAST, SEQUENCE,
+};
 use tcap_ber::{
     Fault, RawView, Reason, Window, begins_with, ended, null, octet_integer, required, required_any,
 };
-
-const INTEGER: u8 = 0x02;
-
-const NULL: u8 = 0x05;
-
-const LINKED_ID: u8 = 0x80;
-
-const SEQUENCE: u8 = 0x30;
-
-const INVOKE: u8 = 0xA1;
-
-const RETURN_RESULT_LAST: u8 = 0xA2;
-
-const RETURN_ERROR: u8 = 0xA3;
-
-const REJECT: u8 = 0xA4;
-
-const RETURN_RESULT_NOT_LAST: u8 = 0xA7;
 
 /// The invoke ID at the front of a window.
 #[tactic(auto, unfolding(crate::specs::Reading::invoke_id_at))]

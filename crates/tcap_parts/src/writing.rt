@@ -8,22 +8,17 @@ ghost use Rattle.tcap_parts.specs.Canonical.{canonical_integer, canonical_code, 
 ghost use Rattle.tcap_parts.specs.Meaning.{code_of, parameter_of, body_of, problem_of, component_of, components_of};
 ghost use Rattle.tcap_parts.specs.Writing.{Written};
 
-use crate::code::{CodeView, GLOBAL, LOCAL};
+use crate::code::CodeView;
 use crate::component::{ComponentView, ResultBodyView};
 use crate::portion::PortionView;
 use crate::problem::ProblemView;
+use crate::tags::{
+    INTEGER, INVOKE, LINKED_ID, NULL, OBJECT_ID, REJECT, RETURN_ERROR, RETURN_RESULT_LAST, RETURN_RESULT_NOT_LAST, SEQUENCE,
+};
 use tcap_ber::{
     CONTENT_LIMIT, Failed, RawView, Write, element_len, integer_len, put_element, put_header,
     put_integer,
 };
-
-const INTEGER: u8 = 0x02;
-
-const NULL: u8 = 0x05;
-
-const SEQUENCE: u8 = 0x30;
-
-const LINKED_ID: u8 = 0x80;
 
 /// The count of octets of an INTEGER with a tag of one octet.
 fn len_integer(value: i32) -> usize
@@ -165,8 +160,8 @@ fn write_code<W: Write>(code: CodeView, writer: &mut W) -> Result<(), Failed>
     ensures counts { CountsFailure (W.failures writer.old) (W.failures writer.new) result }
 {
     match code {
-        CodeView::Local(local) => put_integer(LOCAL, local, writer),
-        CodeView::Global(id) => put_element(GLOBAL, id.octets, writer),
+        CodeView::Local(local) => put_integer(INTEGER, local, writer),
+        CodeView::Global(id) => put_element(OBJECT_ID, id.octets, writer),
     }
 }
 
@@ -288,11 +283,11 @@ fn tag(component: ComponentView) -> u8
     ensures { result ≡ component_tag (component_of component.entry) }
 {
     match component {
-        ComponentView::Invoke { .. } => 0xA1,
-        ComponentView::ReturnResult { last: true, .. } => 0xA2,
-        ComponentView::ReturnResult { last: false, .. } => 0xA7,
-        ComponentView::ReturnError { .. } => 0xA3,
-        ComponentView::Reject { .. } => 0xA4,
+        ComponentView::Invoke { .. } => INVOKE,
+        ComponentView::ReturnResult { last: true, .. } => RETURN_RESULT_LAST,
+        ComponentView::ReturnResult { last: false, .. } => RETURN_RESULT_NOT_LAST,
+        ComponentView::ReturnError { .. } => RETURN_ERROR,
+        ComponentView::Reject { .. } => REJECT,
     }
 }
 

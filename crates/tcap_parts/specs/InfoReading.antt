@@ -1,0 +1,25 @@
+-- Reading user information from left to right, up to the first fault.
+use Rattle.std.specs.Prelude.{Bool, ℕ, List, Option, Result, Ok}
+use Rattle.tcap_ber.specs.declared.fault.Fault.{Fault}
+use Rattle.tcap_ber.specs.Span.{Span}
+use Rattle.tcap_ber.specs.Reading.{◌>>=◌, Element, verbatim_at, optional_at, each_of, is_read, read_or_none}
+
+unfoldable pub external_at : Span → Result (List ℕ × Span) Fault
+external_at s = verbatim_at 0x28 s
+
+unfoldable pub externals_at : Span → Result (List (List ℕ)) Fault
+externals_at s = each_of external_at s
+
+unfoldable pub info_of : Element → Result (List ℕ) Fault
+info_of e = externals_at e.content >>= λ _. Ok e.content.octets
+
+-- whether octets are EXTERNALs up to their end
+unfoldable pub are_externals : List ℕ → Bool
+are_externals octets = is_read (externals_at (record { octets = octets; place = 0 }))
+
+-- the EXTERNALs that octets are
+unfoldable pub externals_of : List ℕ → List (List ℕ)
+externals_of octets = read_or_none (externals_at (record { octets = octets; place = 0 }))
+
+unfoldable pub info_at : Span → Result (Option (List ℕ) × Span) Fault
+info_at s = optional_at 0xBE info_of s
