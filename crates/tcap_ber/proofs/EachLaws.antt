@@ -22,7 +22,7 @@ abbrev pub HasOctets : {V : Type 0} → Field V → Type 0
 HasOctets {V} item = (v : V) (front rest : List ℕ) → item.spells v front rest → 0 < length front
 
 -- behind an item fewer octets are left
-item_is_shorter : {V : Type 0} (item : Field V) (read : Span → Result (V × Span) Fault) → ReadsField item read → HasOctets item
+pub item_is_shorter : {V : Type 0} (item : Field V) (read : Span → Result (V × Span) Fault) → ReadsField item read → HasOctets item
     → (s : Span) (x : V × Span) → read s ≡ Ok x → length x.1.octets < length s.octets
 item_is_shorter item read reads has s x e =
     let t = reads.sound s x.0 x.1 e in

@@ -9,6 +9,7 @@ pub mod GrammarLaws
 pub mod BodyLaws
 pub mod ChoiceLaws
 pub mod EachLaws
+pub mod EachLoopLaws
 pub mod ResultLaws
 pub mod CanonicalLaws
 pub mod PutLaws

@@ -100,10 +100,7 @@ impl<'a> RawView<'a> {
     }
 
     #[tactic(auto, unfolding(crate::specs::Reading::verbatim_at))]
-    fn read_required(
-        window: Window<'a>,
-        tag: u8,
-    ) -> Result<(RawView<'a>, Window<'a>), Fault>
+    fn read_required(window: Window<'a>, tag: u8) -> Result<(RawView<'a>, Window<'a>), Fault>
         ensures exact { Gives (λ x. (x.0.octets.now, span x.1)) result (verbatim_at tag (span window.entry)) }
     {
         let (_, rest) = required(window, tag)?;
@@ -116,10 +113,7 @@ impl<'a> RawView<'a> {
 
     /// The element at the front of a window, which has to be there with this tag of one octet, and the
     /// window behind it (X.690 8.1.1). The faults are those of [`required`](crate::required).
-    pub fn required(
-        window: Window<'a>,
-        tag: u8,
-    ) -> Result<(RawView<'a>, Window<'a>), Fault>
+    pub fn required(window: Window<'a>, tag: u8) -> Result<(RawView<'a>, Window<'a>), Fault>
         // What is read is the element that stands there, verbatim, and has this tag.
         ensures found { IfOk result (λ x. Taken (verbatim tag) (span window.entry) x.0.octets.now (span x.1)) }
         // An element of this tag that stands there is read.

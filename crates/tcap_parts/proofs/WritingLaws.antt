@@ -1,17 +1,16 @@
 -- The octets of parts, one after the other, as they are counted and written; and those of components, as a loop does it.
-use Rattle.std.proofs.Common.{◌≡◌, ℕ, ◌+◌, ◌<◌, ◌≤◌, List, [], ◌∷◌, ◌++◌, length, get_or, take, drop, Option, Some, None, Result, Ok, Err, OnOk, nat_le, refl, sym, ap, subst, ◌∙◌, inl, inr, add-one, arith}
+use Rattle.std.proofs.Common.{◌≡◌, ℕ, ◌+◌, ◌<◌, ◌≤◌, List, [], ◌∷◌, length, Option, Some, None, Result, Ok, Err, OnOk, nat_le, refl, sym, ap, subst, ◌∙◌, inl, inr, arith}
 use Rattle.std.specs.Option.{option_map, IsSome}
 use Rattle.std.specs.Io.KnownBytes.{Appends}
-use Rattle.std.proofs.KnownBytes.{Appends-trans}
-use Rattle.std.proofs.lemmas.Bool.{lt-leb, leb-true, leb-false}
-use Rattle.std.proofs.lemmas.List.{take-append-drop, length-append}
-use Rattle.std.proofs.Math.Seq.{take-suc}
+use Rattle.std.proofs.KnownBytes.{Appends-nil, Appends-trans}
+use Rattle.std.proofs.lemmas.Bool.{le-leb, lt-leb, leb-true}
+use Rattle.std.proofs.lemmas.List.{length-append}
 use Rattle.tcap_ber.specs.Canonical.{◌⧺◌, element_around, shortest_header}
 use Rattle.tcap_ber.specs.Device.{Takes}
 use Rattle.tcap_ber.specs.declared.device.Failed.{Failed}
 use Rattle.tcap_ber.proofs.Steps.{chosen}
 use Rattle.tcap_ber.proofs.CanonicalLaws.{some_is, element_around-is, join-is}
-use Rattle.tcap_ber.proofs.PutLaws.{some_same, join_nil, nil_join, join_assoc, join_none, join_len, no_len, some_there, some_not_none}
+use Rattle.tcap_ber.proofs.PutLaws.{some_same, join_len, no_len, some_there}
 use Rattle.tcap_parts.specs.declared.component.Component.{Component}
 use Rattle.tcap_parts.specs.Canonical.{canonical_component, canonical_components, canonical_portion, within_limit}
 use Rattle.tcap_parts.specs.Writing.{Written}
@@ -66,18 +65,6 @@ around_written tag n x a b c (Ok _) len header content =
 
 -- ---- components one after the other
 
-components-append : (a b : List Component) → canonical_components (a ++ b) ≡ canonical_components a ⧺ canonical_components b
-components-append [] b = sym (join_nil (canonical_components b))
-components-append (c ∷ a) b =
-    ap (λ (x : Option (List ℕ)). canonical_component c ⧺ x) (components-append a b) ∙ sym (join_assoc (canonical_component c) (canonical_components a) (canonical_components b))
-
--- the components up to one, and that one
-components_next : (components : List Component) (i : ℕ) (c : Component) → i < length components → get_or components i c ≡ c
-    → canonical_components (take (i + 1) components) ≡ canonical_components (take i components) ⧺ canonical_component c
-components_next components i c below at =
-    let step : take (i + 1) components ≡ take i components ++ c ∷ [] = rw (add-one i) (take-suc components i c below ∙ ap (λ (x : Component). take i components ++ x ∷ []) at) in
-    ap canonical_components step ∙ components-append (take i components) (c ∷ []) ∙ ap (λ (x : Option (List ℕ)). canonical_components (take i components) ⧺ x) (nil_join (canonical_component c))
-
 over_long : (octets : List ℕ) → 65535 < length octets → within_limit (Some octets) ≡ None
 over_long octets h = rw (lt-leb (length octets) 65535 h) refl
 
@@ -89,69 +76,101 @@ within_is (Some a) octets e =
       | inr h ↦ absurd cc
     ]
 
-long_over : (octets : List ℕ) → within_limit (Some octets) ≡ None → 65535 < length octets
-long_over octets e =
-    elim (chosen (nat_le (length octets) 65535) (Some octets) None None e) [
-      | inl h ↦ absurd cc
-      | inr h ↦ leb-false (length octets) 65535 h.0
-    ]
-
--- what is not within the limit is not with more behind it
-over_join : (x y : Option (List ℕ)) → within_limit x ≡ None → within_limit (x ⧺ y) ≡ None
-over_join None y e = refl
-over_join (Some a) None e = refl
-over_join (Some a) (Some b) e = over_long (a ++ b) (omega (arith, length-append a b, long_over a e))
-
-over_front : (components : List Component) (i : ℕ) → within_limit (canonical_components (take i components)) ≡ None → canonical_portion components ≡ None
-over_front components i e =
-    ap canonical_portion (sym (take-append-drop i components)) ∙ ap within_limit (components-append (take i components) (drop i components)) ∙ over_join (canonical_components (take i components)) (canonical_components (drop i components)) e
+pub portion_within : (components : List Component) (octets : List ℕ) → canonical_portion components ≡ Some octets → length octets ≤ 65535
+portion_within components octets e = (within_is (canonical_components components) octets e).1
 
 -- ---- components counted
 
-abbrev pub Counted : List Component → ℕ → ℕ → Type 0
-Counted components i total = option_map length (canonical_components (take i components)) ≡ Some total
+-- the components so far have so many octets, and those that are left the others
+abbrev pub Counted : List Component → ℕ → List Component → Type 0
+Counted components total left = option_map length (canonical_components components) ≡ option_map (λ n. total + n) (option_map length (canonical_components left))
 
-pub counts_next : (components : List Component) (i total len : ℕ) (c : Component) → i < length components → get_or components i c ≡ c → Counted components i total
-    → Some len ≡ option_map length (canonical_component c) → Counted components (i + 1) (total + len)
-counts_next components i total len c below at before here =
-    ap (option_map length) (components_next components i c below at) ∙ join_len (canonical_components (take i components)) (canonical_component c) total len before (sym here)
+pub counts_none : (components left : List Component) → left ≡ components → Counted components 0 left
+counts_none components left e = rw e (of_it (canonical_components components))
+  where
+    of_it : (x : Option (List ℕ)) → option_map length x ≡ option_map (λ n. 0 + n) (option_map length x)
+    of_it None = refl
+    of_it (Some a) = ap (λ (n : ℕ). Some n) (omega arith)
+
+plus : (total len : ℕ) (x y : Option (List ℕ)) → Some len ≡ option_map length x → option_map (λ n. total + n) (option_map length (x ⧺ y)) ≡ option_map (λ n. total + len + n) (option_map length y)
+plus total len None y e = absurd cc
+plus total len (Some a) None e = refl
+plus total len (Some a) (Some b) e = ap (λ (n : ℕ). Some n) (omega (arith, length-append a b, some_same len (length a) e))
+
+pub counts_next : (components : List Component) (total len : ℕ) (left : List Component) (c : Component) (rest : List Component) → Counted components total left → left ≡ c ∷ rest
+    → Some len ≡ option_map length (canonical_component c) → Counted components (total + len) rest
+counts_next components total len left c rest before e here =
+    before ∙ ap (λ (x : List Component). option_map (λ n. total + n) (option_map length (canonical_components x))) e ∙ plus total len (canonical_component c) (canonical_components rest) here
 
 -- a component is over the limit
-pub counts_over_part : (components : List Component) (i : ℕ) (c : Component) → i < length components → get_or components i c ≡ c
+pub counts_over_part : (components : List Component) (total : ℕ) (left : List Component) (c : Component) (rest : List Component) → Counted components total left → left ≡ c ∷ rest
     → None ≡ option_map length (canonical_component c) → None ≡ option_map length (canonical_portion components)
-counts_over_part components i c below at here =
-    let none : canonical_components (take (i + 1) components) ≡ None =
-    components_next components i c below at ∙ ap (λ (x : Option (List ℕ)). canonical_components (take i components) ⧺ x) (no_len (canonical_component c) here) ∙ join_none (canonical_components (take i components)) in
-    sym (ap (option_map length) (over_front components (i + 1) (ap within_limit none)))
+counts_over_part components total left c rest before e here =
+    let none : canonical_components left ≡ None = ap canonical_components e ∙ ap (λ (x : Option (List ℕ)). x ⧺ canonical_components rest) (no_len (canonical_component c) here) in
+    let all : canonical_components components ≡ None = no_len (canonical_components components) (sym (before ∙ ap (λ (x : Option (List ℕ)). option_map (λ n. total + n) (option_map length x)) none)) in
+    sym (ap (λ (x : Option (List ℕ)). option_map length (within_limit x)) all)
 
 -- the components so far are over the limit
-pub counts_over : (components : List Component) (i total : ℕ) → Counted components i total → 65535 < total → None ≡ option_map length (canonical_portion components)
-counts_over components i total counted over = sym (ap (option_map length) (over_front components i (too_long (canonical_components (take i components)) total counted over)))
+pub counts_over : (components : List Component) (total : ℕ) (left : List Component) → Counted components total left → 65535 < total → None ≡ option_map length (canonical_portion components)
+counts_over components total left counted over = of_it (canonical_components components) (canonical_components left) counted
   where
-    too_long : (x : Option (List ℕ)) (n : ℕ) → option_map length x ≡ Some n → 65535 < n → within_limit x ≡ None
-    too_long None n e over = refl
-    too_long (Some a) n e over = over_long a (omega (arith, some_same (length a) n e))
+    of_it : (x y : Option (List ℕ)) → option_map length x ≡ option_map (λ n. total + n) (option_map length y) → None ≡ option_map length (within_limit x)
+    of_it None y e = refl
+    of_it (Some a) None e = absurd cc
+    of_it (Some a) (Some b) e = rw (over_long a (omega (arith, some_same (length a) (total + length b) e))) refl
+
+-- all components are counted
+pub counts_all : (components : List Component) (total : ℕ) (left : List Component) → Counted components total left → left ≡ [] → total ≤ 65535 → Some total ≡ option_map length (canonical_portion components)
+counts_all components total left counted e within = of_it (canonical_components components) (rw e at counted)
+  where
+    of_it : (x : Option (List ℕ)) → option_map length x ≡ Some (total + 0) → Some total ≡ option_map length (within_limit x)
+    of_it None h = absurd cc
+    of_it (Some a) h =
+        let same : length a ≡ total = omega (arith, some_same (length a) (total + 0) h) in
+        rw (le-leb (length a) 65535 (omega (arith, same, within))) (ap (λ (n : ℕ). Some n) (sym same))
 
 -- ---- components written
 
--- a component of a portion that is written is written
-pub some_component : (components : List Component) (i : ℕ) (c : Component) → IsSome (canonical_portion components) → i < length components → get_or components i c ≡ c
+-- what is left can be written, and with it all are
+pub record Wrote (components left : List Component) (old new : Option (List ℕ)) : Type 0 where
+  pub some : IsSome (canonical_components left)
+  pub all : (after : Option (List ℕ)) → Written (canonical_components left) new after → Written (canonical_components components) old after
+
+pub wrote_none : (components left : List Component) (old : Option (List ℕ)) → left ≡ components → IsSome (canonical_portion components) → Wrote components left old old
+wrote_none components left old e some =
+    let it = some_there (canonical_portion components) some in
+    record {
+      some = rw (e, (within_is (canonical_components components) it.0 it.1).0) refl;
+      all = λ after h. subst (λ (x : List Component). Written (canonical_components x) old after) e h;
+    }
+
+first_there : (x y : Option (List ℕ)) → IsSome (x ⧺ y) → IsSome x
+first_there None y some = some
+first_there (Some a) y some = refl
+
+rest_there : (x y : Option (List ℕ)) → IsSome (x ⧺ y) → IsSome y
+rest_there None y some = absurd cc
+rest_there (Some a) None some = some
+rest_there (Some a) (Some b) some = refl
+
+-- the first component of those that are left can be written
+pub some_component : (components left : List Component) (old new : Option (List ℕ)) (c : Component) (rest : List Component) → Wrote components left old new → left ≡ c ∷ rest
     → IsSome (canonical_component c)
-some_component components i c some below at = of_it (canonical_component c) refl
+some_component components left old new c rest wrote e =
+    first_there (canonical_component c) (canonical_components rest) (subst (λ (x : List Component). IsSome (canonical_components x)) e wrote.some)
+
+pub wrote_next : (components left : List Component) (old between new : Option (List ℕ)) (c : Component) (rest : List Component) → Wrote components left old between → left ≡ c ∷ rest
+    → Written (canonical_component c) between new → Wrote components rest old new
+wrote_next components left old between new c rest before e here = record {
+  some = rest_there (canonical_component c) (canonical_components rest) (subst (λ (x : List Component). IsSome (canonical_components x)) e before.some);
+  all = λ after h. before.all after (subst (λ (x : List Component). Written (canonical_components x) between after) (sym e)
+      (both_written (canonical_component c) (canonical_components rest) between new after here h));
+}
+
+pub wrote_all : (components left : List Component) (old new : Option (List ℕ)) → Wrote components left old new → left ≡ [] → Written (canonical_portion components) old new
+wrote_all components left old new wrote e =
+    λ octets is.
+    wrote.all new (subst (λ (x : List Component). Written (canonical_components x) new new) (sym e) (nothing new)) octets (within_is (canonical_components components) octets is).0
   where
-    of_it : (x : Option (List ℕ)) → canonical_component c ≡ x → IsSome x
-    of_it None e =
-        absurd (some_not_none (canonical_portion components) some (no_len (canonical_portion components) (counts_over_part components i c below at (sym (ap (option_map length) e)))))
-    of_it (Some a) e = refl
-
--- what the first components were written as
-abbrev pub Wrote : List Component → ℕ → Option (List ℕ) → Option (List ℕ) → Type 0
-Wrote components i old new = Written (canonical_components (take i components)) old new
-
-pub wrote_next : (components : List Component) (i : ℕ) (c : Component) (old between new : Option (List ℕ)) → i < length components → get_or components i c ≡ c
-    → Wrote components i old between → Written (canonical_component c) between new → Wrote components (i + 1) old new
-wrote_next components i c old between new below at before here =
-    subst (λ (x : Option (List ℕ)). Written x old new) (sym (components_next components i c below at)) (both_written (canonical_components (take i components)) (canonical_component c) old between new before here)
-
-pub portion_within : (components : List Component) (octets : List ℕ) → canonical_portion components ≡ Some octets → length octets ≤ 65535
-portion_within components octets e = (within_is (canonical_components components) octets e).1
+    nothing : (a : Option (List ℕ)) → Written (Some []) a a
+    nothing a = λ octets is. subst (Appends a a) (some_is [] octets is) (Appends-nil a)

@@ -1,5 +1,5 @@
 -- Reading components from left to right, up to the first fault.
-use Rattle.std.specs.Prelude.{Bool, true, false, ℤ, List, [], length, Option, Some, None, Result, Ok, Err, ◌==◌, if◌then◌else◌}
+use Rattle.std.specs.Prelude.{Bool, true, false, ℤ, List, length, Option, Some, None, Result, Ok, Err, ◌==◌, if◌then◌else◌}
 use Rattle.tcap_ber.specs.declared.fault.Fault.{Fault}
 use Rattle.tcap_ber.specs.declared.fault.Reason.TheVariants.{BadSize, UnexpectedTag, CodeTooWide, EmptyComponents}
 use Rattle.tcap_ber.specs.Span.{Span}

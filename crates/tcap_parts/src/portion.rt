@@ -1,6 +1,6 @@
 //! The component portion (Q.773 4.2.2): one component after the other, and at least one.
 
-ghost use Rattle.std.specs.Prelude.{◌≡◌, ◌≢◌, [], ◌<◌, ◌↔◌, length, slice_get, true, Some, IfOk, IfSome, IsSome, OnOk, IfErr, Err, List, IsOkAnd};
+ghost use Rattle.std.specs.Prelude.{◌≡◌, ◌≢◌, [], ◌<◌, ◌↔◌, length, slice_get, true, IfOk, IfSome, IsSome, OnOk, IfErr, Err, List, IsOkAnd, Some};
 ghost use Rattle.tcap_ber.specs.declared.fault.Fault.{Fault};
 ghost use Rattle.tcap_parts.specs.declared.component.Component.{Component};
 ghost use Rattle.tcap_parts.specs.Component.{portion, SpellsPortion};
@@ -134,9 +134,9 @@ impl<'a> PortionView<'a> {
         PortionView::from_content(tlv)
     }
 
-    /// The components, one after the other.
-    pub fn components(self) -> Components<'a>
-        ensures { components_left result ≡ components_of self.entry }
+    fn some_components(self) -> Components<'a>
+        ensures left { components_left result ≡ components_of self.entry }
+        ensures some { components_of self.entry ≢ [] }
     {
         match self {
             PortionView::Octets(portion) => Components::Octets(OctetComponents {
@@ -144,6 +144,13 @@ impl<'a> PortionView<'a> {
             }),
             PortionView::Value(portion) => Components::Values(portion.items()),
         }
+    }
+
+    /// The components, one after the other.
+    pub fn components(self) -> Components<'a>
+        ensures { components_left result ≡ components_of self.entry }
+    {
+        self.some_components()
     }
 
     /// The count of the components. Where they are octets, it costs the time of reading them.
@@ -173,7 +180,7 @@ impl<'a> PortionView<'a> {
         ensures { IfOk result (λ portion. portion ≡ components_of self.entry) }
     {
         let mut components = Vec::new(alloc);
-        for component in self.components() {
+        for component in self.some_components() {
             components.push(component.to_component(alloc)?)?;
         }
         Ok(Portion { components })

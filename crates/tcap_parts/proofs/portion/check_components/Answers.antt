@@ -1,9 +1,9 @@
 use Rattle.std.proofs.Common.{[], ◌∷◌, length, sym, ap, ◌∙◌}
 use Rattle.std.proofs.lemmas.Result.{err_from_is_err_and}
 use Rattle.tcap_ber.specs.Reading.{span, is_read}
+use Rattle.tcap_ber.proofs.EachLoopLaws.{with_front-err, not_empty, is_empty}
 use Rattle.tcap_parts.specs.Meaning.{component_of}
-
-use Rattle.tcap_parts.proofs.PortionLaws.{components_end, components_fault, components_step, rest_is_read, rest_is_shorter, with_front-err, not_empty, is_empty}
+use Rattle.tcap_parts.proofs.PortionLaws.{components_end, components_fault, components_step, rest_is_read, rest_is_shorter}
 use Rattle.tcap_parts.proofs.portion.check_components.Goals as goal
 
 pub returns-in_err-behind-clause-err : goal.returns-in_err-behind-clause-err

@@ -1,7 +1,7 @@
 use Rattle.std.proofs.Common.{◌<◌, length, arith}
 use Rattle.std.proofs.lemmas.Result.{err_from_is_err_and}
 use Rattle.tcap_ber.specs.Reading.{span}
-use Rattle.tcap_parts.proofs.PortionLaws.{not_empty}
+use Rattle.tcap_ber.proofs.EachLoopLaws.{not_empty}
 use Rattle.tcap_record.specs.Framed.{entry_limit}
 use Rattle.tcap_record.proofs.FramingLaws.{read_fails, fault_is_own, rest_is_shorter, framed_next}
 use Rattle.tcap_record.proofs.framing.read_all.Goals as goal

@@ -1,8 +1,9 @@
 use Rattle.std.proofs.Common.{length, ap, ◌∙◌, rules}
 use Rattle.tcap_ber.specs.Reading.{span}
+use Rattle.tcap_ber.proofs.EachLoopLaws.{not_read, not_empty, is_empty}
 use Rattle.tcap_parts.specs.Meaning.{component_of}
 use Rattle.tcap_parts.specs.Reading.{components_at}
-use Rattle.tcap_parts.proofs.PortionLaws.{components_fault, left_end, left_step, rest_is_read, not_read, not_empty, is_empty}
+use Rattle.tcap_parts.proofs.PortionLaws.{components_fault, left_end, left_step, rest_is_read}
 use Rattle.tcap_parts.proofs.components.OctetComponentsIterator.next.Goals as goal
 
 pub returns-then-is_empty-clause-steps : goal.returns-then-is_empty-clause-steps
