@@ -1,5 +1,7 @@
+pub mod TransactionId
 pub mod Message
 pub mod Meaning
+pub mod Parts
 pub mod Reading
 pub mod Decode
 pub mod Canonical

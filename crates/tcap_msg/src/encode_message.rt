@@ -1,24 +1,31 @@
-//! Messages as they are written: with the shortest definite lengths, parameters verbatim.
+//! Messages as they are written: with the shortest definite lengths, the protocol version as 80 02 07 80, parameters
+//! and user information verbatim.
 
 ghost use Rattle.std.specs.Prelude.{◌≡◌, ◌≢◌, ℕ, ◌≤◌, ◌↔◌, List, length, Some, None, Err, IfSome, OnOk};
-ghost use Rattle.std.specs.Option.{option_map};
+ghost use Rattle.std.specs.Option.{option_map, IsSome};
 ghost use Rattle.std.specs.Io.KnownBytes.{Appends};
 ghost use Rattle.tcap_ber.specs.Device.{CountsFailure, one_more};
+ghost use Rattle.tcap_parts.specs.Meaning.{components_of};
+ghost use Rattle.tcap_parts.specs.DialogueMeaning.{dialogue_of};
+ghost use Rattle.tcap_parts.specs.Writing.{Written};
 ghost use Rattle.tcap_msg.specs.declared.encode_message.EncodeFault.{EncodeFault};
-ghost use Rattle.tcap_msg.specs.declared.message.Message.TheVariants.{Begin};
-ghost use Rattle.tcap_msg.specs.Canonical.{canonical};
-ghost use Rattle.tcap_msg.specs.Encoding.{IsMeasured, portion_content, portion_element, id_element, IsEncoded};
+ghost use Rattle.tcap_msg.specs.Canonical.{message_tag, canonical_id, canonical_cause, canonical_dialogue_portion, canonical_component_portion, canonical_content, canonical};
+ghost use Rattle.tcap_msg.specs.Encoding.{IsEncoded};
+ghost use Rattle.tcap_msg.specs.Meaning.{id_of, number_of, message_of};
 
+use crate::kind::Kind;
 use crate::message::Message;
-use crate::transaction_id::TransactionId;
-use tcap_ber::{CONTENT_LIMIT, Failed, Write, header_len, put_header};
-use tcap_parts::{Portion, len_components, write_components};
-
-const BEGIN: u8 = 0x62;
-
-const OTID: u8 = 0x48;
-
-const COMPONENTS: u8 = 0x6C;
+use crate::parts::MessageParts;
+use crate::tags::{
+    ABORT, BEGIN, CAUSE, COMPONENT_PORTION, CONTINUE, DIALOGUE_PORTION, DTID, END, OTID,
+    UNIDIRECTIONAL,
+};
+use crate::transaction_id::TransactionIdView;
+use crate::views::MessageView;
+use tcap_ber::{CONTENT_LIMIT, Failed, SmallView, Write, element_len, put_element, put_header};
+use tcap_parts::{
+    DialogueView, PortionView, len_components, len_dialogue, write_components, write_dialogue,
+};
 
 /// Why a message was not written.
 #[derive(Clone, Copy, Debug, PartialEq, Eq)]
@@ -37,58 +44,60 @@ impl From<Failed> for EncodeFault {
     }
 }
 
-/// Counts of octets, each counted once: of the component portion's content, 0 where there is no portion,
-/// and of the message's content.
-#[derive(Clone, Copy)]
-struct Lens {
-    portion: usize,
-    content: usize,
-}
-
-/// The count of octets of the component portion's content: 0 where there is no portion, `None` exactly
-/// where a content is over 65,535 octets.
-fn len_portion(components: &Option<Portion>) -> Option<usize>
-    ensures { result ≡ option_map length (portion_content components.now) }
+/// The count of octets of a transaction ID, 0 where there is none.
+fn len_id(id: Option<TransactionIdView>) -> usize
+    ensures exact { (tag : ℕ) → option_map length (canonical_id tag (id_of id.entry)) ≡ Some result }
+    ensures most { result ≤ 6 }
 {
-    match components {
-        Some(portion) => len_components(portion.items()),
-        None => Some(0),
-    }
-}
-
-/// The count of octets of the component portion, whose content has `portion_len` octets.
-fn len_element(components: &Option<Portion>, portion_len: usize) -> usize
-    requires { portion_len ≤ 65535 }
-    ensures exact { (portion : List ℕ) → portion_len ≡ length portion → result ≡ length (portion_element components.now portion) }
-    ensures most { result ≤ 65539 }
-{
-    match components {
-        Some(_) => header_len(portion_len) + portion_len,
+    match id {
+        Some(id) => 2 + id.octets.len(),
         None => 0,
     }
 }
 
-/// The lengths of a Begin; `None` where a content is over 65,535 octets.
-fn measure(otid: &TransactionId, components: &Option<Portion>) -> Option<Lens>
-    ensures found { IfSome result (λ lens. IsMeasured otid.now components.now lens.portion lens.content) }
-    ensures within { IfSome result (λ lens. lens.content ≤ 65535) }
-    ensures none { result ≡ None → canonical (Begin otid.now components.now) ≡ None }
+/// The count of octets of a P-Abort cause, 0 where there is none.
+fn len_cause(cause: Option<SmallView>) -> usize
+    ensures exact { option_map length (canonical_cause (number_of cause)) ≡ Some result }
+    ensures most { result ≤ 3 }
 {
-    let portion = len_portion(components)?;
-    let id_len = otid.octets().len();
-    let content = header_len(id_len) + id_len + len_element(components, portion);
-    if content > CONTENT_LIMIT {
-        return None;
+    match cause {
+        Some(_) => 3,
+        None => 0,
     }
-    Some(Lens { portion, content })
 }
 
-/// The count of octets of a Begin; `None` exactly where a content is over 65,535 octets.
-fn len_begin(otid: &TransactionId, components: &Option<Portion>) -> Option<usize>
-    ensures { result ≡ option_map length (canonical (Begin otid.now components.now)) }
+/// The count of octets of a dialogue portion, 0 where there is none; `None` exactly where a content is over 65,535
+/// octets.
+fn len_dialogue_portion(dialogue: Option<DialogueView>) -> Option<usize>
+    ensures exact { result ≡ option_map length (canonical_dialogue_portion (option_map dialogue_of dialogue.entry)) }
+    ensures most { IfSome result (λ n. n ≤ 65539) }
 {
-    let lens = measure(otid, components)?;
-    Some(header_len(lens.content) + lens.content)
+    match dialogue {
+        Some(dialogue) => element_len(len_dialogue(dialogue)?),
+        None => Some(0),
+    }
+}
+
+/// The count of octets of a component portion, 0 where there is none; `None` exactly where a content is over 65,535
+/// octets.
+fn len_component_portion(components: Option<PortionView>) -> Option<usize>
+    ensures exact { result ≡ option_map length (canonical_component_portion (option_map components_of components.entry)) }
+    ensures most { IfSome result (λ n. n ≤ 65539) }
+{
+    match components {
+        Some(components) => element_len(len_components(components)?),
+        None => Some(0),
+    }
+}
+
+/// The count of octets of a message's content; `None` exactly where a content inside is over 65,535 octets.
+fn len_content(message: MessageView) -> Option<usize>
+    ensures { result ≡ option_map length (canonical_content (message_of message.entry)) }
+{
+    let ids = len_id(message.otid()) + len_id(message.dtid());
+    let front = ids + len_cause(message.cause());
+    let portions = len_dialogue_portion(message.dialogue())?;
+    Some(front + portions + len_component_portion(message.its_portion())?)
 }
 
 /// The count of octets of the message as [`encode`] writes it; `None` exactly where a content is over
@@ -96,80 +105,119 @@ fn len_begin(otid: &TransactionId, components: &Option<Portion>) -> Option<usize
 pub fn encoded_len(message: &Message) -> Option<usize>
     ensures { result ≡ option_map length (canonical message.now) }
 {
-    let Message::Begin { otid, components } = message;
-    len_begin(otid, components)
+    element_len(len_content(message.view())?)
 }
 
-/// Writes the originating transaction ID. `Failed` where the writer failed.
-fn write_id<W: Write>(otid: &TransactionId, writer: &mut W) -> Result<(), Failed>
-    ensures ok { OnOk result (Appends (W.taken writer.old) (W.taken writer.new) (id_element otid.now)) }
-    ensures counts { CountsFailure (W.failures writer.old) (W.failures writer.new) result }
-{
-    let octets = otid.octets();
-    put_header(OTID, octets.len(), writer)?;
-    writer.write_all(octets)
-}
-
-/// Writes the component portion, whose content has `portion_len` octets. `Failed` where the writer
-/// failed.
-fn write_portion<W: Write>(
-    components: &Option<Portion>,
-    portion_len: usize,
+/// Writes a transaction ID under this tag, where there is one. `Failed` where the writer failed.
+fn write_id<W: Write>(
+    tag: u8,
+    id: Option<TransactionIdView>,
     writer: &mut W,
 ) -> Result<(), Failed>
-    requires len { option_map length (portion_content components.now) ≡ Some portion_len }
-    requires within { portion_len ≤ 65535 }
-    ensures ok { OnOk result ((portion : List ℕ) → portion_content components.now ≡ Some portion
-        → Appends (W.taken writer.old) (W.taken writer.new) (portion_element components.now portion)) }
+    ensures ok { OnOk result (Written (canonical_id tag (id_of id.entry)) (W.taken writer.old) (W.taken writer.new)) }
     ensures counts { CountsFailure (W.failures writer.old) (W.failures writer.new) result }
 {
-    match components {
-        Some(portion) => {
-            put_header(COMPONENTS, portion_len, writer)?;
-            write_components(portion.items(), writer)
-        }
+    match id {
+        Some(id) => put_element(tag, id.octets, writer),
         None => Ok(()),
     }
 }
 
-/// Writes a Begin of these lengths. `Failed` where the writer failed.
-fn write_begin<W: Write>(
-    otid: &TransactionId,
-    components: &Option<Portion>,
-    lens: Lens,
-    writer: &mut W,
-) -> Result<(), Failed>
-    requires measured { IsMeasured otid.now components.now lens.portion lens.content }
-    requires within { lens.content ≤ 65535 }
-    ensures ok { OnOk result ((octets : List ℕ) × (canonical (Begin otid.now components.now) ≡ Some octets)
-        × Appends (W.taken writer.old) (W.taken writer.new) octets) }
+/// Writes a P-Abort cause, where there is one. `Failed` where the writer failed.
+fn write_cause<W: Write>(cause: Option<SmallView>, writer: &mut W) -> Result<(), Failed>
+    ensures ok { OnOk result (Written (canonical_cause (number_of cause)) (W.taken writer.old) (W.taken writer.new)) }
     ensures counts { CountsFailure (W.failures writer.old) (W.failures writer.new) result }
 {
-    put_header(BEGIN, lens.content, writer)?;
-    write_id(otid, writer)?;
-    write_portion(components, lens.portion, writer)
+    match cause {
+        Some(cause) => put_element(CAUSE, &[cause.number], writer),
+        None => Ok(()),
+    }
 }
 
-/// Writes a Begin. The faults are those of [`encode`].
-fn encode_begin<W: Write>(
-    otid: &TransactionId,
-    components: &Option<Portion>,
+/// Writes a dialogue portion, where there is one, which is within the limits. `Failed` where the writer failed.
+fn write_dialogue_portion<W: Write>(
+    dialogue: Option<DialogueView>,
     writer: &mut W,
-) -> Result<(), EncodeFault>
-    ensures exact { IsEncoded (canonical (Begin otid.now components.now)) (W.taken writer.old) (W.taken writer.new)
+) -> Result<(), Failed>
+    requires { IsSome (canonical_dialogue_portion (option_map dialogue_of dialogue)) }
+    ensures ok { OnOk result (Written (canonical_dialogue_portion (option_map dialogue_of dialogue.entry)) (W.taken writer.old) (W.taken writer.new)) }
+    ensures counts { CountsFailure (W.failures writer.old) (W.failures writer.new) result }
+{
+    let Some(dialogue) = dialogue else {
+        return Ok(());
+    };
+    let Some(len) = len_dialogue(dialogue) else {
+        unreachable!()
+    };
+    put_header(DIALOGUE_PORTION, len, writer)?;
+    write_dialogue(dialogue, writer)
+}
+
+/// Writes a component portion, where there is one, which is within the limits. `Failed` where the writer failed.
+fn write_component_portion<W: Write>(
+    components: Option<PortionView>,
+    writer: &mut W,
+) -> Result<(), Failed>
+    requires { IsSome (canonical_component_portion (option_map components_of components)) }
+    ensures ok { OnOk result (Written (canonical_component_portion (option_map components_of components.entry)) (W.taken writer.old) (W.taken writer.new)) }
+    ensures counts { CountsFailure (W.failures writer.old) (W.failures writer.new) result }
+{
+    let Some(components) = components else {
+        return Ok(());
+    };
+    let Some(len) = len_components(components) else {
+        unreachable!()
+    };
+    put_header(COMPONENT_PORTION, len, writer)?;
+    write_components(components, writer)
+}
+
+/// Writes the content of a message, which is within the limits. `Failed` where the writer failed.
+fn write_content<W: Write>(message: MessageView, writer: &mut W) -> Result<(), Failed>
+    requires { IsSome (canonical_content (message_of message)) }
+    ensures ok { OnOk result (Written (canonical_content (message_of message.entry)) (W.taken writer.old) (W.taken writer.new)) }
+    ensures counts { CountsFailure (W.failures writer.old) (W.failures writer.new) result }
+{
+    write_id(OTID, message.otid(), writer)?;
+    write_id(DTID, message.dtid(), writer)?;
+    write_cause(message.cause(), writer)?;
+    write_dialogue_portion(message.dialogue(), writer)?;
+    write_component_portion(message.its_portion(), writer)
+}
+
+/// The tag of a message (Q.773 4.2.1).
+fn tag(kind: Kind) -> u8
+    ensures { result ≡ message_tag kind }
+{
+    match kind {
+        Kind::Unidirectional => UNIDIRECTIONAL,
+        Kind::Begin => BEGIN,
+        Kind::Continue => CONTINUE,
+        Kind::End => END,
+        Kind::Abort => ABORT,
+    }
+}
+
+/// Writes a message. The faults are those of [`encode`].
+fn encode_view<W: Write>(message: MessageView, writer: &mut W) -> Result<(), EncodeFault>
+    ensures exact { IsEncoded (canonical (message_of message.entry)) (W.taken writer.old) (W.taken writer.new)
         (W.failures writer.old) (W.failures writer.new) result }
     ensures nothing { result ≡ Err EncodeFault.TooLong → writer.new ≡ writer.old }
 {
-    let Some(lens) = measure(otid, components) else {
+    let Some(len) = len_content(message) else {
         return Err(EncodeFault::TooLong);
     };
-    write_begin(otid, components, lens, writer)?;
+    if len > CONTENT_LIMIT {
+        return Err(EncodeFault::TooLong);
+    }
+    put_header(tag(message.kind()), len, writer)?;
+    write_content(message, writer)?;
     Ok(())
 }
 
-/// Writes the message in its canonical spelling: with the shortest definite lengths, its parameters
-/// verbatim. `TooLong` exactly where a content would be over 65,535 octets, and then nothing is written;
-/// `Write` where the writer failed. It takes no memory.
+/// Writes the message in its canonical spelling: with the shortest definite lengths, the protocol version as
+/// 80 02 07 80, its parameters and its user information verbatim. `TooLong` exactly where a content would be over
+/// 65,535 octets, and then nothing is written; `Write` where the writer failed. It takes no memory.
 pub fn encode<W: Write>(message: &Message, writer: &mut W) -> Result<(), EncodeFault>
     ensures ok { OnOk result ((octets : List ℕ) × (canonical message.now ≡ Some octets)
         × Appends (W.taken writer.old) (W.taken writer.new) octets) }
@@ -178,6 +226,5 @@ pub fn encode<W: Write>(message: &Message, writer: &mut W) -> Result<(), EncodeF
     ensures write { result ≡ Err EncodeFault.Write → W.failures writer.new ≡ one_more (W.failures writer.old) }
     ensures others { result ≢ Err EncodeFault.Write → W.failures writer.new ≡ W.failures writer.old }
 {
-    let Message::Begin { otid, components } = message;
-    encode_begin(otid, components, writer)
+    encode_view(message.view(), writer)
 }

@@ -3,16 +3,17 @@
 ghost use Rattle.std.specs.Prelude.{◌≡◌, ℕ, List, [], ◌++◌, length, Ok, Some};
 ghost use Rattle.std.specs.List.{All};
 ghost use Rattle.tcap_ber.specs.declared.fault.Fault.{Fault};
-ghost use Rattle.tcap_parts.specs.Valid.{IsId, IsOptionalId, IsCode, IsParameter, IsResultBody, IsProblem, IsComponent};
+ghost use Rattle.tcap_parts.specs.Valid.{IsId, IsOptionalId, IsCode, IsParameter, IsResultBody, IsProblem, IsComponent, IsPortion};
+ghost use Rattle.tcap_parts.specs.DialogueValid.{IsInfo, IsSource, IsDialogue};
 ghost use Rattle.tcap_msg.specs.declared.message.Message.{Message};
 ghost use Rattle.tcap_msg.specs.Message.{Spells, IsFaulty};
 ghost use Rattle.tcap_msg.specs.Canonical.{canonical};
 ghost use Rattle.tcap_msg.specs.Reading.{message_at};
-ghost use Rattle.tcap_msg.specs.Valid.{IsMessage};
+ghost use Rattle.tcap_msg.specs.Valid.{IsDialoguePortion, IsComponentPortion, IsAbortReason, IsMessage};
 
-use crate::message::Message;
+use crate::message::{AbortReason, Message};
 use tcap_ber::Raw;
-use tcap_parts::{Code, Component, Problem, ResultBody};
+use tcap_parts::{Code, Component, Dialogue, Info, Portion, Problem, ResultBody, Source};
 
 /// Octets spell at most one message.
 pub fn one_message()
@@ -139,13 +140,131 @@ fn are_components(components: &[Component])
     }
 }
 
+fn is_portion(portion: &Portion)
+    ensures { IsPortion portion.now }
+{
+    are_components(portion.items());
+}
+
+fn is_component_portion(components: &Option<Portion>)
+    ensures { IsComponentPortion components.now }
+{
+    if let Some(portion) = components {
+        is_portion(portion);
+    }
+}
+
+fn is_info(info: &Option<Info>)
+    ensures { IsInfo info.now }
+{
+    if let Some(info) = info {
+        info.octets();
+    }
+}
+
+fn is_source(source: &Source)
+    ensures { IsSource source.now }
+{
+    match source {
+        Source::User(number) => number.number(),
+        Source::Provider(number) => number.number(),
+    };
+}
+
+fn is_dialogue(dialogue: &Dialogue)
+    ensures { IsDialogue dialogue.now }
+{
+    match dialogue {
+        Dialogue::Request { context, info } => {
+            context.octets();
+            is_info(info);
+        }
+        Dialogue::Response {
+            context,
+            result,
+            diagnostic,
+            info,
+        } => {
+            context.octets();
+            result.number();
+            is_source(diagnostic);
+            is_info(info);
+        }
+        Dialogue::Abort { source, info } => {
+            source.number();
+            is_info(info);
+        }
+        Dialogue::Uni { context, info } => {
+            context.octets();
+            is_info(info);
+        }
+    }
+}
+
+fn is_dialogue_portion(dialogue: &Option<Dialogue>)
+    ensures { IsDialoguePortion dialogue.now }
+{
+    if let Some(dialogue) = dialogue {
+        is_dialogue(dialogue);
+    }
+}
+
+fn is_reason(reason: &Option<AbortReason>)
+    ensures { IsAbortReason reason.now }
+{
+    match reason {
+        Some(AbortReason::Cause(cause)) => {
+            cause.number();
+        }
+        Some(AbortReason::Dialogue(dialogue)) => is_dialogue(dialogue),
+        None => {}
+    }
+}
+
 /// Each message of the type is one of which the laws speak.
 pub fn is_message(message: &Message)
     ensures { IsMessage message.now }
 {
-    let Message::Begin { otid, components } = message;
-    otid.octets();
-    if let Some(portion) = components {
-        are_components(portion.items());
+    match message {
+        Message::Unidirectional {
+            dialogue,
+            components,
+        } => {
+            is_dialogue_portion(dialogue);
+            is_portion(components);
+        }
+        Message::Begin {
+            otid,
+            dialogue,
+            components,
+        } => {
+            otid.octets();
+            is_dialogue_portion(dialogue);
+            is_component_portion(components);
+        }
+        Message::Continue {
+            otid,
+            dtid,
+            dialogue,
+            components,
+        } => {
+            otid.octets();
+            dtid.octets();
+            is_dialogue_portion(dialogue);
+            is_component_portion(components);
+        }
+        Message::End {
+            dtid,
+            dialogue,
+            components,
+        } => {
+            dtid.octets();
+            is_dialogue_portion(dialogue);
+            is_component_portion(components);
+        }
+        Message::Abort { dtid, reason } => {
+            dtid.octets();
+            is_reason(reason);
+        }
     }
 }

@@ -1,13 +1,19 @@
-//! TCAP messages (Q.773): read into a view that borrows the octets, or into a value.
+//! TCAP messages (Q.773): read into a view that borrows the octets, or into a value, and written.
 #![tactic(auto)]
 
 mod encode_message;
+mod kind;
 pub mod laws;
+mod lending;
 mod message;
+mod parts;
+mod tags;
 mod transaction_id;
 mod views;
 
 pub use encode_message::{EncodeFault, encode, encoded_len};
-pub use message::{DecodeFault, Message, decode};
+pub use kind::Kind;
+pub use message::{AbortReason, DecodeFault, Message, decode};
+pub use parts::MessageParts;
 pub use transaction_id::{TransactionId, TransactionIdView};
-pub use views::{MessageView, view};
+pub use views::{AbortReasonView, MessageView, view};

@@ -11,17 +11,51 @@ ghost use Rattle.tcap_msg.specs.Reading.{message_at};
 use crate::transaction_id::TransactionId;
 use crate::views::view;
 use std::alloc::{AllocError, Global};
-use tcap_ber::Fault;
-use tcap_parts::Portion;
+use tcap_ber::{Fault, Small};
+use tcap_parts::{Dialogue, Portion};
 
 /// A message.
 #[derive(Debug, Drop)]
 pub enum Message {
-    /// A Begin: its originating transaction ID and its component portion.
+    /// A Unidirectional: its dialogue portion and its component portion.
+    Unidirectional {
+        dialogue: Option<Dialogue>,
+        components: Portion,
+    },
+    /// A Begin: its originating transaction ID, its dialogue portion and its component portion.
     Begin {
         otid: TransactionId,
+        dialogue: Option<Dialogue>,
         components: Option<Portion>,
     },
+    /// A Continue: its originating and its destination transaction ID, its dialogue portion and its
+    /// component portion.
+    Continue {
+        otid: TransactionId,
+        dtid: TransactionId,
+        dialogue: Option<Dialogue>,
+        components: Option<Portion>,
+    },
+    /// An End: its destination transaction ID, its dialogue portion and its component portion.
+    End {
+        dtid: TransactionId,
+        dialogue: Option<Dialogue>,
+        components: Option<Portion>,
+    },
+    /// An Abort: its destination transaction ID and its reason.
+    Abort {
+        dtid: TransactionId,
+        reason: Option<AbortReason>,
+    },
+}
+
+/// The reason that an Abort gives.
+#[derive(Debug, Drop)]
+pub enum AbortReason {
+    /// A P-Abort cause, which the transaction sub-layer gives.
+    Cause(Small),
+    /// A dialogue portion.
+    Dialogue(Dialogue),
 }
 
 /// Why octets were not decoded.
@@ -53,7 +87,7 @@ fn read(alloc: Global, octets: &[u8]) -> Result<(Message, usize), DecodeFault>
     ensures exact { Decodes result (message_at octets.now) }
 {
     let (message, len) = view(octets)?;
-    Ok((message.to_message(alloc)?, len))
+    Ok((message.own(alloc)?, len))
 }
 
 /// The message at the front of `octets`, as a value of its own, and the count of its octets. It is the

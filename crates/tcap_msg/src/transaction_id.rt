@@ -1,11 +1,12 @@
 //! Transaction IDs (Q.773 4.2.1).
 
-ghost use Rattle.std.specs.Prelude.{◌≡◌, ◌↔◌, IsSome, IfSome, IfOk, IfErr};
-ghost use Rattle.tcap_ber.specs.declared.fault.Reason.{Reason};
-ghost use Rattle.tcap_ber.specs.Reading.{Gives, element};
-ghost use Rattle.tcap_msg.specs.Message.{IsTransactionId};
+ghost use Rattle.std.specs.Prelude.{◌≡◌, ◌↔◌, ℕ, List, Err, IsSome, IfSome, IfOk, IsOkAnd};
+ghost use Rattle.tcap_ber.specs.declared.fault.Fault.{Fault};
+ghost use Rattle.tcap_ber.specs.Reading.{Gives, element, span};
+ghost use Rattle.tcap_msg.specs.TransactionId.{IsTransactionId, transaction_id, transaction_id_of};
 ghost use Rattle.tcap_msg.specs.Reading.{transaction_id_of};
 
+use std::cmp::Ordering;
 use std::marker::Model;
 use tcap_ber::{Fault, Reason, Tlv};
 
@@ -17,7 +18,8 @@ pub struct TransactionIdView<'a> {
     pub ghost is_id: { IsTransactionId octets.now },
 }
 
-/// A transaction ID: one to four octets. Two are equal exactly where their octets are.
+/// A transaction ID (Q.773 4.2.1): one to four octets. Two are equal exactly where their octets are; they are ordered by
+/// their octets, from the first on, a shorter one before those that it begins.
 #[derive(Debug, Drop)]
 pub struct TransactionId {
     octets: [u8; 4],
@@ -50,6 +52,15 @@ impl TransactionId {
         Some(TransactionId { octets, len })
     }
 
+    /// The transaction ID, lent.
+    pub fn view(&self) -> TransactionIdView<'_>
+        ensures { result.octets.now ≡ self.now }
+    {
+        TransactionIdView {
+            octets: self.octets(),
+        }
+    }
+
     /// The one to four octets.
     pub fn octets(&self) -> &[u8]
         ensures value { result.now ≡ self.now }
@@ -79,23 +90,64 @@ impl Eq for TransactionId {
     ghost laws = { nat_list_eq_equiv };
 }
 
+impl PartialOrd for TransactionId {
+    ghost use Rattle.std.specs.Prelude.{Some};
+    ghost use Rattle.std.specs.Cmp.{nat_cmp};
+    ghost use Rattle.std.specs.Cmp.Lexicographic.{slice_cmp, texts_po};
+
+    ghost partial_cmp = { λ a b. Some (slice_cmp nat_cmp a b) };
+
+    ghost laws = { texts_po };
+
+    fn partial_cmp(&self, other: &TransactionId) -> Option<Ordering> {
+        Some(self.cmp(other))
+    }
+}
+
+impl Ord for TransactionId {
+    ghost use Rattle.std.specs.Prelude.{refl};
+    ghost use Rattle.std.specs.Cmp.{nat_cmp};
+    ghost use Rattle.std.specs.Cmp.Lexicographic.{slice_cmp, nat_list_cmp_total, texts_ties};
+
+    ghost cmp = { slice_cmp nat_cmp };
+
+    ghost total = { nat_list_cmp_total };
+
+    ghost matches_partial_cmp = { λ a b. refl };
+
+    ghost matches_eq = { texts_ties };
+
+    fn cmp(&self, other: &TransactionId) -> Ordering {
+        self.octets().cmp(other.octets())
+    }
+}
+
 impl<'a> TransactionIdView<'a> {
-    /// The transaction ID that an element holds. `BadTransactionId` at the element where it holds no octets
-    /// or over four.
-    pub fn read(tlv: Tlv<'a>) -> Result<TransactionIdView<'a>, Fault>
-        ensures found { IfOk result (λ id. (id.octets.now ≡ tlv.entry.content.octets.now) × IsTransactionId id.octets.now) }
-        ensures faulty { IfErr result (λ fault. (fault.reason ≡ Reason.BadTransactionId) × (fault.place ≡ tlv.entry.start)
-            × (IsTransactionId tlv.entry.content.octets.now → ⊥)) }
+    #[tactic(auto, unfolding(crate::specs::TransactionId::transaction_id_of))]
+    fn from_content(tlv: Tlv<'a>) -> Result<TransactionIdView<'a>, Fault>
         ensures exact { Gives (λ id. id.octets.now) result (transaction_id_of (element tlv.entry)) }
     {
         let octets = tlv.content.octets;
         if octets.is_empty() || octets.len() > 4 {
-            return Err(Fault {
-                reason: Reason::BadTransactionId,
-                place: tlv.start,
-            });
+            return Err(tlv.refused(Reason::BadTransactionId));
         }
         Ok(TransactionIdView { octets })
+    }
+
+    /// The transaction ID that an element holds, lent from its octets (Q.773 4.2.1). `BadTransactionId` at the
+    /// element where it holds no octets or over four.
+    pub fn read(tlv: Tlv<'a>) -> Result<TransactionIdView<'a>, Fault>
+        // What is read is spelled by all of the content.
+        ensures found { IfOk result (λ id. transaction_id.spells id.octets.now tlv.entry.content.octets.now) }
+        // What is spelled by all of the content is read.
+        ensures only { (value : List ℕ) → transaction_id.spells value tlv.entry.content.octets.now
+            → IsOkAnd result (λ id. id.octets.now ≡ value) }
+        // What is refused is faulty there, and what is faulty is refused by that fault.
+        ensures faulty { (fault : Fault) → (result ≡ Err fault)
+            ↔ transaction_id.faulty tlv.entry.start (span tlv.entry.content) fault.reason fault.place }
+        ensures exact { Gives (λ id. id.octets.now) result (transaction_id_of (element tlv.entry)) }
+    {
+        TransactionIdView::from_content(tlv)
     }
 
     /// The transaction ID as a value of its own.

@@ -5,32 +5,66 @@ ghost use Rattle.tcap_ber.specs.declared.fault.Fault.{Fault};
 ghost use Rattle.std.specs.Option.{option_map};
 ghost use Rattle.tcap_ber.specs.Reading.{Gives, span};
 ghost use Rattle.tcap_parts.specs.Meaning.{components_of};
-ghost use Rattle.tcap_msg.specs.Meaning.{message_of};
+ghost use Rattle.tcap_parts.specs.DialogueMeaning.{dialogue_of};
+ghost use Rattle.tcap_msg.specs.Meaning.{number_of, reason_of, message_of};
 ghost use Rattle.tcap_msg.specs.declared.message.Message.{Message};
-ghost use Rattle.tcap_msg.specs.Message.{Spells, BeginsWithMessage, BeginsNoMessage, IsNeverMessage, IsFaulty};
-ghost use Rattle.tcap_msg.specs.Reading.{otid_at, component_portion_at, begin_at, message_at};
+ghost use Rattle.tcap_msg.specs.Message.{make_reason, Spells, BeginsWithMessage, BeginsNoMessage, IsNeverMessage, IsFaulty};
+ghost use Rattle.tcap_msg.specs.Reading.{otid_at, dtid_at, cause_at, dialogue_portion_at, component_portion_at, required_portion_at, unidirectional_at, begin_at, end_message_at, continue_at, unless_cause_at, abort_at, message_in, message_at};
 
-use crate::message::Message;
+use crate::tags::{
+    ABORT, BEGIN, CAUSE, COMPONENT_PORTION, CONTINUE, DIALOGUE_PORTION, DTID, END, OTID,
+    UNIDIRECTIONAL,
+};
 use crate::transaction_id::TransactionIdView;
-use std::alloc::{AllocError, Global};
-use tcap_ber::{Fault, Outer, Reason, Window, begins_with, ended, outer, required};
-use tcap_parts::PortionView;
+use tcap_ber::{
+    Fault, Outer, Reason, SmallView, Window, begins_with, ended, outer, required, required_any,
+    small_number,
+};
+use tcap_parts::{DialogueView, PortionView, view_dialogue};
 
-/// A message whose parts are lent from the octets that were read.
+/// A message whose parts are lent from the octets that were read, or from a message.
 #[derive(Clone, Copy, Debug)]
 pub enum MessageView<'a> {
-    /// A Begin: its originating transaction ID and its component portion.
+    /// A Unidirectional: its dialogue portion and its component portion.
+    Unidirectional {
+        dialogue: Option<DialogueView<'a>>,
+        components: PortionView<'a>,
+    },
+    /// A Begin: its originating transaction ID, its dialogue portion and its component portion.
     Begin {
         otid: TransactionIdView<'a>,
+        dialogue: Option<DialogueView<'a>>,
         components: Option<PortionView<'a>>,
+    },
+    /// A Continue: its originating and its destination transaction ID, its dialogue portion and its
+    /// component portion.
+    Continue {
+        otid: TransactionIdView<'a>,
+        dtid: TransactionIdView<'a>,
+        dialogue: Option<DialogueView<'a>>,
+        components: Option<PortionView<'a>>,
+    },
+    /// An End: its destination transaction ID, its dialogue portion and its component portion.
+    End {
+        dtid: TransactionIdView<'a>,
+        dialogue: Option<DialogueView<'a>>,
+        components: Option<PortionView<'a>>,
+    },
+    /// An Abort: its destination transaction ID and its reason.
+    Abort {
+        dtid: TransactionIdView<'a>,
+        reason: Option<AbortReasonView<'a>>,
     },
 }
 
-const BEGIN: u8 = 0x62;
-
-const OTID: u8 = 0x48;
-
-const COMPONENT_PORTION: u8 = 0x6C;
+/// The reason that an Abort gives, lent.
+#[derive(Clone, Copy, Debug)]
+pub enum AbortReasonView<'a> {
+    /// A P-Abort cause, which the transaction sub-layer gives.
+    Cause(SmallView),
+    /// A dialogue portion.
+    Dialogue(DialogueView<'a>),
+}
 
 /// The originating transaction ID at the front of a window.
 #[tactic(auto, unfolding(crate::specs::Reading::otid_at))]
@@ -39,6 +73,39 @@ fn otid(window: Window) -> Result<(TransactionIdView, Window), Fault>
 {
     let (found, rest) = required(window, OTID)?;
     Ok((TransactionIdView::read(found)?, rest))
+}
+
+/// The destination transaction ID at the front of a window.
+#[tactic(auto, unfolding(crate::specs::Reading::dtid_at))]
+fn dtid(window: Window) -> Result<(TransactionIdView, Window), Fault>
+    ensures exact { Gives (λ x. (x.0.octets.now, span x.1)) result (dtid_at (span window.entry)) }
+{
+    let (found, rest) = required(window, DTID)?;
+    Ok((TransactionIdView::read(found)?, rest))
+}
+
+/// The P-Abort cause at the front of a window, or `None` where the next tag is not its own.
+#[tactic(auto, unfolding(crate::specs::Reading::cause_at))]
+fn cause(window: Window) -> Result<(Option<SmallView>, Window), Fault>
+    ensures exact { Gives (λ x. (number_of x.0, span x.1)) result (cause_at (span window.entry)) }
+{
+    if !begins_with(window, CAUSE) {
+        return Ok((None, window));
+    }
+    let (found, rest) = required(window, CAUSE)?;
+    Ok((Some(small_number(found)?), rest))
+}
+
+/// The dialogue portion at the front of a window, or `None` where the next tag is not its own.
+#[tactic(auto, unfolding(crate::specs::Reading::dialogue_portion_at))]
+fn dialogue_portion(window: Window) -> Result<(Option<DialogueView>, Window), Fault>
+    ensures exact { Gives (λ x. (option_map dialogue_of x.0, span x.1)) result (dialogue_portion_at (span window.entry)) }
+{
+    if !begins_with(window, DIALOGUE_PORTION) {
+        return Ok((None, window));
+    }
+    let (found, rest) = required(window, DIALOGUE_PORTION)?;
+    Ok((Some(view_dialogue(found.content)?), rest))
 }
 
 /// The component portion at the front of a window, or `None` where the next tag is not its own.
@@ -53,15 +120,140 @@ fn component_portion(window: Window) -> Result<(Option<PortionView>, Window), Fa
     Ok((Some(PortionView::read(found)?), rest))
 }
 
-/// The parts of a Begin, which are all of `content` (Q.773 4.2.1).
+/// The component portion at the front of a window, which has to be there.
+#[tactic(auto, unfolding(crate::specs::Reading::required_portion_at))]
+fn required_portion(window: Window) -> Result<(PortionView, Window), Fault>
+    ensures exact { Gives (λ x. (components_of x.0, span x.1)) result (required_portion_at (span window.entry)) }
+{
+    let (found, rest) = required(window, COMPONENT_PORTION)?;
+    Ok((PortionView::read(found)?, rest))
+}
+
+/// The parts of a Unidirectional, which are all of `content`.
+#[tactic(auto, unfolding(crate::specs::Reading::unidirectional_at))]
+fn view_unidirectional(content: Window) -> Result<MessageView, Fault>
+    ensures exact { Gives message_of result (unidirectional_at (span content.entry)) }
+{
+    let (dialogue, rest) = dialogue_portion(content)?;
+    let (components, rest) = required_portion(rest)?;
+    ended(rest)?;
+    Ok(MessageView::Unidirectional {
+        dialogue,
+        components,
+    })
+}
+
+/// The parts of a Begin, which are all of `content`.
 #[tactic(auto, unfolding(crate::specs::Reading::begin_at))]
 fn view_begin(content: Window) -> Result<MessageView, Fault>
     ensures exact { Gives message_of result (begin_at (span content.entry)) }
 {
     let (otid, rest) = otid(content)?;
+    let (dialogue, rest) = dialogue_portion(rest)?;
     let (components, rest) = component_portion(rest)?;
     ended(rest)?;
-    Ok(MessageView::Begin { otid, components })
+    Ok(MessageView::Begin {
+        otid,
+        dialogue,
+        components,
+    })
+}
+
+/// The parts of an End, which are all of `content`.
+#[tactic(auto, unfolding(crate::specs::Reading::end_message_at))]
+fn view_end(content: Window) -> Result<MessageView, Fault>
+    ensures exact { Gives message_of result (end_message_at (span content.entry)) }
+{
+    let (dtid, rest) = dtid(content)?;
+    let (dialogue, rest) = dialogue_portion(rest)?;
+    let (components, rest) = component_portion(rest)?;
+    ended(rest)?;
+    Ok(MessageView::End {
+        dtid,
+        dialogue,
+        components,
+    })
+}
+
+/// The parts of a Continue, which are all of `content`.
+#[tactic(auto, unfolding(crate::specs::Reading::continue_at))]
+fn view_continue(content: Window) -> Result<MessageView, Fault>
+    ensures exact { Gives message_of result (continue_at (span content.entry)) }
+{
+    let (otid, rest) = otid(content)?;
+    let (dtid, rest) = dtid(rest)?;
+    let (dialogue, rest) = dialogue_portion(rest)?;
+    let (components, rest) = component_portion(rest)?;
+    ended(rest)?;
+    Ok(MessageView::Continue {
+        otid,
+        dtid,
+        dialogue,
+        components,
+    })
+}
+
+/// The dialogue portion of an Abort at the front of a window, which is there only where no P-Abort cause is.
+#[tactic(auto, unfolding(crate::specs::Reading::unless_cause_at))]
+fn unless_cause<'a>(
+    cause: Option<SmallView>,
+    window: Window<'a>,
+) -> Result<(Option<DialogueView<'a>>, Window<'a>), Fault>
+    ensures exact { Gives (λ x. (option_map dialogue_of x.0, span x.1)) result (unless_cause_at (number_of cause) (span window.entry)) }
+{
+    match cause {
+        Some(_) => Ok((None, window)),
+        None => dialogue_portion(window),
+    }
+}
+
+/// The reason of an Abort with this P-Abort cause, or with this dialogue portion.
+fn reason<'a>(
+    cause: Option<SmallView>,
+    dialogue: Option<DialogueView<'a>>,
+) -> Option<AbortReasonView<'a>>
+    ensures { option_map reason_of result ≡ make_reason (number_of cause) (option_map dialogue_of dialogue.entry) }
+{
+    match (cause, dialogue) {
+        (Some(cause), _) => Some(AbortReasonView::Cause(cause)),
+        (None, Some(dialogue)) => Some(AbortReasonView::Dialogue(dialogue)),
+        (None, None) => None,
+    }
+}
+
+/// The parts of an Abort, which are all of `content`.
+#[tactic(auto, unfolding(crate::specs::Reading::abort_at))]
+fn view_abort(content: Window) -> Result<MessageView, Fault>
+    ensures exact { Gives message_of result (abort_at (span content.entry)) }
+{
+    let (dtid, rest) = dtid(content)?;
+    let (cause, rest) = cause(rest)?;
+    let (dialogue, rest) = unless_cause(cause, rest)?;
+    ended(rest)?;
+    let reason = reason(cause, dialogue);
+    Ok(MessageView::Abort { dtid, reason })
+}
+
+/// The message at the front of a window, and the window behind it.
+#[tactic(auto, unfolding(crate::specs::Reading::message_in))]
+fn view_message(window: Window) -> Result<(MessageView, Window), Fault>
+    ensures exact { Gives (λ x. (message_of x.0, span x.1)) result (message_in (span window.entry)) }
+{
+    let (found, rest) = required_any(window)?;
+    let message = if found.tag.is(UNIDIRECTIONAL) {
+        view_unidirectional(found.content)?
+    } else if found.tag.is(BEGIN) {
+        view_begin(found.content)?
+    } else if found.tag.is(END) {
+        view_end(found.content)?
+    } else if found.tag.is(CONTINUE) {
+        view_continue(found.content)?
+    } else if found.tag.is(ABORT) {
+        view_abort(found.content)?
+    } else {
+        return Err(found.refused(Reason::UnexpectedTag));
+    };
+    Ok((message, rest))
 }
 
 #[tactic(auto, unfolding(crate::specs::Reading::message_at))]
@@ -77,8 +269,8 @@ fn read(octets: &[u8]) -> Result<(MessageView, usize), Fault>
             });
         }
     };
-    let (found, _) = required(Window::new(octets), BEGIN)?;
-    Ok((view_begin(found.content)?, len))
+    let (message, _) = view_message(Window::new(octets))?;
+    Ok((message, len))
 }
 
 /// The message at the front of `octets`, lent from them, and the count of its octets. It is the whole
@@ -103,24 +295,4 @@ pub fn view(octets: &[u8]) -> Result<(MessageView, usize), Fault>
     ensures exact { Gives (λ x. (message_of x.0, x.1)) result (message_at octets.now) }
 {
     read(octets)
-}
-
-impl<'a> MessageView<'a> {
-    /// The message as a value of its own.
-    pub fn to_message(self, alloc: Global) -> Result<Message, AllocError>
-        ensures { IfOk result (λ message. message ≡ message_of self.entry) }
-    {
-        match self {
-            MessageView::Begin { otid, components } => {
-                let components = match components {
-                    Some(portion) => Some(portion.to_portion(alloc)?),
-                    None => None,
-                };
-                Ok(Message::Begin {
-                    otid: otid.to_transaction_id(),
-                    components,
-                })
-            }
-        }
-    }
 }

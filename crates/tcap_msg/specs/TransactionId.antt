@@ -1,0 +1,25 @@
+-- Transaction IDs (Q.773 4.2.1).
+use Rattle.std.specs.Prelude.{◌≡◌, ℕ, ◌<◌, ◌≤◌, List, length, Result, Ok, Err, nat_lt, Bool, ◌&&◌, if◌then◌else◌}
+use Rattle.tcap_ber.specs.declared.fault.Fault.{Fault}
+use Rattle.tcap_ber.specs.declared.fault.Reason.TheVariants.{BadTransactionId}
+use Rattle.tcap_ber.specs.Grammar.{Body}
+use Rattle.tcap_ber.specs.Reading.{fault, Element}
+
+-- one to four octets
+abbrev pub IsTransactionId : List ℕ → Type 0
+IsTransactionId octets = (0 < length octets) × (length octets ≤ 4)
+
+-- a transaction ID, known by its octets; others are refused at the element
+abbrev pub transaction_id : Body (List ℕ)
+transaction_id = record {
+  spells = λ id octets. IsTransactionId octets × (id ≡ octets);
+  faulty = λ at content reason place. (IsTransactionId content.octets → ⊥) × (reason ≡ BadTransactionId) × (place ≡ at);
+}
+
+-- whether octets are a transaction ID
+abbrev pub is_transaction_id : List ℕ → Bool
+is_transaction_id octets = nat_lt 0 (length octets) && nat_lt (length octets) 5
+
+-- the transaction ID that an element holds
+unfoldable pub transaction_id_of : Element → Result (List ℕ) Fault
+transaction_id_of e = if is_transaction_id e.content.octets then Ok e.content.octets else Err (fault BadTransactionId e.place)

@@ -1,0 +1,16 @@
+//! The kinds of messages (Q.773 4.2.1).
+
+/// The kind of a message.
+#[derive(Clone, Copy, Debug, PartialEq, Eq)]
+pub enum Kind {
+    /// A Unidirectional, outside any transaction.
+    Unidirectional,
+    /// A Begin, which begins a transaction.
+    Begin,
+    /// A Continue, which goes on with one.
+    Continue,
+    /// An End, which ends one.
+    End,
+    /// An Abort, which ends one abnormally.
+    Abort,
+}

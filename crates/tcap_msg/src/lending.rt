@@ -1,0 +1,208 @@
+//! Messages lent as views, and views made into messages of their own.
+
+ghost use Rattle.std.specs.Prelude.{◌≡◌, IfOk};
+ghost use Rattle.std.specs.Option.{option_map};
+ghost use Rattle.tcap_parts.specs.Meaning.{components_of};
+ghost use Rattle.tcap_parts.specs.DialogueMeaning.{dialogue_of};
+ghost use Rattle.tcap_msg.specs.Meaning.{reason_of, message_of};
+
+use crate::message::{AbortReason, Message};
+use crate::transaction_id::{TransactionId, TransactionIdView};
+use crate::views::{AbortReasonView, MessageView};
+use std::alloc::{AllocError, Global};
+use tcap_parts::{Dialogue, DialogueView, Portion, PortionView};
+
+/// The dialogue portion, lent.
+fn lend_dialogue(dialogue: &Option<Dialogue>) -> Option<DialogueView<'_>>
+    ensures { option_map dialogue_of result ≡ dialogue.now }
+{
+    match dialogue {
+        Some(dialogue) => Some(dialogue.view()),
+        None => None,
+    }
+}
+
+/// The component portion, lent.
+fn lend_portion(components: &Option<Portion>) -> Option<PortionView<'_>>
+    ensures { option_map components_of result ≡ components.now }
+{
+    match components {
+        Some(components) => Some(components.view()),
+        None => None,
+    }
+}
+
+/// The dialogue portion as a value of its own.
+fn own_dialogue(
+    dialogue: Option<DialogueView>,
+    alloc: Global,
+) -> Result<Option<Dialogue>, AllocError>
+    ensures { IfOk result (λ made. made ≡ option_map dialogue_of dialogue.entry) }
+{
+    match dialogue {
+        Some(dialogue) => Ok(Some(dialogue.to_dialogue(alloc)?)),
+        None => Ok(None),
+    }
+}
+
+/// The component portion as a value of its own.
+fn own_portion(
+    components: Option<PortionView>,
+    alloc: Global,
+) -> Result<Option<Portion>, AllocError>
+    ensures { IfOk result (λ made. made ≡ option_map components_of components.entry) }
+{
+    match components {
+        Some(components) => Ok(Some(components.to_portion(alloc)?)),
+        None => Ok(None),
+    }
+}
+
+/// The reason of an Abort as a value of its own.
+fn own_reason(
+    reason: Option<AbortReasonView>,
+    alloc: Global,
+) -> Result<Option<AbortReason>, AllocError>
+    ensures { IfOk result (λ made. made ≡ option_map reason_of reason.entry) }
+{
+    match reason {
+        Some(reason) => Ok(Some(reason.to_reason(alloc)?)),
+        None => Ok(None),
+    }
+}
+
+impl<'a> AbortReasonView<'a> {
+    /// The reason as a value of its own.
+    pub fn to_reason(self, alloc: Global) -> Result<AbortReason, AllocError>
+        ensures { IfOk result (λ made. made ≡ reason_of self.entry) }
+    {
+        match self {
+            AbortReasonView::Cause(cause) => Ok(AbortReason::Cause(cause.to_small())),
+            AbortReasonView::Dialogue(dialogue) => {
+                Ok(AbortReason::Dialogue(dialogue.to_dialogue(alloc)?))
+            }
+        }
+    }
+}
+
+impl AbortReason {
+    /// The reason, lent.
+    pub fn view(&self) -> AbortReasonView<'_>
+        ensures { reason_of result ≡ self.now }
+    {
+        match self {
+            AbortReason::Cause(cause) => AbortReasonView::Cause(cause.view()),
+            AbortReason::Dialogue(dialogue) => AbortReasonView::Dialogue(dialogue.view()),
+        }
+    }
+}
+
+/// The reason of an Abort, lent.
+fn lend_reason(reason: &Option<AbortReason>) -> Option<AbortReasonView<'_>>
+    ensures { option_map reason_of result ≡ reason.now }
+{
+    match reason {
+        Some(reason) => Some(reason.view()),
+        None => None,
+    }
+}
+
+impl Message {
+    /// The message, lent.
+    pub fn view(&self) -> MessageView<'_>
+        ensures { message_of result ≡ self.now }
+    {
+        match self {
+            Message::Unidirectional {
+                dialogue,
+                components,
+            } => MessageView::Unidirectional {
+                dialogue: lend_dialogue(dialogue),
+                components: components.view(),
+            },
+            Message::Begin {
+                otid,
+                dialogue,
+                components,
+            } => MessageView::Begin {
+                otid: otid.view(),
+                dialogue: lend_dialogue(dialogue),
+                components: lend_portion(components),
+            },
+            Message::Continue {
+                otid,
+                dtid,
+                dialogue,
+                components,
+            } => MessageView::Continue {
+                otid: otid.view(),
+                dtid: dtid.view(),
+                dialogue: lend_dialogue(dialogue),
+                components: lend_portion(components),
+            },
+            Message::End {
+                dtid,
+                dialogue,
+                components,
+            } => MessageView::End {
+                dtid: dtid.view(),
+                dialogue: lend_dialogue(dialogue),
+                components: lend_portion(components),
+            },
+            Message::Abort { dtid, reason } => MessageView::Abort {
+                dtid: dtid.view(),
+                reason: lend_reason(reason),
+            },
+        }
+    }
+}
+
+impl<'a> MessageView<'a> {
+    /// The message as a value of its own.
+    pub(crate) fn own(self, alloc: Global) -> Result<Message, AllocError>
+        ensures { IfOk result (λ message. message ≡ message_of self.entry) }
+    {
+        match self {
+            MessageView::Unidirectional {
+                dialogue,
+                components,
+            } => Ok(Message::Unidirectional {
+                dialogue: own_dialogue(dialogue, alloc)?,
+                components: components.to_portion(alloc)?,
+            }),
+            MessageView::Begin {
+                otid,
+                dialogue,
+                components,
+            } => Ok(Message::Begin {
+                otid: otid.to_transaction_id(),
+                dialogue: own_dialogue(dialogue, alloc)?,
+                components: own_portion(components, alloc)?,
+            }),
+            MessageView::Continue {
+                otid,
+                dtid,
+                dialogue,
+                components,
+            } => Ok(Message::Continue {
+                otid: otid.to_transaction_id(),
+                dtid: dtid.to_transaction_id(),
+                dialogue: own_dialogue(dialogue, alloc)?,
+                components: own_portion(components, alloc)?,
+            }),
+            MessageView::End {
+                dtid,
+                dialogue,
+                components,
+            } => Ok(Message::End {
+                dtid: dtid.to_transaction_id(),
+                dialogue: own_dialogue(dialogue, alloc)?,
+                components: own_portion(components, alloc)?,
+            }),
+            MessageView::Abort { dtid, reason } => Ok(Message::Abort {
+                dtid: dtid.to_transaction_id(),
+                reason: own_reason(reason, alloc)?,
+            }),
+        }
+    }
+}

@@ -1,0 +1,246 @@
+//! The parts of a message, read from a message or from a view of one by the same calls.
+
+ghost use Rattle.std.specs.Prelude.{◌≡◌, ◌<◌, ℕ, List, length, slice_get, Some, IfOk};
+ghost use Rattle.std.specs.Option.{option_map};
+ghost use Rattle.tcap_parts.specs.declared.component.Component.{Component};
+ghost use Rattle.tcap_parts.specs.Meaning.{component_of, components_of, components_left};
+ghost use Rattle.tcap_parts.specs.DialogueMeaning.{dialogue_of};
+ghost use Rattle.tcap_msg.specs.declared.message.Message.{Message};
+ghost use Rattle.tcap_msg.specs.Meaning.{id_of, number_of, message_of};
+ghost use Rattle.tcap_msg.specs.Parts.{kind_in, otid_in, dtid_in, cause_in, dialogue_in, portion_in, components_in};
+
+use crate::kind::Kind;
+use crate::message::Message;
+use crate::transaction_id::TransactionIdView;
+use crate::views::{AbortReasonView, MessageView};
+use std::alloc::{AllocError, Global};
+use tcap_ber::SmallView;
+use tcap_parts::{ComponentView, Components, DialogueView, PortionView};
+
+/// A message whose parts can be read (Q.773 4.2.1). But for `to_message` no call takes memory or copies a part.
+pub trait MessageParts {
+    // The message whose parts they are.
+    ghost meaning: { Self → Message };
+
+    /// The message as a value of its own.
+    fn to_message(&self, alloc: Global) -> Result<Message, AllocError>
+        ensures { IfOk result (λ message. message ≡ meaning self.now) };
+
+    /// The kind of the message.
+    fn kind(&self) -> Kind
+        ensures { result ≡ kind_in (meaning self.now) };
+
+    /// The originating transaction ID, which a Begin and a Continue have.
+    fn otid(&self) -> Option<TransactionIdView<'_>>
+        ensures { id_of result ≡ otid_in (meaning self.now) };
+
+    /// The destination transaction ID, which a Continue, an End and an Abort have.
+    fn dtid(&self) -> Option<TransactionIdView<'_>>
+        ensures { id_of result ≡ dtid_in (meaning self.now) };
+
+    /// The P-Abort cause, which an Abort may have.
+    fn cause(&self) -> Option<SmallView>
+        ensures { number_of result ≡ cause_in (meaning self.now) };
+
+    /// The PDU of the dialogue portion, which each message may have, an Abort only where it has no P-Abort cause.
+    fn dialogue(&self) -> Option<DialogueView<'_>>
+        ensures { option_map dialogue_of result ≡ dialogue_in (meaning self.now) };
+
+    /// The count of the components, 0 where there is no component portion. For a view of octets it costs the time of
+    /// reading them.
+    fn count(&self) -> usize
+        ensures { result ≡ length (components_in (meaning self.now)) };
+
+    /// The component with that index, from 0, of which there has to be one. For a view of octets it costs the time of
+    /// reading those before it too.
+    fn component(&self, index: usize) -> ComponentView<'_>
+        requires { index < length (components_in (meaning self.now)) }
+        ensures { slice_get (components_in (meaning self.now)) index ≡ Some (component_of result) };
+
+    /// The components, one after the other; none where there is no component portion.
+    fn components(&self) -> Components<'_>
+        ensures { components_left result ≡ components_in (meaning self.now) };
+}
+
+impl<'a> MessageView<'a> {
+    fn its_kind(self) -> Kind
+        ensures { result ≡ kind_in (message_of self.entry) }
+    {
+        match self {
+            MessageView::Unidirectional { .. } => Kind::Unidirectional,
+            MessageView::Begin { .. } => Kind::Begin,
+            MessageView::Continue { .. } => Kind::Continue,
+            MessageView::End { .. } => Kind::End,
+            MessageView::Abort { .. } => Kind::Abort,
+        }
+    }
+
+    fn its_otid(self) -> Option<TransactionIdView<'a>>
+        ensures { id_of result ≡ otid_in (message_of self.entry) }
+    {
+        match self {
+            MessageView::Begin { otid, .. } | MessageView::Continue { otid, .. } => Some(otid),
+            _ => None,
+        }
+    }
+
+    fn its_dtid(self) -> Option<TransactionIdView<'a>>
+        ensures { id_of result ≡ dtid_in (message_of self.entry) }
+    {
+        match self {
+            MessageView::Continue { dtid, .. }
+            | MessageView::End { dtid, .. }
+            | MessageView::Abort { dtid, .. } => Some(dtid),
+            _ => None,
+        }
+    }
+
+    fn its_cause(self) -> Option<SmallView>
+        ensures { number_of result ≡ cause_in (message_of self.entry) }
+    {
+        match self {
+            MessageView::Abort {
+                reason: Some(AbortReasonView::Cause(cause)),
+                ..
+            } => Some(cause),
+            _ => None,
+        }
+    }
+
+    fn its_dialogue(self) -> Option<DialogueView<'a>>
+        ensures { option_map dialogue_of result ≡ dialogue_in (message_of self.entry) }
+    {
+        match self {
+            MessageView::Unidirectional { dialogue, .. }
+            | MessageView::Begin { dialogue, .. }
+            | MessageView::Continue { dialogue, .. }
+            | MessageView::End { dialogue, .. } => dialogue,
+            MessageView::Abort {
+                reason: Some(AbortReasonView::Dialogue(dialogue)),
+                ..
+            } => Some(dialogue),
+            MessageView::Abort { .. } => None,
+        }
+    }
+
+    /// The component portion, where the message has one.
+    pub(crate) fn its_portion(self) -> Option<PortionView<'a>>
+        ensures { option_map components_of result ≡ portion_in (message_of self.entry) }
+    {
+        match self {
+            MessageView::Unidirectional { components, .. } => Some(components),
+            MessageView::Begin { components, .. }
+            | MessageView::Continue { components, .. }
+            | MessageView::End { components, .. } => components,
+            MessageView::Abort { .. } => None,
+        }
+    }
+
+    fn its_count(self) -> usize
+        ensures { result ≡ length (components_in (message_of self.entry)) }
+    {
+        match self.its_portion() {
+            Some(portion) => portion.count(),
+            None => 0,
+        }
+    }
+
+    fn its_component(self, index: usize) -> ComponentView<'a>
+        requires { index < length (components_in (message_of self)) }
+        ensures { slice_get (components_in (message_of self.entry)) index ≡ Some (component_of result) }
+    {
+        match self.its_portion() {
+            Some(portion) => portion.component(index),
+            None => unreachable!(),
+        }
+    }
+
+    fn its_components(self) -> Components<'a>
+        ensures { components_left result ≡ components_in (message_of self.entry) }
+    {
+        match self.its_portion() {
+            Some(portion) => portion.components(),
+            None => Components::Values(&[]),
+        }
+    }
+}
+
+impl<'a> MessageParts for MessageView<'a> {
+    ghost meaning = { message_of };
+
+    fn to_message(&self, alloc: Global) -> Result<Message, AllocError> {
+        self.own(alloc)
+    }
+
+    fn kind(&self) -> Kind {
+        self.its_kind()
+    }
+
+    fn otid(&self) -> Option<TransactionIdView<'_>> {
+        self.its_otid()
+    }
+
+    fn dtid(&self) -> Option<TransactionIdView<'_>> {
+        self.its_dtid()
+    }
+
+    fn cause(&self) -> Option<SmallView> {
+        self.its_cause()
+    }
+
+    fn dialogue(&self) -> Option<DialogueView<'_>> {
+        self.its_dialogue()
+    }
+
+    fn count(&self) -> usize {
+        self.its_count()
+    }
+
+    fn component(&self, index: usize) -> ComponentView<'_> {
+        self.its_component(index)
+    }
+
+    fn components(&self) -> Components<'_> {
+        self.its_components()
+    }
+}
+
+impl MessageParts for Message {
+    ghost meaning = { λ message. message };
+
+    fn to_message(&self, alloc: Global) -> Result<Message, AllocError> {
+        self.view().own(alloc)
+    }
+
+    fn kind(&self) -> Kind {
+        self.view().its_kind()
+    }
+
+    fn otid(&self) -> Option<TransactionIdView<'_>> {
+        self.view().its_otid()
+    }
+
+    fn dtid(&self) -> Option<TransactionIdView<'_>> {
+        self.view().its_dtid()
+    }
+
+    fn cause(&self) -> Option<SmallView> {
+        self.view().its_cause()
+    }
+
+    fn dialogue(&self) -> Option<DialogueView<'_>> {
+        self.view().its_dialogue()
+    }
+
+    fn count(&self) -> usize {
+        self.view().its_count()
+    }
+
+    fn component(&self, index: usize) -> ComponentView<'_> {
+        self.view().its_component(index)
+    }
+
+    fn components(&self) -> Components<'_> {
+        self.view().its_components()
+    }
+}
