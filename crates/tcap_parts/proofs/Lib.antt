@@ -2,3 +2,4 @@ pub mod ComponentLaws
 pub mod PortionLaws
 pub mod CanonicalLaws
 pub mod WritingLaws
+pub mod DialogueWritingLaws
