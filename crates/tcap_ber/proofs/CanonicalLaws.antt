@@ -5,7 +5,7 @@ use Rattle.std.proofs.lemmas.Bool.{ltb-true, ltb-false, lt-ltb, le-ltb, leb-true
 use Rattle.std.proofs.lemmas.List.{append-nil}
 use Rattle.tcap_ber.specs.Element.{IsElement, IsLength, number, content_limit}
 use Rattle.tcap_ber.specs.Integer.{IsInteger, signed}
-use Rattle.tcap_ber.specs.Grammar.{Field, Content, IsElementOf, BeginsWith, ended, ◌⨾◌}
+use Rattle.tcap_ber.specs.Grammar.{Field, Content, IsElementOf, BeginsWith, ended, ◌⨾▹◌, ◌⨾◌, single}
 use Rattle.tcap_ber.specs.Choice.{Choice, IsOneOf}
 use Rattle.tcap_ber.specs.Canonical.{shortest_length, shortest_header, element_around, ◌⧺◌, number_octets, magnitude, integer_len, integer_octets}
 use Rattle.tcap_ber.proofs.Steps.{chosen}
@@ -242,14 +242,24 @@ join_assoc (Some a) None z = refl
 join_assoc (Some a) (Some b) None = refl
 join_assoc (Some a) (Some b) (Some c) = ap there (append_assoc a b c)
 
+-- a part, and what stands behind it, which it decides
+pub decides-spells : {V W : Type 0} (first : Field V) (others : V → Content W) (v : V) (w : W) (x y : Option (List ℕ)) (octets : List ℕ)
+    → ((front rest : List ℕ) → x ≡ Some front → y ≡ Some rest → first.spells v front rest) → ((rest : List ℕ) → y ≡ Some rest → (others v).spells w rest)
+    → x ⧺ y ≡ Some octets → (first ⨾▹ others).spells (v, w) octets
+decides-spells first others v w x y octets is_first are_others e =
+    let j = join-is x y octets e in
+    record { front = j.front; rest = j.rest; joined = j.octets_are; is_first = is_first j.front j.rest j.is_front j.is_rest; are_others = are_others j.rest j.is_rest }
+
 -- a part, and what stands behind it
 pub then-spells : {V W : Type 0} (first : Field V) (others : Content W) (v : V) (w : W) (x y : Option (List ℕ)) (octets : List ℕ)
     → ((front rest : List ℕ) → x ≡ Some front → y ≡ Some rest → first.spells v front rest) → ((rest : List ℕ) → y ≡ Some rest → others.spells w rest)
     → x ⧺ y ≡ Some octets → (first ⨾ others).spells (v, w) octets
-then-spells first others v w x y octets is_first are_others e =
-    let j = join-is x y octets e in
-    record { front = j.front; rest = j.rest; joined = j.octets_are; is_first = is_first j.front j.rest j.is_front j.is_rest; are_others = are_others j.rest j.is_rest }
+then-spells first others = decides-spells first (λ _. others)
 
 -- a part, and nothing behind it
 pub last-spells : {V : Type 0} (first : Field V) (v : V) (octets : List ℕ) → first.spells v octets [] → (first ⨾ ended).spells (v, tt) octets
 last-spells first v octets is_first = record { front = octets; rest = []; joined = sym (append-nil octets); is_first = is_first; are_others = refl }
+
+-- this one part
+pub single-spells : {V : Type 0} (part : Field V) (v : V) (octets : List ℕ) → part.spells v octets [] → (single part).spells v octets
+single-spells part v octets is_part = ((v, tt), refl, last-spells part v octets is_part)
