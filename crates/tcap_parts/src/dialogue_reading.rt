@@ -13,8 +13,9 @@ ghost use Rattle.tcap_parts.specs.DialogueReading.{is_version, version_of, versi
 use crate::dialogue::{DialogueView, SourceView, Syntax};
 use crate::info::InfoView;
 use crate::tags::{
-    ABORT, ABORT_SOURCE, CONTEXT, DIAGNOSTIC, DIALOGUE_AS_ID, EXTERNAL, INTEGER, OBJECT_ID, PROVIDER, REQUEST, RESPONSE, RESULT, SINGLE_TYPE,
-    UNI, UNIDIALOGUE_AS_ID, USER, USER_INFORMATION, VERSION,
+    ABORT, ABORT_SOURCE, CONTEXT, DIAGNOSTIC, DIALOGUE_AS_ID, EXTERNAL, INTEGER, OBJECT_ID,
+    PROVIDER, REQUEST, RESPONSE, RESULT, SINGLE_TYPE, UNI, UNIDIALOGUE_AS_ID, USER,
+    USER_INFORMATION, VERSION,
 };
 use tcap_ber::{
     Fault, ObjectIdView, Reason, SmallView, Tlv, Window, begins_with, ended, object_id, required,

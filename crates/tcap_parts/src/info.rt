@@ -82,6 +82,7 @@ impl<'a> InfoView<'a> {
         }
     }
 
+    #[tactic(auto, unfolding(crate::specs::InfoReading::info_of))]
     fn from_content(tlv: Tlv<'a>) -> Result<InfoView<'a>, Fault>
         ensures exact { Gives (λ info. info.octets.now) result (info_of (element tlv.entry)) }
     {

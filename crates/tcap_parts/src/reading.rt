@@ -14,7 +14,8 @@ use crate::code::read_code;
 use crate::component::{ComponentView, ResultBodyView};
 use crate::problem::read_problem;
 use crate::tags::{
-    INTEGER, INVOKE, LINKED_ID, NULL, REJECT, RETURN_ERROR, RETURN_RESULT_LAST, RETURN_RESULT_NOT_LAST, SEQUENCE,
+    INTEGER, INVOKE, LINKED_ID, NULL, REJECT, RETURN_ERROR, RETURN_RESULT_LAST,
+    RETURN_RESULT_NOT_LAST, SEQUENCE,
 };
 use tcap_ber::{
     Fault, RawView, Reason, Window, begins_with, ended, null, octet_integer, required, required_any,

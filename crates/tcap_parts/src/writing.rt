@@ -13,7 +13,8 @@ use crate::component::{ComponentView, ResultBodyView};
 use crate::portion::PortionView;
 use crate::problem::ProblemView;
 use crate::tags::{
-    INTEGER, INVOKE, LINKED_ID, NULL, OBJECT_ID, REJECT, RETURN_ERROR, RETURN_RESULT_LAST, RETURN_RESULT_NOT_LAST, SEQUENCE,
+    INTEGER, INVOKE, LINKED_ID, NULL, OBJECT_ID, REJECT, RETURN_ERROR, RETURN_RESULT_LAST,
+    RETURN_RESULT_NOT_LAST, SEQUENCE,
 };
 use tcap_ber::{
     CONTENT_LIMIT, Failed, RawView, Write, element_len, integer_len, put_element, put_header,
