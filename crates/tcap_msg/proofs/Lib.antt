@@ -1,6 +1,5 @@
-pub mod BeginLaws
+pub mod KindLaws
 pub mod MessageLaws
 pub mod DecodeLaws
 pub mod CanonicalLaws
 pub mod SpellingLaws
-pub mod EncodeLaws

@@ -4,7 +4,6 @@ ghost use Rattle.std.specs.Prelude.{◌≡◌, ◌↔◌, ℕ, List, Err, IsSome
 ghost use Rattle.tcap_ber.specs.declared.fault.Fault.{Fault};
 ghost use Rattle.tcap_ber.specs.Reading.{Gives, element, span};
 ghost use Rattle.tcap_msg.specs.TransactionId.{IsTransactionId, transaction_id, transaction_id_of};
-ghost use Rattle.tcap_msg.specs.Reading.{transaction_id_of};
 
 use std::cmp::Ordering;
 use std::marker::Model;
@@ -92,7 +91,7 @@ impl Eq for TransactionId {
 
 impl PartialOrd for TransactionId {
     ghost use Rattle.std.specs.Prelude.{Some};
-    ghost use Rattle.std.specs.Cmp.{nat_cmp};
+    ghost use Rattle.std.specs.Ordering.{nat_cmp};
     ghost use Rattle.std.specs.Cmp.Lexicographic.{slice_cmp, texts_po};
 
     ghost partial_cmp = { λ a b. Some (slice_cmp nat_cmp a b) };
@@ -106,7 +105,7 @@ impl PartialOrd for TransactionId {
 
 impl Ord for TransactionId {
     ghost use Rattle.std.specs.Prelude.{refl};
-    ghost use Rattle.std.specs.Cmp.{nat_cmp};
+    ghost use Rattle.std.specs.Ordering.{nat_cmp};
     ghost use Rattle.std.specs.Cmp.Lexicographic.{slice_cmp, nat_list_cmp_total, texts_ties};
 
     ghost cmp = { slice_cmp nat_cmp };
