@@ -1,6 +1,6 @@
 -- The canonical spellings of dialogue portions are such spellings.
 use Rattle.std.proofs.Common.{◌≡◌, ◌≢◌, ℕ, ◌%◌, ◌<◌, List, [], ◌∷◌, Option, Some, None, refl, sym, ◌∙◌, inl, inr, arith}
-use Rattle.tcap_ber.specs.Grammar.{IsElementOf, SpellsOptional, required, optional, ended, single, ◌⨾◌}
+use Rattle.tcap_ber.specs.Grammar.{Content, IsElementOf, SpellsOptional, required, optional, ended, single, ◌⨾◌}
 use Rattle.tcap_ber.specs.Choice.{IsOneOf, one_of}
 use Rattle.tcap_ber.specs.ObjectId.{IsObjectId, object_id}
 use Rattle.tcap_ber.specs.Small.{small}
@@ -12,7 +12,7 @@ use Rattle.tcap_parts.specs.declared.dialogue.Source.TheVariants.{User, Provider
 use Rattle.tcap_parts.specs.declared.dialogue.Dialogue.{Dialogue}
 use Rattle.tcap_parts.specs.declared.dialogue.Dialogue.TheVariants.{Request, Response, Abort, Uni}
 use Rattle.tcap_parts.specs.Info.{info}
-use Rattle.tcap_parts.specs.Dialogue.{as_id, version, context, number, source, request, response, abort, uni, pdus, syntax_name, single_type, dialogue_external, SpellsDialogue}
+use Rattle.tcap_parts.specs.Dialogue.{as_id, version, context, number, source, response, abort, pdus, syntax_name, single_type, dialogue_external, SpellsDialogue}
 use Rattle.tcap_parts.specs.DialogueCanonical.{canonical_version, canonical_context, canonical_number, canonical_source, canonical_info, canonical_pdu_content, pdu_syntax, canonical_pdu, canonical_external_content, canonical_dialogue}
 use Rattle.tcap_parts.specs.DialogueValid.{IsInfo, IsSource, IsDialogue}
 
@@ -57,16 +57,27 @@ info_spells (Some externals) octets w e = element_of-spells 0xBE (info.spells ex
 last_info : (i : Option (List ℕ)) (octets : List ℕ) → IsInfo i → canonical_info i ≡ Some octets → (optional 0xBE info ⨾ ended).spells (i, tt) octets
 last_info i octets w e = last-spells (optional 0xBE info) i octets (info_spells i octets w e)
 
+-- an application context name, and what stands behind it
+context_then : {V : Type 0} (id : List ℕ) (others : Content V) (v : V) (behind : Option (List ℕ)) (octets : List ℕ) → IsObjectId id
+    → ((rest : List ℕ) → behind ≡ Some rest → others.spells v rest) → canonical_context id ⧺ behind ≡ Some octets → (required 0xA1 context ⨾ others).spells (id, v) octets
+context_then id others v behind octets w are_others e =
+    then-spells (required 0xA1 context) others id v (canonical_context id) behind octets (λ front rest k l. context_spells id front w k) are_others e
+
+-- a protocol version, an application context name, and what stands behind them
+version_context_then : {V : Type 0} (id : List ℕ) (others : Content V) (v : V) (behind : Option (List ℕ)) (octets : List ℕ) → IsObjectId id
+    → ((rest : List ℕ) → behind ≡ Some rest → others.spells v rest) → canonical_version ⧺ (canonical_context id ⧺ behind) ≡ Some octets
+    → (optional 0x80 version ⨾ required 0xA1 context ⨾ others).spells (Some tt, (id, v)) octets
+version_context_then id others v behind octets w are_others e =
+    then-spells (optional 0x80 version) (required 0xA1 context ⨾ others) (Some tt) (id, v) canonical_version (canonical_context id ⧺ behind) octets
+    (λ front rest k l. version_spells front k)
+    (λ rest l. context_then id others v behind rest w are_others l) e
+
 -- the content of an AARQ and of an AUDT
 named_spells : (id : List ℕ) (i : Option (List ℕ)) (content : List ℕ) → IsObjectId id → IsInfo i
     → canonical_version ⧺ canonical_context id ⧺ canonical_info i ≡ Some content
     → (optional 0x80 version ⨾ required 0xA1 context ⨾ optional 0xBE info ⨾ ended).spells (Some tt, (id, (i, tt))) content
 named_spells id i content w v e =
-    then-spells (optional 0x80 version) (required 0xA1 context ⨾ optional 0xBE info ⨾ ended) (Some tt) (id, (i, tt)) canonical_version (canonical_context id ⧺ canonical_info i) content
-    (λ front rest k l. version_spells front k)
-    (λ rest l. then-spells (required 0xA1 context) (optional 0xBE info ⨾ ended) id (i, tt) (canonical_context id) (canonical_info i) rest
-        (λ front behind k m. context_spells id front w k)
-        (λ behind m. last_info i behind v m) l)
+    version_context_then id (optional 0xBE info ⨾ ended) (i, tt) (canonical_info i) content w (λ rest l. last_info i rest v l)
     (sym (join_assoc canonical_version (canonical_context id) (canonical_info i)) ∙ e)
 
 -- a diagnostic, and behind it user information or none
@@ -93,18 +104,14 @@ five_joined a b c d e = join_assoc (a ⧺ b ⧺ c) d e ∙ join_assoc (a ⧺ b) 
 
 response_spells : (id : List ℕ) (n : ℕ) (s : Source) (i : Option (List ℕ)) (content : List ℕ) → IsDialogue (Response id n s i)
     → canonical_pdu_content (Response id n s i) ≡ Some content → response.spells (Response id n s i) content
-response_spells id n s i content w e =
-    let behind = canonical_number 0xA2 n ⧺ (element_around 0xA3 (canonical_source s) ⧺ canonical_info i) in
-    let parts = required 0xA2 number ⨾ required 0xA3 (single (one_of source)) ⨾ optional 0xBE info ⨾ ended in (
-      (Some tt, (id, (n, (s, (i, tt))))),
-      refl,
-      then-spells (optional 0x80 version) (required 0xA1 context ⨾ parts) (Some tt) (id, (n, (s, (i, tt)))) canonical_version (canonical_context id ⧺ behind) content
-          (λ front rest k l. version_spells front k)
-          (λ rest l. then-spells (required 0xA1 context) parts id (n, (s, (i, tt))) (canonical_context id) behind rest
-              (λ front more k m. context_spells id front w.0 k)
-              (λ more m. result_info n s i more w.1 w.2 w.3 m) l)
-          (sym (five_joined canonical_version (canonical_context id) (canonical_number 0xA2 n) (element_around 0xA3 (canonical_source s)) (canonical_info i)) ∙ e),
-    )
+response_spells id n s i content w e = (
+  (Some tt, (id, (n, (s, (i, tt))))),
+  refl,
+  version_context_then id (required 0xA2 number ⨾ required 0xA3 (single (one_of source)) ⨾ optional 0xBE info ⨾ ended) (n, (s, (i, tt)))
+      (canonical_number 0xA2 n ⧺ (element_around 0xA3 (canonical_source s) ⧺ canonical_info i)) content w.0
+      (λ rest l. result_info n s i rest w.1 w.2 w.3 l)
+      (sym (five_joined canonical_version (canonical_context id) (canonical_number 0xA2 n) (element_around 0xA3 (canonical_source s)) (canonical_info i)) ∙ e),
+)
 
 abort_spells : (n : ℕ) (i : Option (List ℕ)) (content : List ℕ) → IsDialogue (Abort n i) → canonical_pdu_content (Abort n i) ≡ Some content → abort.spells (Abort n i) content
 abort_spells n i content w e = (
