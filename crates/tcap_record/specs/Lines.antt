@@ -1,5 +1,5 @@
 -- The text that `show` prints, line by line.
-use Rattle.std.specs.Prelude.{Bool, true, false, ℕ, ℤ, suc, List, [], ◌∷◌, ◌++◌, Option, Some, None, codes}
+use Rattle.std.specs.Prelude.{Bool, true, false, ℕ, ℤ, suc, List, [], ◌∷◌, ◌++◌, length, Option, Some, None, codes}
 use Rattle.std.specs.List.{flat_map}
 use Rattle.std.specs.Fmt.{decimal, signed_decimal}
 use Rattle.hex.specs.Hex.{encode_lower}
@@ -11,8 +11,15 @@ use Rattle.tcap_parts.specs.declared.problem.Problem.TheVariants as problems
 use Rattle.tcap_parts.specs.declared.component.ResultBody.{ResultBody}
 use Rattle.tcap_parts.specs.declared.component.Component.{Component}
 use Rattle.tcap_parts.specs.declared.component.Component.TheVariants.{Invoke, ReturnResult, ReturnError, Reject}
+use Rattle.tcap_parts.specs.declared.dialogue.Source.{Source}
+use Rattle.tcap_parts.specs.declared.dialogue.Source.TheVariants.{User, Provider}
+use Rattle.tcap_parts.specs.declared.dialogue.Dialogue.{Dialogue}
+use Rattle.tcap_parts.specs.declared.dialogue.Dialogue.TheVariants.{Request, Response, Abort, Uni}
+use Rattle.tcap_parts.specs.InfoReading.{externals_of}
+use Rattle.tcap_msg.specs.declared.kind.Kind.{Kind}
+use Rattle.tcap_msg.specs.declared.kind.Kind.TheVariants as kinds
 use Rattle.tcap_msg.specs.declared.message.Message.{Message}
-use Rattle.tcap_msg.specs.declared.message.Message.TheVariants.{Begin}
+use Rattle.tcap_msg.specs.Parts.{kind_in, otid_in, dtid_in, cause_in, dialogue_in, components_in}
 use Rattle.tcap_record.specs.declared.entry.End.{End}
 use Rattle.tcap_record.specs.declared.entry.End.TheVariants as ends
 use Rattle.tcap_record.specs.declared.entry.Body.{Body}
@@ -78,17 +85,56 @@ component_text (Reject id problem) = codes "Reject id=" ++ rejected_text id ++ p
 abbrev pub component_line : Component → List ℕ
 component_line component = codes "  " ++ component_text component ++ line_end
 
-abbrev pub component_lines : Option (List Component) → List ℕ
-component_lines None = []
-component_lines (Some components) = flat_map component_line components
+abbrev pub kind_name : Kind → List ℕ
+kind_name kinds.Unidirectional = codes "Unidirectional"
+kind_name kinds.Begin = codes "Begin"
+kind_name kinds.Continue = codes "Continue"
+kind_name kinds.End = codes "End"
+kind_name kinds.Abort = codes "Abort"
 
--- a Begin, and the lines of its components
-abbrev pub begin_text : List ℕ → Option (List Component) → List ℕ
-begin_text otid components = codes "Begin otid=" ++ encode_lower otid ++ line_end ++ component_lines components
+-- a transaction ID of that name
+abbrev pub id_text : List ℕ → Option (List ℕ) → List ℕ
+id_text name None = []
+id_text name (Some id) = codes " " ++ name ++ codes "=" ++ encode_lower id
+
+abbrev pub cause_text : Option ℕ → List ℕ
+cause_text None = []
+cause_text (Some cause) = codes " cause=" ++ decimal cause
+
+-- the count of the EXTERNALs of user information
+abbrev pub info_text : Option (List ℕ) → List ℕ
+info_text None = []
+info_text (Some info) = codes " info=" ++ decimal (length (externals_of info))
+
+abbrev pub source_text : Source → List ℕ
+source_text (User n) = codes " user=" ++ decimal n
+source_text (Provider n) = codes " provider=" ++ decimal n
+
+-- the name of a PDU, and its application context name
+abbrev pub named_text : List ℕ → List ℕ → List ℕ
+named_text name context = codes " " ++ name ++ codes " context=" ++ encode_lower context
+
+-- a PDU of the dialogue portion
+abbrev pub dialogue_text : Dialogue → List ℕ
+dialogue_text (Request context info) = named_text (codes "AARQ") context ++ info_text info
+dialogue_text (Response context result diagnostic info) =
+    named_text (codes "AARE") context ++ codes " result=" ++ decimal result ++ source_text diagnostic ++ info_text info
+dialogue_text (Abort source info) = codes " ABRT source=" ++ decimal source ++ info_text info
+dialogue_text (Uni context info) = named_text (codes "AUDT") context ++ info_text info
+
+abbrev pub dialogue_portion_text : Option Dialogue → List ℕ
+dialogue_portion_text None = []
+dialogue_portion_text (Some dialogue) = dialogue_text dialogue
+
+-- what a message is, but for its components: its kind, and those of its parts that it has
+abbrev pub head_text : Message → List ℕ
+head_text m =
+    kind_name (kind_in m) ++ id_text (codes "otid") (otid_in m) ++ id_text (codes "dtid") (dtid_in m) ++ cause_text (cause_in m)
+    ++ dialogue_portion_text (dialogue_in m)
 
 -- a message behind the number and the end of its entry, and the lines of its components
 abbrev pub message_text : Message → List ℕ
-message_text (Begin otid components) = begin_text otid components
+message_text m = head_text m ++ line_end ++ flat_map component_line (components_in m)
 
 abbrev pub body_text : Body → List ℕ
 body_text (Good m) = message_text m

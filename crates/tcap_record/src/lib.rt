@@ -1,6 +1,7 @@
 //! Records of TCAP messages: entries one after the other, each an end's octet and one message.
 #![tactic(auto)]
 
+mod component_lines;
 mod entry;
 mod fault;
 mod framing;

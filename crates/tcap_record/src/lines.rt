@@ -1,18 +1,18 @@
 //! The lines of an entry.
 
 ghost use Rattle.std.specs.Prelude.{◌≡◌, ◌++◌, OnOk};
-ghost use Rattle.std.specs.List.{flat_map};
 ghost use Rattle.std.specs.String.{string_bytes};
 ghost use Rattle.std.specs.Option.{option_map};
-ghost use Rattle.tcap_parts.specs.declared.component.Component.TheVariants as Component;
-ghost use Rattle.tcap_parts.specs.Meaning.{code_of, parameter_of, body_of, problem_of, component_of};
-ghost use Rattle.tcap_record.specs.Lines.{name_of_end, code_text, parameter_text, coded_text, operation_text, error_code_text, result_name, problem_text, component_text, component_line, begin_text, message_text, body_text, entry_lines};
+ghost use Rattle.tcap_parts.specs.DialogueMeaning.{info_meaning, source_of, dialogue_of};
+ghost use Rattle.tcap_msg.specs.Meaning.{id_of, number_of};
+ghost use Rattle.tcap_record.specs.Lines.{name_of_end, kind_name, id_text, cause_text, named_text, source_text, info_text, dialogue_text, dialogue_portion_text, head_text, message_text, body_text, entry_lines};
 
+use crate::component_lines::push_components;
 use crate::entry::{Body, End, Entry};
 use std::alloc::{AllocError, Global};
-use tcap_ber::RawView;
-use tcap_msg::{Message, TransactionId};
-use tcap_parts::{CodeView, Component, ComponentView, Portion, ProblemView, ResultBodyView};
+use tcap_ber::{ObjectIdView, SmallView};
+use tcap_msg::{Kind, MessageParts, TransactionIdView};
+use tcap_parts::{DialogueView, InfoView, SourceView};
 
 /// The name of an end.
 fn name(side: End) -> &'static str
@@ -24,231 +24,166 @@ fn name(side: End) -> &'static str
     }
 }
 
-/// Appends a parameter, where there is one.
-fn push_parameter(
-    alloc: Global,
-    text: &mut String,
-    parameter: Option<RawView>,
-) -> Result<(), AllocError>
-    ensures { OnOk result (string_bytes text.new ≡ string_bytes text.old ++ parameter_text (parameter_of parameter.entry)) }
+/// The name of a kind of messages.
+fn name_of_kind(kind: Kind) -> &'static str
+    ensures { result.now ≡ kind_name kind }
 {
-    match parameter {
-        Some(raw) => {
-            let octets = hex::encode(alloc, raw.octets)?;
-            write!(text, " parameter={octets}")
-        }
-        None => Ok(()),
+    match kind {
+        Kind::Unidirectional => "Unidirectional",
+        Kind::Begin => "Begin",
+        Kind::Continue => "Continue",
+        Kind::End => "End",
+        Kind::Abort => "Abort",
     }
 }
 
-/// Appends an operation code or an error code.
-fn push_code(alloc: Global, text: &mut String, code: CodeView) -> Result<(), AllocError>
-    ensures { OnOk result (string_bytes text.new ≡ string_bytes text.old ++ code_text (code_of code.entry)) }
-{
-    match code {
-        CodeView::Local(number) => write!(text, "{number}"),
-        CodeView::Global(id) => {
-            let octets = hex::encode(alloc, id.octets)?;
-            write!(text, "g:{octets}")
-        }
-    }
-}
-
-/// Appends an operation code or an error code, and a parameter.
-fn push_coded(
+/// Appends a transaction ID of that name, where there is one.
+fn push_id(
     alloc: Global,
     text: &mut String,
-    code: CodeView,
-    parameter: Option<RawView>,
+    name: &str,
+    id: Option<TransactionIdView>,
 ) -> Result<(), AllocError>
-    ensures { OnOk result (string_bytes text.new ≡ string_bytes text.old ++ coded_text (code_of code.entry) (parameter_of parameter.entry)) }
-{
-    push_code(alloc, text, code)?;
-    push_parameter(alloc, text, parameter)
-}
-
-/// Appends an operation code and a parameter, named.
-fn push_operation(
-    alloc: Global,
-    text: &mut String,
-    code: CodeView,
-    parameter: Option<RawView>,
-) -> Result<(), AllocError>
-    ensures { OnOk result (string_bytes text.new ≡ string_bytes text.old ++ operation_text (code_of code.entry) (parameter_of parameter.entry)) }
-{
-    write!(text, " op=")?;
-    push_coded(alloc, text, code, parameter)
-}
-
-/// Appends an error code and a parameter, named.
-fn push_error_code(
-    alloc: Global,
-    text: &mut String,
-    code: CodeView,
-    parameter: Option<RawView>,
-) -> Result<(), AllocError>
-    ensures { OnOk result (string_bytes text.new ≡ string_bytes text.old ++ error_code_text (code_of code.entry) (parameter_of parameter.entry)) }
-{
-    write!(text, " error=")?;
-    push_coded(alloc, text, code, parameter)
-}
-
-/// Appends an Invoke.
-fn push_invoke(
-    alloc: Global,
-    text: &mut String,
-    id: i8,
-    linked: Option<i8>,
-    code: CodeView,
-    parameter: Option<RawView>,
-) -> Result<(), AllocError>
-    ensures { OnOk result (string_bytes text.new ≡ string_bytes text.old
-        ++ component_text (Component.Invoke id linked (code_of code.entry) (parameter_of parameter.entry))) }
-{
-    write!(text, "Invoke id={id}")?;
-    if let Some(linked) = linked {
-        write!(text, " linked={linked}")?;
-    }
-    push_operation(alloc, text, code, parameter)
-}
-
-/// The name of a Return Result, the last one or not.
-fn name_of_result(last: bool) -> &'static str
-    ensures { result.now ≡ result_name last }
-{
-    if last {
-        "ReturnResultLast"
-    } else {
-        "ReturnResultNotLast"
-    }
-}
-
-/// Appends a Return Result.
-fn push_result(
-    alloc: Global,
-    text: &mut String,
-    last: bool,
-    id: i8,
-    body: Option<ResultBodyView>,
-) -> Result<(), AllocError>
-    ensures { OnOk result (string_bytes text.new ≡ string_bytes text.old
-        ++ component_text (Component.ReturnResult last id (option_map body_of body.entry))) }
-{
-    let name = name_of_result(last);
-    write!(text, "{name} id={id}")?;
-    match body {
-        Some(body) => push_operation(alloc, text, body.code, body.parameter),
-        None => Ok(()),
-    }
-}
-
-/// Appends a Return Error.
-fn push_error(
-    alloc: Global,
-    text: &mut String,
-    id: i8,
-    code: CodeView,
-    parameter: Option<RawView>,
-) -> Result<(), AllocError>
-    ensures { OnOk result (string_bytes text.new ≡ string_bytes text.old
-        ++ component_text (Component.ReturnError id (code_of code.entry) (parameter_of parameter.entry))) }
-{
-    write!(text, "ReturnError id={id}")?;
-    push_error_code(alloc, text, code, parameter)
-}
-
-/// Appends a problem.
-fn push_problem(text: &mut String, problem: ProblemView) -> Result<(), AllocError>
-    ensures { OnOk result (string_bytes text.new ≡ string_bytes text.old ++ problem_text (problem_of problem)) }
-{
-    let (kind, number) = match problem {
-        ProblemView::General(number) => ("general", number),
-        ProblemView::Invoke(number) => ("invoke", number),
-        ProblemView::ReturnResult(number) => ("result", number),
-        ProblemView::ReturnError(number) => ("error", number),
-    };
-    let number = number.number;
-    write!(text, " {kind}={number}")
-}
-
-/// Appends a Reject.
-fn push_reject(text: &mut String, id: Option<i8>, problem: ProblemView) -> Result<(), AllocError>
-    ensures { OnOk result (string_bytes text.new ≡ string_bytes text.old ++ component_text (Component.Reject id (problem_of problem))) }
+    ensures { OnOk result (string_bytes text.new ≡ string_bytes text.old ++ id_text name.now (id_of id.entry)) }
 {
     match id {
-        Some(id) => write!(text, "Reject id={id}")?,
-        None => write!(text, "Reject id=null")?,
-    }
-    push_problem(text, problem)
-}
-
-/// Appends the line of a component.
-fn push_component(
-    alloc: Global,
-    text: &mut String,
-    component: ComponentView,
-) -> Result<(), AllocError>
-    ensures { OnOk result (string_bytes text.new ≡ string_bytes text.old ++ component_line (component_of component.entry)) }
-{
-    write!(text, "  ")?;
-    match component {
-        ComponentView::Invoke {
-            id,
-            linked,
-            code,
-            parameter,
-        } => push_invoke(alloc, text, id, linked, code, parameter)?,
-        ComponentView::ReturnResult { last, id, body } => {
-            push_result(alloc, text, last, id, body)?;
+        Some(id) => {
+            let octets = hex::encode(alloc, id.octets)?;
+            write!(text, " {name}={octets}")
         }
-        ComponentView::ReturnError {
-            id,
-            code,
-            parameter,
-        } => push_error(alloc, text, id, code, parameter)?,
-        ComponentView::Reject { id, problem } => push_reject(text, id, problem)?,
-    }
-    writeln!(text)
-}
-
-/// Appends the lines of components.
-fn push_components(
-    alloc: Global,
-    text: &mut String,
-    components: &[Component],
-) -> Result<(), AllocError>
-    ensures { OnOk result (string_bytes text.new ≡ string_bytes text.old ++ flat_map component_line components.now) }
-{
-    for component in components {
-        push_component(alloc, text, component.view())?;
-    }
-    Ok(())
-}
-
-/// Appends the text of a Begin and the lines of its components.
-fn push_begin(
-    alloc: Global,
-    text: &mut String,
-    otid: &TransactionId,
-    components: &Option<Portion>,
-) -> Result<(), AllocError>
-    ensures { OnOk result (string_bytes text.new ≡ string_bytes text.old ++ begin_text otid.now components.now) }
-{
-    let octets = hex::encode(alloc, otid.octets())?;
-    writeln!(text, "Begin otid={octets}")?;
-    match components {
-        Some(portion) => push_components(alloc, text, portion.items()),
         None => Ok(()),
     }
+}
+
+/// Appends a P-Abort cause, where there is one.
+fn push_cause(text: &mut String, cause: Option<SmallView>) -> Result<(), AllocError>
+    ensures { OnOk result (string_bytes text.new ≡ string_bytes text.old ++ cause_text (number_of cause)) }
+{
+    match cause {
+        Some(cause) => {
+            let number = cause.number;
+            write!(text, " cause={number}")
+        }
+        None => Ok(()),
+    }
+}
+
+/// Appends the count of the EXTERNALs of user information, where there is some.
+fn push_info(text: &mut String, info: Option<InfoView>) -> Result<(), AllocError>
+    ensures { OnOk result (string_bytes text.new ≡ string_bytes text.old ++ info_text (info_meaning info.entry)) }
+{
+    match info {
+        Some(info) => {
+            let count = info.count();
+            write!(text, " info={count}")
+        }
+        None => Ok(()),
+    }
+}
+
+/// Appends the name of a PDU and its application context name.
+fn push_named(
+    alloc: Global,
+    text: &mut String,
+    name: &str,
+    context: ObjectIdView,
+) -> Result<(), AllocError>
+    ensures { OnOk result (string_bytes text.new ≡ string_bytes text.old ++ named_text name.now context.entry.octets.now) }
+{
+    let octets = hex::encode(alloc, context.octets)?;
+    write!(text, " {name} context={octets}")
+}
+
+/// Appends a diagnostic.
+fn push_source(text: &mut String, source: SourceView) -> Result<(), AllocError>
+    ensures { OnOk result (string_bytes text.new ≡ string_bytes text.old ++ source_text (source_of source)) }
+{
+    let (name, number) = match source {
+        SourceView::User(number) => ("user", number),
+        SourceView::Provider(number) => ("provider", number),
+    };
+    let number = number.number;
+    write!(text, " {name}={number}")
+}
+
+/// Appends a PDU of the dialogue portion.
+fn push_dialogue(
+    alloc: Global,
+    text: &mut String,
+    dialogue: DialogueView,
+) -> Result<(), AllocError>
+    ensures { OnOk result (string_bytes text.new ≡ string_bytes text.old ++ dialogue_text (dialogue_of dialogue.entry)) }
+{
+    match dialogue {
+        DialogueView::Request { context, info } => {
+            push_named(alloc, text, "AARQ", context)?;
+            push_info(text, info)
+        }
+        DialogueView::Response {
+            context,
+            result,
+            diagnostic,
+            info,
+        } => {
+            push_named(alloc, text, "AARE", context)?;
+            let number = result.number;
+            write!(text, " result={number}")?;
+            push_source(text, diagnostic)?;
+            push_info(text, info)
+        }
+        DialogueView::Abort { source, info } => {
+            let number = source.number;
+            write!(text, " ABRT source={number}")?;
+            push_info(text, info)
+        }
+        DialogueView::Uni { context, info } => {
+            push_named(alloc, text, "AUDT", context)?;
+            push_info(text, info)
+        }
+    }
+}
+
+/// Appends the PDU of a dialogue portion, where there is one.
+fn push_dialogue_portion(
+    alloc: Global,
+    text: &mut String,
+    dialogue: Option<DialogueView>,
+) -> Result<(), AllocError>
+    ensures { OnOk result (string_bytes text.new ≡ string_bytes text.old ++ dialogue_portion_text (option_map dialogue_of dialogue.entry)) }
+{
+    match dialogue {
+        Some(dialogue) => push_dialogue(alloc, text, dialogue),
+        None => Ok(()),
+    }
+}
+
+/// Appends what a message is but for its components.
+fn push_head<M: MessageParts>(
+    alloc: Global,
+    text: &mut String,
+    message: &M,
+) -> Result<(), AllocError>
+    ensures { OnOk result (string_bytes text.new ≡ string_bytes text.old ++ head_text (M.meaning message.now)) }
+{
+    let name = name_of_kind(message.kind());
+    write!(text, "{name}")?;
+    push_id(alloc, text, "otid", message.otid())?;
+    push_id(alloc, text, "dtid", message.dtid())?;
+    push_cause(text, message.cause())?;
+    push_dialogue_portion(alloc, text, message.dialogue())
 }
 
 /// Appends the text of a message and the lines of its components.
-fn push_message(alloc: Global, text: &mut String, message: &Message) -> Result<(), AllocError>
-    ensures { OnOk result (string_bytes text.new ≡ string_bytes text.old ++ message_text message.now) }
+fn push_message<M: MessageParts>(
+    alloc: Global,
+    text: &mut String,
+    message: &M,
+) -> Result<(), AllocError>
+    ensures { OnOk result (string_bytes text.new ≡ string_bytes text.old ++ message_text (M.meaning message.now)) }
 {
-    match message {
-        Message::Begin { otid, components } => push_begin(alloc, text, otid, components),
-    }
+    push_head(alloc, text, message)?;
+    writeln!(text)?;
+    push_components(alloc, text, message.components())
 }
 
 /// Appends what stands behind an entry's number and end, and the lines of its components.

@@ -1,0 +1,214 @@
+//! The lines of components.
+
+ghost use Rattle.std.specs.Prelude.{◌≡◌, ◌++◌, OnOk};
+ghost use Rattle.std.specs.List.{flat_map};
+ghost use Rattle.std.specs.String.{string_bytes};
+ghost use Rattle.std.specs.Option.{option_map};
+ghost use Rattle.tcap_parts.specs.declared.component.Component.TheVariants as Component;
+ghost use Rattle.tcap_parts.specs.Meaning.{code_of, parameter_of, body_of, problem_of, component_of, components_left};
+ghost use Rattle.tcap_record.specs.Lines.{code_text, parameter_text, coded_text, operation_text, error_code_text, result_name, problem_text, component_text, component_line};
+
+use std::alloc::{AllocError, Global};
+use tcap_ber::RawView;
+use tcap_parts::{CodeView, ComponentView, Components, ProblemView, ResultBodyView};
+
+/// Appends a parameter, where there is one.
+fn push_parameter(
+    alloc: Global,
+    text: &mut String,
+    parameter: Option<RawView>,
+) -> Result<(), AllocError>
+    ensures { OnOk result (string_bytes text.new ≡ string_bytes text.old ++ parameter_text (parameter_of parameter.entry)) }
+{
+    match parameter {
+        Some(raw) => {
+            let octets = hex::encode(alloc, raw.octets)?;
+            write!(text, " parameter={octets}")
+        }
+        None => Ok(()),
+    }
+}
+
+/// Appends an operation code or an error code.
+fn push_code(alloc: Global, text: &mut String, code: CodeView) -> Result<(), AllocError>
+    ensures { OnOk result (string_bytes text.new ≡ string_bytes text.old ++ code_text (code_of code.entry)) }
+{
+    match code {
+        CodeView::Local(number) => write!(text, "{number}"),
+        CodeView::Global(id) => {
+            let octets = hex::encode(alloc, id.octets)?;
+            write!(text, "g:{octets}")
+        }
+    }
+}
+
+/// Appends an operation code or an error code, and a parameter.
+fn push_coded(
+    alloc: Global,
+    text: &mut String,
+    code: CodeView,
+    parameter: Option<RawView>,
+) -> Result<(), AllocError>
+    ensures { OnOk result (string_bytes text.new ≡ string_bytes text.old ++ coded_text (code_of code.entry) (parameter_of parameter.entry)) }
+{
+    push_code(alloc, text, code)?;
+    push_parameter(alloc, text, parameter)
+}
+
+/// Appends an operation code and a parameter, named.
+fn push_operation(
+    alloc: Global,
+    text: &mut String,
+    code: CodeView,
+    parameter: Option<RawView>,
+) -> Result<(), AllocError>
+    ensures { OnOk result (string_bytes text.new ≡ string_bytes text.old ++ operation_text (code_of code.entry) (parameter_of parameter.entry)) }
+{
+    write!(text, " op=")?;
+    push_coded(alloc, text, code, parameter)
+}
+
+/// Appends an error code and a parameter, named.
+fn push_error_code(
+    alloc: Global,
+    text: &mut String,
+    code: CodeView,
+    parameter: Option<RawView>,
+) -> Result<(), AllocError>
+    ensures { OnOk result (string_bytes text.new ≡ string_bytes text.old ++ error_code_text (code_of code.entry) (parameter_of parameter.entry)) }
+{
+    write!(text, " error=")?;
+    push_coded(alloc, text, code, parameter)
+}
+
+/// Appends an Invoke.
+fn push_invoke(
+    alloc: Global,
+    text: &mut String,
+    id: i8,
+    linked: Option<i8>,
+    code: CodeView,
+    parameter: Option<RawView>,
+) -> Result<(), AllocError>
+    ensures { OnOk result (string_bytes text.new ≡ string_bytes text.old
+        ++ component_text (Component.Invoke id linked (code_of code.entry) (parameter_of parameter.entry))) }
+{
+    write!(text, "Invoke id={id}")?;
+    if let Some(linked) = linked {
+        write!(text, " linked={linked}")?;
+    }
+    push_operation(alloc, text, code, parameter)
+}
+
+/// The name of a Return Result, the last one or not.
+fn name_of_result(last: bool) -> &'static str
+    ensures { result.now ≡ result_name last }
+{
+    if last {
+        "ReturnResultLast"
+    } else {
+        "ReturnResultNotLast"
+    }
+}
+
+/// Appends a Return Result.
+fn push_result(
+    alloc: Global,
+    text: &mut String,
+    last: bool,
+    id: i8,
+    body: Option<ResultBodyView>,
+) -> Result<(), AllocError>
+    ensures { OnOk result (string_bytes text.new ≡ string_bytes text.old
+        ++ component_text (Component.ReturnResult last id (option_map body_of body.entry))) }
+{
+    let name = name_of_result(last);
+    write!(text, "{name} id={id}")?;
+    match body {
+        Some(body) => push_operation(alloc, text, body.code, body.parameter),
+        None => Ok(()),
+    }
+}
+
+/// Appends a Return Error.
+fn push_error(
+    alloc: Global,
+    text: &mut String,
+    id: i8,
+    code: CodeView,
+    parameter: Option<RawView>,
+) -> Result<(), AllocError>
+    ensures { OnOk result (string_bytes text.new ≡ string_bytes text.old
+        ++ component_text (Component.ReturnError id (code_of code.entry) (parameter_of parameter.entry))) }
+{
+    write!(text, "ReturnError id={id}")?;
+    push_error_code(alloc, text, code, parameter)
+}
+
+/// Appends a problem.
+fn push_problem(text: &mut String, problem: ProblemView) -> Result<(), AllocError>
+    ensures { OnOk result (string_bytes text.new ≡ string_bytes text.old ++ problem_text (problem_of problem)) }
+{
+    let (kind, number) = match problem {
+        ProblemView::General(number) => ("general", number),
+        ProblemView::Invoke(number) => ("invoke", number),
+        ProblemView::ReturnResult(number) => ("result", number),
+        ProblemView::ReturnError(number) => ("error", number),
+    };
+    let number = number.number;
+    write!(text, " {kind}={number}")
+}
+
+/// Appends a Reject.
+fn push_reject(text: &mut String, id: Option<i8>, problem: ProblemView) -> Result<(), AllocError>
+    ensures { OnOk result (string_bytes text.new ≡ string_bytes text.old ++ component_text (Component.Reject id (problem_of problem))) }
+{
+    match id {
+        Some(id) => write!(text, "Reject id={id}")?,
+        None => write!(text, "Reject id=null")?,
+    }
+    push_problem(text, problem)
+}
+
+/// Appends the line of a component.
+fn push_component(
+    alloc: Global,
+    text: &mut String,
+    component: ComponentView,
+) -> Result<(), AllocError>
+    ensures { OnOk result (string_bytes text.new ≡ string_bytes text.old ++ component_line (component_of component.entry)) }
+{
+    write!(text, "  ")?;
+    match component {
+        ComponentView::Invoke {
+            id,
+            linked,
+            code,
+            parameter,
+        } => push_invoke(alloc, text, id, linked, code, parameter)?,
+        ComponentView::ReturnResult { last, id, body } => {
+            push_result(alloc, text, last, id, body)?;
+        }
+        ComponentView::ReturnError {
+            id,
+            code,
+            parameter,
+        } => push_error(alloc, text, id, code, parameter)?,
+        ComponentView::Reject { id, problem } => push_reject(text, id, problem)?,
+    }
+    writeln!(text)
+}
+
+/// Appends the lines of components.
+pub(crate) fn push_components(
+    alloc: Global,
+    text: &mut String,
+    components: Components,
+) -> Result<(), AllocError>
+    ensures { OnOk result (string_bytes text.new ≡ string_bytes text.old ++ flat_map component_line (components_left components.entry)) }
+{
+    for component in components {
+        push_component(alloc, text, component)?;
+    }
+    Ok(())
+}
