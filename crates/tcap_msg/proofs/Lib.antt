@@ -1,5 +1,6 @@
 pub mod KindLaws
 pub mod MessageLaws
+pub mod MessageWithin
 pub mod DecodeLaws
 pub mod CanonicalLaws
 pub mod SpellingLaws

@@ -11,19 +11,15 @@ use Rattle.tcap_ber.specs.Element.{IsElement}
 use Rattle.tcap_ber.specs.Header.{HasLengthOctet, IsHeaderFault, IsUnfinished}
 use Rattle.tcap_ber.specs.Grammar.{after}
 use Rattle.tcap_ber.specs.Span.{Span}
-use Rattle.tcap_ber.specs.Reading.{◌>>=◌, fault, Element, outer_at, required_at, with_body}
+use Rattle.tcap_ber.specs.Reading.{◌>>=◌, fault, outer_at}
 use Rattle.tcap_ber.proofs.Steps.{bind_ok, bind_err, ok_is, err_is, ok_not_err}
 use Rattle.tcap_ber.proofs.ElementLaws.{element_len_at_least}
 use Rattle.tcap_ber.proofs.FaultLaws.{refused_by}
 use Rattle.tcap_ber.proofs.OuterLaws.{outer_whole, outer_of_element, outer_needs, outer_fault, outer_refused, whole_is}
 use Rattle.tcap_msg.specs.declared.message.Message.{Message}
 use Rattle.tcap_msg.specs.Message.{Spells, message, whole, IsFaulty, BeginsNoMessage, IsNeverMessage}
-use Rattle.tcap_msg.specs.Reading.{begin_at, with_len, in_outer, message_at}
-use Rattle.tcap_msg.proofs.BeginLaws.{reads_message}
-
--- the reader of a message at the front of a window
-abbrev message_in : Span → Result (Message × Span) Fault
-message_in s = required_at 0x62 s >>= with_body (λ e. begin_at e.content)
+use Rattle.tcap_msg.specs.Reading.{message_in, with_len, in_outer, message_at}
+use Rattle.tcap_msg.proofs.KindLaws.{reads_message}
 
 -- a chain goes on from what its first part answered
 chained : {A B : Type 0} (r : Result A Fault) (x : A) (f : A → Result B Fault) (y : Result B Fault) → r ≡ Ok x → f x ≡ y → (r >>= f) ≡ y
@@ -32,49 +28,19 @@ chained r x f y e h = ap (λ q. q >>= f) e ∙ h
 chained_err : {A B : Type 0} (r : Result A Fault) (f : A → Result B Fault) (g : Fault) → r ≡ Err g → (r >>= f) ≡ Err g
 chained_err r f g e = ap (λ q. q >>= f) e
 
-abbrev begin_in : Element → Result Message Fault
-begin_in e = begin_at e.content
-
--- the two chains that read a message answer alike
-counted : (r : Result (Element × Span) Fault) (n : ℕ) (x : Message × ℕ) → (r >>= with_len n) ≡ Ok x
-    → (rest : Span) × ((r >>= with_body begin_in) ≡ Ok (x.0, rest)) × (x.1 ≡ n)
+-- the count comes to the message that was read
+counted : (r : Result (Message × Span) Fault) (n : ℕ) (x : Message × ℕ) → (r >>= with_len n) ≡ Ok x
+    → (rest : Span) × (r ≡ Ok (x.0, rest)) × (x.1 ≡ n)
 counted r n x e =
     let a = bind_ok r (with_len n) x e in
-    let b = bind_ok (begin_at a.0.0.content) (λ m. Ok (m, n)) x a.2 in
-    let same : (b.0, n) ≡ x = ok_is (b.0, n) x b.2 in
-    let m_is : b.0 ≡ x.0 = ap (λ (y : Message × ℕ). y.0) same in
-    let inner : with_body begin_in a.0 ≡ Ok (x.0, a.0.1) =
-    chained (begin_at a.0.0.content) b.0 (λ v. Ok (v, a.0.1)) (Ok (x.0, a.0.1)) b.1 (ap (λ (y : Message). Ok (y, a.0.1)) m_is) in
-    (a.0.1, chained r a.0 (with_body begin_in) (Ok (x.0, a.0.1)) a.1 inner, sym (ap (λ (y : Message × ℕ). y.1) same))
+    let same : (a.0.0, n) ≡ x = ok_is (a.0.0, n) x a.2 in
+    (a.0.1, a.1 ∙ ap (λ (y : Message × ℕ). Ok (y.0, a.0.1)) same, sym (ap (λ (y : Message × ℕ). y.1) same))
 
-counted_back : (r : Result (Element × Span) Fault) (n : ℕ) (m : Message) (rest : Span) → (r >>= with_body begin_in) ≡ Ok (m, rest)
-    → (r >>= with_len n) ≡ Ok (m, n)
-counted_back r n m rest e =
-    let a = bind_ok r (with_body begin_in) (m, rest) e in
-    let b = bind_ok (begin_at a.0.0.content) (λ v. Ok (v, a.0.1)) (m, rest) a.2 in
-    let same : (b.0, a.0.1) ≡ (m, rest) = ok_is (b.0, a.0.1) (m, rest) b.2 in
-    let m_is : b.0 ≡ m = ap (λ (y : Message × Span). y.0) same in
-    chained r a.0 (with_len n) (Ok (m, n)) a.1
-    (chained (begin_at a.0.0.content) b.0 (λ v. Ok (v, n)) (Ok (m, n)) b.1 (ap (λ (y : Message). Ok (y, n)) m_is))
-
-counted_err : (r : Result (Element × Span) Fault) (n : ℕ) (f : Fault) → (r >>= with_len n) ≡ Err f → (r >>= with_body begin_in) ≡ Err f
+counted_err : (r : Result (Message × Span) Fault) (n : ℕ) (f : Fault) → (r >>= with_len n) ≡ Err f → r ≡ Err f
 counted_err r n f e =
     elim (bind_err r (with_len n) f e) [
-      | inl h ↦ chained_err r (with_body begin_in) f h
-      | inr a ↦ elim (bind_err (begin_at a.0.0.content) (λ m. Ok (m, n)) f a.2) [
-        | inl h ↦ chained r a.0 (with_body begin_in) (Err f) a.1 (chained_err (begin_at a.0.0.content) (λ v. Ok (v, a.0.1)) f h)
-        | inr b ↦ absurd cc
-      ]
-    ]
-
-counted_stops : (r : Result (Element × Span) Fault) (n : ℕ) (f : Fault) → (r >>= with_body begin_in) ≡ Err f → (r >>= with_len n) ≡ Err f
-counted_stops r n f e =
-    elim (bind_err r (with_body begin_in) f e) [
-      | inl h ↦ chained_err r (with_len n) f h
-      | inr a ↦ elim (bind_err (begin_at a.0.0.content) (λ v. Ok (v, a.0.1)) f a.2) [
-        | inl h ↦ chained r a.0 (with_len n) (Err f) a.1 (chained_err (begin_at a.0.0.content) (λ m. Ok (m, n)) f h)
-        | inr b ↦ absurd cc
-      ]
+      | inl h ↦ h
+      | inr a ↦ absurd cc
     ]
 
 outer_ok : (x y : Outer) → (let a : Result Outer Fault = Ok x in a) ≡ Ok y → x ≡ y
@@ -89,19 +55,18 @@ message_sound octets x e =
     of_outer : (o : Outer) → outer_at octets ≡ Ok o → in_outer octets o ≡ Ok x → (front rest : List ℕ) × (octets ≡ front ++ rest) × (x.1 ≡ length front) × Spells x.0 front
     of_outer (Need n) a b = absurd cc
     of_outer (Whole n) a b =
-        let c = counted (required_at 0x62 (whole octets)) n x b in
+        let c = counted (message_in (whole octets)) n x b in
         let t = reads_message.sound (whole octets) x.0 c.0 c.1 in
-        let len = outer_of_element (0x62 ∷ []) t.is_part.content t.front c.0.octets t.is_part.is_element in
+        let len = outer_of_element t.is_part.tag t.is_part.content t.front c.0.octets t.is_part.is_element in
         let same : n ≡ length t.front = whole_is n (length t.front) (outer_ok (Whole n) (Whole (length t.front)) (sym a ∙ ap outer_at t.joined ∙ len)) in
         (t.front, c.0.octets, t.joined, c.2 ∙ same, t.is_part)
 
 pub message_complete : (m : Message) (front rest : List ℕ) → Spells m front → message_at (front ++ rest) ≡ Ok (m, length front)
 unfolding message_at
 message_complete m front rest spelled =
-    rw (outer_of_element (0x62 ∷ []) spelled.content front rest spelled.is_element)
-    (counted_back (required_at 0x62 (whole (front ++ rest))) (length front) m (after 0 front rest) (reads_message.complete 0 m front rest spelled))
+    rw (outer_of_element spelled.tag spelled.content front rest spelled.is_element)
+    (chained (message_in (whole (front ++ rest))) (m, after 0 front rest) (with_len (length front)) (Ok (m, length front)) (reads_message.complete 0 m front rest spelled) refl)
 
--- octets that begin with an element are neither empty nor unfinished
 pub message_refused : (octets : List ℕ) (f : Fault) → message_at octets ≡ Err f → IsFaulty octets f.reason f.place
 unfolding message_at
 message_refused octets f e =
@@ -116,7 +81,7 @@ message_refused octets f e =
         (inl (refl, refl, (outer_needs octets n a).unfinished))
     of_outer (Whole n) a b =
         let here = outer_whole octets n a in
-        elim (reads_message.refuses (whole octets) f (counted_err (required_at 0x62 (whole octets)) n f b)) [
+        elim (reads_message.refuses (whole octets) f (counted_err (message_in (whole octets)) n f b)) [
           | inl missing ↦ let some = element_len_at_least here.tag here.content here.element here.is_element in
               absurd (omega (arith, some, ap length missing.ends, ap length here.joined, length-append here.element here.rest))
           | inr h ↦ elim h [
@@ -146,15 +111,14 @@ element_stops : (octets : List ℕ) (f : Fault) (tag content element rest : List
 unfolding message_at
 element_stops octets f tag content element rest e joined wrong =
     chained (outer_at octets) (Whole (length element)) (in_outer octets) (Err f) (ap outer_at joined ∙ outer_of_element tag content element rest e)
-    (counted_stops (required_at 0x62 (whole octets)) (length element) f (reads_message.stops (whole octets) f wrong))
+    (chained_err (message_in (whole octets)) (with_len (length element)) f (reads_message.stops (whole octets) f wrong))
 
 -- what is faulty is refused by that very fault
 pub message_stops : (octets : List ℕ) (f : Fault) → IsFaulty octets f.reason f.place → message_at octets ≡ Err f
 unfolding message_at
 message_stops octets f (inl h) = cut_stops octets h.2 ∙ refused_by f reasons.Cut (length octets) h.0 h.1
 message_stops octets f (inr (inl h)) = chained_err (outer_at octets) (in_outer octets) f (outer_refused octets f.reason f.place h)
-message_stops octets f (inr (inr (inl u))) = element_stops octets f u.other u.content u.octets u.rest u.is_element u.joined (inr (inr (inl u)))
-message_stops octets f (inr (inr (inr h))) = element_stops octets f (0x62 ∷ []) h.content h.octets h.rest h.is_element h.joined (inr (inr (inr h)))
+message_stops octets f (inr (inr h)) = element_stops octets f h.tag h.content h.octets h.rest h.is_element h.joined (inr (inr h))
 
 -- octets have one fault at most
 pub one_fault : (octets : List ℕ) (f g : Fault) → IsFaulty octets f.reason f.place → IsFaulty octets g.reason g.place → f ≡ g
@@ -214,7 +178,7 @@ one_element tag content element rest tag' content' element' rest' e e' same =
 no_element_there : (octets front rest : List ℕ) (m : Message) (f : Fault) → IsHeaderFault octets f.reason f.place → Spells m front → octets ≡ front ++ rest → ⊥
 no_element_there octets front rest m f wrong spelled joined =
     let refused = outer_refused octets f.reason f.place wrong in
-    let whole_one = ap outer_at joined ∙ outer_of_element (0x62 ∷ []) spelled.content front rest spelled.is_element in
+    let whole_one = ap outer_at joined ∙ outer_of_element spelled.tag spelled.content front rest spelled.is_element in
     ok_not_err (Whole (length front)) (fault f.reason f.place) (sym whole_one ∙ refused)
 
 -- what is refused begins with no message
@@ -243,5 +207,5 @@ never_message octets f e other = record {
     of_outer more (Whole n) a b = λ m front rest spelled joined.
         let here = outer_whole octets n a in
         let all : here.element ++ (here.rest ++ more) ≡ front ++ rest = sym (append_assoc here.element here.rest more) ∙ ap (λ (x : List ℕ). x ++ more) (sym here.joined) ∙ joined in
-        let same = one_element here.tag here.content here.element (here.rest ++ more) (0x62 ∷ []) spelled.content front rest here.is_element spelled.is_element all in
+        let same = one_element here.tag here.content here.element (here.rest ++ more) spelled.tag spelled.content front rest here.is_element spelled.is_element all in
         begins_no_message octets f e m front here.rest spelled (here.joined ∙ ap (λ (x : List ℕ). x ++ here.rest) same)

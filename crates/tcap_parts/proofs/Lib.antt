@@ -1,4 +1,5 @@
 pub mod ComponentLaws
+pub mod ComponentWithin
 pub mod PortionLaws
 pub mod InfoLaws
 pub mod DialogueLaws

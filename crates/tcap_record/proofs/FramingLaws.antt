@@ -8,13 +8,13 @@ use Rattle.tcap_ber.specs.declared.element.Outer.{Outer}
 use Rattle.tcap_ber.specs.declared.element.Outer.TheVariants.{Whole, Need}
 use Rattle.tcap_ber.specs.Element.{IsElement, IsRaw}
 use Rattle.tcap_ber.specs.Span.{Span}
-use Rattle.tcap_ber.specs.Reading.{◌>>=◌, outer_at, required_at}
-use Rattle.tcap_ber.proofs.Steps.{chosen, bind_ok}
+use Rattle.tcap_ber.specs.Reading.{◌>>=◌, outer_at}
+use Rattle.tcap_ber.proofs.Steps.{chosen, bind_ok, ok_is}
 use Rattle.tcap_ber.specs.Header.{BeginsElement}
 use Rattle.tcap_ber.proofs.OuterLaws.{outer_whole, outer_of_element, outer_needs, outer_fault}
 use Rattle.tcap_msg.specs.declared.message.Message.{Message}
 use Rattle.tcap_msg.specs.Message.{Spells, whole}
-use Rattle.tcap_msg.specs.Reading.{message_at, in_outer, begin_at}
+use Rattle.tcap_msg.specs.Reading.{message_in, with_len, in_outer, message_at}
 use Rattle.tcap_record.specs.declared.entry.End.{End}
 use Rattle.tcap_record.specs.declared.entry.End.TheVariants as ends
 use Rattle.tcap_record.specs.declared.entry.Entry.{Entry}
@@ -26,7 +26,7 @@ use Rattle.tcap_record.specs.Framing.{feed_fault, end_in, body_of, body_at, len_
 use Rattle.tcap_record.specs.Reading.{EndsAs, IsReadAs}
 use Rattle.tcap_msg.proofs.MessageLaws.{message_sound, message_complete, message_refused}
 use Rattle.tcap_ber.proofs.WithinLaws.{header_fault_within}
-use Rattle.tcap_record.proofs.PlaceLaws.{faulty_within}
+use Rattle.tcap_msg.proofs.MessageWithin.{faulty_within}
 
 -- ---- places
 
@@ -44,11 +44,9 @@ unfolding message_at
 all_of_it octets x raw e =
     let there : outer_at octets ≡ Ok (Whole (length octets)) = ap outer_at (sym (append-nil octets)) ∙ outer_of_element raw.0 raw.1 octets [] raw.2 in
     let within : in_outer octets (Whole (length octets)) ≡ Ok x = sym (ap (λ r. r >>= in_outer octets) there) ∙ e in
-    let a = bind_ok (required_at 0x62 (whole octets)) (λ found. begin_at found.0.content >>= λ m. Ok (m, length octets)) x within in
-    let b = bind_ok (begin_at a.0.0.content) (λ m. Ok (m, length octets)) x a.2 in
-    let same : (let r : Result (Message × ℕ) Fault = Ok (b.0, length octets) in r) ≡ Ok x = b.2 in
-    let pair : (b.0, length octets) ≡ x = cc in
-    sym (ap (λ (y : Message × ℕ). y.1) pair)
+    let a = bind_ok (message_in (whole octets)) (with_len (length octets)) x within in
+    let same : (a.0.0, length octets) ≡ x = ok_is (a.0.0, length octets) x a.2 in
+    sym (ap (λ (y : Message × ℕ). y.1) same)
 
 spelled_whole : (octets front rest : List ℕ) (m : Message) → octets ≡ front ++ rest → length octets ≡ length front → Spells m front → Spells m octets
 spelled_whole octets front rest m joined len spelled =

@@ -1,26 +1,27 @@
--- The place of a fault lies within the octets, or right behind them.
-use Rattle.std.proofs.Common.{ℕ, Bool, true, false, ◌≤◌, List, length, inl, inr, arith}
-use Rattle.tcap_ber.specs.declared.fault.Reason.{Reason}
-use Rattle.tcap_ber.specs.declared.fault.Reason.TheVariants as reasons
-use Rattle.tcap_ber.specs.Grammar.{required, optional, parameter, ended, ◌⨾◌, integer}
+-- The place of a fault of a component portion lies within the octets, or right behind them.
+use Rattle.std.proofs.Common.{Bool, true, false, inl, inr, arith}
+use Rattle.tcap_ber.specs.declared.fault.Reason.TheVariants.{BadSize, UnexpectedTag, CodeTooWide}
+use Rattle.tcap_ber.specs.Grammar.{required, optional, parameter, ended, ◌⨾◌}
 use Rattle.tcap_ber.specs.Choice.{one_of}
-use Rattle.tcap_ber.proofs.WithinLaws.{BodyWithin, FieldWithin, ContentWithin, header_fault_within, inside_within, required_within, optional_within, parameter_within, ended_within, then_within, each_within, integer_within, object_id_within, small_within, null_within, others_within, tagged_within, one_of_within}
+use Rattle.tcap_ber.proofs.WithinLaws.{BodyWithin, FieldWithin, ContentWithin, required_within, optional_within, parameter_within, ended_within, then_within, each_within, integer_within, object_id_within, small_within, null_within, others_within, tagged_within, one_of_within}
 use Rattle.tcap_parts.specs.Component.{invoke_id, code, invoke, result_body, return_result, return_error, rejected_id, problem, reject, components, component, portion}
-use Rattle.tcap_msg.specs.Message.{IsFaulty, transaction_id, begin, whole}
 
--- ---- components
+-- ---- parts
 
 id_within : BodyWithin invoke_id
-id_within = integer_within 1 reasons.BadSize
+id_within = integer_within 1 BadSize
 
 code_within : FieldWithin (one_of code)
 code_within =
     one_of_within code
-    (tagged_within 0x02 _ _ (integer_within 4 reasons.CodeTooWide)
-    (tagged_within 0x06 _ _ object_id_within (others_within _ reasons.UnexpectedTag)))
+    (tagged_within 0x02 _ _ (integer_within 4 CodeTooWide)
+    (tagged_within 0x06 _ _ object_id_within (others_within _ UnexpectedTag)))
 
+-- a code and a parameter, which are all of what is left
 coded_within : ContentWithin (one_of code ⨾ parameter ⨾ ended)
 coded_within = then_within (one_of code) (parameter ⨾ ended) code_within (then_within parameter ended parameter_within ended_within)
+
+-- ---- components
 
 invoke_within : BodyWithin invoke
 invoke_within at s reason place before h =
@@ -43,7 +44,7 @@ rejected_within : FieldWithin (one_of rejected_id)
 rejected_within =
     one_of_within rejected_id
     (tagged_within 0x02 _ _ id_within
-    (tagged_within 0x05 _ _ null_within (others_within _ reasons.UnexpectedTag)))
+    (tagged_within 0x05 _ _ null_within (others_within _ UnexpectedTag)))
 
 problem_within : FieldWithin (one_of problem)
 problem_within =
@@ -51,7 +52,7 @@ problem_within =
     (tagged_within 0x80 _ _ small_within
     (tagged_within 0x81 _ _ small_within
     (tagged_within 0x82 _ _ small_within
-    (tagged_within 0x83 _ _ small_within (others_within _ reasons.UnexpectedTag)))))
+    (tagged_within 0x83 _ _ small_within (others_within _ UnexpectedTag)))))
 
 reject_within : BodyWithin reject
 reject_within at s reason place before h =
@@ -64,24 +65,8 @@ component_within =
     (tagged_within 0xA2 _ _ (result_within true)
     (tagged_within 0xA3 _ _ error_within
     (tagged_within 0xA4 _ _ reject_within
-    (tagged_within 0xA7 _ _ (result_within false) (others_within _ reasons.UnexpectedTag))))))
+    (tagged_within 0xA7 _ _ (result_within false) (others_within _ UnexpectedTag))))))
 
-portion_within : BodyWithin portion
+pub portion_within : BodyWithin portion
 portion_within at s reason place before (inl h) = omega (arith, h.2, before)
 portion_within at s reason place before (inr h) = each_within component component_within s reason place h
-
-transaction_id_within : BodyWithin transaction_id
-transaction_id_within at s reason place before h = omega (arith, h.2, before)
-
-begin_within : BodyWithin begin
-begin_within at s reason place before h =
-    then_within (required 0x48 transaction_id) (optional 0x6C portion ⨾ ended) (required_within 0x48 transaction_id transaction_id_within)
-    (then_within (optional 0x6C portion) ended (optional_within 0x6C portion portion_within) ended_within) s reason place h
-
--- ---- messages
-
-pub faulty_within : (octets : List ℕ) (reason : Reason) (place : ℕ) → IsFaulty octets reason place → place ≤ length octets
-faulty_within octets reason place (inl h) = omega (arith, h.1)
-faulty_within octets reason place (inr (inl h)) = header_fault_within octets reason place h
-faulty_within octets reason place (inr (inr (inl h))) = omega (arith, h.place_is)
-faulty_within octets reason place (inr (inr (inr h))) = omega (arith, inside_within 0x62 begin begin_within (whole octets) reason place h)
