@@ -2,4 +2,5 @@ pub mod KindLaws
 pub mod MessageLaws
 pub mod DecodeLaws
 pub mod CanonicalLaws
+pub mod EncodeLaws
 pub mod SpellingLaws
