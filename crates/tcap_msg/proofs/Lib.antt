@@ -3,4 +3,5 @@ pub mod MessageLaws
 pub mod MessageWithin
 pub mod DecodeLaws
 pub mod CanonicalLaws
+pub mod EncodeLaws
 pub mod SpellingLaws

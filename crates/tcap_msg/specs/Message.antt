@@ -45,7 +45,7 @@ make_continue parts = Continue parts.0 parts.1.0 parts.1.1.0 parts.1.1.1.0
 abbrev pub continue_message : Body Message
 continue_message =
     made make_continue (structure (
-      required 0x48 transaction_id ⨾ required 0x49 transaction_id ⨾ optional 0x6B dialogue ⨾ optional 0x6C portion ⨾ ended
+    required 0x48 transaction_id ⨾ required 0x49 transaction_id ⨾ optional 0x6B dialogue ⨾ optional 0x6C portion ⨾ ended
     ))
 
 -- the dialogue portion of an Abort, which is there only where no P-Abort cause is

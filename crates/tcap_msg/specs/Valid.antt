@@ -1,5 +1,5 @@
 -- What a value of the type holds.
-use Rattle.std.specs.Prelude.{ℕ, ◌<◌, List, Option, Some, None}
+use Rattle.std.specs.Prelude.{◌<◌, List, Option, Some, None}
 use Rattle.tcap_parts.specs.declared.component.Component.{Component}
 use Rattle.tcap_parts.specs.declared.dialogue.Dialogue.{Dialogue}
 use Rattle.tcap_parts.specs.Valid.{IsPortion}

@@ -109,11 +109,7 @@ pub fn encoded_len(message: &Message) -> Option<usize>
 }
 
 /// Writes a transaction ID under this tag, where there is one. `Failed` where the writer failed.
-fn write_id<W: Write>(
-    tag: u8,
-    id: Option<TransactionIdView>,
-    writer: &mut W,
-) -> Result<(), Failed>
+fn write_id<W: Write>(tag: u8, id: Option<TransactionIdView>, writer: &mut W) -> Result<(), Failed>
     ensures ok { OnOk result (Written (canonical_id tag (id_of id.entry)) (W.taken writer.old) (W.taken writer.new)) }
     ensures counts { CountsFailure (W.failures writer.old) (W.failures writer.new) result }
 {

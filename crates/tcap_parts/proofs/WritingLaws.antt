@@ -88,7 +88,7 @@ pub record Wrote (components left : List Component) (old new : Option (List ℕ)
   pub some : IsSome (canonical_components left)
   pub all : (after : Option (List ℕ)) → Written (canonical_components left) new after → Written (canonical_components components) old after
 
-rest_there : (x y : Option (List ℕ)) → IsSome (x ⧺ y) → IsSome y
+pub rest_there : (x y : Option (List ℕ)) → IsSome (x ⧺ y) → IsSome y
 rest_there None y some = absurd cc
 rest_there (Some a) None some = some
 rest_there (Some a) (Some b) some = refl
