@@ -54,8 +54,8 @@ unless_cause None = optional 0x6B dialogue
 unless_cause (Some cause) = absent
 
 abbrev pub make_reason : Option ℕ → Option Dialogue → Option AbortReason
-make_reason (Some cause) dialogue = Some (reasons.Cause cause)
-make_reason None (Some dialogue) = Some (reasons.Dialogue dialogue)
+make_reason (Some cause) pdu = Some (reasons.Cause cause)
+make_reason None (Some pdu) = Some (reasons.Dialogue pdu)
 make_reason None None = None
 
 -- Abort: DTID 49, [P-Abort cause 4A, or dialogue portion 6B]

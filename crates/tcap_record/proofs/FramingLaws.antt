@@ -14,7 +14,7 @@ use Rattle.tcap_ber.specs.Header.{BeginsElement}
 use Rattle.tcap_ber.proofs.OuterLaws.{outer_whole, outer_of_element, outer_needs, outer_fault}
 use Rattle.tcap_msg.specs.declared.message.Message.{Message}
 use Rattle.tcap_msg.specs.Message.{Spells, whole}
-use Rattle.tcap_msg.specs.Reading.{message_in, with_len, in_outer, message_at}
+use Rattle.tcap_msg.specs.Reading.{message_in, with_len as with_count, in_outer, message_at}
 use Rattle.tcap_record.specs.declared.entry.End.{End}
 use Rattle.tcap_record.specs.declared.entry.End.TheVariants as ends
 use Rattle.tcap_record.specs.declared.entry.Entry.{Entry}
@@ -44,7 +44,7 @@ unfolding message_at
 all_of_it octets x raw e =
     let there : outer_at octets ≡ Ok (Whole (length octets)) = ap outer_at (sym (append-nil octets)) ∙ outer_of_element raw.0 raw.1 octets [] raw.2 in
     let within : in_outer octets (Whole (length octets)) ≡ Ok x = sym (ap (λ r. r >>= in_outer octets) there) ∙ e in
-    let a = bind_ok (message_in (whole octets)) (with_len (length octets)) x within in
+    let a = bind_ok (message_in (whole octets)) (with_count (length octets)) x within in
     let same : (a.0.0, length octets) ≡ x = ok_is (a.0.0, length octets) x a.2 in
     sym (ap (λ (y : Message × ℕ). y.1) same)
 

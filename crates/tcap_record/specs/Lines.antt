@@ -114,12 +114,18 @@ source_text (Provider n) = codes " provider=" ++ decimal n
 abbrev pub named_text : List ℕ → List ℕ → List ℕ
 named_text name context = codes " " ++ name ++ codes " context=" ++ encode_lower context
 
+abbrev pub result_text : ℕ → List ℕ
+result_text n = codes " result=" ++ decimal n
+
+abbrev pub abort_source_text : ℕ → List ℕ
+abort_source_text n = codes " ABRT source=" ++ decimal n
+
 -- a PDU of the dialogue portion
 abbrev pub dialogue_text : Dialogue → List ℕ
 dialogue_text (Request context info) = named_text (codes "AARQ") context ++ info_text info
 dialogue_text (Response context result diagnostic info) =
-    named_text (codes "AARE") context ++ codes " result=" ++ decimal result ++ source_text diagnostic ++ info_text info
-dialogue_text (Abort source info) = codes " ABRT source=" ++ decimal source ++ info_text info
+    named_text (codes "AARE") context ++ result_text result ++ source_text diagnostic ++ info_text info
+dialogue_text (Abort source info) = abort_source_text source ++ info_text info
 dialogue_text (Uni context info) = named_text (codes "AUDT") context ++ info_text info
 
 abbrev pub dialogue_portion_text : Option Dialogue → List ℕ

@@ -5,7 +5,7 @@ ghost use Rattle.std.specs.String.{string_bytes};
 ghost use Rattle.std.specs.Option.{option_map};
 ghost use Rattle.tcap_parts.specs.DialogueMeaning.{info_meaning, source_of, dialogue_of};
 ghost use Rattle.tcap_msg.specs.Meaning.{id_of, number_of};
-ghost use Rattle.tcap_record.specs.Lines.{name_of_end, kind_name, id_text, cause_text, named_text, source_text, info_text, dialogue_text, dialogue_portion_text, head_text, message_text, body_text, entry_lines};
+ghost use Rattle.tcap_record.specs.Lines.{name_of_end, kind_name, id_text, cause_text, named_text, source_text, info_text, result_text, abort_source_text, dialogue_text, dialogue_portion_text, head_text, message_text, body_text, entry_lines};
 
 use crate::component_lines::push_components;
 use crate::entry::{Body, End, Entry};
@@ -106,12 +106,24 @@ fn push_source(text: &mut String, source: SourceView) -> Result<(), AllocError>
     write!(text, " {name}={number}")
 }
 
+/// Appends a result.
+fn push_result(text: &mut String, number: SmallView) -> Result<(), AllocError>
+    ensures { OnOk result (string_bytes text.new ≡ string_bytes text.old ++ result_text number.number) }
+{
+    let number = number.number;
+    write!(text, " result={number}")
+}
+
+/// Appends the name of an ABRT and its abort source.
+fn push_abort_source(text: &mut String, source: SmallView) -> Result<(), AllocError>
+    ensures { OnOk result (string_bytes text.new ≡ string_bytes text.old ++ abort_source_text source.number) }
+{
+    let number = source.number;
+    write!(text, " ABRT source={number}")
+}
+
 /// Appends a PDU of the dialogue portion.
-fn push_dialogue(
-    alloc: Global,
-    text: &mut String,
-    dialogue: DialogueView,
-) -> Result<(), AllocError>
+fn push_dialogue(alloc: Global, text: &mut String, dialogue: DialogueView) -> Result<(), AllocError>
     ensures { OnOk result (string_bytes text.new ≡ string_bytes text.old ++ dialogue_text (dialogue_of dialogue.entry)) }
 {
     match dialogue {
@@ -126,14 +138,12 @@ fn push_dialogue(
             info,
         } => {
             push_named(alloc, text, "AARE", context)?;
-            let number = result.number;
-            write!(text, " result={number}")?;
+            push_result(text, result)?;
             push_source(text, diagnostic)?;
             push_info(text, info)
         }
         DialogueView::Abort { source, info } => {
-            let number = source.number;
-            write!(text, " ABRT source={number}")?;
+            push_abort_source(text, source)?;
             push_info(text, info)
         }
         DialogueView::Uni { context, info } => {
