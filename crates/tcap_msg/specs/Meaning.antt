@@ -18,9 +18,9 @@ use Rattle.tcap_msg.specs.declared.views.MessageView.TheVariants as views
 abbrev pub id_of : Option TransactionIdView → Option (List ℕ)
 id_of id = option_map (λ view. view.octets.now) id
 
--- the number that a view holds, where there is one
-abbrev pub number_of : Option SmallView → Option ℕ
-number_of number = option_map (λ view. view.number) number
+-- the P-Abort cause that a view holds, where there is one
+abbrev pub cause_of : Option SmallView → Option ℕ
+cause_of number = option_map (λ view. view.number) number
 
 -- the reason of an Abort that a view lends
 abbrev pub reason_of : AbortReasonView → AbortReason

@@ -11,7 +11,7 @@ ghost use Rattle.tcap_parts.specs.Writing.{Written};
 ghost use Rattle.tcap_msg.specs.declared.encode_message.EncodeFault.{EncodeFault};
 ghost use Rattle.tcap_msg.specs.Canonical.{message_tag, canonical_id, canonical_cause, canonical_dialogue_portion, canonical_component_portion, canonical_content, canonical};
 ghost use Rattle.tcap_msg.specs.Encoding.{IsEncoded};
-ghost use Rattle.tcap_msg.specs.Meaning.{id_of, number_of, message_of};
+ghost use Rattle.tcap_msg.specs.Meaning.{id_of, cause_of, message_of};
 
 use crate::kind::Kind;
 use crate::message::Message;
@@ -57,7 +57,7 @@ fn len_id(id: Option<TransactionIdView>) -> usize
 
 /// The count of octets of a P-Abort cause, 0 where there is none.
 fn len_cause(cause: Option<SmallView>) -> usize
-    ensures exact { option_map length (canonical_cause (number_of cause)) ≡ Some result }
+    ensures exact { option_map length (canonical_cause (cause_of cause)) ≡ Some result }
     ensures most { result ≤ 3 }
 {
     match cause {
@@ -121,7 +121,7 @@ fn write_id<W: Write>(tag: u8, id: Option<TransactionIdView>, writer: &mut W) ->
 
 /// Writes a P-Abort cause, where there is one. `Failed` where the writer failed.
 fn write_cause<W: Write>(cause: Option<SmallView>, writer: &mut W) -> Result<(), Failed>
-    ensures ok { OnOk result (Written (canonical_cause (number_of cause)) (W.taken writer.old) (W.taken writer.new)) }
+    ensures ok { OnOk result (Written (canonical_cause (cause_of cause)) (W.taken writer.old) (W.taken writer.new)) }
     ensures counts { CountsFailure (W.failures writer.old) (W.failures writer.new) result }
 {
     match cause {
@@ -213,7 +213,8 @@ fn encode_view<W: Write>(message: MessageView, writer: &mut W) -> Result<(), Enc
 
 /// Writes the message in its canonical spelling: with the shortest definite lengths, the protocol version as
 /// 80 02 07 80, its parameters and its user information verbatim. `TooLong` exactly where a content would be over
-/// 65,535 octets, and then nothing is written; `Write` where the writer failed. It takes no memory.
+/// 65,535 octets, and then nothing is written; this can hold of a message that was read without its protocol version,
+/// which takes four octets more. `Write` where the writer failed. It takes no memory.
 pub fn encode<W: Write>(message: &Message, writer: &mut W) -> Result<(), EncodeFault>
     ensures ok { OnOk result ((octets : List ℕ) × (canonical message.now ≡ Some octets)
         × Appends (W.taken writer.old) (W.taken writer.new) octets) }

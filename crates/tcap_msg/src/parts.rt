@@ -6,7 +6,7 @@ ghost use Rattle.tcap_parts.specs.declared.component.Component.{Component};
 ghost use Rattle.tcap_parts.specs.Meaning.{component_of, components_of, components_left};
 ghost use Rattle.tcap_parts.specs.DialogueMeaning.{dialogue_of};
 ghost use Rattle.tcap_msg.specs.declared.message.Message.{Message};
-ghost use Rattle.tcap_msg.specs.Meaning.{id_of, number_of, message_of};
+ghost use Rattle.tcap_msg.specs.Meaning.{id_of, cause_of, message_of};
 ghost use Rattle.tcap_msg.specs.Parts.{kind_in, otid_in, dtid_in, cause_in, dialogue_in, portion_in, components_in};
 
 use crate::kind::Kind;
@@ -40,7 +40,7 @@ pub trait MessageParts {
 
     /// The P-Abort cause, which an Abort may have.
     fn cause(&self) -> Option<SmallView>
-        ensures { number_of result ≡ cause_in (meaning self.now) };
+        ensures { cause_of result ≡ cause_in (meaning self.now) };
 
     /// The PDU of the dialogue portion, which each message may have, an Abort only where it has no P-Abort cause.
     fn dialogue(&self) -> Option<DialogueView<'_>>
@@ -96,7 +96,7 @@ impl<'a> MessageView<'a> {
     }
 
     fn its_cause(self) -> Option<SmallView>
-        ensures { number_of result ≡ cause_in (message_of self.entry) }
+        ensures { cause_of result ≡ cause_in (message_of self.entry) }
     {
         match self {
             MessageView::Abort {

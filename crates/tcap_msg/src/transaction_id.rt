@@ -9,7 +9,7 @@ use std::cmp::Ordering;
 use std::marker::Model;
 use tcap_ber::{Fault, Reason, Tlv};
 
-/// A transaction ID, lent from the octets that were read.
+/// A transaction ID, lent.
 #[derive(Clone, Copy, Debug)]
 pub struct TransactionIdView<'a> {
     /// Its one to four octets.

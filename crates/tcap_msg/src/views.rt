@@ -6,7 +6,7 @@ ghost use Rattle.std.specs.Option.{option_map};
 ghost use Rattle.tcap_ber.specs.Reading.{Gives, span};
 ghost use Rattle.tcap_parts.specs.Meaning.{components_of};
 ghost use Rattle.tcap_parts.specs.DialogueMeaning.{dialogue_of};
-ghost use Rattle.tcap_msg.specs.Meaning.{number_of, reason_of, message_of};
+ghost use Rattle.tcap_msg.specs.Meaning.{cause_of, reason_of, message_of};
 ghost use Rattle.tcap_msg.specs.declared.message.Message.{Message};
 ghost use Rattle.tcap_msg.specs.Message.{make_reason, Spells, BeginsWithMessage, BeginsNoMessage, IsNeverMessage, IsFaulty};
 ghost use Rattle.tcap_msg.specs.Reading.{otid_at, dtid_at, cause_at, dialogue_portion_at, component_portion_at, required_portion_at, unidirectional_at, begin_at, end_message_at, continue_at, unless_cause_at, abort_at, message_in, message_at};
@@ -87,7 +87,7 @@ fn dtid(window: Window) -> Result<(TransactionIdView, Window), Fault>
 /// The P-Abort cause at the front of a window, or `None` where the next tag is not its own.
 #[tactic(auto, unfolding(crate::specs::Reading::cause_at))]
 fn cause(window: Window) -> Result<(Option<SmallView>, Window), Fault>
-    ensures exact { Gives (λ x. (number_of x.0, span x.1)) result (cause_at (span window.entry)) }
+    ensures exact { Gives (λ x. (cause_of x.0, span x.1)) result (cause_at (span window.entry)) }
 {
     if !begins_with(window, CAUSE) {
         return Ok((None, window));
@@ -199,7 +199,7 @@ fn unless_cause<'a>(
     cause: Option<SmallView>,
     window: Window<'a>,
 ) -> Result<(Option<DialogueView<'a>>, Window<'a>), Fault>
-    ensures exact { Gives (λ x. (option_map dialogue_of x.0, span x.1)) result (unless_cause_at (number_of cause) (span window.entry)) }
+    ensures exact { Gives (λ x. (option_map dialogue_of x.0, span x.1)) result (unless_cause_at (cause_of cause) (span window.entry)) }
 {
     match cause {
         Some(_) => Ok((None, window)),
@@ -212,7 +212,7 @@ fn reason<'a>(
     cause: Option<SmallView>,
     dialogue: Option<DialogueView<'a>>,
 ) -> Option<AbortReasonView<'a>>
-    ensures { option_map reason_of result ≡ make_reason (number_of cause) (option_map dialogue_of dialogue.entry) }
+    ensures { option_map reason_of result ≡ make_reason (cause_of cause) (option_map dialogue_of dialogue.entry) }
 {
     match (cause, dialogue) {
         (Some(cause), _) => Some(AbortReasonView::Cause(cause)),

@@ -4,7 +4,7 @@ ghost use Rattle.std.specs.Prelude.{◌≡◌, ◌++◌, OnOk};
 ghost use Rattle.std.specs.String.{string_bytes};
 ghost use Rattle.std.specs.Option.{option_map};
 ghost use Rattle.tcap_parts.specs.DialogueMeaning.{info_meaning, source_of, dialogue_of};
-ghost use Rattle.tcap_msg.specs.Meaning.{id_of, number_of};
+ghost use Rattle.tcap_msg.specs.Meaning.{id_of, cause_of};
 ghost use Rattle.tcap_record.specs.Lines.{name_of_end, kind_name, id_text, cause_text, named_text, source_text, info_text, result_text, abort_source_text, dialogue_text, dialogue_portion_text, head_text, message_text, body_text, entry_lines};
 
 use crate::component_lines::push_components;
@@ -57,7 +57,7 @@ fn push_id(
 
 /// Appends a P-Abort cause, where there is one.
 fn push_cause(text: &mut String, cause: Option<SmallView>) -> Result<(), AllocError>
-    ensures { OnOk result (string_bytes text.new ≡ string_bytes text.old ++ cause_text (number_of cause)) }
+    ensures { OnOk result (string_bytes text.new ≡ string_bytes text.old ++ cause_text (cause_of cause)) }
 {
     match cause {
         Some(cause) => {
