@@ -8,7 +8,7 @@ ghost use Rattle.tcap_parts.specs.declared.dialogue.Syntax.TheVariants as Syntax
 ghost use Rattle.tcap_parts.specs.Dialogue.{dialogue, SpellsDialogue};
 ghost use Rattle.tcap_parts.specs.DialogueMeaning.{info_meaning, source_of, dialogue_of};
 ghost use Rattle.tcap_parts.specs.InfoReading.{info_at};
-ghost use Rattle.tcap_parts.specs.DialogueReading.{is_version, version_of, version_at, context_of, context_at, number_in, result_at, source_at, diagnostic_of, diagnostic_at, abort_source_at, request_at, uni_at, response_at, abort_at, pdu_of, pdu_at, syntax_of, syntax_at, single_type_of, single_type_at, external_dialogue_at, dialogue_at};
+ghost use Rattle.tcap_parts.specs.DialogueReading.{is_version, version_of, version_at, context_of, context_at, number_in, result_at, source_at, diagnostic_of, diagnostic_at, abort_source_at, named_at, response_at, abort_at, pdu_of, pdu_at, syntax_of, syntax_at, single_type_of, single_type_at, external_dialogue_at, dialogue_at};
 
 use crate::dialogue::{DialogueView, SourceView, Syntax};
 use crate::info::InfoView;
@@ -152,28 +152,16 @@ fn abort_source(window: Window) -> Result<(SmallView, Window), Fault>
     Ok((small_number(found)?, rest))
 }
 
-/// The parts of an AARQ, which are all of `content`.
-#[tactic(auto, unfolding(crate::specs::DialogueReading::request_at))]
-fn view_request(content: Window) -> Result<DialogueView, Fault>
-    ensures exact { Gives dialogue_of result (request_at (span content.entry)) }
+/// The application context name and the user information of an AARQ or an AUDT, which is all of `content`.
+#[tactic(auto, unfolding(crate::specs::DialogueReading::named_at))]
+fn view_named(content: Window) -> Result<(ObjectIdView, Option<InfoView>), Fault>
+    ensures exact { Gives (λ x. (x.0.octets.now, info_meaning x.1)) result (named_at (span content.entry)) }
 {
     let (_, rest) = version(content)?;
     let (context, rest) = context(rest)?;
     let (info, rest) = info(rest)?;
     ended(rest)?;
-    Ok(DialogueView::Request { context, info })
-}
-
-/// The parts of an AUDT, which are all of `content`.
-#[tactic(auto, unfolding(crate::specs::DialogueReading::uni_at))]
-fn view_uni(content: Window) -> Result<DialogueView, Fault>
-    ensures exact { Gives dialogue_of result (uni_at (span content.entry)) }
-{
-    let (_, rest) = version(content)?;
-    let (context, rest) = context(rest)?;
-    let (info, rest) = info(rest)?;
-    ended(rest)?;
-    Ok(DialogueView::Uni { context, info })
+    Ok((context, info))
 }
 
 /// The parts of an AARE, which are all of `content`.
@@ -211,7 +199,8 @@ fn structured_pdu(found: Tlv) -> Result<DialogueView, Fault>
     ensures exact { Gives dialogue_of result (pdu_of Syntax.Structured (element found.entry)) }
 {
     if found.tag.is(REQUEST) {
-        view_request(found.content)
+        let (context, info) = view_named(found.content)?;
+        Ok(DialogueView::Request { context, info })
     } else if found.tag.is(RESPONSE) {
         view_response(found.content)
     } else if found.tag.is(ABORT) {
@@ -226,7 +215,8 @@ fn unstructured_pdu(found: Tlv) -> Result<DialogueView, Fault>
     ensures exact { Gives dialogue_of result (pdu_of Syntax.Unstructured (element found.entry)) }
 {
     if found.tag.is(UNI) {
-        view_uni(found.content)
+        let (context, info) = view_named(found.content)?;
+        Ok(DialogueView::Uni { context, info })
     } else {
         Err(found.refused(Reason::DialogueSyntax))
     }
