@@ -309,18 +309,28 @@ fn read_dialogue(content: Window) -> Result<DialogueView, Fault>
 
 /// The PDU of a dialogue portion whose content is `content`, lent from its octets (Q.773 4.2.3).
 ///
-/// A fault is the first from left to right: `DialogueSyntax` where the first element of the EXTERNAL is no object
-/// identifier, names another abstract syntax, or is not followed by a single ASN.1 type, and where that holds a PDU
-/// that the syntax has not; `BadObjectId` at a name that is no object identifier; `BadVersion` at a protocol
-/// version; `BadInteger` or `BadSize` at a result, a diagnostic or an abort source; those of [`required`] for each
-/// element that has to be there; those of [`InfoView::read`]; and `Trailing` behind the last part of each structure.
+/// A fault is the first from left to right. Its place is the first octet of the element that is named below; that of
+/// `Missing` is the end of what the element is missing in, and those of `LengthForm` and `Indefinite` are a length
+/// octet.
+///
+/// - `DialogueSyntax` at the EXTERNAL's first element where it has another tag than 06 and where its contents name
+///   another abstract syntax, at its second element where that has another tag than A0, and at a PDU in the single
+///   ASN.1 type that the syntax has not.
+/// - `BadObjectId` at the 06 of that name and of an application context name where its contents are no OBJECT
+///   IDENTIFIER.
+/// - `BadVersion` at a protocol version that is no BIT STRING of one octet whose first bit, version1, is set.
+/// - `BadInteger` or `BadSize` at the 02 of a result and of a diagnostic, and at an abort source.
+/// - Those of [`required`] for each element that has to be there, with `DialogueSyntax` for `UnexpectedTag` where the
+///   first line says so; those of [`tcap_ber::next_tlv`] at a protocol version and at user information.
+/// - Those of [`InfoView::read`].
+/// - `Trailing` behind the last part of each structure.
 pub fn view_dialogue(content: Window) -> Result<DialogueView, Fault>
     // What is read is spelled by all of the content.
     ensures found { IfOk result (λ view. SpellsDialogue (dialogue_of view) content.entry.octets.now) }
     // What is spelled by all of the content is read.
     ensures only { (d : Dialogue) → SpellsDialogue d content.entry.octets.now → IsOkAnd result (λ view. dialogue_of view ≡ d) }
     // What is refused is faulty there, and what is faulty is refused by that fault.
-    ensures faulty { (fault : Fault) → (result ≡ Err fault) ↔ dialogue.faulty content.entry.place (span content.entry) fault.reason fault.place }
+    ensures faulty { (fault : Fault) (at : ℕ) → (result ≡ Err fault) ↔ dialogue.faulty at (span content.entry) fault.reason fault.place }
     ensures exact { Gives dialogue_of result (dialogue_at (span content.entry)) }
 {
     read_dialogue(content)
