@@ -28,10 +28,11 @@ pub enum Reason {
     Trailing,
     /// A component portion without content (Q.773 4.2.2).
     EmptyComponents,
-    /// A protocol version that is no BIT STRING of a few bits with version 1 set, this profile's limit (Q.773 4.2.3).
+    /// A protocol version that is no BIT STRING of one octet whose first bit, version1, is set; that it has one octet
+    /// is this profile's limit (Q.773 4.2.3).
     BadVersion,
-    /// A dialogue portion in another abstract syntax than Q.773's, or a PDU that its syntax has not
-    /// (Q.773 4.2.3).
+    /// An EXTERNAL of a dialogue portion whose first element is no name or names another abstract syntax than Q.773's,
+    /// or whose second is no single ASN.1 type, or a PDU that the syntax has not (Q.773 4.2.3).
     DialogueSyntax,
     /// A one-octet integer with more octets, a negative one where none may stand, or a NULL with content.
     BadSize,

@@ -10,7 +10,7 @@ use crate::fault::{Fault, Reason};
 use std::alloc::{AllocError, Global};
 use std::marker::Model;
 
-/// The contents of an OBJECT IDENTIFIER (X.690 8.19), lent from the octets that were read.
+/// The contents of an OBJECT IDENTIFIER (X.690 8.19), lent.
 #[derive(Clone, Copy, Debug)]
 pub struct ObjectIdView<'a> {
     /// The contents' octets: at least one subidentifier, and one after the other (X.690 8.19.2).

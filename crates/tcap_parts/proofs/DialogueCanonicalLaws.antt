@@ -12,8 +12,8 @@ use Rattle.tcap_parts.specs.declared.dialogue.Source.TheVariants.{User, Provider
 use Rattle.tcap_parts.specs.declared.dialogue.Dialogue.{Dialogue}
 use Rattle.tcap_parts.specs.declared.dialogue.Dialogue.TheVariants.{Request, Response, Abort, Uni}
 use Rattle.tcap_parts.specs.Info.{info}
-use Rattle.tcap_parts.specs.Dialogue.{as_id, version, context, number, source, response, abort, pdus, syntax_name, single_type, dialogue_external, SpellsDialogue}
-use Rattle.tcap_parts.specs.DialogueCanonical.{canonical_version, canonical_context, canonical_number, canonical_source, canonical_info, canonical_pdu_content, pdu_syntax, canonical_pdu, canonical_external_content, canonical_dialogue}
+use Rattle.tcap_parts.specs.Dialogue.{as_id, version, context, number, source, named, response, abort, pdus, syntax_name, single_type, dialogue_external, SpellsDialogue}
+use Rattle.tcap_parts.specs.DialogueCanonical.{canonical_version, canonical_context, canonical_number, canonical_source, canonical_info, canonical_named, canonical_pdu_content, pdu_syntax, canonical_pdu, canonical_external_content, canonical_dialogue}
 use Rattle.tcap_parts.specs.DialogueValid.{IsInfo, IsSource, IsDialogue}
 
 -- ---- parts
@@ -73,12 +73,13 @@ version_context_then id others v behind octets w are_others e =
     (λ rest l. context_then id others v behind rest w are_others l) e
 
 -- the content of an AARQ and of an AUDT
-named_spells : (id : List ℕ) (i : Option (List ℕ)) (content : List ℕ) → IsObjectId id → IsInfo i
-    → canonical_version ⧺ canonical_context id ⧺ canonical_info i ≡ Some content
-    → (optional 0x80 version ⨾ required 0xA1 context ⨾ optional 0xBE info ⨾ ended).spells (Some tt, (id, (i, tt))) content
-named_spells id i content w v e =
-    version_context_then id (optional 0xBE info ⨾ ended) (i, tt) (canonical_info i) content w (λ rest l. last_info i rest v l)
-    (sym (join_assoc canonical_version (canonical_context id) (canonical_info i)) ∙ e)
+named_spells : (id : List ℕ) (i : Option (List ℕ)) (content : List ℕ) → IsObjectId id → IsInfo i → canonical_named id i ≡ Some content → named.spells (id, i) content
+named_spells id i content w v e = (
+  (Some tt, (id, (i, tt))),
+  refl,
+  version_context_then id (optional 0xBE info ⨾ ended) (i, tt) (canonical_info i) content w (λ rest l. last_info i rest v l)
+      (sym (join_assoc canonical_version (canonical_context id) (canonical_info i)) ∙ e),
+)
 
 -- a diagnostic, and behind it user information or none
 diagnostic_info : (s : Source) (i : Option (List ℕ)) (octets : List ℕ) → IsSource s → IsInfo i → element_around 0xA3 (canonical_source s) ⧺ canonical_info i ≡ Some octets
@@ -127,7 +128,7 @@ abort_spells n i content w e = (
 pdu_spells : (d : Dialogue) (octets : List ℕ) → IsDialogue d → canonical_pdu d ≡ Some octets → IsOneOf (pdus (pdu_syntax d)) d octets
 pdu_spells (Request id i) octets w e =
     one_around-spells (pdus (pdu_syntax (Request id i))) (Request id i) 0x60 (canonical_pdu_content (Request id i)) octets (omega arith)
-    (λ content k. inl (refl, ((Some tt, (id, (i, tt))), refl, named_spells id i content w.0 w.1 k))) e
+    (λ content k. inl (refl, ((id, i), refl, named_spells id i content w.0 w.1 k))) e
 pdu_spells (Response id n s i) octets w e =
     one_around-spells (pdus (pdu_syntax (Response id n s i))) (Response id n s i) 0x61 (canonical_pdu_content (Response id n s i)) octets (omega arith)
     (λ content k. inr (apart (omega arith), inl (refl, response_spells id n s i content w k))) e
@@ -136,7 +137,7 @@ pdu_spells (Abort n i) octets w e =
     (λ content k. inr (apart (omega arith), inr (apart (omega arith), inl (refl, abort_spells n i content w k)))) e
 pdu_spells (Uni id i) octets w e =
     one_around-spells (pdus (pdu_syntax (Uni id i))) (Uni id i) 0x60 (canonical_pdu_content (Uni id i)) octets (omega arith)
-    (λ content k. inl (refl, ((Some tt, (id, (i, tt))), refl, named_spells id i content w.0 w.1 k))) e
+    (λ content k. inl (refl, ((id, i), refl, named_spells id i content w.0 w.1 k))) e
 
 -- ---- dialogue portions
 

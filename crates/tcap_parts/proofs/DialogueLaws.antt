@@ -22,12 +22,11 @@ use Rattle.tcap_ber.proofs.SmallLaws.{reads_small}
 use Rattle.tcap_parts.specs.declared.dialogue.Syntax.{Syntax}
 use Rattle.tcap_parts.specs.declared.dialogue.Syntax.TheVariants.{Structured, Unstructured}
 use Rattle.tcap_parts.specs.declared.dialogue.Source.TheVariants.{User, Provider}
-use Rattle.tcap_parts.specs.declared.dialogue.Dialogue.{Dialogue}
 use Rattle.tcap_parts.specs.declared.dialogue.Dialogue.TheVariants.{Request, Response, Abort, Uni}
 use Rattle.tcap_parts.specs.Info.{info}
 use Rattle.tcap_parts.specs.InfoReading.{info_of, info_at}
-use Rattle.tcap_parts.specs.Dialogue.{as_id, syntax, IsVersion, version, context, number, source, make_request, request, make_uni, uni, make_response, response, make_abort, abort, pdus, syntax_name, single_type, make_external, dialogue_external, dialogue}
-use Rattle.tcap_parts.specs.DialogueReading.{is_version, version_of, version_at, context_of, context_at, number_in, result_at, source_at, diagnostic_of, diagnostic_at, abort_source_at, request_at, uni_at, response_at, abort_at, pdu_of, pdu_at, syntax_in, syntax_of, syntax_at, single_type_of, single_type_at, external_dialogue_at, dialogue_at}
+use Rattle.tcap_parts.specs.Dialogue.{as_id, syntax, IsVersion, version, context, number, source, make_named, named, make_response, response, make_abort, abort, pdus, syntax_name, single_type, make_external, dialogue_external, dialogue}
+use Rattle.tcap_parts.specs.DialogueReading.{is_version, version_of, version_at, context_of, context_at, number_in, result_at, source_at, diagnostic_of, diagnostic_at, abort_source_at, named_at, response_at, abort_at, pdu_of, pdu_at, syntax_in, syntax_of, syntax_at, single_type_of, single_type_at, external_dialogue_at, dialogue_at}
 use Rattle.tcap_parts.proofs.InfoLaws.{reads_info}
 
 -- ---- the protocol version
@@ -194,28 +193,19 @@ reads_informed make =
     reads_optional_info
     (λ info. reads_ended (make info))
 
--- a protocol version, a name and user information, which are all of what is left
-reads_named : (make : List ℕ → Option (List ℕ) → Dialogue)
-    → ReadsContent (optional 0x80 version ⨾ required 0xA1 context ⨾ optional 0xBE info ⨾ ended) (λ w. make w.1.0 w.1.1.0)
-    (λ s. version_at s >>= λ version. context_at version.1 >>= λ context. info_at context.1 >>= λ info. end_at (make context.0 info.0) info.1)
-reads_named make =
-    reads_then (optional 0x80 version) (required 0xA1 context ⨾ optional 0xBE info ⨾ ended) (λ w. make w.1.0 w.1.1.0) version_at
-    (λ version s. context_at s >>= λ context. info_at context.1 >>= λ info. end_at (make context.0 info.0) info.1)
-    reads_optional_version
-    (λ version. reads_then (required 0xA1 context) (optional 0xBE info ⨾ ended) (λ w. make w.0 w.1.0) context_at
-    (λ context s. info_at s >>= λ info. end_at (make context info.0) info.1)
-    reads_context
-    (λ context. reads_informed (make context)))
-
 -- ---- PDUs
 
-reads_request : ReadsBody request (λ e. request_at e.content)
-unfolding request_at
-reads_request = reads_structure _ make_request request_at (reads_named Request)
-
-reads_uni : ReadsBody uni (λ e. uni_at e.content)
-unfolding uni_at
-reads_uni = reads_structure _ make_uni uni_at (reads_named Uni)
+reads_named : ReadsBody named (λ e. named_at e.content)
+unfolding named_at
+reads_named =
+    reads_structure _ make_named named_at
+    (reads_then (optional 0x80 version) (required 0xA1 context ⨾ optional 0xBE info ⨾ ended) make_named version_at
+    (λ version s. context_at s >>= λ context. info_at context.1 >>= λ info. end_at (context.0, info.0) info.1)
+    reads_optional_version
+    (λ version. reads_then (required 0xA1 context) (optional 0xBE info ⨾ ended) (λ w. make_named (version, w)) context_at
+    (λ context s. info_at s >>= λ info. end_at (context, info.0) info.1)
+    reads_context
+    (λ context. reads_informed (λ info. (context, info)))))
 
 reads_response_parts : ReadsContent (optional 0x80 version ⨾ required 0xA1 context ⨾ required 0xA2 number ⨾ required 0xA3 (single (one_of source)) ⨾ optional 0xBE info ⨾ ended) make_response response_at
 unfolding response_at
@@ -248,11 +238,11 @@ reads_abort =
 
 reads_pdus : (s : Syntax) → ReadsChoice (pdus s) (pdu_of s)
 reads_pdus Structured =
-    reads_tagged 0x60 _ _ _ _ reads_request
+    reads_tagged 0x60 _ _ _ _ (reads_made (λ parts. Request parts.0 parts.1) named (λ e. named_at e.content) reads_named)
     (reads_tagged 0x61 _ _ _ _ reads_response
     (reads_tagged 0x64 _ _ _ _ reads_abort
     (reads_others DialogueSyntax)))
-reads_pdus Unstructured = reads_tagged 0x60 _ _ _ _ reads_uni (reads_others DialogueSyntax)
+reads_pdus Unstructured = reads_tagged 0x60 _ _ _ _ (reads_made (λ parts. Uni parts.0 parts.1) named (λ e. named_at e.content) reads_named) (reads_others DialogueSyntax)
 
 reads_pdu : (s : Syntax) → ReadsField (one_of (pdus s)) (pdu_at s)
 unfolding pdu_at

@@ -9,7 +9,7 @@ use Rattle.tcap_ber.proofs.WithinLaws.{BodyWithin, FieldWithin, ContentWithin, C
 use Rattle.tcap_parts.specs.declared.dialogue.Syntax.{Syntax}
 use Rattle.tcap_parts.specs.declared.dialogue.Syntax.TheVariants.{Structured, Unstructured}
 use Rattle.tcap_parts.specs.Info.{external, info}
-use Rattle.tcap_parts.specs.Dialogue.{syntax, version, context, number, source, request, uni, response, abort, pdus, syntax_name, single_type, dialogue_external, dialogue}
+use Rattle.tcap_parts.specs.Dialogue.{syntax, version, context, number, source, named, response, abort, pdus, syntax_name, single_type, dialogue_external, dialogue}
 
 -- ---- parts
 
@@ -40,16 +40,10 @@ informed_within = then_within (optional 0xBE info) ended (optional_within 0xBE i
 
 -- ---- PDUs
 
-named_within : ContentWithin (optional 0x80 version ⨾ required 0xA1 context ⨾ optional 0xBE info ⨾ ended)
-named_within =
+named_within : BodyWithin named
+named_within at s reason place before h =
     then_within (optional 0x80 version) (required 0xA1 context ⨾ optional 0xBE info ⨾ ended) (optional_within 0x80 version version_within)
-    (then_within (required 0xA1 context) (optional 0xBE info ⨾ ended) (required_within 0xA1 context context_within) informed_within)
-
-request_within : BodyWithin request
-request_within at s reason place before h = named_within s reason place h
-
-uni_within : BodyWithin uni
-uni_within at s reason place before h = named_within s reason place h
+    (then_within (required 0xA1 context) (optional 0xBE info ⨾ ended) (required_within 0xA1 context context_within) informed_within) s reason place h
 
 response_within : BodyWithin response
 response_within at s reason place before h =
@@ -67,10 +61,10 @@ abort_within at s reason place before h =
 
 pdus_within : (s : Syntax) → ChoiceWithin (pdus s)
 pdus_within Structured =
-    tagged_within 0x60 _ _ request_within
+    tagged_within 0x60 _ _ named_within
     (tagged_within 0x61 _ _ response_within
     (tagged_within 0x64 _ _ abort_within (others_within _ DialogueSyntax)))
-pdus_within Unstructured = tagged_within 0x60 _ _ uni_within (others_within _ DialogueSyntax)
+pdus_within Unstructured = tagged_within 0x60 _ _ named_within (others_within _ DialogueSyntax)
 
 -- ---- the dialogue portion
 

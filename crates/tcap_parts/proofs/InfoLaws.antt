@@ -105,6 +105,14 @@ pub count_is : (octets : List ℕ) (s : Span) (n : ℕ) → s ≡ record { octet
 unfolding externals_of
 count_is octets s n same h = h.2 ∙ ap length (sym (ap read_or_none (ap externals_at (sym same) ∙ h.1)))
 
+-- so many EXTERNALs spell the octets
+pub count_spelled : (octets : List ℕ) (s : Span) (n : ℕ) → s ≡ record { octets = octets; place = 0 }
+    → ((externals : List (List ℕ)) × (externals_at s ≡ Ok externals) × (n ≡ length externals))
+    → (externals : List (List ℕ)) × (each external).spells externals octets × (n ≡ length externals)
+count_spelled octets s n same h =
+    let a = reads_externals.sound s h.0 h.1 in
+    (a.0, subst (λ (x : Span). (each external).spells a.0 x.octets) same a.2, h.2 ∙ ap length a.1)
+
 pub none_refused : (octets : List ℕ) (s : Span) (f : Fault) → s ≡ record { octets = octets; place = 0 } → are_externals octets ≡ true → externals_at s ≡ Err f → ⊥
 none_refused octets s f same whole e =
     not_read (externals_at s) f (is_read_complete s (subst (λ (x : Span). AreExternals x.octets) (sym same) (are_sound octets whole))) e

@@ -56,17 +56,17 @@ abbrev pub source : Choice Source
 source = 0xA1 ▹ made User number ∣ 0xA2 ▹ made Provider number ∣ others_are UnexpectedTag
 
 -- AARQ and AUDT: [protocol version 80], application context name A1, [user information BE]
-abbrev pub make_request : Option (Unit {0}) × (List ℕ × (Option (List ℕ) × Unit {0})) → Dialogue
-make_request parts = Request parts.1.0 parts.1.1.0
+abbrev pub make_named : Option (Unit {0}) × (List ℕ × (Option (List ℕ) × Unit {0})) → List ℕ × Option (List ℕ)
+make_named parts = (parts.1.0, parts.1.1.0)
+
+abbrev pub named : Body (List ℕ × Option (List ℕ))
+named = made make_named (structure (optional 0x80 version ⨾ required 0xA1 context ⨾ optional 0xBE info ⨾ ended))
 
 abbrev pub request : Body Dialogue
-request = made make_request (structure (optional 0x80 version ⨾ required 0xA1 context ⨾ optional 0xBE info ⨾ ended))
-
-abbrev pub make_uni : Option (Unit {0}) × (List ℕ × (Option (List ℕ) × Unit {0})) → Dialogue
-make_uni parts = Uni parts.1.0 parts.1.1.0
+request = made (λ parts. Request parts.0 parts.1) named
 
 abbrev pub uni : Body Dialogue
-uni = made make_uni (structure (optional 0x80 version ⨾ required 0xA1 context ⨾ optional 0xBE info ⨾ ended))
+uni = made (λ parts. Uni parts.0 parts.1) named
 
 -- AARE: [protocol version 80], application context name A1, result A2, diagnostic A3, [user information BE]
 abbrev pub make_response : Option (Unit {0}) × (List ℕ × (ℕ × (Source × (Option (List ℕ) × Unit {0})))) → Dialogue

@@ -29,12 +29,16 @@ abbrev pub canonical_info : Option (List ℕ) → Option (List ℕ)
 canonical_info None = Some []
 canonical_info (Some externals) = element_around 0xBE (Some externals)
 
+-- the content of an AARQ or an AUDT
+abbrev pub canonical_named : List ℕ → Option (List ℕ) → Option (List ℕ)
+canonical_named context info = canonical_version ⧺ canonical_context context ⧺ canonical_info info
+
 abbrev pub canonical_pdu_content : Dialogue → Option (List ℕ)
-canonical_pdu_content (Request context info) = canonical_version ⧺ canonical_context context ⧺ canonical_info info
+canonical_pdu_content (Request context info) = canonical_named context info
 canonical_pdu_content (Response context result diagnostic info) =
     canonical_version ⧺ canonical_context context ⧺ canonical_number 0xA2 result ⧺ element_around 0xA3 (canonical_source diagnostic) ⧺ canonical_info info
 canonical_pdu_content (Abort source info) = element_around 0x80 (Some (source ∷ [])) ⧺ canonical_info info
-canonical_pdu_content (Uni context info) = canonical_version ⧺ canonical_context context ⧺ canonical_info info
+canonical_pdu_content (Uni context info) = canonical_named context info
 
 abbrev pub pdu_tag : Dialogue → ℕ
 pdu_tag (Request context info) = 0x60

@@ -59,19 +59,13 @@ abort_source_at s = required_at 0x80 s >>= with_body small_at
 
 -- ---- PDUs
 
-unfoldable pub request_at : Span → Result Dialogue Fault
-request_at s = do
+-- the application context name and the user information of an AARQ or an AUDT
+unfoldable pub named_at : Span → Result (List ℕ × Option (List ℕ)) Fault
+named_at s = do
   version ← version_at s
   context ← context_at version.1
   info ← info_at context.1
-  end_at (Request context.0 info.0) info.1
-
-unfoldable pub uni_at : Span → Result Dialogue Fault
-uni_at s = do
-  version ← version_at s
-  context ← context_at version.1
-  info ← info_at context.1
-  end_at (Uni context.0 info.0) info.1
+  end_at (context.0, info.0) info.1
 
 unfoldable pub response_at : Span → Result Dialogue Fault
 response_at s = do
@@ -91,11 +85,11 @@ abort_at s = do
 -- the PDU that an element is, by its tag
 abbrev pub pdu_of : Syntax → Element → Result Dialogue Fault
 pdu_of Structured =
-    tagged_at 0x60 (λ e. request_at e.content)
+    tagged_at 0x60 (λ e. named_at e.content >>= λ parts. Ok (Request parts.0 parts.1))
     (tagged_at 0x61 (λ e. response_at e.content)
     (tagged_at 0x64 (λ e. abort_at e.content)
     (refused_at DialogueSyntax)))
-pdu_of Unstructured = tagged_at 0x60 (λ e. uni_at e.content) (refused_at DialogueSyntax)
+pdu_of Unstructured = tagged_at 0x60 (λ e. named_at e.content >>= λ parts. Ok (Uni parts.0 parts.1)) (refused_at DialogueSyntax)
 
 unfoldable pub pdu_at : Syntax → Span → Result (Dialogue × Span) Fault
 pdu_at s span = one_of_at (pdu_of s) span

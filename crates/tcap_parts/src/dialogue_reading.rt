@@ -8,7 +8,7 @@ ghost use Rattle.tcap_parts.specs.declared.dialogue.Syntax.TheVariants as Syntax
 ghost use Rattle.tcap_parts.specs.Dialogue.{dialogue, SpellsDialogue};
 ghost use Rattle.tcap_parts.specs.DialogueMeaning.{info_meaning, source_of, dialogue_of};
 ghost use Rattle.tcap_parts.specs.InfoReading.{info_at};
-ghost use Rattle.tcap_parts.specs.DialogueReading.{is_version, version_of, version_at, context_of, context_at, number_in, result_at, source_at, diagnostic_of, diagnostic_at, abort_source_at, request_at, uni_at, response_at, abort_at, pdu_of, pdu_at, syntax_of, syntax_at, single_type_of, single_type_at, external_dialogue_at, dialogue_at};
+ghost use Rattle.tcap_parts.specs.DialogueReading.{is_version, version_of, version_at, context_of, context_at, number_in, result_at, source_at, diagnostic_of, diagnostic_at, abort_source_at, named_at, response_at, abort_at, pdu_of, pdu_at, syntax_of, syntax_at, single_type_of, single_type_at, external_dialogue_at, dialogue_at};
 
 use crate::dialogue::{DialogueView, SourceView, Syntax};
 use crate::info::InfoView;
@@ -152,28 +152,16 @@ fn abort_source(window: Window) -> Result<(SmallView, Window), Fault>
     Ok((small_number(found)?, rest))
 }
 
-/// The parts of an AARQ, which are all of `content`.
-#[tactic(auto, unfolding(crate::specs::DialogueReading::request_at))]
-fn view_request(content: Window) -> Result<DialogueView, Fault>
-    ensures exact { Gives dialogue_of result (request_at (span content.entry)) }
+/// The application context name and the user information of an AARQ or an AUDT, which is all of `content`.
+#[tactic(auto, unfolding(crate::specs::DialogueReading::named_at))]
+fn view_named(content: Window) -> Result<(ObjectIdView, Option<InfoView>), Fault>
+    ensures exact { Gives (λ x. (x.0.octets.now, info_meaning x.1)) result (named_at (span content.entry)) }
 {
     let (_, rest) = version(content)?;
     let (context, rest) = context(rest)?;
     let (info, rest) = info(rest)?;
     ended(rest)?;
-    Ok(DialogueView::Request { context, info })
-}
-
-/// The parts of an AUDT, which are all of `content`.
-#[tactic(auto, unfolding(crate::specs::DialogueReading::uni_at))]
-fn view_uni(content: Window) -> Result<DialogueView, Fault>
-    ensures exact { Gives dialogue_of result (uni_at (span content.entry)) }
-{
-    let (_, rest) = version(content)?;
-    let (context, rest) = context(rest)?;
-    let (info, rest) = info(rest)?;
-    ended(rest)?;
-    Ok(DialogueView::Uni { context, info })
+    Ok((context, info))
 }
 
 /// The parts of an AARE, which are all of `content`.
@@ -211,7 +199,8 @@ fn structured_pdu(found: Tlv) -> Result<DialogueView, Fault>
     ensures exact { Gives dialogue_of result (pdu_of Syntax.Structured (element found.entry)) }
 {
     if found.tag.is(REQUEST) {
-        view_request(found.content)
+        let (context, info) = view_named(found.content)?;
+        Ok(DialogueView::Request { context, info })
     } else if found.tag.is(RESPONSE) {
         view_response(found.content)
     } else if found.tag.is(ABORT) {
@@ -226,7 +215,8 @@ fn unstructured_pdu(found: Tlv) -> Result<DialogueView, Fault>
     ensures exact { Gives dialogue_of result (pdu_of Syntax.Unstructured (element found.entry)) }
 {
     if found.tag.is(UNI) {
-        view_uni(found.content)
+        let (context, info) = view_named(found.content)?;
+        Ok(DialogueView::Uni { context, info })
     } else {
         Err(found.refused(Reason::DialogueSyntax))
     }
@@ -319,18 +309,28 @@ fn read_dialogue(content: Window) -> Result<DialogueView, Fault>
 
 /// The PDU of a dialogue portion whose content is `content`, lent from its octets (Q.773 4.2.3).
 ///
-/// A fault is the first from left to right: `DialogueSyntax` where the first element of the EXTERNAL is no object
-/// identifier, names another abstract syntax, or is not followed by a single ASN.1 type, and where that holds a PDU
-/// that the syntax has not; `BadObjectId` at a name that is no object identifier; `BadVersion` at a protocol
-/// version; `BadInteger` or `BadSize` at a result, a diagnostic or an abort source; those of [`required`] for each
-/// element that has to be there; those of [`InfoView::read`]; and `Trailing` behind the last part of each structure.
+/// A fault is the first from left to right. Its place is the first octet of the element that is named below; that of
+/// `Missing` is the end of what the element is missing in, and those of `LengthForm` and `Indefinite` are a length
+/// octet.
+///
+/// - `DialogueSyntax` at the EXTERNAL's first element where it has another tag than 06 and where its contents name
+///   another abstract syntax, at its second element where that has another tag than A0, and at a PDU in the single
+///   ASN.1 type that the syntax has not.
+/// - `BadObjectId` at the 06 of that name and of an application context name where its contents are no OBJECT
+///   IDENTIFIER.
+/// - `BadVersion` at a protocol version that is no BIT STRING of one octet whose first bit, version1, is set.
+/// - `BadInteger` or `BadSize` at the 02 of a result and of a diagnostic, and at an abort source.
+/// - Those of [`required`] for each element that has to be there, with `DialogueSyntax` for `UnexpectedTag` where the
+///   first line says so; those of [`tcap_ber::next_tlv`] at a protocol version and at user information.
+/// - Those of [`InfoView::read`].
+/// - `Trailing` behind the last part of each structure.
 pub fn view_dialogue(content: Window) -> Result<DialogueView, Fault>
     // What is read is spelled by all of the content.
     ensures found { IfOk result (λ view. SpellsDialogue (dialogue_of view) content.entry.octets.now) }
     // What is spelled by all of the content is read.
     ensures only { (d : Dialogue) → SpellsDialogue d content.entry.octets.now → IsOkAnd result (λ view. dialogue_of view ≡ d) }
     // What is refused is faulty there, and what is faulty is refused by that fault.
-    ensures faulty { (fault : Fault) → (result ≡ Err fault) ↔ dialogue.faulty content.entry.place (span content.entry) fault.reason fault.place }
+    ensures faulty { (fault : Fault) (at : ℕ) → (result ≡ Err fault) ↔ dialogue.faulty at (span content.entry) fault.reason fault.place }
     ensures exact { Gives dialogue_of result (dialogue_at (span content.entry)) }
 {
     read_dialogue(content)

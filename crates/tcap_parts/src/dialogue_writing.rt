@@ -6,7 +6,7 @@ ghost use Rattle.std.specs.Option.{option_map, IsSome};
 ghost use Rattle.tcap_ber.specs.Device.{CountsFailure};
 ghost use Rattle.tcap_ber.specs.Canonical.{◌⧺◌, element_around};
 ghost use Rattle.tcap_parts.specs.Dialogue.{as_id};
-ghost use Rattle.tcap_parts.specs.DialogueCanonical.{canonical_version, canonical_context, canonical_number, canonical_source, canonical_info, canonical_pdu_content, pdu_tag, pdu_syntax, canonical_pdu, canonical_external_content, canonical_dialogue};
+ghost use Rattle.tcap_parts.specs.DialogueCanonical.{canonical_version, canonical_context, canonical_number, canonical_source, canonical_info, canonical_named, canonical_pdu_content, pdu_tag, pdu_syntax, canonical_pdu, canonical_external_content, canonical_dialogue};
 ghost use Rattle.tcap_parts.specs.DialogueMeaning.{info_meaning, source_of, dialogue_of};
 ghost use Rattle.tcap_parts.specs.Writing.{Written};
 
@@ -147,8 +147,8 @@ fn write_named<W: Write>(
     info: Option<InfoView>,
     writer: &mut W,
 ) -> Result<(), Failed>
-    requires { IsSome (canonical_version ⧺ canonical_context context.octets.now ⧺ canonical_info (info_meaning info)) }
-    ensures ok { OnOk result (Written (canonical_version ⧺ canonical_context context.entry.octets.now ⧺ canonical_info (info_meaning info.entry)) (W.taken writer.old) (W.taken writer.new)) }
+    requires { IsSome (canonical_named context.octets.now (info_meaning info)) }
+    ensures ok { OnOk result (Written (canonical_named context.entry.octets.now (info_meaning info.entry)) (W.taken writer.old) (W.taken writer.new)) }
     ensures counts { CountsFailure (W.failures writer.old) (W.failures writer.new) result }
 {
     write_version(writer)?;

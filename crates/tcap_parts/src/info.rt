@@ -2,8 +2,9 @@
 
 ghost use Rattle.std.specs.Prelude.{◌≡◌, ◌↔◌, ℕ, List, length, true, Err, IfOk, IfErr, IfSome, IsOkAnd, IsSome, IsTrue};
 ghost use Rattle.tcap_ber.specs.declared.fault.Fault.{Fault};
+ghost use Rattle.tcap_ber.specs.Grammar.{each};
 ghost use Rattle.tcap_ber.specs.Reading.{Gives, span, element};
-ghost use Rattle.tcap_parts.specs.Info.{info, AreExternals};
+ghost use Rattle.tcap_parts.specs.Info.{external, info, AreExternals};
 ghost use Rattle.tcap_parts.specs.InfoReading.{external_at, externals_at, info_of, are_externals, externals_of};
 
 use crate::tags::EXTERNAL;
@@ -19,8 +20,7 @@ pub struct InfoView<'a> {
     pub ghost externals: { are_externals octets.now ≡ true },
 }
 
-/// User information: the octets of its EXTERNALs, each kept verbatim; there may be none. Two are equal exactly
-/// where their octets are.
+/// User information: the octets of its EXTERNALs, each kept verbatim; there may be none.
 #[derive(Debug, Drop)]
 pub struct Info {
     octets: Vec<u8>,
@@ -93,7 +93,8 @@ impl<'a> InfoView<'a> {
     }
 
     /// The user information that an element of tag BE holds, lent from its octets (Q.773 4.2.3). The first
-    /// fault from left to right in its content: those of [`RawView::required`] at an EXTERNAL.
+    /// fault from left to right in its content: those of [`RawView::required`] at each EXTERNAL but `Missing`, which
+    /// cannot arise.
     pub fn read(tlv: Tlv<'a>) -> Result<InfoView<'a>, Fault>
         // What is read is spelled by all of the content.
         ensures found { IfOk result (λ view. info.spells view.octets.now tlv.entry.content.octets.now) }
@@ -107,9 +108,11 @@ impl<'a> InfoView<'a> {
         InfoView::from_content(tlv)
     }
 
-    /// The count of the EXTERNALs. It costs the time of reading their headers.
+    /// The count of the EXTERNALs: exactly those that the octets are spelled by. It costs the time of reading their
+    /// headers.
     pub fn count(self) -> usize
-        ensures { result ≡ length (externals_of self.entry.octets.now) }
+        ensures spelled { (externals : List (List ℕ)) × (each external).spells externals self.entry.octets.now × (result ≡ length externals) }
+        ensures exact { result ≡ length (externals_of self.entry.octets.now) }
     {
         let Ok(count) = count_externals(Window::new(self.octets)) else {
             unreachable!()

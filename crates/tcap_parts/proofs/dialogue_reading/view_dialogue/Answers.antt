@@ -19,5 +19,5 @@ returns-clause-only c =
 
 pub returns-clause-faulty : goal.returns-clause-faulty
 returns-clause-faulty c =
-    body_faulty dialogue (λ e. dialogue_at e.content) reads_dialogue dialogue_of (record { tag = []; content = span c.args.content; place = c.args.content.place })
-    c.read_dialogue.result c.read_dialogue.ensures.exact
+    λ fault at. body_faulty dialogue (λ e. dialogue_at e.content) reads_dialogue dialogue_of (record { tag = []; content = span c.args.content; place = at })
+    c.read_dialogue.result c.read_dialogue.ensures.exact fault
