@@ -1,10 +1,10 @@
 //! Each kind of component: decoded, shown, lent, copied and encoded again.
 
+use crate::tools::{encoded_again, lens, lines_of, octets_of, written};
 use std::alloc::Global;
 use std::test::Fail;
-use tcap_ber::{Counted, ObjectId, Small};
-use tcap_judge::run_show;
-use tcap_msg::{Message, MessageView, TransactionId, decode, encode, encoded_len, view};
+use tcap_ber::{ObjectId, Small};
+use tcap_msg::{Message, MessageParts, TransactionId, view};
 use tcap_parts::{Code, Component, ComponentView, Portion, Problem, ResultBody};
 
 /// Components with the shortest lengths, as hexadecimal digits, and their lines.
@@ -41,7 +41,7 @@ const COMPONENTS: [(&str, &str); 16] = [
 
 /// A Begin with transaction ID 01 around components, which are shorter than 100 octets.
 fn begin(alloc: Global, components: &str) -> Result<Vec<u8>, Fail> {
-    let components: Vec<u8> = hex::decode(alloc, components)?;
+    let components = octets_of(alloc, components)?;
     let len = u8::try_from(components.len())?;
     let outer = len.checked_add(5).ok_or("a short one")?;
     let mut octets = [0x62, outer, 0x48, 1, 1, 0x6C, len].to_vec(alloc)?;
@@ -49,42 +49,23 @@ fn begin(alloc: Global, components: &str) -> Result<Vec<u8>, Fail> {
     Ok(octets)
 }
 
-/// What is written of the message.
-fn written(alloc: Global, message: &Message) -> Result<Vec<u8>, Fail> {
-    let mut writer = Counted::new(Vec::new(alloc));
-    if encode(message, &mut writer).is_err() {
-        return Err(Fail::from("it encodes"));
-    }
-    Ok(writer.into_inner())
-}
-
-/// The lines of a Begin with these components.
-fn shown(alloc: Global, components: &str) -> Result<Vec<u8>, Fail> {
-    let mut octets = [0x41].to_vec(alloc)?;
-    octets.extend_from_slice(&begin(alloc, components)?)?;
-    let mut writer = Counted::new(Vec::new(alloc));
-    run_show(alloc, &mut Counted::new(octets.as_slice()), &mut writer)?;
-    Ok(writer.into_inner())
-}
-
 #[test]
 fn lines(rt: HostRuntime) -> Result<(), Fail> {
     for (component, line) in COMPONENTS {
         let wanted = format!(in rt.alloc(); "0 A Begin otid=01\n  {line}\n")?;
-        let printed = shown(rt.alloc(), component)?;
+        let printed = lines_of(rt.alloc(), &begin(rt.alloc(), component)?)?;
         assert_eq!(rt; printed.as_slice(), wanted.as_bytes(), "{line}");
     }
     Ok(())
 }
 
 #[test]
-fn encoded_again(rt: HostRuntime) -> Result<(), Fail> {
+fn written_again(rt: HostRuntime) -> Result<(), Fail> {
     for (component, line) in COMPONENTS {
         let octets = begin(rt.alloc(), component)?;
-        let (message, count) = decode(rt.alloc(), &octets).ok().ok_or("a message")?;
-        assert_eq!(rt; count, octets.len(), "{line}");
-        assert_eq!(rt; encoded_len(&message), Some(count), "{line}");
-        assert_eq!(rt; written(rt.alloc(), &message)?, octets, "{line}");
+        let len = octets.len();
+        assert_eq!(rt; lens(rt.alloc(), &octets)?, (len, Some(len)), "{line}");
+        assert_eq!(rt; encoded_again(rt.alloc(), &octets)?, octets, "{line}");
     }
     Ok(())
 }
@@ -100,9 +81,8 @@ const PADDED: [(&str, &str); 3] = [
 fn padded(rt: HostRuntime) -> Result<(), Fail> {
     for (component, wanted) in PADDED {
         let octets = begin(rt.alloc(), component)?;
-        let (message, _) = decode(rt.alloc(), &octets).ok().ok_or("a message")?;
         let wanted = begin(rt.alloc(), wanted)?;
-        assert_eq!(rt; written(rt.alloc(), &message)?, wanted, "{component}");
+        assert_eq!(rt; encoded_again(rt.alloc(), &octets)?, wanted, "{component}");
     }
     Ok(())
 }
@@ -140,14 +120,24 @@ fn each_kind(alloc: Global) -> Result<Vec<Component>, Fail> {
 const EACH_KIND: &str =
     "a10c02010580010106042a864801a708020102300302012da306020101020122a406020101810107";
 
+/// What is written of a Begin with transaction ID 01 and these components.
+fn begin_of(alloc: Global, components: Vec<Component>) -> Result<Vec<u8>, Fail> {
+    let otid = TransactionId::new(&[1]).ok_or("an ID")?;
+    let components = Portion::new(components).ok_or("components")?;
+    written(
+        alloc,
+        &Message::Begin {
+            otid,
+            dialogue: None,
+            components: Some(components),
+        },
+    )
+}
+
 #[test]
 fn made_by_hand(rt: HostRuntime) -> Result<(), Fail> {
-    let message = Message::Begin {
-        otid: TransactionId::new(&[1]).ok_or("an ID")?,
-        components: Some(Portion::new(each_kind(rt.alloc())?).ok_or("components")?),
-    };
-    let octets = begin(rt.alloc(), EACH_KIND)?;
-    assert_eq!(rt; written(rt.alloc(), &message)?, octets);
+    let octets = begin_of(rt.alloc(), each_kind(rt.alloc())?)?;
+    assert_eq!(rt; octets, begin(rt.alloc(), EACH_KIND)?);
     Ok(())
 }
 
@@ -158,13 +148,19 @@ fn lent(rt: HostRuntime) -> Result<(), Fail> {
     for component in &each_kind(rt.alloc())? {
         components.push(component.view().to_component(rt.alloc())?)?;
     }
-    let message = Message::Begin {
-        otid: TransactionId::new(&[1]).ok_or("an ID")?,
-        components: Some(Portion::new(components).ok_or("components")?),
-    };
-    let octets = begin(rt.alloc(), EACH_KIND)?;
-    assert_eq!(rt; written(rt.alloc(), &message)?, octets);
+    let octets = begin_of(rt.alloc(), components)?;
+    assert_eq!(rt; octets, begin(rt.alloc(), EACH_KIND)?);
     Ok(())
+}
+
+/// A number for the kind of a component.
+fn kind_of(component: ComponentView) -> u8 {
+    match component {
+        ComponentView::Invoke { .. } => 1,
+        ComponentView::ReturnResult { .. } => 2,
+        ComponentView::ReturnError { .. } => 3,
+        ComponentView::Reject { .. } => 4,
+    }
 }
 
 /// A portion's components, one after the other.
@@ -172,31 +168,29 @@ fn lent(rt: HostRuntime) -> Result<(), Fail> {
 fn one_after_the_other(rt: HostRuntime) -> Result<(), Fail> {
     let octets = begin(rt.alloc(), EACH_KIND)?;
     let (message, _) = view(&octets).ok().ok_or("a message")?;
-    let MessageView::Begin { components, .. } = message;
-    let portion = components.ok_or("components")?;
-    let mut tags = Vec::new(rt.alloc());
-    for component in portion.components() {
-        tags.push(match component {
-            ComponentView::Invoke { .. } => 1,
-            ComponentView::ReturnResult { .. } => 2,
-            ComponentView::ReturnError { .. } => 3,
-            ComponentView::Reject { .. } => 4,
-        })?;
+    let mut kinds = Vec::new(rt.alloc());
+    for component in message.components() {
+        kinds.push(kind_of(component))?;
     }
-    assert_eq!(rt; tags.as_slice(), [1, 2, 3, 4].as_slice());
+    assert_eq!(rt; kinds.as_slice(), [1, 2, 3, 4].as_slice());
     Ok(())
 }
 
-/// The count of a message's components, one after the other.
-fn count(message: MessageView) -> usize {
-    let MessageView::Begin { components, .. } = message;
-    let mut count = 0_usize;
-    if let Some(portion) = components {
-        for _ in portion.components() {
-            count = count.saturating_add(1);
-        }
+/// The components of a portion as a value: their count, and each by its index and one after the other.
+#[test]
+fn of_a_value(rt: HostRuntime) -> Result<(), Fail> {
+    let portion = Portion::new(each_kind(rt.alloc())?).ok_or("components")?;
+    let lent = portion.view();
+    assert_eq!(rt; lent.count(), 4);
+    let mut kinds = Vec::new(rt.alloc());
+    for index in 0..lent.count() {
+        kinds.push(kind_of(lent.component(index)))?;
     }
-    count
+    for component in lent.components() {
+        kinds.push(kind_of(component))?;
+    }
+    assert_eq!(rt; kinds.as_slice(), [1, 2, 3, 4, 1, 2, 3, 4].as_slice());
+    Ok(())
 }
 
 /// The greatest count of components of a Begin with an ID of one octet, each of five octets.
@@ -210,9 +204,9 @@ fn many(rt: HostRuntime) -> Result<(), Fail> {
     }
     let (message, len) = view(&octets).ok().ok_or("a message")?;
     assert_eq!(rt; len, octets.len());
-    assert_eq!(rt; count(message), 13_105);
-    let (message, _) = decode(rt.alloc(), &octets).ok().ok_or("a message")?;
-    assert_eq!(rt; written(rt.alloc(), &message)?, octets);
+    assert_eq!(rt; message.count(), 13_105);
+    assert_eq!(rt; message.components().count(), 13_105);
+    assert_eq!(rt; encoded_again(rt.alloc(), &octets)?, octets);
     Ok(())
 }
 

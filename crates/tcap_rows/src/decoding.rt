@@ -1,9 +1,9 @@
 //! What `decode` and `view` answer of octets.
 
+use crate::tools::{octets_of, refusal, view_refusal};
 use std::alloc::Global;
 use std::test::Fail;
-use tcap_ber::Fault;
-use tcap_msg::{DecodeFault, Message, decode, view};
+use tcap_msg::{Message, MessageParts, decode, view};
 use tcap_parts::{Code, Component};
 
 /// A Begin with Invoke 1 of 45, its length in the short form and padded.
@@ -12,7 +12,7 @@ const BEGIN: &str = "620d4801016c08a10602010102012d";
 const PADDED: &str = "62810d4801016c08a10602010102012d";
 
 /// Octets as hexadecimal digits, and the number and the place of the reason why they are refused.
-const REFUSED: [(&str, u8, u64); 43] = [
+const REFUSED: [(&str, u8, u64); 76] = [
     ("", 1, 0),
     ("63", 1, 1),
     ("630348", 1, 3),
@@ -60,26 +60,74 @@ const REFUSED: [(&str, u8, u64); 43] = [
     ("62134801016c0ea20c020101300702012d05000500", 10, 19),
     ("62114801016c0ca20a020101300302012d0500", 10, 17),
     ("620d4801016c08a20602010102012d", 10, 12),
+    // Another outer tag, one of five octets too.
+    ("6003480101", 8, 0),
+    ("6603480101", 8, 0),
+    ("6803480101", 8, 0),
+    ("1f8181810100", 8, 0),
+    // Unidirectionals: no component portion, another element, none in it, octets behind it.
+    ("6100", 9, 2),
+    ("6103480101", 8, 2),
+    ("61026c00", 11, 2),
+    ("61146b122810060700118605010101a0056403800100", 9, 22),
+    ("61096c05a2030201010500", 10, 9),
+    // Ends: no transaction ID, an originating one, of no octets, of five, a second one.
+    ("6400", 9, 2),
+    ("6403480101", 8, 2),
+    ("64024900", 15, 2),
+    ("640749050102030405", 15, 2),
+    ("6406490101480101", 10, 5),
+    // Continues: no transaction ID, only one, twice the same, in the wrong order, octets behind them.
+    ("6500", 9, 2),
+    ("6503480101", 9, 5),
+    ("6506480101480101", 8, 5),
+    ("6506490101480101", 8, 2),
+    ("65054801024900", 15, 5),
+    ("65084801024901010500", 10, 8),
+    // Aborts: no transaction ID, causes of no octets, negative, of two octets, twice, a component portion.
+    ("6700", 9, 2),
+    ("6703480101", 8, 2),
+    ("67054901014a00", 6, 5),
+    ("67064901014a0180", 14, 5),
+    ("67074901014a020100", 14, 5),
+    ("67074901014a020001", 6, 5),
+    ("67094901014a01014a0102", 10, 8),
+    ("670a4901016c05a203020101", 10, 5),
+    // A cause and a dialogue portion; portions twice, and in the wrong order.
+    (
+        "671a4901024a01016b122810060700118605010101a0056403800100",
+        10,
+        8,
+    ),
+    (
+        "671a4901026b122810060700118605010101a00564038001004a0101",
+        10,
+        25,
+    ),
+    (
+        "672b4901026b122810060700118605010101a00564038001006b122810060700118605010101a0056403800100",
+        10,
+        25,
+    ),
+    (
+        "621e4801016c05a2030201016b122810060700118605010101a0056403800100",
+        10,
+        12,
+    ),
+    ("62114801016c05a2030201016c05a203020102", 10, 12),
     // Two elements at the parameter's place.
     ("62114801016c0ca10a02010102012d05000500", 10, 17),
 ];
 
-/// The octets that hexadecimal digits stand for.
-fn octets_of(alloc: Global, text: &str) -> Result<Vec<u8>, Fail> {
-    Ok(hex::decode(alloc, text)?)
-}
-
-fn is_refused(answer: Result<(Message, usize), DecodeFault>, wanted: (u8, u64)) -> bool {
-    match answer {
-        Err(DecodeFault::Fault(fault)) => (fault.reason.number(), fault.place) == wanted,
-        _ => false,
-    }
-}
-
-/// Whether it is the Begin with transaction ID 01 and Invoke 1 of 45 without a parameter.
+/// Whether it is the Begin with transaction ID 01 and Invoke 1 of 45 without a parameter or a dialogue
+/// portion.
 fn is_begin(message: &Message) -> bool {
-    let Message::Begin { otid, components } = message;
-    let Some(portion) = components else {
+    let Message::Begin {
+        otid,
+        dialogue: None,
+        components: Some(portion),
+    } = message
+    else {
         return false;
     };
     let is_invoke = match portion.items() {
@@ -96,27 +144,36 @@ fn is_begin(message: &Message) -> bool {
     is_invoke && otid.octets() == [1].as_slice()
 }
 
+/// The count of octets of that Begin at the front of the octets.
+fn decoded_begin(alloc: Global, octets: &[u8]) -> Result<usize, Fail> {
+    let (message, len) = decode(alloc, octets).ok().ok_or("a message")?;
+    if is_begin(&message) {
+        Ok(len)
+    } else {
+        Err(Fail::from("that Begin"))
+    }
+}
+
+/// The same of the message that a view lends.
+fn viewed_begin(alloc: Global, octets: &[u8]) -> Result<usize, Fail> {
+    let (lent, len) = view(octets).ok().ok_or("a message")?;
+    if is_begin(&lent.to_message(alloc)?) {
+        Ok(len)
+    } else {
+        Err(Fail::from("that Begin"))
+    }
+}
+
 #[test]
 fn decodes(rt: HostRuntime) -> Result<(), Fail> {
     for (text, len) in [(BEGIN, 15), (PADDED, 16)] {
         let mut octets = octets_of(rt.alloc(), text)?;
-        let (message, count) = decode(rt.alloc(), &octets).ok().ok_or("a message")?;
-        assert!(rt; is_begin(&message), "{text}");
-        assert_eq!(rt; count, len, "{text}");
+        assert_eq!(rt; decoded_begin(rt.alloc(), &octets)?, len, "{text}");
+        assert_eq!(rt; viewed_begin(rt.alloc(), &octets)?, len, "{text}");
         octets.push(0x62)?;
-        let (message, count) = decode(rt.alloc(), &octets).ok().ok_or("a message")?;
-        assert!(rt; is_begin(&message), "{text}");
-        assert_eq!(rt; count, len, "{text}");
+        assert_eq!(rt; decoded_begin(rt.alloc(), &octets)?, len, "{text}");
+        assert_eq!(rt; viewed_begin(rt.alloc(), &octets)?, len, "{text}");
     }
-    Ok(())
-}
-
-#[test]
-fn views(rt: HostRuntime) -> Result<(), Fail> {
-    let octets = octets_of(rt.alloc(), PADDED)?;
-    let (lent, count) = view(&octets).ok().ok_or("a message")?;
-    assert_eq!(rt; count, 16);
-    assert!(rt; is_begin(&lent.to_message(rt.alloc())?));
     Ok(())
 }
 
@@ -124,24 +181,9 @@ fn views(rt: HostRuntime) -> Result<(), Fail> {
 fn refuses(rt: HostRuntime) -> Result<(), Fail> {
     for (text, number, place) in REFUSED {
         let octets = octets_of(rt.alloc(), text)?;
-        let answer = decode(rt.alloc(), &octets);
-        assert!(rt; is_refused(answer, (number, place)), "{text}");
-        let seen = view(&octets)
-            .err()
-            .map(|fault: Fault| (fault.reason.number(), fault.place));
-        assert_eq!(rt; seen, Some((number, place)), "{text}");
-    }
-    Ok(())
-}
-
-#[test]
-fn cut_after_each_count(rt: HostRuntime) -> Result<(), Fail> {
-    for text in [BEGIN, PADDED] {
-        let octets = octets_of(rt.alloc(), text)?;
-        for count in 0..octets.len() {
-            let answer = decode(rt.alloc(), &octets[..count]);
-            assert!(rt; is_refused(answer, (1, count as u64)), "{text} {count}");
-        }
+        let wanted = Some((number, place));
+        assert_eq!(rt; refusal(rt.alloc(), &octets), wanted, "{text}");
+        assert_eq!(rt; view_refusal(&octets), wanted, "{text}");
     }
     Ok(())
 }

@@ -1,10 +1,11 @@
 //! What `encode` writes and `encoded_len` counts.
 
+use crate::tools::{encoded_again, lens, octets_of};
 use std::alloc::Global;
 use std::test::Fail;
-use tcap_ber::{Counted, Failing, Raw};
-use tcap_msg::{EncodeFault, Message, TransactionId, decode, encode, encoded_len};
-use tcap_parts::{Code, Component, Portion};
+use tcap_ber::{Counted, ObjectId, Raw};
+use tcap_msg::{EncodeFault, Message, TransactionId, encode, encoded_len};
+use tcap_parts::{Code, Component, Dialogue, Info, Portion};
 
 /// A Begin with transaction ID 01 and Invoke 1 of 45.
 const BEGIN: &str = "620d4801016c08a10602010102012d";
@@ -35,8 +36,34 @@ const CODES: [(i32, &str); 17] = [
 /// Invoke IDs, and their contents.
 const IDS: [(i8, u8); 5] = [(0, 0), (1, 1), (127, 0x7F), (-1, 0xFF), (-128, 0x80)];
 
-/// A Begin with transaction ID 01 and one Invoke.
-fn begin(alloc: Global, id: i8, local: i32, parameter: Option<Raw>) -> Result<Message, Fail> {
+/// Whether `encode` answers that it wrote the message or that it is too long, and what was written.
+fn outcome(alloc: Global, message: &Message) -> Result<(bool, Vec<u8>), Fail> {
+    let mut writer = Counted::new(Vec::new(alloc));
+    match encode(message, &mut writer) {
+        Ok(()) => Ok((true, writer.into_inner())),
+        Err(EncodeFault::TooLong) => Ok((false, writer.into_inner())),
+        Err(EncodeFault::Write) => Err(Fail::from("the writer takes all")),
+    }
+}
+
+/// What `encoded_len` counts of the message, and what is written of it. Where it is too long, nothing is.
+fn counted(alloc: Global, message: &Message) -> Result<(Option<usize>, Vec<u8>), Fail> {
+    let (is_written, octets) = outcome(alloc, message)?;
+    let len = encoded_len(message);
+    if len.is_some() == is_written {
+        Ok((len, octets))
+    } else {
+        Err(Fail::from("one answer of both"))
+    }
+}
+
+/// A Begin with transaction ID 01 and one Invoke, counted and written.
+fn begin(
+    alloc: Global,
+    id: i8,
+    local: i32,
+    parameter: Option<Raw>,
+) -> Result<(Option<usize>, Vec<u8>), Fail> {
     let mut components = Vec::new(alloc);
     components.push(Component::Invoke {
         id,
@@ -44,44 +71,61 @@ fn begin(alloc: Global, id: i8, local: i32, parameter: Option<Raw>) -> Result<Me
         code: Code::Local(local),
         parameter,
     })?;
-    Ok(Message::Begin {
-        otid: TransactionId::new(&[1]).ok_or("an ID")?,
-        components: Some(Portion::new(components).ok_or("a component")?),
-    })
+    let otid = TransactionId::new(&[1]).ok_or("an ID")?;
+    let components = Portion::new(components).ok_or("a component")?;
+    counted(
+        alloc,
+        &Message::Begin {
+            otid,
+            dialogue: None,
+            components: Some(components),
+        },
+    )
+}
+
+/// An element of this tag with so many octets of content, at least 256.
+fn long_element(alloc: Global, tag: u8, len: u16) -> Result<Vec<u8>, Fail> {
+    let mut octets = [tag, 0x82].to_vec(alloc)?;
+    octets.extend_from_slice(&len.to_be_bytes())?;
+    octets.resize(4 + usize::from(len), 0)?;
+    Ok(octets)
 }
 
 /// A parameter of tag 04 with so many octets of content, at least 256.
 fn parameter(alloc: Global, len: u16) -> Result<Option<Raw>, Fail> {
-    let mut octets = [0x04, 0x82].to_vec(alloc)?;
-    octets.extend_from_slice(&len.to_be_bytes())?;
-    octets.resize(4 + usize::from(len), 0)?;
+    let octets = long_element(alloc, 0x04, len)?;
     Ok(Some(Raw::new(alloc, &octets)?.ok_or("an element")?))
 }
 
-/// What is written of the message.
-fn written(alloc: Global, message: &Message) -> Result<Vec<u8>, Fail> {
-    let mut writer = Counted::new(Vec::new(alloc));
-    if encode(message, &mut writer).is_err() {
-        return Err(Fail::from("it encodes"));
-    }
-    Ok(writer.into_inner())
+/// A Begin with transaction ID 01 and a dialogue request with this user information, counted and written.
+fn begin_with_info(alloc: Global, info: Vec<u8>) -> Result<(Option<usize>, Vec<u8>), Fail> {
+    let otid = TransactionId::new(&[1]).ok_or("an ID")?;
+    let context = ObjectId::new(alloc, &[4, 0, 0, 1, 0, 0x13, 2])?.ok_or("an identifier")?;
+    let info = Some(Info::new(info).ok_or("EXTERNALs")?);
+    let dialogue = Some(Dialogue::Request { context, info });
+    counted(
+        alloc,
+        &Message::Begin {
+            otid,
+            dialogue,
+            components: None,
+        },
+    )
 }
 
 #[test]
 fn shortest_length(rt: HostRuntime) -> Result<(), Fail> {
-    let padded: Vec<u8> = hex::decode(rt.alloc(), PADDED)?;
-    let (message, _) = decode(rt.alloc(), &padded).ok().ok_or("a message")?;
-    let octets = written(rt.alloc(), &message)?;
-    assert_eq!(rt; octets, hex::decode(rt.alloc(), BEGIN)?);
-    assert_eq!(rt; encoded_len(&message), Some(15));
+    let padded = octets_of(rt.alloc(), PADDED)?;
+    let wanted = octets_of(rt.alloc(), BEGIN)?;
+    assert_eq!(rt; encoded_again(rt.alloc(), &padded)?, wanted);
+    assert_eq!(rt; lens(rt.alloc(), &padded)?, (16, Some(15)));
     Ok(())
 }
 
 #[test]
 fn local_codes(rt: HostRuntime) -> Result<(), Fail> {
     for (local, contents) in CODES {
-        let message = begin(rt.alloc(), 1, local, None)?;
-        let octets = written(rt.alloc(), &message)?;
+        let (counted, octets) = begin(rt.alloc(), 1, local, None)?;
         let len = u8::try_from(contents.len() / 2)?;
         assert!(rt; len <= 4, "{local}");
         let front = [
@@ -101,11 +145,11 @@ fn local_codes(rt: HostRuntime) -> Result<(), Fail> {
             len,
         ];
         let mut wanted = front.to_vec(rt.alloc())?;
-        let code: Vec<u8> = hex::decode(rt.alloc(), contents)?;
-        wanted.extend_from_slice(&code)?;
+        wanted.extend_from_slice(&octets_of(rt.alloc(), contents)?)?;
         assert_eq!(rt; octets, wanted, "{local}");
-        assert_eq!(rt; encoded_len(&message), Some(octets.len()), "{local}");
-        assert!(rt; decode(rt.alloc(), &octets).is_ok(), "{local}");
+        let len = octets.len();
+        assert_eq!(rt; counted, Some(len), "{local}");
+        assert_eq!(rt; lens(rt.alloc(), &octets)?, (len, Some(len)), "{local}");
     }
     Ok(())
 }
@@ -113,9 +157,8 @@ fn local_codes(rt: HostRuntime) -> Result<(), Fail> {
 #[test]
 fn invoke_ids(rt: HostRuntime) -> Result<(), Fail> {
     for (id, octet) in IDS {
-        let message = begin(rt.alloc(), id, 45, None)?;
-        let octets = written(rt.alloc(), &message)?;
-        let mut wanted: Vec<u8> = hex::decode(rt.alloc(), BEGIN)?;
+        let (_, octets) = begin(rt.alloc(), id, 45, None)?;
+        let mut wanted = octets_of(rt.alloc(), BEGIN)?;
         assert_eq!(rt; wanted.len(), 15);
         wanted[11] = octet;
         assert_eq!(rt; octets, wanted, "{id}");
@@ -125,39 +168,53 @@ fn invoke_ids(rt: HostRuntime) -> Result<(), Fail> {
 
 #[test]
 fn greatest_length(rt: HostRuntime) -> Result<(), Fail> {
-    let message = begin(rt.alloc(), 1, 45, parameter(rt.alloc(), 65_514)?)?;
-    assert_eq!(rt; encoded_len(&message), Some(65_539));
-    let octets = written(rt.alloc(), &message)?;
+    let (counted, octets) = begin(rt.alloc(), 1, 45, parameter(rt.alloc(), 65_514)?)?;
+    assert_eq!(rt; counted, Some(65_539));
     assert_eq!(rt; octets.len(), 65_539);
-    let (again, count) = decode(rt.alloc(), &octets).ok().ok_or("a message")?;
-    assert_eq!(rt; count, 65_539);
-    assert_eq!(rt; written(rt.alloc(), &again)?, octets);
+    assert_eq!(rt; lens(rt.alloc(), &octets)?, (65_539, Some(65_539)));
+    assert_eq!(rt; encoded_again(rt.alloc(), &octets)?, octets);
     Ok(())
 }
 
 #[test]
 fn too_long(rt: HostRuntime) -> Result<(), Fail> {
-    let message = begin(rt.alloc(), 1, 45, parameter(rt.alloc(), 65_515)?)?;
-    assert_eq!(rt; encoded_len(&message), None);
-    let mut writer = Counted::new(Vec::new(rt.alloc()));
-    assert!(rt; encode(&message, &mut writer) == Err(EncodeFault::TooLong));
-    assert_eq!(rt; writer.into_inner().len(), 0);
+    let (counted, octets) = begin(rt.alloc(), 1, 45, parameter(rt.alloc(), 65_515)?)?;
+    assert_eq!(rt; counted, None);
+    assert_eq!(rt; octets.len(), 0);
     Ok(())
 }
 
+/// A Begin of 65,535 octets of content, all but 51 of them the content of an EXTERNAL of the user information.
 #[test]
-fn failing_writer(rt: HostRuntime) -> Result<(), Fail> {
-    let message = begin(rt.alloc(), 1, 45, None)?;
-    let wanted: Vec<u8> = hex::decode(rt.alloc(), BEGIN)?;
-    for count in 0..wanted.len() {
-        let mut writer = Failing::new(Vec::new(rt.alloc()), count);
-        assert!(rt;
-            encode(&message, &mut writer) == Err(EncodeFault::Write),
-            "{count}"
-        );
-        let octets = writer.into_inner();
-        assert_eq!(rt; octets.as_slice(), &wanted[..count], "{count}");
-        assert_eq!(rt; written(rt.alloc(), &message)?, wanted, "{count}");
+fn greatest_information(rt: HostRuntime) -> Result<(), Fail> {
+    let info = long_element(rt.alloc(), 0x28, 65_484)?;
+    let (counted, octets) = begin_with_info(rt.alloc(), info)?;
+    assert_eq!(rt; counted, Some(65_539));
+    let front = octets_of(
+        rt.alloc(),
+        "6282ffff4801016b82fff82882fff4060700118605010101a082ffe76082ffe380020780\
+         a109060704000001001302be82ffd02882ffcc",
+    )?;
+    assert!(rt; octets.starts_with(&front));
+    assert_eq!(rt; octets.len(), 65_539);
+    assert_eq!(rt; lens(rt.alloc(), &octets)?, (65_539, Some(65_539)));
+    assert_eq!(rt; encoded_again(rt.alloc(), &octets)?, octets);
+    Ok(())
+}
+
+/// One octet more of it; as much as fits user information alone; and two EXTERNALs that fit only alone.
+#[test]
+fn too_long_information(rt: HostRuntime) -> Result<(), Fail> {
+    for len in [65_485, 65_531, 65_535] {
+        let info = long_element(rt.alloc(), 0x28, len)?;
+        let (counted, octets) = begin_with_info(rt.alloc(), info)?;
+        assert_eq!(rt; counted, None, "{len}");
+        assert_eq!(rt; octets.len(), 0, "{len}");
     }
+    let mut info = long_element(rt.alloc(), 0x28, 32_768)?;
+    info.extend_from_slice(&long_element(rt.alloc(), 0x28, 32_768)?)?;
+    let (counted, octets) = begin_with_info(rt.alloc(), info)?;
+    assert_eq!(rt; counted, None);
+    assert_eq!(rt; octets.len(), 0);
     Ok(())
 }

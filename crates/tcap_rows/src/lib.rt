@@ -3,18 +3,32 @@
 #![tactic(auto)]
 
 #[cfg(test)]
+mod bad_dialogues;
+#[cfg(test)]
+mod by_hand;
+#[cfg(test)]
 mod components;
 #[cfg(test)]
 mod decoding;
 #[cfg(test)]
 mod devices;
 #[cfg(test)]
+mod dialogues;
+#[cfg(test)]
 mod encoding;
 #[cfg(test)]
 mod limits;
 #[cfg(test)]
+mod messages;
+#[cfg(test)]
+mod parts;
+#[cfg(test)]
 mod showing;
 #[cfg(test)]
+mod tools;
+#[cfg(test)]
 mod values;
+#[cfg(test)]
+mod vectors;
 #[cfg(test)]
 mod words;

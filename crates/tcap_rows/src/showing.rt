@@ -1,12 +1,12 @@
 //! What `run_show` prints of a record, and its status.
 
-use std::alloc::Global;
+use crate::tools::{octets_of, shown};
 use std::test::Fail;
 use tcap_ber::{Counted, Failing};
 use tcap_judge::{Status, run_show};
 
 /// Octets as hexadecimal digits, what is printed of them, and the status.
-const ROWS: [(&str, &str, u8); 12] = [
+const ROWS: [(&str, &str, u8); 22] = [
     // A Begin with an Invoke, its length in the short form and padded.
     (
         "41620d4801016c08a10602010102012d",
@@ -24,12 +24,60 @@ const ROWS: [(&str, &str, u8); 12] = [
         "0 B Begin otid=abcd\n  Invoke id=-1 op=56 parameter=04012a\n",
         0,
     ),
-    // A Continue, a dialogue portion and an empty component portion are none of the grammar so far.
-    ("416506480102490101", "0 A FAULT 8 1\n", 3),
+    // The other messages.
+    ("416506480102490101", "0 A Continue otid=02 dtid=01\n", 0),
+    (
+        "41640d4904010203046c05a203020101",
+        "0 A End dtid=01020304\n  ReturnResultLast id=1\n",
+        0,
+    ),
+    ("4167054901024a03", "0 A FAULT 5 6\n", 3),
+    ("426703490102", "0 B Abort dtid=02\n", 0),
+    ("42670649017f4a0164", "0 B Abort dtid=7f cause=100\n", 0),
+    (
+        "42610a6c08a10602010102012d",
+        "0 B Unidirectional\n  Invoke id=1 op=45\n",
+        0,
+    ),
+    // A dialogue of three messages: a dialogue request, the response to it, and the end.
     (
         "41622d4801016b1e281c060700118605010101a011600f80020780a109060704000001001302\
+         6c08a10602010102012d\
+         4265394801024901016b2a2828060700118605010101a01d611b80020780a109060704000001001302\
+         a203020100a305a1030201006c05a203020101\
+         416403490102",
+        "0 A Begin otid=01 AARQ context=04000001001302\n  Invoke id=1 op=45\n\
+         1 B Continue otid=02 dtid=01 AARE context=04000001001302 result=0 user=0\n  ReturnResultLast id=1\n\
+         2 A End dtid=02\n",
+        0,
+    ),
+    // Dialogue aborts, in a Begin too, and PDUs of the other abstract syntax, in a Begin too.
+    (
+        "41621b4801016b162814060700118605010101a0096407800100be022800",
+        "0 A Begin otid=01 ABRT source=0 info=1\n",
+        0,
+    ),
+    (
+        "41671b4901026b162814060700118605010101a0096407800101be022800",
+        "0 A Abort dtid=02 ABRT source=1 info=1\n",
+        0,
+    ),
+    (
+        "41612a6b1e281c060700118605010201a011600f80020780a109060704000001001302\
          6c08a10602010102012d",
-        "0 A FAULT 10 6\n",
+        "0 A Unidirectional AUDT context=04000001001302\n  Invoke id=1 op=45\n",
+        0,
+    ),
+    (
+        "41622d4801016b1e281c060700118605010201a011600f80020780a109060704000001001302\
+         6c08a10602010102012d",
+        "0 A Begin otid=01 AUDT context=04000001001302\n  Invoke id=1 op=45\n",
+        0,
+    ),
+    // A dialogue portion that is refused, at its place in the record, and an empty component portion.
+    (
+        "41640349010142671a4901024a01016b122810060700118605010101a0056403800100416403490102",
+        "0 A End dtid=01\n1 B FAULT 10 15\n2 A End dtid=02\n",
         3,
     ),
     ("4162054801016c00", "0 A FAULT 11 6\n", 3),
@@ -65,19 +113,6 @@ const FAULTY: [u8; 15] = [
 ];
 
 const FAULTY_LINES: &str = "0 A Begin otid=01\n1 B FAULT 11 12\nFAULT 20 14\n";
-
-/// The octets that hexadecimal digits stand for.
-fn octets_of(alloc: Global, text: &str) -> Result<Vec<u8>, Fail> {
-    Ok(hex::decode(alloc, text)?)
-}
-
-/// What is printed of the octets, and the status.
-fn shown(alloc: Global, octets: &[u8]) -> Result<(Vec<u8>, u8), Fail> {
-    let mut reader = Counted::new(octets);
-    let mut writer = Counted::new(Vec::new(alloc));
-    let status = run_show(alloc, &mut reader, &mut writer)?;
-    Ok((writer.into_inner(), status.number()))
-}
 
 #[test]
 fn rows(rt: HostRuntime) -> Result<(), Fail> {

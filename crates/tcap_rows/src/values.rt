@@ -3,7 +3,7 @@
 use std::test::Fail;
 use tcap_ber::{ObjectId, Raw, Small};
 use tcap_msg::TransactionId;
-use tcap_parts::{Code, Component, Portion};
+use tcap_parts::{Code, Component, Info, InfoView, Portion};
 
 #[test]
 fn transaction_ids(rt: HostRuntime) -> Result<(), Fail> {
@@ -81,5 +81,98 @@ fn portions(rt: HostRuntime) -> Result<(), Fail> {
     })?;
     let portion = Portion::new(components).ok_or("a portion")?;
     assert_eq!(rt; portion.items().len(), 1);
+    Ok(())
+}
+
+/// Octets of transaction IDs in their order, from the first octet on, a shorter one before those that it begins.
+const IN_ORDER: [&[u8]; 15] = [
+    &[0],
+    &[0, 0],
+    &[0, 0, 0, 0],
+    &[0, 0, 0, 1],
+    &[0, 1],
+    &[0, 0xFF, 0xFF, 0xFF],
+    &[1],
+    &[1, 0],
+    &[1, 0, 0, 0],
+    &[1, 2],
+    &[2],
+    &[0x7F, 0xFF],
+    &[0x80],
+    &[0xFF],
+    &[0xFF, 0xFF, 0xFF, 0xFF],
+];
+
+#[test]
+fn ordered_transaction_ids(rt: HostRuntime) -> Result<(), Fail> {
+    for (at, octets) in IN_ORDER.iter().enumerate() {
+        let id = TransactionId::new(octets).ok_or("an ID")?;
+        for (other_at, other) in IN_ORDER.iter().enumerate() {
+            let other = TransactionId::new(other).ok_or("an ID")?;
+            let wanted = at.cmp(&other_at);
+            assert_eq!(rt; id.cmp(&other), wanted, "{at} {other_at}");
+            assert_eq!(rt; id.partial_cmp(&other), Some(wanted), "{at} {other_at}");
+            assert_eq!(rt; id < other, at < other_at, "{at} {other_at}");
+        }
+    }
+    Ok(())
+}
+
+#[test]
+fn lent_transaction_ids(rt: HostRuntime) -> Result<(), Fail> {
+    for octets in IN_ORDER {
+        let id = TransactionId::new(octets).ok_or("an ID")?;
+        assert_eq!(rt; id.view().octets, octets);
+        assert_eq!(rt; id.view().to_transaction_id(), id);
+    }
+    Ok(())
+}
+
+/// User information: none, one EXTERNAL, two, one with a padded length, and the counts of EXTERNALs.
+const EXTERNALS: [(&[u8], usize); 6] = [
+    (&[], 0),
+    (&[0x28, 0], 1),
+    (&[0x28, 3, 5, 0, 0x80], 1),
+    (&[0x28, 1, 0x28, 0x28, 0], 2),
+    (&[0x28, 0x83, 0, 0, 1, 0xFF], 1),
+    (&[0x28, 0, 0x28, 0, 0x28, 0x81, 0], 3),
+];
+
+#[test]
+fn user_information(rt: HostRuntime) -> Result<(), Fail> {
+    for (octets, count) in EXTERNALS {
+        let info = Info::new(octets.to_vec(rt.alloc())?).ok_or("EXTERNALs")?;
+        assert_eq!(rt; info.octets(), octets);
+        assert_eq!(rt; info.view().octets, octets);
+        assert_eq!(rt; info.view().count(), count);
+        assert_eq!(rt; info.view().to_info(rt.alloc())?.octets(), octets);
+        let lent = InfoView::new(octets).ok_or("EXTERNALs")?;
+        assert_eq!(rt; lent.octets, octets);
+        assert_eq!(rt; lent.count(), count);
+        assert_eq!(rt; lent.to_info(rt.alloc())?.octets(), octets);
+    }
+    Ok(())
+}
+
+/// Octets that are no EXTERNALs up to their end: another tag, cut ones, and lengths that are not taken.
+const NO_EXTERNALS: [&[u8]; 10] = [
+    &[0x05, 0],
+    &[0x08, 0],
+    &[0x28],
+    &[0x28, 1],
+    &[0x28, 0, 0x28],
+    &[0x28, 0, 0x05, 0],
+    &[0x28, 2, 0x28],
+    &[0x28, 0x80, 0, 0],
+    &[0x28, 0x85, 0, 0, 0, 0, 0],
+    &[0x28, 0x83, 1, 0, 0],
+];
+
+#[test]
+fn no_user_information(rt: HostRuntime) -> Result<(), Fail> {
+    for octets in NO_EXTERNALS {
+        assert!(rt; Info::new(octets.to_vec(rt.alloc())?).is_none());
+        assert!(rt; InfoView::new(octets).is_none());
+    }
     Ok(())
 }

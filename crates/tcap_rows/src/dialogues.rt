@@ -1,0 +1,310 @@
+//! Dialogue portions: read, shown, encoded again, and refused.
+
+use crate::tools::{edited, element, encoded_again, lines_of, octets_of, refusal, view_refusal};
+use std::alloc::Global;
+use std::test::Fail;
+use tcap_ber::{Counted, Window};
+use tcap_parts::{len_dialogue, view_dialogue, write_dialogue};
+
+/// dialogue-as-id, the name of the abstract syntax of structured dialogues (Q.773 4.2.3).
+const STRUCTURED: &str = "060700118605010101";
+
+/// unidialogue-as-id, that of Unidirectionals.
+const UNSTRUCTURED: &str = "060700118605010201";
+
+/// A name of an abstract syntax and a PDU, what `show` prints of it, and the PDU as it is written.
+const READ: [(&str, &str, &str, &str); 31] = [
+    // Dialogue requests: with the usual protocol version, without one, and with others that are taken.
+    (
+        STRUCTURED,
+        "600f80020780a109060704000001001302",
+        " AARQ context=04000001001302",
+        "600f80020780a109060704000001001302",
+    ),
+    (
+        STRUCTURED,
+        "600ba109060704000001001302",
+        " AARQ context=04000001001302",
+        "600f80020780a109060704000001001302",
+    ),
+    (
+        STRUCTURED,
+        "600f80020080a109060704000001001302",
+        " AARQ context=04000001001302",
+        "600f80020780a109060704000001001302",
+    ),
+    (
+        STRUCTURED,
+        "600f800207ffa109060704000001001302",
+        " AARQ context=04000001001302",
+        "600f80020780a109060704000001001302",
+    ),
+    (
+        STRUCTURED,
+        "6009800203c8a10306012a",
+        " AARQ context=2a",
+        "600980020780a10306012a",
+    ),
+    // User information: none, without and with EXTERNALs.
+    (
+        STRUCTURED,
+        "600b80020780a10306012abe00",
+        " AARQ context=2a info=0",
+        "600b80020780a10306012abe00",
+    ),
+    (
+        STRUCTURED,
+        "600d80020780a10306012abe022800",
+        " AARQ context=2a info=1",
+        "600d80020780a10306012abe022800",
+    ),
+    (
+        STRUCTURED,
+        "601080020780a10306012abe052800280105",
+        " AARQ context=2a info=2",
+        "601080020780a10306012abe052800280105",
+    ),
+    // A padded length in the user information is kept, any other is not, that of the information itself included.
+    (
+        STRUCTURED,
+        "600e80020780a10306012abe03288100",
+        " AARQ context=2a info=1",
+        "600e80020780a10306012abe03288100",
+    ),
+    (
+        STRUCTURED,
+        "600e80020780a10306012abe81022800",
+        " AARQ context=2a info=1",
+        "600d80020780a10306012abe022800",
+    ),
+    (
+        STRUCTURED,
+        "6081118081020780a18105068200012abe820000",
+        " AARQ context=2a info=0",
+        "600b80020780a10306012abe00",
+    ),
+    // Dialogue responses, of the user and of the provider.
+    (
+        STRUCTURED,
+        "611b80020780a109060704000001001302a203020100a305a103020100",
+        " AARE context=04000001001302 result=0 user=0",
+        "611b80020780a109060704000001001302a203020100a305a103020100",
+    ),
+    (
+        STRUCTURED,
+        "6117a109060704000001001302a203020101a305a103020102",
+        " AARE context=04000001001302 result=1 user=2",
+        "611b80020780a109060704000001001302a203020101a305a103020102",
+    ),
+    (
+        STRUCTURED,
+        "611b80020080a109060704000001001302a203020101a305a203020102",
+        " AARE context=04000001001302 result=1 provider=2",
+        "611b80020780a109060704000001001302a203020101a305a203020102",
+    ),
+    (
+        STRUCTURED,
+        "611580020780a10306012aa20302017fa305a10302017f",
+        " AARE context=2a result=127 user=127",
+        "611580020780a10306012aa20302017fa305a10302017f",
+    ),
+    (
+        STRUCTURED,
+        "611580020780a10306012aa20302017fa305a20302017f",
+        " AARE context=2a result=127 provider=127",
+        "611580020780a10306012aa20302017fa305a20302017f",
+    ),
+    (
+        STRUCTURED,
+        "611980020780a10306012aa203020100a305a103020100be022800",
+        " AARE context=2a result=0 user=0 info=1",
+        "611980020780a10306012aa203020100a305a103020100be022800",
+    ),
+    (
+        STRUCTURED,
+        "61811c80020780a10306012aa2810402810100a38107a2810402810100be00",
+        " AARE context=2a result=0 provider=0 info=0",
+        "611780020780a10306012aa203020100a305a203020100be00",
+    ),
+    // Dialogue aborts.
+    (STRUCTURED, "6403800100", " ABRT source=0", "6403800100"),
+    (STRUCTURED, "6403800101", " ABRT source=1", "6403800101"),
+    (STRUCTURED, "640380017f", " ABRT source=127", "640380017f"),
+    (STRUCTURED, "640480810101", " ABRT source=1", "6403800101"),
+    (
+        STRUCTURED,
+        "6405800100be00",
+        " ABRT source=0 info=0",
+        "6405800100be00",
+    ),
+    (
+        STRUCTURED,
+        "6407800101be022800",
+        " ABRT source=1 info=1",
+        "6407800101be022800",
+    ),
+    (
+        STRUCTURED,
+        "640b800100be06280028002800",
+        " ABRT source=0 info=3",
+        "640b800100be06280028002800",
+    ),
+    // PDUs of Unidirectionals.
+    (
+        UNSTRUCTURED,
+        "600f80020780a109060704000001001302",
+        " AUDT context=04000001001302",
+        "600f80020780a109060704000001001302",
+    ),
+    (
+        UNSTRUCTURED,
+        "600ba109060704000001001302",
+        " AUDT context=04000001001302",
+        "600f80020780a109060704000001001302",
+    ),
+    (
+        UNSTRUCTURED,
+        "6009800200ffa10306012a",
+        " AUDT context=2a",
+        "600980020780a10306012a",
+    ),
+    (
+        UNSTRUCTURED,
+        "600b80020780a10306012abe00",
+        " AUDT context=2a info=0",
+        "600b80020780a10306012abe00",
+    ),
+    (
+        UNSTRUCTURED,
+        "600980020780a10306012a",
+        " AUDT context=2a",
+        "600980020780a10306012a",
+    ),
+    (
+        UNSTRUCTURED,
+        "6010a10306012abe09280028810028820000",
+        " AUDT context=2a info=3",
+        "601480020780a10306012abe09280028810028820000",
+    ),
+];
+
+/// The EXTERNAL with the name of an abstract syntax and a PDU.
+fn external(alloc: Global, name: &str, pdu: &str) -> Result<Vec<u8>, Fail> {
+    let mut content = octets_of(alloc, name)?;
+    let inner = element(alloc, 0xA0, &octets_of(alloc, pdu)?)?;
+    content.extend_from_slice(&inner)?;
+    element(alloc, 0x28, &content)
+}
+
+/// Messages that have room for a dialogue portion: the tag, what stands in front of the portion and behind it, what
+/// `show` prints in front of the PDU, and the lines of the components.
+const AROUND: [(u8, &str, &str, &str, &str); 5] = [
+    (
+        0x61,
+        "",
+        "6c05a203020101",
+        "Unidirectional",
+        "  ReturnResultLast id=1\n",
+    ),
+    (
+        0x62,
+        "480101",
+        "6c05a203020101",
+        "Begin otid=01",
+        "  ReturnResultLast id=1\n",
+    ),
+    (0x64, "490101", "", "End dtid=01", ""),
+    (0x65, "480102490101", "", "Continue otid=02 dtid=01", ""),
+    (0x67, "490101", "", "Abort dtid=01", ""),
+];
+
+/// A message of this tag around a dialogue portion with this content.
+fn message(
+    alloc: Global,
+    tag: u8,
+    front: &str,
+    portion: &[u8],
+    behind: &str,
+) -> Result<Vec<u8>, Fail> {
+    let mut content = octets_of(alloc, front)?;
+    content.extend_from_slice(&element(alloc, 0x6B, portion)?)?;
+    content.extend_from_slice(&octets_of(alloc, behind)?)?;
+    element(alloc, tag, &content)
+}
+
+/// Each PDU is read in each message that has room for a dialogue portion.
+#[test]
+fn read_in_each_message(rt: HostRuntime) -> Result<(), Fail> {
+    for (name, pdu, text, respelled) in READ {
+        let portion = external(rt.alloc(), name, pdu)?;
+        let wanted = external(rt.alloc(), name, respelled)?;
+        for (tag, front, behind, head, components) in AROUND {
+            let octets = message(rt.alloc(), tag, front, &portion, behind)?;
+            let lines = format!(in rt.alloc(); "0 A {head}{text}\n{components}")?;
+            let printed = lines_of(rt.alloc(), &octets)?;
+            assert_eq!(rt; printed.as_slice(), lines.as_bytes(), "{pdu} {head}");
+            let wanted = message(rt.alloc(), tag, front, &wanted, behind)?;
+            assert_eq!(rt; encoded_again(rt.alloc(), &octets)?, wanted, "{pdu} {head}");
+        }
+    }
+    Ok(())
+}
+
+/// What is counted and written of the dialogue portion with this content.
+fn portion_again(alloc: Global, portion: &[u8]) -> Result<(usize, Vec<u8>), Fail> {
+    let mut writer = Counted::new(Vec::new(alloc));
+    let dialogue = view_dialogue(Window::new(portion))
+        .ok()
+        .ok_or("a dialogue portion")?;
+    let len = len_dialogue(dialogue).ok_or("it is within the limits")?;
+    if write_dialogue(dialogue, &mut writer).is_err() {
+        return Err(Fail::from("it is written"));
+    }
+    Ok((len, writer.into_inner()))
+}
+
+#[test]
+fn portions_alone(rt: HostRuntime) -> Result<(), Fail> {
+    for (name, pdu, _, respelled) in READ {
+        let portion = external(rt.alloc(), name, pdu)?;
+        let wanted = external(rt.alloc(), name, respelled)?;
+        let (len, octets) = portion_again(rt.alloc(), &portion)?;
+        assert_eq!(rt; len, wanted.len(), "{pdu}");
+        assert_eq!(rt; octets, wanted, "{pdu}");
+    }
+    Ok(())
+}
+
+/// A Begin with a dialogue request, and edits of it: places and the octets that are set there, and the reason and the
+/// place of the fault.
+const REQUEST: &str =
+    "622d4801016b1e281c060700118605010101a011600f80020780a1090607040000010013026c08a10602010102012d";
+
+const EDITS: [(&[(usize, u8)], u8, u64); 9] = [
+    // Another name, none, and another abstract syntax's PDU.
+    (&[(16, 0x03)], 13, 9),
+    (&[(17, 0x81)], 7, 9),
+    (&[(9, 0x05)], 13, 9),
+    (&[(18, 0xA1)], 13, 18),
+    (&[(20, 0x65)], 13, 20),
+    (&[(16, 0x02), (20, 0x61)], 13, 20),
+    // The protocol version without version 1.
+    (&[(25, 0x00)], 12, 22),
+    // A dialogue portion that goes past the message, and one whose EXTERNAL goes past it.
+    (&[(6, 0x7F)], 5, 5),
+    (&[(8, 0x1D)], 5, 7),
+];
+
+#[test]
+fn refused_edits(rt: HostRuntime) -> Result<(), Fail> {
+    for (edits, reason, at) in EDITS {
+        let mut octets = octets_of(rt.alloc(), REQUEST)?;
+        for (place, value) in edits {
+            octets = edited(rt.alloc(), &octets, *place, *value)?;
+        }
+        let wanted = Some((reason, at));
+        assert_eq!(rt; refusal(rt.alloc(), &octets), wanted, "{reason} {at}");
+        assert_eq!(rt; view_refusal(&octets), wanted, "{reason} {at}");
+    }
+    Ok(())
+}
