@@ -1,7 +1,7 @@
 # make demo      shows the records of examples/ by the program, run unproved
 # make program   proves and builds the program, and prints where it lies
 # make test      the gate: all proofs, the must-fail edits, the tests and runs of the program, with the seconds of each part
-# make bench     prints how the time grows with the record
+# make bench     prints how the time grows with the record, and with the messages that are read as views
 # make memory    lets each allocation of a run fail in turn
 .PHONY: demo program test bench memory needs
 
@@ -20,6 +20,8 @@ test: needs
 	@python3 tools/gate.py
 
 bench: program
+	@log=$$(mktemp) && { (cd crates/tcap_bench && rt run <stdin) >"$$log" 2>&1 || { cat "$$log" >&2; rm -f "$$log"; exit 1; }; \
+		rm -f "$$log"; }
 	@python3 bench/linear.py
 
 memory: needs

@@ -1,28 +1,58 @@
-"""Shows that `tcapjudge show` takes time linear in the octets: prints the ratio of the times for a record and for one
-of twice as many entries, of entries of few octets, of many, and of as many components
-as an entry can hold. Build the program first (`make program`)."""
+"""Shows that `tcapjudge show` and reading messages as views take time linear in the octets: prints the ratio of the times
+for an input and for one of twice and of four times as many entries or messages. The records are of entries of few octets,
+of many, of as many components as an entry can hold, and of dialogue portions; the messages that are viewed are those of
+the worked rows, one after the other. `make bench` builds both programs first."""
 
+import re
 import subprocess
 import time
 
-PROGRAM = "crates/tcapjudge/out/tcapjudge"
+SHOW = ["crates/tcapjudge/out/tcapjudge", "show"]
+VIEW = ["crates/tcap_bench/out/tcap_bench"]
 SMALL = bytes.fromhex("41620d4801016c08a10602010102012d")
 RAW = bytes.fromhex("0482ffea") + bytes(65514)
 MANY = bytes.fromhex("416282fffc4801016c82fff5") + bytes.fromhex("a203020101") * 13_105
 LARGE = bytes.fromhex("416282ffff4801016c82fff8a182fff402010102012d") + RAW
+DIALOGUE = bytes.fromhex(
+    "42653948010249010"
+    "16b2a2828060700118605010101a01d611b80020780a109060704000001001302a203020100a305a1030201006c05a203020101"
+)
+# How often the program reads its input.
+ROUNDS = 200
+
+with open("crates/tcap_rows/src/vectors.rt") as file:
+    # The digits of a row stand behind its name, and may go on in the next line behind a backslash.
+    DIGITS = re.findall(r'\(\s*"\w+",\s*"([0-9a-f\\\s]+)",', file.read())
+VECTORS = b"".join(bytes.fromhex(re.sub(r"[\\\s]", "", digits)) for digits in DIGITS)
 
 
-def seconds(entry, count):
-    """The least time of three runs over a record of that many entries."""
-    record = entry * count
+def seconds(command, given):
+    """The least time of three runs over that input."""
     times = []
     for _ in range(3):
         start = time.perf_counter()
-        subprocess.run([PROGRAM, "show"], input=record, stdout=subprocess.DEVNULL, check=True)
+        subprocess.run(command, input=given, stdout=subprocess.DEVNULL, check=True)
         times.append(time.perf_counter() - start)
     return min(times)
 
 
-for name, entry, count in [("small", SMALL, 25_000), ("large", LARGE, 200), ("many components'", MANY, 20)]:
-    once, twice, again = (seconds(entry, count * times) for times in (1, 2, 4))
-    print(f"{name} entries: {count} in {once:.3f} s; twice as many {twice / once:.2f}, four times {again / once:.2f}")
+def growth(command, part, count):
+    """The times for so many parts one after the other, for twice as many and for four times as many."""
+    return [seconds(command, part * (count * times)) for times in (1, 2, 4)]
+
+
+KINDS = [
+    ("small entries", SMALL, 25_000),
+    ("large entries", LARGE, 200),
+    ("entries of many components", MANY, 20),
+    ("entries with dialogue portions", DIALOGUE, 10_000),
+]
+for name, entry, count in KINDS:
+    once, twice, again = growth(SHOW, entry, count)
+    print(f"show, {name}: {count} in {once:.3f} s; twice as many {twice / once:.2f}, four times {again / once:.2f}")
+once, twice, again = growth(VIEW, VECTORS, 20)
+each = once / (20 * ROUNDS * len(DIGITS)) * 1e9
+print(
+    f"view of the {len(DIGITS)} vectors, {20 * ROUNDS} times: {once:.3f} s, {each:.0f} ns a message;"
+    f" twice as many {twice / once:.2f}, four times {again / once:.2f}"
+)

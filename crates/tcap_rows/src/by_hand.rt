@@ -176,20 +176,38 @@ fn each_pdu(rt: HostRuntime) -> Result<(), Fail> {
     Ok(())
 }
 
-/// Each PDU lent, and made a value again.
+/// The PDU lent, and made a value again.
+fn again(alloc: Global, dialogue: &Dialogue) -> Result<Dialogue, Fail> {
+    Ok(dialogue.view().to_dialogue(alloc)?)
+}
+
+/// What is written of a Begin with a request that was lent.
+fn lent_request(alloc: Global) -> Result<Vec<u8>, Fail> {
+    let lent = again(alloc, &request(alloc)?)?;
+    in_begin(alloc, lent)
+}
+
+/// What is written of a Continue with a response that was lent.
+fn lent_response(alloc: Global, diagnostic: Source) -> Result<Vec<u8>, Fail> {
+    let lent = again(alloc, &response(alloc, diagnostic)?)?;
+    in_continue(alloc, lent)
+}
+
+/// What is written of a Unidirectional with a PDU that was lent.
+fn lent_uni(alloc: Global) -> Result<Vec<u8>, Fail> {
+    let lent = again(alloc, &uni(alloc)?)?;
+    in_unidirectional(alloc, lent)
+}
+
 #[test]
 fn lent(rt: HostRuntime) -> Result<(), Fail> {
     let alloc = rt.alloc();
-    let octets = in_begin(alloc, request(alloc)?.view().to_dialogue(alloc)?)?;
-    assert_eq!(rt; octets, octets_of(alloc, BEGIN)?);
-    let user = response(alloc, Source::User(number(0)?))?;
-    let octets = in_continue(alloc, user.view().to_dialogue(alloc)?)?;
+    assert_eq!(rt; lent_request(alloc)?, octets_of(alloc, BEGIN)?);
+    let octets = lent_response(alloc, Source::User(number(0)?))?;
     assert_eq!(rt; octets, octets_of(alloc, CONTINUE)?);
-    let provider = response(alloc, Source::Provider(number(2)?))?;
-    let octets = in_continue(alloc, provider.view().to_dialogue(alloc)?)?;
+    let octets = lent_response(alloc, Source::Provider(number(2)?))?;
     assert_eq!(rt; octets, octets_of(alloc, CONTINUE_OF_PROVIDER)?);
-    let octets = in_unidirectional(alloc, uni(alloc)?.view().to_dialogue(alloc)?)?;
-    assert_eq!(rt; octets, octets_of(alloc, UNIDIRECTIONAL)?);
+    assert_eq!(rt; lent_uni(alloc)?, octets_of(alloc, UNIDIRECTIONAL)?);
     Ok(())
 }
 
@@ -209,16 +227,16 @@ fn aborts(rt: HostRuntime) -> Result<(), Fail> {
 }
 
 /// The reason of an Abort lent, and made a value again.
-fn again(alloc: Global, reason: AbortReason) -> Result<Vec<u8>, Fail> {
+fn lent_reason(alloc: Global, reason: AbortReason) -> Result<Vec<u8>, Fail> {
     in_abort(alloc, Some(reason.view().to_reason(alloc)?))
 }
 
 #[test]
 fn lent_reasons(rt: HostRuntime) -> Result<(), Fail> {
     let alloc = rt.alloc();
-    let octets = again(alloc, AbortReason::Cause(number(4)?))?;
+    let octets = lent_reason(alloc, AbortReason::Cause(number(4)?))?;
     assert_eq!(rt; octets, octets_of(alloc, "67064901024a0104")?);
-    let octets = again(alloc, AbortReason::Dialogue(aborted(alloc)?))?;
+    let octets = lent_reason(alloc, AbortReason::Dialogue(aborted(alloc)?))?;
     assert_eq!(rt; octets, octets_of(alloc, ABORT)?);
     Ok(())
 }
