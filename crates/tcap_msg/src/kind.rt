@@ -1,6 +1,6 @@
 //! The kinds of messages (Q.773 4.2.1).
 
-/// The kind of a message.
+/// The kind of a message (Q.773 4.2.1).
 #[derive(Clone, Copy, Debug, PartialEq, Eq)]
 pub enum Kind {
     /// A Unidirectional, outside any transaction.

@@ -49,7 +49,7 @@ pub enum Message {
     },
 }
 
-/// The reason that an Abort gives.
+/// The reason that an Abort gives (Q.773 4.2.1).
 #[derive(Debug, Drop)]
 pub enum AbortReason {
     /// A P-Abort cause, which the transaction sub-layer gives.

@@ -57,7 +57,7 @@ pub enum MessageView<'a> {
     },
 }
 
-/// The reason that an Abort gives, lent.
+/// The reason that an Abort gives, lent (Q.773 4.2.1).
 #[derive(Clone, Copy, Debug)]
 pub enum AbortReasonView<'a> {
     /// A P-Abort cause, which the transaction sub-layer gives.

@@ -44,7 +44,7 @@ pub enum Dialogue {
     },
 }
 
-/// A diagnostic of a dialogue response, by who gives it.
+/// A diagnostic of a dialogue response, by its source: who gives it (Q.773 4.2.3).
 #[derive(Clone, Copy, Debug, PartialEq, Eq)]
 pub enum Source {
     /// The dialogue service user.
