@@ -8,11 +8,29 @@ use Rattle.tcap_ber.specs.declared.fault.Reason.{Reason}
 use Rattle.tcap_ber.specs.declared.fault.Reason.TheVariants as reasons
 use Rattle.tcap_ber.specs.declared.header.Header.{Header}
 use Rattle.tcap_ber.specs.Element.{number, IsTag, IsLength, content_limit}
-use Rattle.tcap_ber.specs.Header.{HasLongTag, HasLengthOctet, HasLongLength, IsHeaderFault}
-use Rattle.tcap_ber.specs.Span.{Span}
-use Rattle.tcap_ber.specs.Reading.{fault, tag_in, tag_at, length_in, length_at, header_of, behind_tag, header_at}
+use Rattle.tcap_ber.specs.Header.{HasLongTag, HasLengthOctet, HasLongLength}
+use Rattle.tcap_ber.specs.Span.{Span, behind}
+use Rattle.tcap_ber.specs.HeaderReading.{fault, ◌>>=◌, tag_in, tag_at, length_in, length_at, header_of}
 use Rattle.tcap_ber.proofs.Steps.{chosen, bind_ok, bind_err, err_is}
 use Rattle.tcap_ber.proofs.TagLaws.{FindsTag, tag_sound, tag_complete, tag_fault, tag_long}
+
+-- the length behind a tag of so many octets
+abbrev pub behind_tag : Span → Option ℕ → Result (Option Header) Fault
+behind_tag s None = Ok None
+behind_tag s (Some tag) = length_at (behind tag s) >>= header_of s.place tag
+
+-- the header of definite length at the front; None where the octets end before it does
+unfoldable pub header_at : Span → Result (Option Header) Fault
+header_at s = tag_at s >>= behind_tag s
+
+-- What is wrong with the header of definite length that the octets begin with, as far as it stands there; the place is
+-- counted from its first octet.
+abbrev pub IsHeaderFault : List ℕ → Reason → ℕ → Type 0
+IsHeaderFault octets reasons.TagForm place = HasLongTag octets × (place ≡ 0)
+IsHeaderFault octets reasons.LengthForm place = (octet : ℕ) × (132 < octet) × HasLengthOctet octet octets place
+IsHeaderFault octets reasons.Indefinite place = HasLengthOctet 128 octets place
+IsHeaderFault octets reasons.TooLong place = HasLongLength octets × (place ≡ 0)
+IsHeaderFault octets _ place = ⊥
 
 -- a length, at the front
 pub record FindsLength (octets : List ℕ) (len count : ℕ) : Type 0 where

@@ -2,6 +2,10 @@ pub mod DeviceLemmas
 pub mod Steps
 pub mod TagLaws
 pub mod HeaderLaws
+pub mod OpeningLaws
+pub mod WalkLaws
+pub mod WalkedLaws
+pub mod ResumeLaws
 pub mod ElementLaws
 pub mod FaultLaws
 pub mod OuterLaws

@@ -1,7 +1,7 @@
 -- Steps of reading: what the parts of a chain answered.
 use Rattle.std.proofs.Common.{◌≡◌, Bool, true, false, cond, Result, Ok, Err, refl, ap, inl, inr, ◌⊎◌}
 use Rattle.tcap_ber.specs.declared.fault.Fault.{Fault}
-use Rattle.tcap_ber.specs.Reading.{◌>>=◌}
+use Rattle.tcap_ber.specs.HeaderReading.{◌>>=◌}
 
 -- which way a test went
 pub chosen : {A : Type 0} (b : Bool) (x y z : A) → cond b x y ≡ z → ((b ≡ true) × (x ≡ z)) ⊎ ((b ≡ false) × (y ≡ z))

@@ -7,7 +7,7 @@ use Rattle.tcap_ber.specs.declared.fault.Fault.{Fault}
 use Rattle.tcap_ber.specs.declared.fault.Reason.TheVariants.{TagForm}
 use Rattle.tcap_ber.specs.Element.{IsContinued, IsTag}
 use Rattle.tcap_ber.specs.Header.{HasLongTag}
-use Rattle.tcap_ber.specs.Reading.{fault, tag_rest, tag_in}
+use Rattle.tcap_ber.specs.HeaderReading.{fault, tag_rest, tag_in}
 use Rattle.tcap_ber.proofs.Steps.{chosen, err_is, ok_not_err}
 
 -- the octets behind the first of a long tag, at the front

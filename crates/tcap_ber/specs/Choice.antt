@@ -1,7 +1,7 @@
 -- A choice: at a place has to be one of several elements, each known by its tag.
 use Rattle.std.specs.Prelude.{◌≡◌, ◌≢◌, ℕ, ◌-◌, ◌+◌, ◌⊎◌, List, [], ◌∷◌, ◌++◌, length}
 use Rattle.tcap_ber.specs.declared.fault.Reason.{Reason}
-use Rattle.tcap_ber.specs.Element.{IsElement}
+use Rattle.tcap_ber.specs.Element.{IsElement, content_start}
 use Rattle.tcap_ber.specs.Grammar.{Body, Field, IsMissing, IsElementFault}
 use Rattle.tcap_ber.specs.Span.{Span}
 
@@ -54,7 +54,7 @@ pub record IsFaultyChoice {V : Type 0} (choice : Choice V) (s : Span) (reason : 
   pub rest : List ℕ
   pub is_element : IsElement tag content octets
   pub joined : s.octets ≡ octets ++ rest
-  pub inside : choice.faulty tag s.place (record { octets = content; place = s.place + (length octets - length content) }) reason place
+  pub inside : choice.faulty tag s.place (record { octets = content; place = s.place + content_start tag content octets }) reason place
 
 -- one of these elements
 abbrev pub one_of : {V : Type 0} → Choice V → Field V

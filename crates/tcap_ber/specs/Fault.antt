@@ -1,7 +1,7 @@
 -- The numbers of the reasons.
 use Rattle.std.specs.Prelude.{ℕ}
 use Rattle.tcap_ber.specs.declared.fault.Reason.{Reason}
-use Rattle.tcap_ber.specs.declared.fault.Reason.TheVariants.{Cut, LengthForm, TooLong, TagForm, Overrun, BadInteger, BadObjectId, UnexpectedTag, Missing, Trailing, EmptyComponents, BadVersion, DialogueSyntax, BadSize, BadTransactionId, Indefinite, CodeTooWide}
+use Rattle.tcap_ber.specs.declared.fault.Reason.TheVariants.{Cut, LengthForm, TooLong, TagForm, Overrun, BadInteger, BadObjectId, UnexpectedTag, Missing, Trailing, EmptyComponents, BadVersion, DialogueSyntax, BadSize, BadTransactionId, Indefinite, CodeTooWide, TooDeep}
 
 -- the number that a line of output gives for a reason
 abbrev pub number_of : Reason → ℕ
@@ -22,3 +22,4 @@ number_of BadSize = 14
 number_of BadTransactionId = 15
 number_of Indefinite = 16
 number_of CodeTooWide = 17
+number_of TooDeep = 18

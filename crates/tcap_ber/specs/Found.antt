@@ -1,6 +1,6 @@
 -- What reading an element finds.
-use Rattle.std.specs.Prelude.{◌≡◌, ℕ, ◌+◌, ◌-◌, List, ◌++◌, length}
-use Rattle.tcap_ber.specs.Element.{IsElement}
+use Rattle.std.specs.Prelude.{◌≡◌, ℕ, ◌+◌, List, ◌++◌, length}
+use Rattle.tcap_ber.specs.Element.{IsElement, content_start}
 use Rattle.tcap_ber.specs.Grammar.{Field}
 use Rattle.tcap_ber.specs.Span.{Span}
 use Rattle.tcap_ber.specs.Reading.{Element}
@@ -10,7 +10,7 @@ pub record FindsElement (s : Span) (e : Element) (r : Span) : Type 0 where
   pub octets : List ℕ
   pub is_element : IsElement e.tag e.content.octets octets
   pub joined : s.octets ≡ octets ++ r.octets
-  pub content_place : e.content.place ≡ s.place + (length octets - length e.content.octets)
+  pub content_place : e.content.place ≡ s.place + content_start e.tag e.content.octets octets
   pub place : e.place ≡ s.place
   pub behind_place : r.place ≡ s.place + length octets
 

@@ -5,9 +5,9 @@
 use Rattle.std.specs.Prelude.{◌≡◌, ◌≢◌, ℕ, ◌+◌, ◌-◌, ◌<◌, ◌≤◌, ◌⊎◌, ℤ, List, [], ◌∷◌, ◌++◌, length, Option, Some, None}
 use Rattle.tcap_ber.specs.declared.fault.Reason.{Reason}
 use Rattle.tcap_ber.specs.declared.fault.Reason.TheVariants.{Overrun, BadInteger, UnexpectedTag, Missing, Trailing}
-use Rattle.tcap_ber.specs.Element.{IsElement, IsRaw}
+use Rattle.tcap_ber.specs.Element.{IsElement, IsRaw, content_start}
 use Rattle.tcap_ber.specs.Integer.{IsInteger, signed}
-use Rattle.tcap_ber.specs.Header.{IsHeaderFault, IsUnfinished}
+use Rattle.tcap_ber.specs.Walked.{IsWalkFault, IsUnfinished, IsInnermost}
 use Rattle.tcap_ber.specs.Span.{Span}
 
 -- The content of an element: the values that it spells; and what is wrong with it, from the element's
@@ -29,12 +29,12 @@ pub record Content (V : Type 0) : Type 1 where
 
 -- ---- the element at a place
 
--- What is wrong with the header of the element at the front of a window, or with its fit: some of it is
--- there, and the window ends before it does.
+-- What is wrong with the element at the front of a window, or with its fit: some of it is there, and the window ends
+-- before it does. Then the fault is that of the innermost element that is not whole.
 abbrev pub IsElementFault : Span → Reason → ℕ → Type 0
 IsElementFault s reason place =
-    ((offset : ℕ) × (place ≡ s.place + offset) × IsHeaderFault s.octets reason offset)
-    ⊎ ((reason ≡ Overrun) × (place ≡ s.place) × (0 < length s.octets) × IsUnfinished s.octets)
+    (offset : ℕ) × (place ≡ s.place + offset) × (IsWalkFault s.octets reason offset
+    ⊎ ((reason ≡ Overrun) × (0 < length s.octets) × IsUnfinished s.octets × IsInnermost s.octets offset))
 
 -- the window is empty where an element is required
 pub record IsMissing (s : Span) (reason : Reason) (place : ℕ) : Type 0 where
@@ -61,7 +61,7 @@ pub record IsFaultyInside (tag : ℕ) (faulty : ℕ → Span → Reason → ℕ 
   pub rest : List ℕ
   pub is_element : IsElement (tag ∷ []) content octets
   pub joined : s.octets ≡ octets ++ rest
-  pub inside : faulty s.place (record { octets = content; place = s.place + (length octets - length content) }) reason place
+  pub inside : faulty s.place (record { octets = content; place = s.place + content_start (tag ∷ []) content octets }) reason place
 
 -- the octets are an element of this tag around such a content
 pub record IsElementOf (tag : ℕ) (spells : List ℕ → Type 0) (octets : List ℕ) : Type 0 where

@@ -4,8 +4,13 @@ pub mod Element
 pub mod Integer
 pub mod Span
 pub mod Header
+pub mod Walked
+pub mod HeaderReading
+pub mod Walking
+pub mod Progress
 pub mod Grammar
 pub mod Reading
+pub mod Resuming
 pub mod Found
 pub mod Reads
 pub mod Canonical

@@ -1,86 +1,20 @@
 -- Reading elements from left to right, up to the first fault.
-use Rattle.std.specs.Prelude.{Bool, true, false, not, ◌&&◌, ℤ, ◌≡◌, ℕ, zero, suc, ◌+◌, ◌-◌, ◌%◌, List, [], ◌∷◌, length, take, drop, Option, Some, None, Result, Ok, Err, nat_lt, ◌==◌, if◌then◌else◌}
+use Rattle.std.specs.Prelude.{Bool, true, false, not, ◌&&◌, ℤ, ◌≡◌, ℕ, zero, suc, ◌+◌, ◌-◌, List, [], ◌∷◌, length, take, drop, Option, Some, None, Result, Ok, Err, nat_lt, ◌==◌, if◌then◌else◌}
 use Rattle.tcap_ber.specs.declared.fault.Fault.{Fault}
 use Rattle.tcap_ber.specs.declared.fault.Reason.{Reason}
-use Rattle.tcap_ber.specs.declared.fault.Reason.TheVariants.{LengthForm, TooLong, BadInteger, BadObjectId, TagForm, Overrun, Missing, UnexpectedTag, Trailing, BadSize, Indefinite}
+use Rattle.tcap_ber.specs.declared.fault.Reason.TheVariants.{BadInteger, BadObjectId, Overrun, Missing, UnexpectedTag, Trailing, BadSize}
 use Rattle.tcap_ber.specs.declared.header.Header.{Header}
+use Rattle.tcap_ber.specs.declared.header.Opening.{Opening}
+use Rattle.tcap_ber.specs.declared.header.Opening.TheVariants.{Definite, Indefinite}
 use Rattle.tcap_ber.specs.declared.element.Window.{Window}
 use Rattle.tcap_ber.specs.declared.element.Tlv.{Tlv}
 use Rattle.tcap_ber.specs.declared.element.Outer.{Outer}
 use Rattle.tcap_ber.specs.declared.element.Outer.TheVariants.{Whole, Need}
 use Rattle.tcap_ber.specs.Span.{Span, behind}
-use Rattle.tcap_ber.specs.Element.{number, content_limit}
 use Rattle.tcap_ber.specs.Integer.{signed}
-
-abbrev pub fault : Reason → ℕ → Fault
-fault r p = record { reason = r; place = p }
-
-infixl 10 ◌>>=◌
-abbrev pub ◌>>=◌ : {A B : Type 0} → Result A Fault → (A → Result B Fault) → Result B Fault
-(Ok x) >>= f = f x
-(Err e) >>= f = Err e
-
--- what a function answered, seen by view, is what reading gives
-abbrev pub Gives : {X Y : Type 0} → (X → Y) → Result X Fault → Result Y Fault → Type 0
-Gives view (Ok x) read = read ≡ Ok (view x)
-Gives view (Err f) read = read ≡ Err f
-
-abbrev pub span : Window → Span
-span w = record { octets = w.octets.now; place = w.place }
-
--- the count of a tag's octets, where len have come and left more may come
-abbrev pub tag_rest : ℕ → ℕ → ℕ → List ℕ → Result (Option ℕ) Fault
-tag_rest place zero len octets = Err (fault TagForm place)
-tag_rest place (suc left) len [] = Ok None
-tag_rest place (suc left) len (octet ∷ octets) =
-    if nat_lt octet 128 then Ok (Some (len + 1)) else tag_rest place left (len + 1) octets
-
--- the count of the octets of the tag at the front; None where the octets end before it does
-abbrev pub tag_in : ℕ → List ℕ → Result (Option ℕ) Fault
-tag_in place [] = Ok None
-tag_in place (first ∷ more) = if first % 32 == 31 then tag_rest place 4 1 more else Ok (Some 1)
-
-unfoldable pub tag_at : Span → Result (Option ℕ) Fault
-tag_at s = tag_in s.place s.octets
-
--- the count of the octets of the length at the front, and its number
-abbrev pub length_in : ℕ → List ℕ → Result (Option (ℕ × ℕ)) Fault
-length_in place [] = Ok None
-length_in place (first ∷ more) =
-    if nat_lt first 128 then Ok (Some (1, first))
-    else (if first == 128 then Err (fault Indefinite place)
-    else (if nat_lt 132 first then Err (fault LengthForm place)
-    else (if nat_lt (length more) (first - 128) then Ok None
-    else Ok (Some (first - 127, number (take (first - 128) more))))))
-
-unfoldable pub length_at : Span → Result (Option (ℕ × ℕ)) Fault
-length_at s = length_in s.place s.octets
-
--- A content's count is known: it must be within the limit.
-abbrev pub header_of : ℕ → ℕ → Option (ℕ × ℕ) → Result (Option Header) Fault
-header_of place tag None = Ok None
-header_of place tag (Some found) =
-    if nat_lt content_limit found.1 then Err (fault TooLong place)
-    else Ok (Some (record { tag_len = tag; len = tag + found.0; content_len = found.1 }))
-
--- the length behind a tag of so many octets
-abbrev pub behind_tag : Span → Option ℕ → Result (Option Header) Fault
-behind_tag s None = Ok None
-behind_tag s (Some tag) = length_at (behind tag s) >>= header_of s.place tag
-
--- the header at the front; None where the octets end before it does
-unfoldable pub header_at : Span → Result (Option Header) Fault
-header_at s = tag_at s >>= behind_tag s
-
--- a whole element of so many octets begins the octets, or so many are needed at least
-abbrev pub outer_of : List ℕ → Option Header → Outer
-outer_of octets None = Need (length octets + 1)
-outer_of octets (Some h) =
-    if nat_lt (length octets) (h.len + h.content_len) then Need (h.len + h.content_len)
-    else Whole (h.len + h.content_len)
-
-unfoldable pub outer_at : List ℕ → Result Outer Fault
-outer_at octets = header_at (record { octets = octets; place = 0 }) >>= λ h. Ok (outer_of octets h)
+unfoldable pub use Rattle.tcap_ber.specs.Element.{is_next}
+unfoldable pub use Rattle.tcap_ber.specs.HeaderReading.{fault, ◌>>=◌, Gives, span, tag_at, length_at, opening_at}
+unfoldable pub use Rattle.tcap_ber.specs.Walking.{outer_at, innermost_at}
 
 -- an element that was read: where it begins, its tag and its content
 pub record Element : Type 0 where
@@ -91,9 +25,9 @@ pub record Element : Type 0 where
 abbrev pub element : Tlv → Element
 element t = record { tag = t.tag.octets.now; content = span t.content; place = t.start }
 
-abbrev pub element_of : Span → Option Header → Result (Element × Span) Fault
-element_of s None = Err (fault Overrun s.place)
-element_of s (Some h) =
+-- the element with this header of definite length
+abbrev pub definite_at : Span → Header → Result (Element × Span) Fault
+definite_at s h =
     if nat_lt (length s.octets) (h.len + h.content_len) then Err (fault Overrun s.place)
     else Ok (
       record {
@@ -104,20 +38,33 @@ element_of s (Some h) =
       behind (h.len + h.content_len) s,
     )
 
+-- the element of indefinite length with a tag of so many octets, by a walk over it
+abbrev pub indefinite_at : Span → ℕ → Result Outer Fault → Result (Element × Span) Fault
+indefinite_at s tag (Err f) = Err (fault f.reason (s.place + f.place))
+indefinite_at s tag (Ok (Need n)) = Err (fault Overrun (s.place + innermost_at s.octets))
+indefinite_at s tag (Ok (Whole n)) = Ok (
+  record {
+    tag = take tag s.octets;
+    content = record { octets = take (n - (tag + 3)) (drop (tag + 1) s.octets); place = s.place + (tag + 1) };
+    place = s.place;
+  },
+  behind n s,
+)
+
+abbrev pub element_of : Span → Option Opening → Result (Element × Span) Fault
+element_of s None = Err (fault Overrun s.place)
+element_of s (Some (Definite h)) = definite_at s h
+element_of s (Some (Indefinite tag)) = indefinite_at s tag (outer_at s.octets)
+
 -- the first element of a window, and what is left behind it
 unfoldable pub next_at : Span → Result (Element × Span) Fault
-next_at s = header_at s >>= element_of s
+next_at s = opening_at s >>= element_of s
 
 -- the octet is the whole tag
 abbrev pub is_tag : ℕ → List ℕ → Bool
 is_tag octet [] = false
 is_tag octet (first ∷ []) = first == octet
 is_tag octet (first ∷ second ∷ more) = false
-
--- the octet is the first of the window
-abbrev pub is_next : ℕ → List ℕ → Bool
-is_next octet [] = false
-is_next octet (first ∷ more) = first == octet
 
 abbrev pub wanted : ℕ → Span → Element × Span → Result (Element × Span) Fault
 wanted tag s found = if is_tag tag found.0.tag then Ok found else Err (fault UnexpectedTag s.place)

@@ -10,7 +10,8 @@ pub enum Reason {
     Cut,
     /// A length octet of 85 to FF (X.690 8.1.3.5; 85 to FE are this profile's limit).
     LengthForm,
-    /// A content of over 65,535 octets, this profile's limit.
+    /// A content of over 65,535 octets, this profile's limit; that of an element of indefinite length is looked at as it is
+    /// walked.
     TooLong,
     /// A tag of over five octets, this profile's limit (X.690 8.1.2.4).
     TagForm,
@@ -38,10 +39,12 @@ pub enum Reason {
     BadSize,
     /// A transaction ID of no octets or of over four (Q.773 4.2.1).
     BadTransactionId,
-    /// The indefinite length form (X.690 8.1.3.6), which this profile leaves out.
+    /// The indefinite length form on a primitive element (X.690 8.1.3.2).
     Indefinite,
     /// A local code of over four octets, this profile's limit.
     CodeTooWide,
+    /// An element of indefinite length in 32 others, this profile's limit (X.690 8.1.3.6).
+    TooDeep,
 }
 
 impl Reason {
@@ -67,6 +70,7 @@ impl Reason {
             Reason::BadTransactionId => 15,
             Reason::Indefinite => 16,
             Reason::CodeTooWide => 17,
+            Reason::TooDeep => 18,
         }
     }
 }

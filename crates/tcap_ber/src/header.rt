@@ -1,8 +1,10 @@
 //! The header of an element: its tag and its length (X.690 8.1.2, 8.1.3).
 
-ghost use Rattle.std.specs.Prelude.{◌≡◌, ◌+◌, ◌≤◌, length, IfOk, IfSome};
+ghost use Rattle.std.specs.Prelude.{◌≡◌, ◌+◌, ◌<◌, ◌≤◌, length, IfOk, IfSome};
 ghost use Rattle.tcap_ber.specs.Element.{number};
-ghost use Rattle.tcap_ber.specs.Reading.{Gives, tag_at, length_at, header_at, span};
+ghost use Rattle.tcap_ber.specs.Element.{is_next};
+ghost use Rattle.tcap_ber.specs.HeaderReading.{Gives, tag_at, length_at, definite_behind, is_constructed, opening_at, span};
+ghost use Rattle.tcap_ber.specs.Progress.{IsHeaderWithin};
 
 use crate::element::Window;
 use crate::fault::{Fault, Reason};
@@ -18,8 +20,17 @@ pub(crate) struct Header {
     pub(crate) content_len: usize,
 }
 
+/// How an element begins.
+#[derive(Clone, Copy, Debug)]
+pub(crate) enum Opening {
+    /// With a whole header of definite length.
+    Definite(Header),
+    /// With a tag of so many octets and the length octet 80 (X.690 8.1.3.6).
+    Indefinite(usize),
+}
+
 /// The count of octets of the tag at the front, or `None` where the octets end before it does.
-#[tactic(auto, unfolding(crate::specs::Reading::tag_at))]
+#[tactic(auto, unfolding(crate::specs::HeaderReading::tag_at))]
 fn tag_len(window: Window) -> Result<Option<usize>, Fault>
     ensures exact { Gives (λ x. x) result (tag_at (span window.entry)) }
     ensures within { IfOk result (λ found. IfSome found (λ n. n ≤ length window.entry.octets.now)) }
@@ -60,11 +71,11 @@ fn number(octets: &[u8]) -> usize
 
 /// The count of octets of the length at the front and its number, or `None` where the octets end before
 /// it does (X.690 8.1.3).
-#[tactic(auto, unfolding(crate::specs::Reading::length_at))]
+#[tactic(auto, unfolding(crate::specs::HeaderReading::length_at))]
 fn length(window: Window) -> Result<Option<(usize, usize)>, Fault>
     ensures exact { Gives (λ x. x) result (length_at (span window.entry)) }
     ensures within { IfOk result (λ found. IfSome found (λ x. x.0 ≤ length window.entry.octets.now)) }
-    ensures limit { IfOk result (λ found. IfSome found (λ x. x.0 ≤ 5)) }
+    ensures limit { IfOk result (λ found. IfSome found (λ x. (0 < x.0) × (x.0 ≤ 5))) }
 {
     let Some((first, more)) = window.octets.split_first() else {
         return Ok(None);
@@ -93,18 +104,35 @@ fn length(window: Window) -> Result<Option<(usize, usize)>, Fault>
     Ok(Some((count + 1, number(&more[..count]))))
 }
 
-/// The header at the front of `window`, or `None` where its octets end before the header does. A content
-/// of over 65,535 octets is refused here.
-#[tactic(auto, unfolding(crate::specs::Reading::header_at))]
-pub(crate) fn read_header(window: Window) -> Result<Option<Header>, Fault>
-    ensures exact { Gives (λ x. x) result (header_at (span window.entry)) }
-    ensures within { IfOk result (λ found. IfSome found (λ h. h.len ≤ length window.entry.octets.now)) }
-    ensures limit { IfOk result (λ found. IfSome found (λ h. h.len + h.content_len ≤ 65545)) }
-    ensures tag { IfOk result (λ found. IfSome found (λ h. h.tag_len ≤ h.len)) }
+/// Whether the first octet is this one.
+fn is_first(octets: &[u8], octet: u8) -> bool
+    ensures { result ≡ is_next octet octets.now }
 {
-    let Some(tag_len) = tag_len(window)? else {
-        return Ok(None);
-    };
+    match octets {
+        [first, ..] => *first == octet,
+        [] => false,
+    }
+}
+
+/// Whether the first octet of a tag is that of a constructed element (X.690 8.1.2.5).
+fn is_constructed(tag: &[u8]) -> bool
+    ensures { result ≡ is_constructed tag.now }
+{
+    match tag {
+        [first, ..] => first / 32 % 2 == 1,
+        [] => false,
+    }
+}
+
+/// The header with a definite length behind a tag of so many octets.
+fn behind_tag(window: Window, tag_len: usize) -> Result<Option<Header>, Fault>
+    requires there { tag_len ≤ length window.octets.now }
+    requires few { tag_len ≤ 5 }
+    ensures exact { Gives (λ x. x) result (definite_behind (span window.entry) tag_len) }
+    ensures within { IfOk result (λ found. IfSome found (λ h. h.len ≤ length window.entry.octets.now)) }
+    ensures limit { IfOk result (λ found. IfSome found (λ h. (h.len ≤ 10) × (h.len + h.content_len ≤ 65545))) }
+    ensures tag { IfOk result (λ found. IfSome found (λ h. (h.tag_len ≡ tag_len) × (tag_len < h.len))) }
+{
     let Some((length_len, content_len)) = length(window.behind(tag_len))? else {
         return Ok(None);
     };
@@ -119,4 +147,31 @@ pub(crate) fn read_header(window: Window) -> Result<Option<Header>, Fault>
         len: tag_len + length_len,
         content_len,
     }))
+}
+
+/// The header at the front of `window`, or `None` where its octets end before the header does. A content of over
+/// 65,535 octets is refused here, and the indefinite length of a primitive element.
+#[tactic(auto, unfolding(crate::specs::HeaderReading::opening_at))]
+pub(crate) fn read_opening(window: Window) -> Result<Option<Opening>, Fault>
+    ensures exact { Gives (λ x. x) result (opening_at (span window.entry)) }
+    ensures within { IfOk result (λ found. IfSome found (IsHeaderWithin (length window.entry.octets.now))) }
+{
+    let Some(tag_len) = tag_len(window)? else {
+        return Ok(None);
+    };
+    let behind = window.behind(tag_len);
+    if !is_first(behind.octets, 0x80) {
+        return match behind_tag(window, tag_len)? {
+            Some(header) => Ok(Some(Opening::Definite(header))),
+            None => Ok(None),
+        };
+    }
+    if is_constructed(window.octets) {
+        Ok(Some(Opening::Indefinite(tag_len)))
+    } else {
+        Err(Fault {
+            reason: Reason::Indefinite,
+            place: behind.place,
+        })
+    }
 }

@@ -1,4 +1,4 @@
-//! The basic encoding rules (X.690) as far as TCAP needs them: elements with definite lengths, and
+//! The basic encoding rules (X.690) as far as TCAP needs them: elements, and the walk over one of them, and
 //! the devices that octets come from and go to.
 #![tactic(auto)]
 
@@ -8,13 +8,16 @@ mod element;
 mod failing;
 mod fault;
 mod header;
+mod innermost;
 mod integers;
 mod nulls;
 mod object_ids;
+mod progress;
 mod put;
 mod raw;
 mod small_numbers;
 mod to_end;
+mod walk;
 mod window;
 
 pub use counted::Counted;
@@ -26,8 +29,10 @@ pub use header::CONTENT_LIMIT;
 pub use integers::{integer, octet_integer, small_integer};
 pub use nulls::null;
 pub use object_ids::{ObjectId, ObjectIdView, object_id};
+pub use progress::DEPTH_LIMIT;
 pub use put::{element_len, header_len, integer_len, put_element, put_header, put_integer};
 pub use raw::{Raw, RawView};
 pub use small_numbers::{Small, SmallView, small_number};
 pub use to_end::{ReadError, read_to_end};
+pub use walk::Walk;
 pub use window::{begins_with, ended, next_tlv, outer, required, required_any};

@@ -1,60 +1,50 @@
 //! Reading the elements of a window one after the other.
 
-ghost use Rattle.std.specs.Prelude.{◌≡◌, ◌<◌, ◌⊎◌, ◌↔◌, ◌++◌, ◌∷◌, [], ℕ, List, length, Ok, Err, IfOk, IfErr, IsOk, IsOkAnd, IsTrue};
+ghost use Rattle.std.specs.Prelude.{◌≡◌, ◌<◌, ◌⊎◌, ◌↔◌, ◌++◌, ◌∷◌, [], ℕ, List, length, Some, Ok, Err, IfOk, IfErr, IsOk, IsOkAnd, IsTrue};
 ghost use Rattle.tcap_ber.specs.declared.element.Outer.{Outer};
 ghost use Rattle.tcap_ber.specs.declared.fault.Fault.{Fault};
 ghost use Rattle.tcap_ber.specs.declared.fault.Reason.{Reason};
+ghost use Rattle.tcap_ber.specs.declared.header.Opening.{Opening};
 ghost use Rattle.tcap_ber.specs.Element.{IsElement};
-ghost use Rattle.tcap_ber.specs.Header.{BeginsElement, NeedsMore, IsHeaderFault};
+ghost use Rattle.tcap_ber.specs.Walked.{BeginsElement, NeedsMore, IsWalkFault};
 ghost use Rattle.tcap_ber.specs.Grammar.{BeginsWith, IsMissing, IsElementFault, IsUnexpected};
 ghost use Rattle.tcap_ber.specs.Found.{FindsElement};
-ghost use Rattle.tcap_ber.specs.Reading.{Gives, span, element, outer_at, next_at, required_at, some_at, is_next, end_at};
+ghost use Rattle.tcap_ber.specs.Reading.{Gives, span, element, opening_at, outer_at, innermost_at, definite_at, indefinite_at, next_at, required_at, some_at, is_next, end_at};
 
 use crate::element::{Outer, Tag, Tlv, Window};
 use crate::fault::{Fault, Reason};
-use crate::header::read_header;
-
-#[tactic(auto, unfolding(crate::specs::Reading::outer_at))]
-fn read_outer(octets: &[u8]) -> Result<Outer, Fault>
-    ensures exact { Gives (λ x. x) result (outer_at octets.now) }
-{
-    let Some(header) = read_header(Window::new(octets))? else {
-        return Ok(Outer::Need(octets.len() + 1));
-    };
-    let len = header.len + header.content_len;
-    if octets.len() < len {
-        Ok(Outer::Need(len))
-    } else {
-        Ok(Outer::Whole(len))
-    }
-}
+use crate::header::{Header, Opening, read_opening};
+use crate::innermost::innermost;
+use crate::walk::Walk;
 
 /// How `octets` begin: with a whole element of so many octets, or with none yet and no fault so far, so
-/// that at least so many octets are needed in all. A fault where the header as far as it stands there is
+/// that at least so many octets are needed in all. A fault where the octets as far as they stand there are
 /// wrong, its place counted from the first octet: `TagForm` and `TooLong` at 0, `LengthForm` and
-/// `Indefinite` at the first length octet (X.690 8.1.2, 8.1.3).
+/// `Indefinite` at the first length octet (X.690 8.1.2, 8.1.3). The elements in one of indefinite length have these faults
+/// too, each at its own place, and `TooDeep` at that of the 33rd open one; a content of indefinite length is `TooLong` at
+/// the outermost element, 0.
 pub fn outer(octets: &[u8]) -> Result<Outer, Fault>
     ensures whole { (n : ℕ) → (result ≡ Ok (Outer.Whole n)) ↔ BeginsElement octets.now n }
     ensures need { (n : ℕ) → result ≡ Ok (Outer.Need n) → NeedsMore octets.now n }
-    ensures fault { (fault : Fault) → (result ≡ Err fault) ↔ IsHeaderFault octets.now fault.reason fault.place }
+    ensures fault { (fault : Fault) → (result ≡ Err fault) ↔ IsWalkFault octets.now fault.reason fault.place }
     ensures exact { Gives (λ x. x) result (outer_at octets.now) }
 {
-    read_outer(octets)
+    Walk::new().go_on(octets)
 }
 
-#[tactic(auto, unfolding(crate::specs::Reading::next_at))]
-fn read_next(window: Window) -> Result<(Tlv, Window), Fault>
-    requires { 0 < length window.octets.now }
-    ensures exact { Gives (λ x. (element x.0, span x.1)) result (next_at (span window.entry)) }
+/// The element at the front of a window, which has this header of definite length.
+fn read_definite<'a>(window: Window<'a>, header: Header) -> Result<(Tlv<'a>, Window<'a>), Fault>
+    requires tag { header.tag_len ≤ header.len }
+    requires there { header.len ≤ length window.octets.now }
+    requires few { header.len + header.content_len ≤ 65545 }
+    ensures exact { Gives (λ x. (element x.0, span x.1)) result (definite_at (span window.entry) header) }
 {
-    let overrun = Fault {
-        reason: Reason::Overrun,
-        place: window.place,
-    };
-    let header = read_header(window)?.ok_or(overrun)?;
     let len = header.len + header.content_len;
     if window.octets.len() < len {
-        return Err(overrun);
+        return Err(Fault {
+            reason: Reason::Overrun,
+            place: window.place,
+        });
     }
     let (octets, _) = window.octets.split_at(len);
     let (tag, _) = octets.split_at(header.tag_len);
@@ -69,9 +59,60 @@ fn read_next(window: Window) -> Result<(Tlv, Window), Fault>
     Ok((found, window.behind(len)))
 }
 
+/// The element of indefinite length at the front of a window, whose tag has so many octets.
+fn read_indefinite<'a>(window: Window<'a>, tag_len: usize) -> Result<(Tlv<'a>, Window<'a>), Fault>
+    requires opening { opening_at (span window) ≡ Ok (Some (Opening.Indefinite tag_len)) }
+    ensures exact { Gives (λ x. (element x.0, span x.1)) result (indefinite_at (span window.entry) tag_len (outer_at window.entry.octets.now)) }
+{
+    let len = match outer(window.octets) {
+        Ok(Outer::Whole(len)) => len,
+        Ok(Outer::Need(_)) => {
+            return Err(Fault {
+                reason: Reason::Overrun,
+                place: window.place + innermost(window.octets) as u64,
+            });
+        }
+        Err(fault) => {
+            return Err(Fault {
+                reason: fault.reason,
+                place: window.place + fault.place,
+            });
+        }
+    };
+    let start = tag_len + 1;
+    let (octets, _) = window.octets.split_at(len);
+    let (tag, _) = octets.split_at(tag_len);
+    let found = Tlv {
+        tag: Tag { octets: tag },
+        content: Window {
+            octets: &octets[start..len - 2],
+            place: window.place + start as u64,
+        },
+        start: window.place,
+    };
+    Ok((found, window.behind(len)))
+}
+
+#[tactic(auto, unfolding(crate::specs::Reading::next_at))]
+fn read_next(window: Window) -> Result<(Tlv, Window), Fault>
+    requires { 0 < length window.octets.now }
+    ensures exact { Gives (λ x. (element x.0, span x.1)) result (next_at (span window.entry)) }
+{
+    match read_opening(window)? {
+        Some(Opening::Definite(header)) => read_definite(window, header),
+        Some(Opening::Indefinite(tag_len)) => read_indefinite(window, tag_len),
+        None => Err(Fault {
+            reason: Reason::Overrun,
+            place: window.place,
+        }),
+    }
+}
+
 /// The first element of a window that is not empty, and the window behind it (X.690 8.1.1). `TagForm`,
 /// `TooLong` or `Overrun` at the element's first octet, `LengthForm` or `Indefinite` at its first length
-/// octet.
+/// octet. Where it is of indefinite length, the elements in it have these faults too, each at its own place, and
+/// `TooDeep`; `Overrun` stands at the innermost element that is not whole. The window of its content ends at its two zero
+/// octets.
 pub fn next_tlv(window: Window) -> Result<(Tlv, Window), Fault>
     requires { 0 < length window.octets.now }
     // What is read is the element that stands there, and its parts are those octets of the window.

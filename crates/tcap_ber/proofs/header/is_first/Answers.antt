@@ -1,0 +1,1 @@
+use Rattle.tcap_ber.proofs.OpeningLaws.{no_octets}

@@ -1,0 +1,52 @@
+//! The innermost element that is not whole.
+
+ghost use Rattle.std.specs.Prelude.{◌≡◌, ◌+◌, ◌<◌, ◌≤◌, length};
+ghost use Rattle.tcap_ber.specs.Walking.{stopped, last_opened, innermost_at};
+ghost use Rattle.tcap_ber.specs.Progress.{IsPlaced};
+
+use crate::progress::Progress;
+
+/// Where a walk over `octets` stops, and what is left there.
+fn stopped(octets: &[u8]) -> (Progress, &[u8])
+    ensures exact { (result.0, result.1.now) ≡ stopped octets.now }
+{
+    let mut progress = Progress::new();
+    let mut rest = octets;
+    while let Some(next) = progress.goes(rest) {
+        rest = &rest[next.at - progress.at..];
+        progress = next;
+    }
+    (progress, rest)
+}
+
+/// The place of the last element of indefinite length that a walk over `octets` opens at this depth.
+fn last_opened(octets: &[u8], depth: usize) -> usize
+    ensures exact { result ≡ last_opened depth octets.now }
+{
+    let mut noted = 0;
+    let mut progress = Progress::new();
+    let mut rest = octets;
+    while let Some(next) = progress.goes(rest) {
+        if progress.depth + 1 == depth && next.depth == depth {
+            noted = progress.at;
+        }
+        rest = &rest[next.at - progress.at..];
+        progress = next;
+    }
+    noted
+}
+
+/// The place of the innermost element in `octets`, which end before it does: that of the element which begins behind all
+/// that was gone over, or where no octet stands there that of the innermost open one (X.690 8.1.3.6).
+#[tactic(auto, unfolding(crate::specs::Walking::innermost_at))]
+pub(crate) fn innermost(octets: &[u8]) -> usize
+    ensures exact { result ≡ innermost_at octets.now }
+    ensures within { result ≤ length octets.now }
+{
+    let (progress, rest) = stopped(octets);
+    if rest.is_empty() {
+        last_opened(octets, progress.depth)
+    } else {
+        progress.at
+    }
+}
