@@ -9,6 +9,7 @@ use Rattle.tcap_ber.specs.Grammar.{Field, Content, IsElementOf, BeginsWith, ende
 use Rattle.tcap_ber.specs.Choice.{Choice, IsOneOf}
 use Rattle.tcap_ber.specs.Canonical.{shortest_length, shortest_header, element_around, ◌⧺◌, number_octets, magnitude, integer_len, integer_octets}
 use Rattle.tcap_ber.proofs.Steps.{chosen}
+use Rattle.tcap_ber.proofs.ElementLaws.{definite_element}
 
 -- ---- headers
 
@@ -30,13 +31,13 @@ shortest_length_is_length n w =
     ]
 
 pub header_is_element : (tag : ℕ) (content : List ℕ) → tag % 32 ≢ 31 → length content ≤ content_limit → IsElement (tag ∷ []) content (shortest_header tag (length content) ++ content)
-header_is_element tag content short w = record {
+header_is_element tag content short w = definite_element (tag ∷ []) content (shortest_header tag (length content) ++ content) (record {
   length_octets = shortest_length (length content);
   is_tag = inl (short, refl);
   is_length = shortest_length_is_length (length content) w;
   is_within = w;
   joined = refl;
-}
+})
 
 -- ---- integers
 

@@ -7,7 +7,7 @@ use Rattle.std.proofs.lemmas.List.{length-append, nil_from_length}
 use Rattle.tcap_ber.specs.declared.fault.Fault.{Fault}
 use Rattle.tcap_ber.specs.declared.fault.Reason.{Reason}
 use Rattle.tcap_ber.specs.declared.fault.Reason.TheVariants.{Missing, BadSize}
-use Rattle.tcap_ber.specs.Element.{IsElement}
+use Rattle.tcap_ber.specs.Element.{IsElement, content_start}
 use Rattle.tcap_ber.specs.Grammar.{Body, IsMissing, IsElementFault, after}
 use Rattle.tcap_ber.specs.Choice.{Choice, ◌▹◌, ◌∣◌, others_are, IsFaultyChoice, one_of}
 use Rattle.tcap_ber.specs.Small.{null}
@@ -16,8 +16,8 @@ use Rattle.tcap_ber.specs.Reads.{ReadsField, ReadsBody, ReadsChoice}
 use Rattle.tcap_ber.specs.Span.{Span}
 use Rattle.tcap_ber.specs.Reading.{Gives, fault, Element, is_tag, with_body, some_at, one_of_at, tagged_at, refused_at, null_at}
 use Rattle.tcap_ber.proofs.Steps.{chosen, bind_ok, bind_err, ok_is, err_is, ok_not_err}
-use Rattle.tcap_ber.proofs.ElementLaws.{element_len_at_least, next_sound, next_complete, next_fault}
-use Rattle.tcap_ber.proofs.FaultLaws.{refused_by, element_fault_some, next_refused}
+use Rattle.tcap_ber.proofs.ElementLaws.{element_len_at_least, next_sound, next_complete, next_fault, next_refused}
+use Rattle.tcap_ber.proofs.FaultLaws.{refused_by, element_fault_some}
 use Rattle.tcap_ber.proofs.GrammarLaws.{joint, is_tag-true, is_tag-false, is_tag-itself, not_none}
 
 -- ---- the elements of a choice
@@ -75,7 +75,7 @@ some_sound s x e =
 
 -- the element of this tag and content in these octets
 abbrev pub any_element_in : ℕ → List ℕ → List ℕ → List ℕ → Element
-any_element_in place tag content octets = record { tag = tag; content = record { octets = content; place = place + (length octets - length content) }; place = place }
+any_element_in place tag content octets = record { tag = tag; content = record { octets = content; place = place + content_start tag content octets }; place = place }
 
 pub some_complete : (place : ℕ) (tag content octets rest : List ℕ) → IsElement tag content octets
     → some_at (joint place octets rest) ≡ Ok (any_element_in place tag content octets, after place octets rest)

@@ -7,16 +7,16 @@ use Rattle.std.proofs.lemmas.Bool.{eqb-true, eqb-false, eq-eqb, ne_eqb}
 use Rattle.std.proofs.lemmas.List.{length-append, nil_from_length}
 use Rattle.tcap_ber.specs.declared.fault.Fault.{Fault}
 use Rattle.tcap_ber.specs.declared.fault.Reason.TheVariants.{Missing, UnexpectedTag, Trailing}
-use Rattle.tcap_ber.specs.Element.{IsElement}
+use Rattle.tcap_ber.specs.Element.{IsElement, content_start}
 use Rattle.tcap_ber.specs.Grammar.{Body, Field, Content, IsElementFault, IsMissing, IsUnexpected, IsFaultyInside, BeginsWith, SpellsOptional, SpellsParameter, required, optional, parameter, ended, ◌⨾▹◌, ◌⨾◌, structure, made, single, absent, after}
 use Rattle.tcap_ber.specs.Found.{FindsElement, Taken}
 use Rattle.tcap_ber.specs.Reads.{ReadsField, ReadsBody, ReadsContent}
 use Rattle.tcap_ber.specs.Span.{Span}
 use Rattle.tcap_ber.specs.Reading.{◌>>=◌, fault, Element, next_at, is_tag, is_next, wanted, required_at, raw_of, raw_at, with_body, with_some, optional_at, parameter_at, end_at, single_at, absent_at}
 use Rattle.tcap_ber.proofs.Steps.{chosen, bind_ok, bind_err, ok_is, err_is}
-use Rattle.tcap_ber.proofs.ElementLaws.{element_len_at_least, next_sound, next_complete, next_fault}
+use Rattle.tcap_ber.proofs.ElementLaws.{element_form, element_len_at_least, next_sound, next_complete, next_fault}
 use Rattle.tcap_ber.proofs.FaultLaws.{refused_by, element_fault_some, raw_refused, required_refused}
-use Rattle.tcap_ber.proofs.OuterLaws.{raw_sound, raw_complete}
+use Rattle.tcap_ber.proofs.RawLaws.{raw_sound, raw_complete}
 
 -- the window where this front stands before this rest
 abbrev pub joint : ℕ → List ℕ → List ℕ → Span
@@ -56,7 +56,7 @@ required_sound tag s x e =
 
 -- the element of this content in these octets
 abbrev pub element_in : ℕ → ℕ → List ℕ → List ℕ → Element
-element_in place tag content octets = record { tag = tag ∷ []; content = record { octets = content; place = place + (length octets - length content) }; place = place }
+element_in place tag content octets = record { tag = tag ∷ []; content = record { octets = content; place = place + content_start (tag ∷ []) content octets }; place = place }
 
 -- an element of the tag is read where it is required
 pub required_complete : (place tag : ℕ) (content octets rest : List ℕ) → IsElement (tag ∷ []) content octets
@@ -148,7 +148,8 @@ reads_required {V} tag body read reads = record {
       rest = r.octets;
       is_element = subst (λ (t : List ℕ). IsElement t e.content.octets found.octets) same found.is_element;
       joined = found.joined;
-      inside = subst (λ (p : ℕ). body.faulty s.place (record { octets = e.content.octets; place = p }) f.reason f.place) found.content_place
+      inside = subst (λ (p : ℕ). body.faulty s.place (record { octets = e.content.octets; place = p }) f.reason f.place)
+          (found.content_place ∙ ap (λ (t : List ℕ). s.place + content_start t e.content.octets found.octets) same)
           (subst (λ (p : ℕ). body.faulty p e.content f.reason f.place) found.place wrong);
     }
 
@@ -178,7 +179,11 @@ is_next-false tag octets e b = let k : true ≡ false = sym (is_next-begins tag 
 
 -- an element of the tag begins with it
 is_next-element : (tag : ℕ) (content octets rest : List ℕ) → IsElement (tag ∷ []) content octets → is_next tag (octets ++ rest) ≡ true
-is_next-element tag content octets rest e = ap (λ (x : List ℕ). is_next tag (x ++ rest)) e.joined ∙ eq-eqb tag tag refl
+is_next-element tag content octets rest e =
+    elim (element_form (tag ∷ []) content octets e) [
+      | inl d ↦ ap (λ (x : List ℕ). is_next tag (x ++ rest)) d.joined ∙ eq-eqb tag tag refl
+      | inr i ↦ ap (λ (x : List ℕ). is_next tag (x ++ rest)) i.1.joined ∙ eq-eqb tag tag refl
+    ]
 
 -- nothing stands before this window
 nothing_before : (s : Span) → s ≡ after s.place [] s.octets

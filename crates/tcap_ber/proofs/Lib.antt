@@ -6,9 +6,10 @@ pub mod OpeningLaws
 pub mod WalkLaws
 pub mod WalkedLaws
 pub mod ResumeLaws
+pub mod OuterLaws
 pub mod ElementLaws
 pub mod FaultLaws
-pub mod OuterLaws
+pub mod RawLaws
 pub mod GrammarLaws
 pub mod BodyLaws
 pub mod ChoiceLaws

@@ -1,122 +1,169 @@
 -- What is answered of the octets that a message or an entry begins with.
-use Rattle.std.proofs.Common.{◌≡◌, ℕ, ◌+◌, ◌-◌, ◌≤◌, true, List, [], ◌∷◌, ◌++◌, length, take, drop, Option, Some, None, Result, Ok, Err, refl, sym, ap, subst, ◌∙◌, inl, inr, arith, append_assoc}
-use Rattle.std.specs.Prelude.{nat_lt}
-use Rattle.std.proofs.lemmas.List.{take_at, length-append, length-drop, append-nil, nil_from_length}
-use Rattle.std.proofs.lemmas.Bool.{ltb-true, ltb-false, le-ltb, eqb-true, eq-eqb}
+use Rattle.std.proofs.Common.{◌≡◌, ℕ, ◌+◌, ◌-◌, ◌<◌, ◌≤◌, true, List, [], ◌∷◌, ◌++◌, length, take, drop, Option, Some, None, Result, Ok, Err, refl, sym, ap, subst, ◌∙◌, inl, inr, arith, append_assoc}
+use Rattle.std.proofs.lemmas.List.{length-append, append-nil, nil_from_length}
+use Rattle.std.proofs.lemmas.Bool.{eqb-true, eq-eqb}
+use Rattle.std.specs.List.{concat}
 use Rattle.tcap_ber.specs.declared.fault.Fault.{Fault}
 use Rattle.tcap_ber.specs.declared.fault.Reason.{Reason}
-use Rattle.tcap_ber.specs.declared.header.Header.{Header}
+use Rattle.tcap_ber.specs.declared.progress.Progress.{Progress}
 use Rattle.tcap_ber.specs.declared.element.Outer.{Outer}
 use Rattle.tcap_ber.specs.declared.element.Outer.TheVariants.{Whole, Need}
 use Rattle.tcap_ber.specs.Element.{IsElement, IsRaw}
-use Rattle.tcap_ber.specs.Header.{IsHeaderFault, IsUnfinished, BeginsElement, NeedsMore}
-use Rattle.tcap_ber.specs.Found.{FindsElement}
-use Rattle.tcap_ber.specs.Span.{Span}
-use Rattle.tcap_ber.specs.Reading.{fault, header_at, Element, next_at, outer_of, outer_at, is_whole, is_raw, raw_of, raw_at}
-use Rattle.tcap_ber.proofs.Steps.{chosen, bind_ok, bind_err, ok_is, ok_not_err}
-use Rattle.tcap_ber.proofs.HeaderLaws.{header_sound, header_complete, header_fault, header_refused}
-use Rattle.tcap_ber.proofs.ElementLaws.{element_len, finds_there, next_sound, next_complete, header_there, cut_is_unfinished, short_is_unfinished, some_header}
+use Rattle.tcap_ber.specs.Walked.{Level, walked, IsWalked, IsWalkFault, IsUnfinished, innermost, IsInnermost, BeginsElement, NeedsMore}
+use Rattle.tcap_ber.specs.Walking.{at_first, goes, outer_at, stopped, last_opened, innermost_by, innermost_at}
+use Rattle.tcap_ber.specs.Reading.{fault, is_whole, is_raw}
+use Rattle.tcap_ber.proofs.Steps.{ok_not_err}
+use Rattle.tcap_ber.proofs.WalkLaws.{Goes, stops_there, left, left_shorter, walk, stops, notes, Reaches, reaches_walk, reaches_stops, reaches_fewer, reaches_stop, progress_of, reaches_levels, walk_of_element, goes_sound}
+use Rattle.tcap_ber.proofs.WalkedLaws.{nothing_walked, steps, stands, whole_there, wrong_there, refused_there, wrong_within, noted_there, opened_innermost}
+use Rattle.tcap_ber.proofs.ResumeLaws.{needed, needs_more}
 
-abbrev from_start : List ℕ → Span
-from_start octets = record { octets = octets; place = 0 }
+-- where the walk over the octets stops
+pub record Stop (octets : List ℕ) : Type 0 where
+  pub levels : List Level
+  pub rest : List ℕ
+  pub is_walked : IsWalked octets levels rest
+  pub ends : goes (progress_of levels) rest ≡ None
+  pub walks : walk at_first octets ≡ walk (progress_of levels) rest
+  pub stops_is : stops at_first octets ≡ (progress_of levels, rest)
 
-pub whole_is : (n m : ℕ) → (let a : Outer = Whole n in a) ≡ Whole m → n ≡ m
-whole_is n m e = cc
-
-need_is : (n m : ℕ) → (let a : Outer = Need n in a) ≡ Need m → n ≡ m
-need_is n m e = cc
-
-of_found : (octets : List ℕ) (h : Header) (r : Span) (e : Element) (n : ℕ) → FindsElement (from_start octets) e r → r.octets ≡ drop n octets → n ≤ length octets → BeginsElement octets n
-of_found octets h r e n f left room = record {
-  tag = e.tag;
-  content = e.content.octets;
-  element = f.octets;
-  rest = r.octets;
-  is_element = f.is_element;
-  joined = f.joined;
-  len = omega (arith, ap length f.joined, length-append f.octets r.octets, ap length left, length-drop n octets, room);
-}
+pub stop_of : (octets : List ℕ) → Stop octets
+stop_of octets =
+    let r = reaches_stop at_first octets in
+    let q : Progress = (stops at_first octets).0 in
+    let rest : List ℕ = (stops at_first octets).1 in
+    let s = stands octets octets rest [] q (nothing_walked octets) r.0 in
+    record {
+      levels = s.levels;
+      rest = rest;
+      is_walked = s.is_walked;
+      ends = ap (λ (p : Progress). goes p rest) (sym s.place_is) ∙ r.1;
+      walks = reaches_walk at_first q octets rest r.0 ∙ ap (λ (p : Progress). walk p rest) s.place_is;
+      stops_is = ap (λ (p : Progress). (p, rest)) s.place_is;
+    }
 
 pub outer_whole : (octets : List ℕ) (n : ℕ) → outer_at octets ≡ Ok (Whole n) → BeginsElement octets n
 unfolding outer_at
-outer_whole octets n e =
-    let a = bind_ok (header_at (from_start octets)) (λ h. Ok (outer_of octets h)) (Whole n) e in
-    of_header a.0 a.1 (ok_is (outer_of octets a.0) (Whole n) a.2)
-  where
-    of_header : (h : Option Header) → header_at (from_start octets) ≡ Ok h → outer_of octets h ≡ Whole n → BeginsElement octets n
-    of_header None a b = absurd cc
-    of_header (Some h) a b =
-        elim (chosen (nat_lt (length octets) (h.len + h.content_len)) _ _ (Whole n) b) [
-          | inl k ↦ absurd cc
-          | inr k ↦
-              let room = ltb-false (length octets) (h.len + h.content_len) k.0 in
-              subst (BeginsElement octets) (whole_is (h.len + h.content_len) n k.1)
-              (of_found octets h _ _ (h.len + h.content_len) (finds_there (from_start octets) h (header_sound (from_start octets) h a) room) refl room)
-        ]
+outer_whole octets n e = let s = stop_of octets in whole_there octets s.rest s.levels n s.is_walked s.ends (sym s.walks ∙ e)
 
 pub outer_of_element : (tag content element rest : List ℕ) → IsElement tag content element → outer_at (element ++ rest) ≡ Ok (Whole (length element))
 unfolding outer_at
-outer_of_element tag content element rest e =
-    let len = element_len tag content element e in
-    let room : length tag + length e.length_octets + length content ≤ length (element ++ rest) = omega (arith, len, length-append element rest) in
-    rw (header_there (from_start (element ++ rest)) tag content element rest e refl, le-ltb (length (element ++ rest)) (length tag + length e.length_octets + length content) room)
-    (ap (λ (n : ℕ). Ok (Whole n)) (sym len))
+outer_of_element tag content element rest e = walk_of_element tag content element rest e
+
+pub outer_fault : (octets : List ℕ) (f : Fault) → outer_at octets ≡ Err f → IsWalkFault octets f.reason f.place
+unfolding outer_at
+outer_fault octets f e =
+    let s = stop_of octets in
+    (s.levels, s.rest, s.is_walked, wrong_there octets s.rest s.levels f s.is_walked s.ends (sym s.walks ∙ e))
+
+pub outer_refused : (octets : List ℕ) (reason : Reason) (place : ℕ) → IsWalkFault octets reason place → outer_at octets ≡ Err (fault reason place)
+unfolding outer_at
+outer_refused octets reason place (levels, rest, w, wrong) =
+    reaches_walk at_first (progress_of levels) octets rest (reaches_levels octets rest levels w) ∙ refused_there octets rest levels reason place w wrong
+
+-- what is wrong stands among the octets
+pub walk_fault_within : (octets : List ℕ) (reason : Reason) (place : ℕ) → IsWalkFault octets reason place → place < length octets
+walk_fault_within octets reason place (levels, rest, w, wrong) = wrong_within octets rest levels reason place w wrong
+
+-- ---- octets that are needed
+
+need_not_whole : (n m : ℕ) → (let a : Result Outer Fault = Ok (Need n) in a) ≡ Ok (Whole m) → ⊥
+need_not_whole n m e = cc
+
+pub is_unfinished : (octets : List ℕ) (n : ℕ) → outer_at octets ≡ Ok (Need n) → IsUnfinished octets
+is_unfinished octets n e = record {
+  no_element = λ tag content element rest is_element joined.
+      need_not_whole n (length element) (sym e ∙ ap outer_at joined ∙ outer_of_element tag content element rest is_element);
+  no_fault = λ reason place wrong. ok_not_err (Need n) (fault reason place) (sym e ∙ outer_refused octets reason place wrong);
+}
 
 pub outer_needs : (octets : List ℕ) (n : ℕ) → outer_at octets ≡ Ok (Need n) → NeedsMore octets n
 unfolding outer_at
-outer_needs octets n e =
-    let a = bind_ok (header_at (from_start octets)) (λ h. Ok (outer_of octets h)) (Need n) e in
-    of_header a.0 a.1 (ok_is (outer_of octets a.0) (Need n) a.2)
+outer_needs octets n e = record {
+  above = above e;
+  least = least e;
+  unfinished = is_unfinished octets n e;
+}
   where
-    longer : (tag content element more : List ℕ) → IsUnfinished octets → IsElement tag content element → element ≡ octets ++ more → length octets + 1 ≤ length element
-    longer tag content element [] u e joined = absurd (u.no_element tag content element [] e (sym (append-nil octets) ∙ sym joined ∙ sym (append-nil element)))
-    longer tag content element (x ∷ more) u e joined = omega (arith, ap length joined, length-append octets (x ∷ more))
+    above : outer_at octets ≡ Ok (Need n) → length octets < n
+    above e = omega (arith, needs_more at_first octets n e)
 
-    of_header : (h : Option Header) → header_at (from_start octets) ≡ Ok h → outer_of octets h ≡ Need n → NeedsMore octets n
-    of_header None a b =
-        let u = cut_is_unfinished (from_start octets) a in
-        let k : length octets + 1 ≡ n = need_is (length octets + 1) n b in
-        record {
-          above = omega (arith, k);
-          least = λ tag content element more e joined. omega (arith, k, longer tag content element more u e joined);
-          unfinished = u;
-        }
-    of_header (Some h) a b =
-        elim (chosen (nat_lt (length octets) (h.len + h.content_len)) _ _ (Need n) b) [
-          | inl k ↦
-              let short = ltb-true (length octets) (h.len + h.content_len) k.0 in
-              let m : h.len + h.content_len ≡ n = need_is (h.len + h.content_len) n k.1 in
-              record {
-                above = omega (arith, m, short);
-                least = λ tag content element more e joined. at_least h a m tag content element more e joined;
-                unfinished = short_is_unfinished (from_start octets) h a short;
-              }
-          | inr k ↦ absurd cc
+    longer : (tag content element more : List ℕ) → IsElement tag content element → element ≡ octets ++ more → length octets + 1 ≤ length element
+    longer tag content element [] is_element joined =
+        absurd ((is_unfinished octets n e).no_element tag content element [] is_element (sym (append-nil octets) ∙ sym joined ∙ sym (append-nil element)))
+    longer tag content element (x ∷ more) is_element joined = omega (arith, ap length joined, length-append octets (x ∷ more))
+
+    least : outer_at octets ≡ Ok (Need n) → (tag content element more : List ℕ) → IsElement tag content element → element ≡ octets ++ more → n ≤ length element
+    least e tag content element more is_element joined =
+        let whole = ap (λ (x : List ℕ). walk at_first x) (sym joined ∙ sym (append-nil element)) ∙ walk_of_element tag content element [] is_element in
+        elim (needed at_first octets more n (length element) e whole) [
+          | inl k ↦ k
+          | inr k ↦ omega (arith, k, longer tag content element more is_element joined)
         ]
-      where
-        at_least : (h : Header) → header_at (from_start octets) ≡ Ok (Some h) → h.len + h.content_len ≡ n → (tag content element more : List ℕ) → IsElement tag content element → element ≡ octets ++ more → n ≤ length element
-        at_least h a m tag content element more e joined =
-            let f = header_sound (from_start octets) h a in
-            let grouped : element ≡ f.tag ++ (f.length_octets ++ (f.rest ++ more)) =
-            joined ∙ ap (λ (x : List ℕ). x ++ more) f.joined ∙ append_assoc f.tag (f.length_octets ++ f.rest) more ∙ ap (λ (x : List ℕ). f.tag ++ x) (append_assoc f.length_octets f.rest more) in
-            let one = header_complete 0 h.content_len f.tag f.length_octets (f.rest ++ more) f.is_tag f.is_length f.within in
-            let other = header_there (from_start element) tag content element [] e (sym (append-nil element)) in
-            let same = some_header _ _ (sym (ap (λ (x : List ℕ). header_at (from_start x)) grouped ∙ one) ∙ other) in
-            let p : length f.tag + length f.length_octets ≡ length tag + length e.length_octets = ap (λ (x : Header). x.len) same in
-            let q : h.content_len ≡ length content = ap (λ (x : Header). x.content_len) same in
-            omega (arith, m, p, q, f.len, element_len tag content element e)
 
-pub outer_fault : (octets : List ℕ) (f : Fault) → outer_at octets ≡ Err f → IsHeaderFault octets f.reason f.place
-unfolding outer_at
-outer_fault octets f e =
-    elim (bind_err (header_at (from_start octets)) (λ h. Ok (outer_of octets h)) f e) [
-      | inl h ↦ let k = header_fault (from_start octets) f h in subst (IsHeaderFault octets f.reason) (omega (arith, k.1)) k.2
-      | inr a ↦ absurd (ok_not_err (outer_of octets a.0) f a.2)
-    ]
+-- ---- the innermost element that is not whole
 
-pub outer_refused : (octets : List ℕ) (reason : Reason) (place : ℕ) → IsHeaderFault octets reason place → outer_at octets ≡ Err (fault reason place)
-unfolding outer_at
-outer_refused octets reason place h = rw (header_refused 0 place octets reason h) (ap (λ (p : ℕ). Err (fault reason p)) (omega arith))
+depth_is : (levels : List Level) → (progress_of levels).depth ≡ length levels
+depth_is [] = refl
+depth_is (level ∷ outer) = refl
+
+at_is : (levels : List Level) → (progress_of levels).at ≡ length (walked levels)
+at_is [] = refl
+at_is (level ∷ outer) = refl
+
+place_at : (octets rest : List ℕ) (levels : List Level) → IsWalked octets levels rest → goes (progress_of levels) rest ≡ None → innermost_by octets (progress_of levels, rest) ≡ innermost levels rest
+unfolding last_opened
+place_at octets [] levels w stop =
+    ap (λ (d : ℕ). notes d 0 at_first octets) (depth_is levels)
+    ∙ noted_there octets octets [] [] levels 0 (nothing_walked octets) w (reaches_levels octets [] levels w) stop (λ _. refl)
+    ∙ opened_innermost levels
+place_at octets (x ∷ more) [] w stop = refl
+place_at octets (x ∷ more) (level ∷ outer) w stop = refl
+
+-- where the walk stops, the definition's place is the function's
+pub place_there : (octets rest : List ℕ) (levels : List Level) → IsWalked octets levels rest → goes (progress_of levels) rest ≡ None → innermost_at octets ≡ innermost levels rest
+unfolding innermost_at stopped
+place_there octets rest levels w stop =
+    let r = reaches_levels octets rest levels w in
+    let there : stops at_first octets ≡ (progress_of levels, rest) = reaches_stops at_first (progress_of levels) octets rest r ∙ stops_there (progress_of levels) rest stop in
+    ap (innermost_by octets) there ∙ place_at octets rest levels w stop
+
+pub innermost_sound : (octets : List ℕ) → IsInnermost octets (innermost_at octets)
+innermost_sound octets =
+    let s = stop_of octets in
+    record {
+      levels = s.levels;
+      rest = s.rest;
+      is_walked = s.is_walked;
+      furthest = λ others behind w. furthest s others behind w;
+      place_is = place_there octets s.rest s.levels s.is_walked s.ends;
+    }
+  where
+    furthest : (s : Stop octets) (others : List Level) (behind : List ℕ) → IsWalked octets others behind → length s.rest ≤ length behind
+    furthest s others behind w =
+        let q : Progress = progress_of others in
+        let same = sym s.stops_is ∙ reaches_stops at_first q octets behind (reaches_levels octets behind others w) in
+        let fewer = reaches_fewer q (stops q behind).0 behind (stops q behind).1 (reaches_stop q behind).0 in
+        omega (arith, fewer, ap (λ (x : Progress × List ℕ). length x.1) same)
+
+pub innermost_unique : (octets : List ℕ) (place : ℕ) → IsInnermost octets place → place ≡ innermost_at octets
+innermost_unique octets place i = i.place_is ∙ sym (place_there octets i.rest i.levels i.is_walked (ends (goes (progress_of i.levels) i.rest) refl))
+  where
+    ends : (next : Option Progress) → goes (progress_of i.levels) i.rest ≡ next → goes (progress_of i.levels) i.rest ≡ None
+    ends None e = e
+    ends (Some next) e =
+        let g = goes_sound (progress_of i.levels) next i.rest e in
+        let t = steps octets i.rest i.levels next i.is_walked g in
+        absurd (omega (arith, i.furthest t.others (left (progress_of i.levels) next i.rest) t.is_walked, left_shorter (progress_of i.levels) next i.rest g, g.some))
+
+pub innermost_within : (octets : List ℕ) → innermost_at octets ≤ length octets
+innermost_within octets =
+    let s = stop_of octets in
+    omega (arith, place_there octets s.rest s.levels s.is_walked s.ends, before s.levels s.rest, ap length s.is_walked.joined, length-append (walked s.levels) s.rest)
+  where
+    before : (levels : List Level) (rest : List ℕ) → innermost levels rest ≤ length (walked levels)
+    before [] rest = omega arith
+    before (level ∷ outer) [] = omega (arith, length-append (walked outer) (level.tag ++ 0x80 ∷ concat level.items))
+    before (level ∷ outer) (x ∷ more) = omega arith
 
 -- ---- exactly one element
 
@@ -138,32 +185,3 @@ unfolding is_raw
 is_raw_complete octets r =
     let whole : outer_at octets ≡ Ok (Whole (length octets)) = ap outer_at (sym (append-nil octets)) ∙ outer_of_element r.0 r.1 octets [] r.2 in
     rw whole (eq-eqb (length octets) (length octets) refl)
-
--- the octets of the element at the front
-pub raw_sound : (s : Span) (x : List ℕ × Span) → raw_at s ≡ Ok x → IsRaw x.0 × (s.octets ≡ x.0 ++ x.1.octets) × (x.1.place ≡ s.place + length x.0)
-unfolding raw_at
-raw_sound s x e =
-    let a = bind_ok (next_at s) (raw_of s) x e in
-    let f = next_sound s a.0 a.1 in
-    let taken : take (length s.octets - length a.0.1.octets) s.octets ≡ f.octets =
-    ap (take (length s.octets - length a.0.1.octets)) f.joined ∙ take_at f.octets a.0.1.octets (length s.octets - length a.0.1.octets) (omega (arith, ap length f.joined, length-append f.octets a.0.1.octets)) in
-    subst (λ (y : List ℕ × Span). IsRaw y.0 × (s.octets ≡ y.0 ++ y.1.octets) × (y.1.place ≡ s.place + length y.0)) (ok_is (take (length s.octets - length a.0.1.octets) s.octets, a.0.1) x a.2)
-    ((a.0.0.tag, a.0.0.content.octets, subst (IsElement a.0.0.tag a.0.0.content.octets) (sym taken) f.is_element), f.joined ∙ ap (λ (y : List ℕ). y ++ a.0.1.octets) (sym taken), f.behind_place ∙ ap (λ (y : List ℕ). s.place + length y) (sym taken))
-
-pub raw_complete : (place : ℕ) (octets rest : List ℕ) → IsRaw octets → raw_at (record { octets = octets ++ rest; place = place }) ≡ Ok (octets, record { octets = rest; place = place + length octets })
-unfolding raw_at
-raw_complete place octets rest r =
-    let total : length (octets ++ rest) - length rest ≡ length octets = omega (arith, length-append octets rest) in
-    rw (next_complete place r.0 r.1 octets rest r.2, total, take_at octets rest (length octets) refl) refl
-
--- the octets up to the window behind the first element are that element
-pub raw_there : (s : Span) (x : Element × Span) → next_at s ≡ Ok x → is_raw (take (length s.octets - length x.1.octets) s.octets) ≡ true
-unfolding raw_at
-raw_there s x e =
-    let r = raw_sound s (take (length s.octets - length x.1.octets) s.octets, x.1) (rw e refl) in
-    is_raw_complete (take (length s.octets - length x.1.octets) s.octets) r.0
-
-pub rest_is_shorter : (s : Span) (x : Element × Span) → next_at s ≡ Ok x → length x.1.octets ≤ length s.octets
-rest_is_shorter s x e =
-    let f = next_sound s x e in
-    omega (arith, ap length f.joined, length-append f.octets x.1.octets)

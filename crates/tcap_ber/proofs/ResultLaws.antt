@@ -10,16 +10,17 @@ use Rattle.tcap_ber.specs.declared.element.Window.{Window}
 use Rattle.tcap_ber.specs.declared.raw.RawView.{RawView}
 use Rattle.tcap_ber.specs.Element.{IsElement, IsRaw}
 use Rattle.tcap_ber.specs.Integer.{IsInteger}
-use Rattle.tcap_ber.specs.Header.{IsHeaderFault, BeginsElement, NeedsMore}
+use Rattle.tcap_ber.specs.Walked.{IsWalkFault, BeginsElement, NeedsMore}
 use Rattle.tcap_ber.specs.Grammar.{Body, Field, BeginsWith, IsMissing, IsElementFault, IsUnexpected, after}
 use Rattle.tcap_ber.specs.Found.{FindsElement, Taken}
 use Rattle.tcap_ber.specs.Reads.{ReadsField, ReadsBody}
 use Rattle.tcap_ber.specs.Span.{Span}
 use Rattle.tcap_ber.specs.Reading.{fault, Gives, Element, element, span, next_at, some_at, required_at, is_tag, is_next, raw_at, outer_at, is_raw, is_integer, integer_at}
 use Rattle.tcap_ber.proofs.Steps.{chosen, ok_is, err_is, ok_not_err}
-use Rattle.tcap_ber.proofs.ElementLaws.{next_sound, next_complete, next_fault}
-use Rattle.tcap_ber.proofs.FaultLaws.{next_refused, raw_refused, required_refused}
-use Rattle.tcap_ber.proofs.OuterLaws.{outer_whole, outer_of_element, outer_needs, outer_fault, outer_refused, is_raw_sound, is_raw_complete, raw_sound, raw_complete}
+use Rattle.tcap_ber.proofs.ElementLaws.{next_sound, next_complete, next_fault, next_refused}
+use Rattle.tcap_ber.proofs.FaultLaws.{raw_refused, required_refused}
+use Rattle.tcap_ber.proofs.OuterLaws.{outer_whole, outer_of_element, outer_needs, outer_fault, outer_refused, is_raw_sound, is_raw_complete}
+use Rattle.tcap_ber.proofs.RawLaws.{raw_sound, raw_complete}
 use Rattle.tcap_ber.proofs.ChoiceLaws.{some_sound, some_complete, some_fault, some_refused}
 use Rattle.tcap_ber.proofs.GrammarLaws.{required_sound, required_complete, required_fault, is_tag-true, is_tag-itself, is_next-true, is_next-begins, raw_fault}
 use Rattle.tcap_ber.proofs.BodyLaws.{is_integer_sound, is_integer_complete}
@@ -43,7 +44,7 @@ whole_iff octets r e n = (
 pub needs_more : (octets : List ℕ) (r : Result Outer Fault) → Gives (λ x. x) r (outer_at octets) → (n : ℕ) → r ≡ Ok (Need n) → NeedsMore octets n
 needs_more octets r e n k = outer_needs octets n (gives_same r (outer_at octets) e ∙ k)
 
-pub fault_iff : (octets : List ℕ) (r : Result Outer Fault) → Gives (λ x. x) r (outer_at octets) → (f : Fault) → (r ≡ Err f) ↔ IsHeaderFault octets f.reason f.place
+pub fault_iff : (octets : List ℕ) (r : Result Outer Fault) → Gives (λ x. x) r (outer_at octets) → (f : Fault) → (r ≡ Err f) ↔ IsWalkFault octets f.reason f.place
 fault_iff octets r e f = (
   λ k. outer_fault octets f (gives_same r (outer_at octets) e ∙ k),
   λ h. sym (gives_same r (outer_at octets) e) ∙ outer_refused octets f.reason f.place h,

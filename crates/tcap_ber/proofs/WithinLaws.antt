@@ -2,14 +2,14 @@
 use Rattle.std.proofs.Common.{◌≡◌, ℕ, ◌+◌, ◌-◌, ◌≤◌, List, [], ◌∷◌, ◌++◌, length, inl, inr, ap, arith}
 use Rattle.std.proofs.lemmas.List.{length-append}
 use Rattle.tcap_ber.specs.declared.fault.Reason.{Reason}
-use Rattle.tcap_ber.specs.declared.fault.Reason.TheVariants as reasons
 use Rattle.tcap_ber.specs.Span.{Span}
-use Rattle.tcap_ber.specs.Header.{IsHeaderFault, HasLengthOctet}
+use Rattle.tcap_ber.specs.Element.{content_start}
 use Rattle.tcap_ber.specs.Grammar.{Body, Field, Content, IsElementFault, IsFaultyInside, IsFaultyAfter, required, optional, parameter, verbatim, absent, ended, after, ◌⨾▹◌, ◌⨾◌, each, structure, made, single, integer}
 use Rattle.tcap_ber.specs.Choice.{Choice, ◌▹◌, ◌∣◌, others_are, one_of}
 use Rattle.tcap_ber.specs.ObjectId.{object_id}
 use Rattle.tcap_ber.specs.Small.{small, null}
-use Rattle.tcap_ber.proofs.ElementLaws.{element_len}
+use Rattle.tcap_ber.proofs.ElementLaws.{content_within}
+use Rattle.tcap_ber.proofs.OuterLaws.{walk_fault_within, innermost_unique, innermost_within}
 
 -- the place is within the window
 abbrev pub IsWithin : Span → ℕ → Type 0
@@ -26,36 +26,15 @@ ContentWithin content = (s : Span) (reason : Reason) (place : ℕ) → content.f
 
 -- ---- headers and elements
 
-length_octet : (octet : ℕ) (octets : List ℕ) (place : ℕ) → HasLengthOctet octet octets place → place ≤ length octets
-length_octet octet octets place h = omega (arith, h.place_is, ap length h.joined, length-append h.tag (octet ∷ h.rest))
-
-pub header_fault_within : (octets : List ℕ) (reason : Reason) (place : ℕ) → IsHeaderFault octets reason place → place ≤ length octets
-header_fault_within octets reasons.TagForm place h = omega (arith, h.1)
-header_fault_within octets reasons.LengthForm place h = length_octet h.0 octets place h.2
-header_fault_within octets reasons.Indefinite place h = length_octet 128 octets place h
-header_fault_within octets reasons.TooLong place h = omega (arith, h.1)
-header_fault_within octets reasons.Cut place h = absurd h
-header_fault_within octets reasons.Overrun place h = absurd h
-header_fault_within octets reasons.BadInteger place h = absurd h
-header_fault_within octets reasons.BadObjectId place h = absurd h
-header_fault_within octets reasons.UnexpectedTag place h = absurd h
-header_fault_within octets reasons.Missing place h = absurd h
-header_fault_within octets reasons.Trailing place h = absurd h
-header_fault_within octets reasons.EmptyComponents place h = absurd h
-header_fault_within octets reasons.BadVersion place h = absurd h
-header_fault_within octets reasons.DialogueSyntax place h = absurd h
-header_fault_within octets reasons.BadSize place h = absurd h
-header_fault_within octets reasons.BadTransactionId place h = absurd h
-header_fault_within octets reasons.CodeTooWide place h = absurd h
-
 pub element_fault_within : (s : Span) (reason : Reason) (place : ℕ) → IsElementFault s reason place → IsWithin s place
-element_fault_within s reason place (inl h) = omega (arith, h.1, header_fault_within s.octets reason h.0 h.2)
-element_fault_within s reason place (inr h) = omega (arith, h.1)
+element_fault_within s reason place (offset, place_is, inl wrong) = omega (arith, place_is, walk_fault_within s.octets reason offset wrong)
+element_fault_within s reason place (offset, place_is, inr (_, some, unfinished, inside)) =
+    omega (arith, place_is, innermost_unique s.octets offset inside, innermost_within s.octets)
 
 pub inside_within : {V : Type 0} (tag : ℕ) (body : Body V) → BodyWithin body → (s : Span) (reason : Reason) (place : ℕ) → IsFaultyInside tag body.faulty s reason place → IsWithin s place
 inside_within tag body within s reason place h =
-    let inner = within s.place (record { octets = h.content; place = s.place + (length h.octets - length h.content) }) reason place (omega arith) h.inside in
-    omega (arith, inner, element_len (tag ∷ []) h.content h.octets h.is_element, ap length h.joined, length-append h.octets h.rest)
+    let inner = within s.place (record { octets = h.content; place = s.place + content_start (tag ∷ []) h.content h.octets }) reason place (omega arith) h.inside in
+    omega (arith, inner, content_within (tag ∷ []) h.content h.octets h.is_element, ap length h.joined, length-append h.octets h.rest)
 
 -- ---- parts
 

@@ -1,5 +1,5 @@
 use Rattle.tcap_ber.specs.Reading.{span, element}
-use Rattle.tcap_ber.proofs.OuterLaws.{raw_there, rest_is_shorter}
+use Rattle.tcap_ber.proofs.RawLaws.{raw_there, rest_is_shorter}
 use Rattle.tcap_ber.proofs.raw.RawView.read_next.Goals as goal
 
 pub overflow_sub-len : goal.overflow_sub-len

@@ -1,1 +1,0 @@
-use Rattle.tcap_ber.proofs.OpeningLaws.{no_octets}
