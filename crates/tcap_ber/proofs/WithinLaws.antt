@@ -124,5 +124,5 @@ pub one_of_within : {V : Type 0} (choice : Choice V) → ChoiceWithin choice →
 one_of_within choice all s reason place (inl h) = omega (arith, h.place_is)
 one_of_within choice all s reason place (inr (inl h)) = element_fault_within s reason place h
 one_of_within choice all s reason place (inr (inr h)) =
-    let inner = all.within h.tag s.place (record { octets = h.content; place = s.place + (length h.octets - length h.content) }) reason place (omega arith) h.inside in
-    omega (arith, inner, element_len h.tag h.content h.octets h.is_element, ap length h.joined, length-append h.octets h.rest)
+    let inner = all.within h.tag s.place (record { octets = h.content; place = s.place + content_start h.tag h.content h.octets }) reason place (omega arith) h.inside in
+    omega (arith, inner, content_within h.tag h.content h.octets h.is_element, ap length h.joined, length-append h.octets h.rest)
