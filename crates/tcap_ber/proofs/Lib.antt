@@ -6,6 +6,7 @@ pub mod OpeningLaws
 pub mod WalkLaws
 pub mod WalkedLaws
 pub mod ResumeLaws
+pub mod ResumingLaws
 pub mod OuterLaws
 pub mod ElementLaws
 pub mod FaultLaws

@@ -50,8 +50,8 @@ resume_is_walk header octets p goes_on =
     (enough_steps (length header + length octets + 1) p (header ++ octets) (omega (arith, length-append header octets)))
 
 -- octets to skip are skipped in any pieces
-pub skips : (count skip : ℕ) (header octets : List ℕ) (p : Progress) → count ≤ skip → count ≤ length octets → (0 < count → header ≡ []) → resume (skip - count) header p (drop count octets) ≡ resume skip header p octets
-skips count skip header octets p fewer there none =
+pub skips : (count skip : ℕ) (header octets : List ℕ) (p : Progress) → count ≤ skip → count ≤ length octets → resume (skip - count) header p (drop count octets) ≡ resume skip header p octets
+skips count skip header octets p fewer there =
     let short : length (drop count octets) + count ≡ length octets = omega (arith, length-drop count octets) in
     let rest : drop (skip - count) (drop count octets) ≡ drop skip octets =
     drop-drop (skip - count) count octets ∙ ap (λ (n : ℕ). drop n octets) (omega arith) in

@@ -7,7 +7,7 @@ use Rattle.tcap_ber.specs.Walking.{resume_unless}
 
 -- what the walk gives where these octets come behind those that it went over
 abbrev pub resumes : Walk → List ℕ → Result Outer Fault
-resumes walk octets = resume_unless walk.fault walk.skip (take walk.held walk.header.items) walk.progress octets
+resumes walk octets = resume_unless walk.fault walk.skip (take walk.held walk.header) walk.progress octets
 
 -- no octet that comes can change what the walk gives: something is wrong, or the element's end was found
 abbrev pub IsStopped : Walk → Type 0

@@ -27,7 +27,7 @@ pub struct Walk {
     fault: Option<Fault>,
     ghost placed: { IsPlaced progress },
     ghost room: { (held ≤ 9) × (skip ≤ 65551) },
-    ghost unfinished: { IsUnfinishedHeader progress (take held header.items) },
+    ghost unfinished: { IsUnfinishedHeader progress (take held header) },
 }
 
 impl Walk {
@@ -64,12 +64,12 @@ impl Walk {
 
     /// The walk where so many octets of a header are held.
     fn holding(self, header: [u8; HEADER_LIMIT], held: usize) -> Walk
-        requires unfinished { IsUnfinishedHeader self.progress (take held header.items) }
+        requires unfinished { IsUnfinishedHeader self.progress (take held header) }
         requires few { held ≤ HEADER_LIMIT }
         ensures fault { result.fault ≡ None }
         ensures skip { result.skip ≡ 0 }
         ensures progress { result.progress ≡ self.progress }
-        ensures octets { take result.held result.header.items ≡ take held header.items }
+        ensures octets { take result.held result.header ≡ take held header }
     {
         Walk {
             progress: self.progress,
@@ -87,7 +87,7 @@ impl Walk {
         ensures fault { result.fault ≡ None }
         ensures skip { result.skip ≡ skip }
         ensures progress { result.progress ≡ progress }
-        ensures octets { take result.held result.header.items ≡ [] }
+        ensures octets { take result.held result.header ≡ [] }
     {
         let header = self.header;
         Walk {
@@ -110,7 +110,7 @@ impl Walk {
     fn skipping(self, octets: &[u8]) -> (Walk, &[u8])
         ensures same { (more : List ℕ) → resumes result.0 (result.1.now ++ more) ≡ resumes self (octets.now ++ more) }
         ensures fewer { length result.1.now ≤ length octets.now }
-        ensures gone { 0 < self.skip → 0 < length octets.now → length result.1.now < length octets.now }
+        ensures over { 0 < length result.1.now → result.0.skip ≡ 0 }
     {
         let count = self.skip.min(octets.len());
         let header = self.header;
@@ -124,14 +124,22 @@ impl Walk {
         (walk, &octets[count..])
     }
 
+    /// The octets of a header that are held, with one more behind them.
+    fn header_with(self, octet: u8) -> [u8; HEADER_LIMIT]
+        ensures { take (self.held + 1) result ≡ take self.held self.header ++ octet ∷ [] }
+    {
+        let mut header = self.header;
+        header[self.held] = octet;
+        header
+    }
+
     /// The walk behind one octet more, which is none to skip.
     fn with_octet(self, octet: u8) -> Walk
         requires none { self.skip ≡ 0 }
         requires goes { IsStopped self → ⊥ }
         ensures { (more : List ℕ) → resumes result more ≡ resumes self (octet ∷ more) }
     {
-        let mut header = self.header;
-        header[self.held] = octet;
+        let header = self.header_with(octet);
         let held = self.held + 1;
         let octets = &header[..held];
         let window = Window {
@@ -175,18 +183,15 @@ impl Walk {
         let mut walk = *self;
         let mut rest = octets;
         loop {
-            if walk.is_stopped() {
-                break;
-            }
             let (skipped, left) = walk.skipping(rest);
             walk = skipped;
             rest = left;
-            if walk.is_stopped() {
-                break;
-            }
             let Some((octet, more)) = rest.split_first() else {
                 break;
             };
+            if walk.is_stopped() {
+                break;
+            }
             walk = walk.with_octet(*octet);
             rest = more;
         }
