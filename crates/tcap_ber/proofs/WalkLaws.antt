@@ -1,5 +1,5 @@
 -- Walking as a function, without its count of steps: which places it reaches.
-use Rattle.std.proofs.Common.{◌≡◌, ℕ, zero, suc, ◌+◌, ◌-◌, ◌*◌, ◌<◌, ◌≤◌, ◌⊎◌, Bool, true, false, List, [], ◌∷◌, ◌++◌, length, take, drop, Option, Some, None, Result, Ok, Err, refl, sym, ap, subst, ◌∙◌, inl, inr, arith, append_assoc}
+use Rattle.std.proofs.Common.{◌≡◌, ℕ, zero, suc, ◌+◌, ◌-◌, ◌*◌, ◌<◌, ◌≤◌, ◌⊎◌, Bool, true, false, cond, List, [], ◌∷◌, ◌++◌, length, take, drop, Option, Some, None, Result, Ok, Err, refl, sym, ap, subst, ◌∙◌, inl, inr, arith, append_assoc}
 use Rattle.std.specs.Prelude.{◌≢◌, nat_lt, ◌==◌, ◌&&◌, ◌%◌, if◌then◌else◌}
 use Rattle.std.specs.List.{AllByRecursion, concat}
 use Rattle.std.proofs.lemmas.List.{drop_at, take-append-drop, length-append, length-drop, append-nil}
@@ -97,6 +97,18 @@ behind_further p next octets (Definite h) read behind =
         let z = zeros_header f.tag f.length_octets f.rest h.content_len f.is_tag f.is_length (rw f.joined at e) in
         omega (arith, f.len, ap length z.0, ap length z.1)
 
+-- it goes on to the place behind a header where that is among the octets, with an element open
+goes_there : (p next : Progress) (octets : List ℕ) (opening : Opening) → opening_at (from p.at octets) ≡ Ok (Some opening) → behind_header p octets opening ≡ Ok next
+    → nat_lt (length octets) (next.at - p.at) ≡ false → (next.depth == 0) ≡ false → Goes p octets next
+goes_there p next octets opening read behind k l = record {
+    opening = opening;
+    read = read;
+    behind = behind;
+    room = ltb-false (length octets) (next.at - p.at) k;
+    some = omega (arith, behind_further p next octets opening read behind, (opening_within p.at octets opening read).0);
+    inside = let d : next.depth ≢ 0 = eqb-false next.depth 0 l in omega (arith, d);
+  }
+
 pub goes_sound : (p next : Progress) (octets : List ℕ) → goes p octets ≡ Some next → Goes p octets next
 unfolding goes
 goes_sound p next octets e = by_result (opening_at (from p.at octets)) refl e
@@ -108,14 +120,7 @@ goes_sound p next octets e = by_result (opening_at (from p.at octets)) refl e
           | inl k ↦ absurd cc
           | inr k ↦ elim (chosen (q.depth == 0) _ _ (Some next) k.1) [
             | inl l ↦ absurd cc
-            | inr l ↦ let same : q ≡ next = cc in subst (Goes p octets) same (record {
-                opening = opening;
-                read = read;
-                behind = behind;
-                room = ltb-false (length octets) (q.at - p.at) k.0;
-                some = omega (arith, behind_further p q octets opening read behind, (opening_within p.at octets opening read).0);
-                inside = let d : q.depth ≢ 0 = eqb-false q.depth 0 l.0 in omega (arith, d);
-              })
+            | inr l ↦ let same : q ≡ next = cc in subst (Goes p octets) same (goes_there p q octets opening read behind k.0 l.0)
           ]
         ]
 
@@ -153,29 +158,116 @@ stops p octets = stopped_on (length octets + 1) p octets
 abbrev pub notes : ℕ → ℕ → Progress → List ℕ → ℕ
 notes depth noted p octets = noted_on (length octets + 1) depth noted p octets
 
+-- two tests that agree where they fail
+cond_same : {A : Type 0} (b : Bool) (x y z : A) → (b ≡ false → y ≡ z) → cond b x y ≡ cond b x z
+cond_same true x y z h = refl
+cond_same false x y z h = h refl
+
+-- a step is the same with two ways on that agree where it leads
+step_same : (p : Progress) (octets : List ℕ) (f g : Progress → List ℕ → Result Outer Fault) → ((next : Progress) → Goes p octets next → f next (left p next octets) ≡ g next (left p next octets))
+    → (opening_at (from p.at octets) >>= gone_on f p octets) ≡ (opening_at (from p.at octets) >>= gone_on g p octets)
+step_same p octets f g same = by_result (opening_at (from p.at octets)) refl
+  where
+    by_behind : (opening : Opening) (b : Result Progress Fault) → opening_at (from p.at octets) ≡ Ok (Some opening) → behind_header p octets opening ≡ b
+        → (b >>= gone_to f p octets) ≡ (b >>= gone_to g p octets)
+    by_behind opening (Err d) read behind = refl
+    by_behind opening (Ok q) read behind =
+        cond_same (nat_lt (length octets) (q.at - p.at)) _ _ _ (λ k. cond_same (q.depth == 0) _ _ _ (λ l. same q (goes_there p q octets opening read behind k l)))
+
+    by_result : (r : Result (Option Opening) Fault) → opening_at (from p.at octets) ≡ r → (r >>= gone_on f p octets) ≡ (r >>= gone_on g p octets)
+    by_result (Err d) a = refl
+    by_result (Ok None) a = refl
+    by_result (Ok (Some opening)) a = by_behind opening (behind_header p octets opening) a refl
+
+-- a step goes on where it leads
+step_goes : (p next : Progress) (octets : List ℕ) (f : Progress → List ℕ → Result Outer Fault) → Goes p octets next → (opening_at (from p.at octets) >>= gone_on f p octets) ≡ f next (left p next octets)
+step_goes p next octets f g =
+    let deep : next.depth ≢ 0 = λ e. omega (arith, g.inside, e) in
+    rw (g.read, g.behind, le-ltb (length octets) (next.at - p.at) g.room, ne_eqb next.depth 0 deep) refl
+
+-- where it goes on, fewer octets are left
+fewer_left : (n : ℕ) (p next : Progress) (octets : List ℕ) → Goes p octets next → length octets < suc n → length (left p next octets) < n
+fewer_left n p next octets g more = omega (arith, left_shorter p next octets g, g.some, more)
+
+-- all counts of steps above that of the octets give the same
+walk_same : (m n : ℕ) (p : Progress) (octets : List ℕ) → length octets < m → length octets < n → walk_on m p octets ≡ walk_on n p octets
+walk_same zero n p octets a b = absurd (omega arith)
+walk_same (suc m) zero p octets a b = absurd (omega arith)
+walk_same (suc m) (suc n) p octets a b =
+    step_same p octets (walk_on m) (walk_on n) (λ next g. walk_same m n next (left p next octets) (fewer_left m p next octets g a) (fewer_left n p next octets g b))
+
+-- with one step and then as many as octets
+walk_first : (p : Progress) (octets : List ℕ) → walk p octets ≡ walk_on (suc (length octets)) p octets
+walk_first p octets = walk_same (length octets + 1) (suc (length octets)) p octets (omega arith) (omega arith)
+
 pub enough_steps : (n : ℕ) (p : Progress) (octets : List ℕ) → length octets < n → walk_on n p octets ≡ walk p octets
-enough_steps n p octets more = ?
+enough_steps n p octets more = walk_same n (length octets + 1) p octets more (omega arith)
 
 pub walk_goes : (p next : Progress) (octets : List ℕ) → Goes p octets next → walk p octets ≡ walk next (left p next octets)
-walk_goes p next octets g = ?
+walk_goes p next octets g =
+    walk_first p octets ∙ step_goes p next octets (walk_on (length octets)) g
+    ∙ enough_steps (length octets) next (left p next octets) (fewer_left (length octets) p next octets g (omega arith))
+
+-- where it doesn't go on, it leads nowhere
+goes_nowhere : (p next : Progress) (octets : List ℕ) → goes p octets ≡ None → Goes p octets next → ⊥
+goes_nowhere p next octets e g = let h = goes_complete p next octets g in cc
 
 pub walk_stops : (p : Progress) (octets : List ℕ) (other : Progress → List ℕ → Result Outer Fault) → goes p octets ≡ None → walk p octets ≡ (opening_at (from p.at octets) >>= gone_on other p octets)
-walk_stops p octets other e = ?
+walk_stops p octets other e = walk_first p octets ∙ step_same p octets (walk_on (length octets)) other (λ next g. absurd (goes_nowhere p next octets e g))
+
+-- the place where it stops, by two ways on that agree
+stop_same : (p : Progress) (octets : List ℕ) (f g : Progress → List ℕ → Progress × List ℕ) (found : Option Progress) → ((next : Progress) → found ≡ Some next → f next (left p next octets) ≡ g next (left p next octets))
+    → stopped_by f p octets found ≡ stopped_by g p octets found
+stop_same p octets f g None same = refl
+stop_same p octets f g (Some next) same = same next refl
+
+-- all counts of steps above that of the octets stop at the same place
+stops_same : (m n : ℕ) (p : Progress) (octets : List ℕ) → length octets < m → length octets < n → stopped_on m p octets ≡ stopped_on n p octets
+stops_same zero n p octets a b = absurd (omega arith)
+stops_same (suc m) zero p octets a b = absurd (omega arith)
+stops_same (suc m) (suc n) p octets a b =
+    stop_same p octets (stopped_on m) (stopped_on n) (goes p octets)
+    (λ next e. let g = goes_sound p next octets e in stops_same m n next (left p next octets) (fewer_left m p next octets g a) (fewer_left n p next octets g b))
+
+stops_first : (p : Progress) (octets : List ℕ) → stops p octets ≡ stopped_on (suc (length octets)) p octets
+stops_first p octets = stops_same (length octets + 1) (suc (length octets)) p octets (omega arith) (omega arith)
 
 pub stops_goes : (p next : Progress) (octets : List ℕ) → Goes p octets next → stops p octets ≡ stops next (left p next octets)
-stops_goes p next octets g = ?
+stops_goes p next octets g =
+    stops_first p octets ∙ ap (stopped_by (stopped_on (length octets)) p octets) (goes_complete p next octets g)
+    ∙ stops_same (length octets) (length (left p next octets) + 1) next (left p next octets) (fewer_left (length octets) p next octets g (omega arith)) (omega arith)
 
 pub stops_there : (p : Progress) (octets : List ℕ) → goes p octets ≡ None → stops p octets ≡ (p, octets)
-stops_there p octets e = ?
+stops_there p octets e = stops_first p octets ∙ ap (stopped_by (stopped_on (length octets)) p octets) e
 
 abbrev pub note : ℕ → ℕ → Progress → Progress → ℕ
 note depth noted p next = if (p.depth + 1 == depth) && (next.depth == depth) then p.at else noted
 
+-- the place that is noted, by two ways on that agree
+note_same : (depth noted : ℕ) (p : Progress) (octets : List ℕ) (f g : ℕ → Progress → List ℕ → ℕ) (found : Option Progress)
+    → ((next : Progress) → found ≡ Some next → f (note depth noted p next) next (left p next octets) ≡ g (note depth noted p next) next (left p next octets))
+    → noted_by f depth noted p octets found ≡ noted_by g depth noted p octets found
+note_same depth noted p octets f g None same = refl
+note_same depth noted p octets f g (Some next) same = same next refl
+
+-- all counts of steps above that of the octets note the same place
+notes_same : (m n depth noted : ℕ) (p : Progress) (octets : List ℕ) → length octets < m → length octets < n → noted_on m depth noted p octets ≡ noted_on n depth noted p octets
+notes_same zero n depth noted p octets a b = absurd (omega arith)
+notes_same (suc m) zero depth noted p octets a b = absurd (omega arith)
+notes_same (suc m) (suc n) depth noted p octets a b =
+    note_same depth noted p octets (noted_on m depth) (noted_on n depth) (goes p octets)
+    (λ next e. let g = goes_sound p next octets e in notes_same m n depth (note depth noted p next) next (left p next octets) (fewer_left m p next octets g a) (fewer_left n p next octets g b))
+
+notes_first : (depth noted : ℕ) (p : Progress) (octets : List ℕ) → notes depth noted p octets ≡ noted_on (suc (length octets)) depth noted p octets
+notes_first depth noted p octets = notes_same (length octets + 1) (suc (length octets)) depth noted p octets (omega arith) (omega arith)
+
 pub notes_goes : (depth noted : ℕ) (p next : Progress) (octets : List ℕ) → Goes p octets next → notes depth noted p octets ≡ notes depth (note depth noted p next) next (left p next octets)
-notes_goes depth noted p next octets g = ?
+notes_goes depth noted p next octets g =
+    notes_first depth noted p octets ∙ ap (noted_by (noted_on (length octets) depth) depth noted p octets) (goes_complete p next octets g)
+    ∙ notes_same (length octets) (length (left p next octets) + 1) depth (note depth noted p next) next (left p next octets) (fewer_left (length octets) p next octets g (omega arith)) (omega arith)
 
 pub notes_there : (depth noted : ℕ) (p : Progress) (octets : List ℕ) → goes p octets ≡ None → notes depth noted p octets ≡ noted
-notes_there depth noted p octets e = ?
+notes_there depth noted p octets e = notes_first depth noted p octets ∙ ap (noted_by (noted_on (length octets) depth) depth noted p octets) e
 
 -- ---- places that are reached
 
@@ -188,20 +280,55 @@ abbrev pub Reaches : Progress → List ℕ → Progress → List ℕ → Type 0
 Reaches p octets q rest = (n : ℕ) × ReachesIn n p octets q rest
 
 pub reaches_on : (p q r : Progress) (octets rest behind : List ℕ) → Reaches p octets q rest → Reaches q rest r behind → Reaches p octets r behind
-reaches_on p q r octets rest behind a b = ?
+reaches_on p q r octets rest behind a b = on_in a.0 p octets a.1
+  where
+    on_in : (n : ℕ) (p : Progress) (octets : List ℕ) → ReachesIn n p octets q rest → Reaches p octets r behind
+    on_in zero p octets h = subst (λ (x : Progress). Reaches x octets r behind) (sym h.0) (subst (λ (x : List ℕ). Reaches q x r behind) (sym h.1) b)
+    on_in (suc n) p octets h =
+        let t = on_in n h.0 (left p h.0 octets) h.2 in
+        (suc t.0, (h.0, h.1, t.1))
 
 pub reaches_walk : (p q : Progress) (octets rest : List ℕ) → Reaches p octets q rest → walk p octets ≡ walk q rest
-reaches_walk p q octets rest a = ?
+reaches_walk p q octets rest a = walk_in a.0 p octets a.1
+  where
+    walk_in : (n : ℕ) (p : Progress) (octets : List ℕ) → ReachesIn n p octets q rest → walk p octets ≡ walk q rest
+    walk_in zero p octets h = ap (λ (x : Progress). walk x octets) h.0 ∙ ap (λ (x : List ℕ). walk q x) h.1
+    walk_in (suc n) p octets h = walk_goes p h.0 octets h.1 ∙ walk_in n h.0 (left p h.0 octets) h.2
 
 pub reaches_stops : (p q : Progress) (octets rest : List ℕ) → Reaches p octets q rest → stops p octets ≡ stops q rest
-reaches_stops p q octets rest a = ?
+reaches_stops p q octets rest a = stops_in a.0 p octets a.1
+  where
+    stops_in : (n : ℕ) (p : Progress) (octets : List ℕ) → ReachesIn n p octets q rest → stops p octets ≡ stops q rest
+    stops_in zero p octets h = ap (λ (x : Progress). stops x octets) h.0 ∙ ap (λ (x : List ℕ). stops q x) h.1
+    stops_in (suc n) p octets h = stops_goes p h.0 octets h.1 ∙ stops_in n h.0 (left p h.0 octets) h.2
 
 pub reaches_fewer : (p q : Progress) (octets rest : List ℕ) → Reaches p octets q rest → length rest ≤ length octets
-reaches_fewer p q octets rest a = ?
+reaches_fewer p q octets rest a = fewer_in a.0 p octets a.1
+  where
+    fewer_in : (n : ℕ) (p : Progress) (octets : List ℕ) → ReachesIn n p octets q rest → length rest ≤ length octets
+    fewer_in zero p octets h = omega (arith, ap length h.1)
+    fewer_in (suc n) p octets h = omega (arith, left_shorter p h.0 octets h.1, fewer_in n h.0 (left p h.0 octets) h.2)
+
+-- the place of a pair is reached, and the walk stops there
+abbrev EndsAt : Progress → List ℕ → Progress × List ℕ → Type 0
+EndsAt p octets place = Reaches p octets place.0 place.1 × (goes place.0 place.1 ≡ None)
+
+-- one step more
+ends_on : (p : Progress) (octets : List ℕ) (f : Progress → List ℕ → Progress × List ℕ) (found : Option Progress) → goes p octets ≡ found
+    → ((next : Progress) → Goes p octets next → EndsAt next (left p next octets) (f next (left p next octets))) → EndsAt p octets (stopped_by f p octets found)
+ends_on p octets f None e h = ((zero, (refl, refl)), e)
+ends_on p octets f (Some next) e h =
+    let g = goes_sound p next octets e in
+    let r = h next g in
+    ((suc r.0.0, (next, g, r.0.1)), r.1)
+
+ends_in : (n : ℕ) (p : Progress) (octets : List ℕ) → length octets < n → EndsAt p octets (stopped_on n p octets)
+ends_in zero p octets more = absurd (omega arith)
+ends_in (suc n) p octets more = ends_on p octets (stopped_on n) (goes p octets) refl (λ next g. ends_in n next (left p next octets) (fewer_left n p next octets g more))
 
 -- from each place it reaches one where it stops
 pub reaches_stop : (p : Progress) (octets : List ℕ) → Reaches p octets (stops p octets).0 (stops p octets).1 × (goes (stops p octets).0 (stops p octets).1 ≡ None)
-reaches_stop p octets = ?
+reaches_stop p octets = ends_in (length octets + 1) p octets (omega arith)
 
 -- ---- it goes over each element in an open one
 
