@@ -2,8 +2,8 @@
 use Rattle.std.proofs.Common.{◌≡◌, ℕ, zero, suc, ◌+◌, ◌-◌, ◌*◌, ◌<◌, ◌≤◌, ◌⊎◌, Bool, true, false, cond, List, [], ◌∷◌, ◌++◌, length, take, drop, Option, Some, None, Result, Ok, Err, refl, sym, ap, subst, ◌∙◌, inl, inr, arith, append_assoc}
 use Rattle.std.specs.Prelude.{◌≢◌, nat_lt, ◌==◌, ◌&&◌, ◌%◌, if◌then◌else◌}
 use Rattle.std.specs.List.{AllByRecursion, concat}
-use Rattle.std.proofs.lemmas.List.{drop_at, take-append-drop, length-append, length-drop, append-nil}
-use Rattle.std.proofs.lemmas.Bool.{ltb-true, ltb-false, lt-ltb, le-ltb, eqb-true, eqb-false, eq-eqb, ne_eqb, and_parts}
+use Rattle.std.proofs.lemmas.List.{drop_at, take-append-drop, length-append, length-drop, append-nil, nil_from_length}
+use Rattle.std.proofs.lemmas.Bool.{ltb-true, ltb-false, lt-ltb, le-ltb, eqb-true, eqb-false, eq-eqb, ne_eqb, and_parts, false_from_ne_true}
 use Rattle.tcap_ber.specs.declared.fault.Fault.{Fault}
 use Rattle.tcap_ber.specs.declared.fault.Reason.{Reason}
 use Rattle.tcap_ber.specs.declared.fault.Reason.TheVariants as reasons
@@ -334,6 +334,136 @@ reaches_stop p octets = ends_in (length octets + 1) p octets (omega arith)
 
 abbrev pub moved : ℕ → Progress → Progress
 moved n p = record { at = p.at + n; depth = p.depth; limit = p.limit }
+
+-- one step over the octets in front
+over : (p next : Progress) (octets front rest : List ℕ) (opening : Opening) → octets ≡ front ++ rest → opening_at (from p.at octets) ≡ Ok (Some opening)
+    → behind_header p octets opening ≡ Ok next → next.at ≡ p.at + length front → 0 < next.depth → Reaches p octets next rest
+over p next octets front rest opening joined read behind at inside =
+    let count : next.at - p.at ≡ length front = omega (arith, at) in
+    let g : Goes p octets next = record {
+      opening = opening;
+      read = read;
+      behind = behind;
+      room = omega (arith, count, ap length joined, length-append front rest);
+      some = omega (arith, behind_further p next octets opening read behind, (opening_within p.at octets opening read).0);
+      inside = inside;
+    } in
+    let gone : left p next octets ≡ rest = ap (drop (next.at - p.at)) joined ∙ drop_at front rest (next.at - p.at) (sym count) in
+    (suc zero, (next, g, (refl, gone)))
+
+-- the same places and octets by other names
+reaches_is : (p q r : Progress) (octets others rest : List ℕ) → octets ≡ others → q ≡ r → Reaches p octets q rest → Reaches p others r rest
+reaches_is p q r octets others rest e f a = subst (λ (x : Progress). Reaches p others x rest) f (subst (λ (x : List ℕ). Reaches p x q rest) e a)
+
+-- an element of definite length in front
+definite_grouped : (tag content item rest : List ℕ) (d : IsDefinite tag content item) → item ++ rest ≡ tag ++ (d.length_octets ++ (content ++ rest))
+definite_grouped tag content item rest d =
+    ap (λ (x : List ℕ). x ++ rest) d.joined ∙ append_assoc (tag ++ d.length_octets) content rest ∙ append_assoc tag d.length_octets (content ++ rest)
+
+definite_len : (tag content item : List ℕ) (d : IsDefinite tag content item) → length item ≡ length tag + length d.length_octets + length content
+definite_len tag content item d =
+    omega (arith, ap length d.joined, length-append (tag ++ d.length_octets) content, length-append tag d.length_octets)
+
+abbrev header_for : (tag lens : List ℕ) → ℕ → Header
+header_for tag lens n = record { tag_len = length tag; len = length tag + length lens; content_len = n }
+
+definite_read : (place : ℕ) (tag content item rest : List ℕ) (d : IsDefinite tag content item)
+    → opening_at (from place (item ++ rest)) ≡ Ok (Some (Definite (header_for tag d.length_octets (length content))))
+definite_read place tag content item rest d =
+    ap (λ (x : List ℕ). opening_at (from place x)) (definite_grouped tag content item rest d)
+    ∙ definite_complete place (length content) tag d.length_octets (content ++ rest) d.is_tag d.is_length d.is_within
+
+-- one that isn't an ending doesn't begin with one
+no_ending : (tag content item rest : List ℕ) → IsDefinite tag content item → item ≢ ending → is_ending (item ++ rest) ≡ false
+no_ending tag content item rest d other = false_from_ne_true (is_ending (item ++ rest)) (λ e. other (is_it e))
+  where
+    is_it : is_ending (item ++ rest) ≡ true → item ≡ ending
+    is_it e =
+        let f : is_ending (tag ++ (d.length_octets ++ (content ++ rest))) ≡ true = ap is_ending (sym (definite_grouped tag content item rest d)) ∙ e in
+        let z = zeros_header tag d.length_octets (content ++ rest) (length content) d.is_tag d.is_length f in
+        let nothing : content ≡ [] = nil_from_length content z.2 in
+        d.joined ∙ ap (λ (x : List ℕ). (x ++ d.length_octets) ++ content) z.0 ∙ ap (λ (x : List ℕ). ((0 ∷ []) ++ x) ++ content) z.1 ∙ ap (λ (x : List ℕ). (0 ∷ 0 ∷ []) ++ x) nothing
+
+passes_definite : (tag content item rest : List ℕ) (p : Progress) → IsDefinite tag content item → item ≢ ending → 0 < p.depth → p.at + length item ≤ p.limit
+    → Reaches p (item ++ rest) (moved (length item) p) rest
+passes_definite tag content item rest p d other inside within =
+    over p (moved (length item) p) (item ++ rest) item rest (Definite h) refl (definite_read p.at tag content item rest d) behind refl inside
+  where
+    h : Header
+    h = header_for tag d.length_octets (length content)
+
+    behind : behind_header p (item ++ rest) (Definite (header_for tag d.length_octets (length content))) ≡ Ok (moved (length item) p)
+    behind =
+        let len = definite_len tag content item d in
+        let deep : p.depth ≢ 0 = λ e. omega (arith, inside, e) in
+        let room : p.at + (length tag + length d.length_octets + length content) ≤ p.limit = omega (arith, len, within) in
+        rw (no_ending tag content item rest d other, lt-ltb 0 p.depth inside, ne_eqb p.depth 0 deep, le-ltb p.limit (p.at + (length tag + length d.length_octets + length content)) room)
+        (ap (λ (n : ℕ). Ok (moved n p)) (sym len))
+
+-- behind the header of an element of indefinite length in an open one
+abbrev deeper : ℕ → Progress → Progress
+deeper n p = record { at = p.at + n; depth = p.depth + 1; limit = p.limit }
+
+opens : (tag rest : List ℕ) (p : Progress) → IsTag tag → IsConstructed tag → 0 < p.depth → p.depth < depth_limit → p.at + (length tag + 1) ≤ p.limit
+    → Reaches p (tag ++ 0x80 ∷ rest) (deeper (length tag + 1) p) rest
+opens tag rest p t c inside deep within =
+    let deeply : p.depth ≢ 0 = λ e. omega (arith, inside, e) in
+    let behind : opened p (length tag + 1) ≡ Ok (deeper (length tag + 1) p) =
+        rw (lt-ltb p.depth depth_limit deep, ne_eqb p.depth 0 deeply, le-ltb p.limit (p.at + (length tag + 1)) within) refl in
+    over p (deeper (length tag + 1) p) (tag ++ 0x80 ∷ rest) (tag ++ 0x80 ∷ []) rest (Indefinite (length tag)) (sym (append_assoc tag (0x80 ∷ []) rest))
+    (indefinite_complete p.at tag rest t c) behind (omega (arith, length-append tag (0x80 ∷ []))) (omega arith)
+
+-- behind the header of the outermost one
+abbrev started : ℕ → Progress
+started n = record { at = n; depth = 1; limit = n + content_limit }
+
+opens_first : (tag rest : List ℕ) → IsTag tag → IsConstructed tag → Reaches at_first (tag ++ 0x80 ∷ rest) (started (length tag + 1)) rest
+opens_first tag rest t c =
+    let start : 0 + (length tag + 1) ≡ length tag + 1 = omega arith in
+    let behind : opened at_first (length tag + 1) ≡ Ok (started (length tag + 1)) = ap (λ (n : ℕ). Ok (started n)) start in
+    over at_first (started (length tag + 1)) (tag ++ 0x80 ∷ rest) (tag ++ 0x80 ∷ []) rest (Indefinite (length tag)) (sym (append_assoc tag (0x80 ∷ []) rest))
+    (indefinite_complete 0 tag rest t c) behind (omega (arith, length-append tag (0x80 ∷ []))) (omega arith)
+
+-- an ending in front
+ending_read : (place : ℕ) (rest : List ℕ) → opening_at (from place (ending ++ rest)) ≡ Ok (Some (Definite (header_for (0 ∷ []) (0 ∷ []) 0)))
+ending_read place rest = definite_complete place 0 (0 ∷ []) (0 ∷ []) rest (inl (λ e. cc, refl)) (inl (omega arith, refl, refl)) (omega arith)
+
+closes : (rest : List ℕ) (p : Progress) → 1 < p.depth → p.at + 2 ≤ p.limit → Reaches p (ending ++ rest) (record { at = p.at + 2; depth = p.depth - 1; limit = p.limit }) rest
+closes rest p inside within =
+    let next : Progress = record { at = p.at + 2; depth = p.depth - 1; limit = p.limit } in
+    let deep : p.depth ≢ 1 = λ e. omega (arith, inside, e) in
+    let behind : behind_header p (ending ++ rest) (Definite (header_for (0 ∷ []) (0 ∷ []) 0)) ≡ Ok next =
+        rw (lt-ltb 0 p.depth (omega (arith, inside)), ne_eqb p.depth 1 deep, le-ltb p.limit (p.at + 2) within) refl in
+    over p next (ending ++ rest) ending rest (Definite (header_for (0 ∷ []) (0 ∷ []) 0)) refl (ending_read p.at rest) behind refl (omega (arith, inside))
+
+-- the same with another place
+abbrev placed_at : ℕ → Progress → Progress
+placed_at n p = record { at = n; depth = p.depth; limit = p.limit }
+
+-- it goes over each element of this depth
+abbrev PassesEach : ℕ → Type 0
+PassesEach depth = (tag content item rest : List ℕ) (p : Progress) → IsNested depth tag content item → item ≢ ending → 0 < p.depth → p.depth + depth ≤ depth_limit → p.at + length item ≤ p.limit
+    → Reaches p (item ++ rest) (moved (length item) p) rest
+
+-- and then over items one after the other
+items_passed : (depth : ℕ) → PassesEach depth → (items : List (List ℕ)) (rest : List ℕ) (p : Progress) → AllByRecursion (λ item. ((tag content : List ℕ) × IsNested depth tag content item) × (item ≢ ending)) items
+    → 0 < p.depth → p.depth + depth ≤ depth_limit → p.at + length (concat items) ≤ p.limit → Reaches p (concat items ++ rest) (moved (length (concat items)) p) rest
+items_passed depth each [] rest p all inside deep within =
+    let here : p.at ≡ p.at + 0 = omega arith in
+    let placed = λ (n : ℕ). placed_at n p in
+    (zero, (ap placed here, refl))
+items_passed depth each (item ∷ items) rest p all inside deep within =
+    let len : length (item ++ concat items) ≡ length item + length (concat items) = length-append item (concat items) in
+    let q : Progress = moved (length item) p in
+    let one : Reaches p (item ++ (concat items ++ rest)) q (concat items ++ rest) =
+        each all.0.0.0 all.0.0.1 item (concat items ++ rest) p all.0.0.2 all.0.1 inside deep (omega (arith, len, within)) in
+    let more : Reaches q (concat items ++ rest) (moved (length (concat items)) q) rest =
+        items_passed depth each items rest q all.1 inside deep (omega (arith, len, within)) in
+    let total : p.at + length item + length (concat items) ≡ p.at + length (item ++ concat items) = omega (arith, len) in
+    let placed = λ (n : ℕ). placed_at n p in
+    reaches_is p (moved (length (concat items)) q) (moved (length (item ++ concat items)) p) (item ++ (concat items ++ rest)) ((item ++ concat items) ++ rest) rest
+    (sym (append_assoc item (concat items) rest)) (ap placed total)
+    (reaches_on p q (moved (length (concat items)) q) (item ++ (concat items ++ rest)) (concat items ++ rest) rest one more)
 
 pub passes : (depth : ℕ) (tag content item rest : List ℕ) (p : Progress) → IsNested depth tag content item → item ≢ ending → 0 < p.depth → p.depth + depth ≤ depth_limit → p.at + length item ≤ p.limit
     → Reaches p (item ++ rest) (moved (length item) p) rest
