@@ -2,13 +2,14 @@
 use Rattle.std.proofs.Common.{◌≡◌, ℕ, ◌+◌, ◌-◌, ◌<◌, ◌≤◌, ◌⊎◌, true, false, List, [], ◌∷◌, ◌++◌, length, take, drop, Option, Some, None, Result, Ok, Err, refl, sym, ap, ◌∙◌, inl, inr, arith}
 use Rattle.std.specs.Prelude.{◌≢◌, nat_lt}
 use Rattle.std.proofs.lemmas.Bool.{lt-ltb, le-ltb, eq-eqb}
-use Rattle.std.proofs.lemmas.List.{length-drop, length-take-le, take-append-drop, append-nil}
+use Rattle.std.proofs.lemmas.List.{length-append, length-drop, drop-append-le}
+use Rattle.std.proofs.Math.Seq.{take-length}
 use Rattle.tcap_ber.specs.declared.fault.Fault.{Fault}
 use Rattle.tcap_ber.specs.declared.header.Opening.{Opening}
 use Rattle.tcap_ber.specs.declared.progress.Progress.{Progress}
 use Rattle.tcap_ber.specs.declared.walk.Walk.{Walk}
 use Rattle.tcap_ber.specs.HeaderReading.{opening_at}
-use Rattle.tcap_ber.specs.Walking.{behind_header, at_first, outer_at, resume, resume_unless}
+use Rattle.tcap_ber.specs.Walking.{behind_header, walk_on, at_first, outer_at, resume, resume_unless}
 use Rattle.tcap_ber.specs.Resuming.{resumes, IsStopped}
 use Rattle.tcap_ber.proofs.OpeningLaws.{from}
 use Rattle.tcap_ber.proofs.WalkLaws.{walk}
@@ -17,7 +18,7 @@ use Rattle.tcap_ber.proofs.ResumeLaws.{skips, holds, fails, fails_behind, goes_b
 -- before the first octet
 pub first_gives : (octets : List ℕ) → resume 0 [] at_first octets ≡ outer_at octets
 unfolding outer_at
-first_gives octets = rw (le-ltb (length octets) 0 (omega arith)) refl
+first_gives octets = rw (le-ltb (length octets) 0 (omega arith)) (ap (λ (n : ℕ). walk_on (n + 1) at_first octets) (omega arith))
 
 -- ---- over, or wrong
 
@@ -40,13 +41,16 @@ skips_unless None count skip header octets p fewer there = skips count skip head
 
 -- what is left behind the first octets, with more behind it
 left_with : (count : ℕ) (octets more : List ℕ) → count ≤ length octets → take (length octets - count) (drop count octets) ++ more ≡ drop count (octets ++ more)
-left_with count octets more there = ?
+left_with count octets more there =
+    let all : take (length octets - count) (drop count octets) ≡ drop count octets =
+    ap (λ (n : ℕ). take n (drop count octets)) (omega (arith, length-drop count octets)) ∙ take-length (drop count octets) in
+    ap (λ (x : List ℕ). x ++ more) all ∙ sym (drop-append-le count octets more there)
 
 pub skipped : (w : Walk) (count : ℕ) (octets more : List ℕ) → count ≤ w.skip → count ≤ length octets
     → resume_unless w.fault (w.skip - count) (take w.held w.header) w.progress (take (length octets - count) (drop count octets) ++ more) ≡ resumes w (octets ++ more)
 skipped w count octets more fewer there =
     ap (resume_unless w.fault (w.skip - count) (take w.held w.header) w.progress) (left_with count octets more there)
-    ∙ skips_unless w.fault count w.skip (take w.held w.header) (octets ++ more) w.progress fewer ?
+    ∙ skips_unless w.fault count w.skip (take w.held w.header) (octets ++ more) w.progress fewer (omega (arith, there, length-append octets more))
 
 -- ---- an octet of a header
 
@@ -58,7 +62,7 @@ record GoesOn (fault : Option Fault) (skip : ℕ) (p : Progress) : Type 0 where
 
 goes_on : (fault : Option Fault) (skip : ℕ) (p : Progress) → skip ≡ 0 → ((fault ≢ None) ⊎ ((skip ≡ 0) × (p.depth ≡ 0) × (0 < p.at)) → ⊥) → GoesOn fault skip p
 goes_on (Some f) skip p nothing stopped = absurd (stopped (inl (λ e. cc)))
-goes_on None skip p nothing stopped = record { none = refl; nothing = nothing; not_over = λ over. stopped (inr (nothing, over)) }
+goes_on None skip p nothing stopped = record { none = refl; nothing = nothing; not_over = λ over. stopped (inr (nothing, over.0, over.1)) }
 
 -- then it gives what the octets of the header and those that come give
 pub resumes_plainly : (w : Walk) (octets : List ℕ) → w.skip ≡ 0 → (IsStopped w → ⊥) → resumes w octets ≡ resume 0 (take w.held w.header) w.progress octets
@@ -92,3 +96,18 @@ pub octet_goes_behind : (w : Walk) (octet : ℕ) (more : List ℕ) (opening : Op
     → resume (next.at - w.progress.at - (length (take w.held w.header) + 1)) [] next more ≡ resumes w (octet ∷ more)
 octet_goes_behind w octet more opening next nothing stopped none e behind =
     goes_behind octet (take w.held w.header) more w.progress next opening (not_over w nothing stopped) none e behind ∙ sym (resumes_plainly w (octet ∷ more) nothing stopped)
+
+-- a walk by its parts
+pub gives_by : (w : Walk) (skip : ℕ) (header : List ℕ) (next : Progress) (more : List ℕ) → w.fault ≡ None → w.skip ≡ skip → w.progress ≡ next → take w.held w.header ≡ header
+    → resumes w more ≡ resume skip header next more
+gives_by w skip header next more fault skip_is progress octets =
+    ap (λ (f : Option Fault). resume_unless f w.skip (take w.held w.header) w.progress more) fault
+    ∙ ap (λ (n : ℕ). resume n (take w.held w.header) w.progress more) skip_is
+    ∙ ap (λ (x : List ℕ). resume skip x w.progress more) octets
+    ∙ ap (λ (p : Progress). resume skip header p more) progress
+
+-- the end of the octets, or of the walk
+pub ends_with : (w old : Walk) (rest octets : List ℕ) → ((more : List ℕ) → resumes w (rest ++ more) ≡ resumes old (octets ++ more)) → (rest ≡ []) ⊎ IsStopped w
+    → (more : List ℕ) → resumes w more ≡ resumes old (octets ++ more)
+ends_with w old rest octets same (inl none) more = ap (λ (x : List ℕ). resumes w (x ++ more)) (sym none) ∙ same more
+ends_with w old rest octets same (inr stopped) more = stopped_stays w more (rest ++ more) stopped ∙ same more

@@ -1,6 +1,6 @@
 //! A walk over an element's octets that can stop at any octet and go on when more have come.
 
-ghost use Rattle.std.specs.Prelude.{◌≡◌, ◌+◌, ◌-◌, ◌<◌, ◌≤◌, ◌⊎◌, ◌++◌, ◌∷◌, ◌↔◌, [], ℕ, List, length, take, Option, None, Err, IsTrue};
+ghost use Rattle.std.specs.Prelude.{◌≡◌, ◌+◌, ◌<◌, ◌≤◌, ◌⊎◌, ◌++◌, ◌∷◌, ◌↔◌, [], ℕ, List, length, take, Option, None, Err, IsTrue};
 ghost use Rattle.tcap_ber.specs.Progress.{IsPlaced, IsUnfinishedHeader};
 
 use crate::element::{Outer, Window};
@@ -26,7 +26,7 @@ pub struct Walk {
     // What is wrong with the octets.
     fault: Option<Fault>,
     ghost placed: { IsPlaced progress },
-    ghost room: { (held ≤ 9) × (skip ≤ 65551) },
+    ghost room: { (held ≤ 9) × (length (take held header) ≡ held) × (skip ≤ 65551) },
     ghost unfinished: { IsUnfinishedHeader progress (take held header) },
 }
 
@@ -65,7 +65,7 @@ impl Walk {
     /// The walk where so many octets of a header are held.
     fn holding(self, header: [u8; HEADER_LIMIT], held: usize) -> Walk
         requires unfinished { IsUnfinishedHeader self.progress (take held header) }
-        requires few { held ≤ HEADER_LIMIT }
+        requires all { length (take held header) ≡ held }
         ensures fault { result.fault ≡ None }
         ensures skip { result.skip ≡ 0 }
         ensures progress { result.progress ≡ self.progress }
