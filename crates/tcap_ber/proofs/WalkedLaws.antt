@@ -1,7 +1,10 @@
 -- Each place that the walk reaches is one that the definition names, and what it answers there is so.
 use Rattle.std.proofs.Common.{◌≡◌, ℕ, zero, suc, ◌+◌, ◌-◌, ◌*◌, ◌<◌, ◌≤◌, ◌⊎◌, Bool, true, false, List, [], ◌∷◌, ◌++◌, length, take, drop, Option, Some, None, Result, Ok, Err, refl, sym, ap, subst, ◌∙◌, inl, inr, arith, append_assoc}
-use Rattle.std.specs.Prelude.{◌≢◌, nat_lt, ◌==◌, ◌&&◌}
+use Rattle.std.specs.Prelude.{◌≢◌, ◌%◌, nat_lt, ◌==◌, ◌&&◌, if◌then◌else◌}
 use Rattle.std.specs.List.{AllByRecursion, concat}
+use Rattle.std.proofs.lemmas.List.{take_at, drop_at, take-append-drop, length-append, length-take-le, length-drop, append-nil}
+use Rattle.std.proofs.lemmas.List.Folds.{concat-append}
+use Rattle.std.proofs.lemmas.Bool.{ltb-true, ltb-false, lt-ltb, le-ltb, eqb-true, eqb-false, eq-eqb, ne_eqb, and_parts, and_from}
 use Rattle.tcap_ber.specs.declared.fault.Fault.{Fault}
 use Rattle.tcap_ber.specs.declared.fault.Reason.{Reason}
 use Rattle.tcap_ber.specs.declared.fault.Reason.TheVariants as reasons
@@ -15,7 +18,7 @@ use Rattle.tcap_ber.specs.Element.{IsTag, IsLength, content_limit, IsConstructed
 use Rattle.tcap_ber.specs.Header.{HasLongTag, HasLengthOctet, HasLongLength}
 use Rattle.tcap_ber.specs.Walked.{Level, walked, AreOpen, content_walked, IsWalked, Announces, IsWrongThere, innermost, BeginsElement}
 use Rattle.tcap_ber.specs.HeaderReading.{fault, ◌>>=◌, opening_at}
-use Rattle.tcap_ber.specs.Walking.{is_ending, behind_header, gone_to, gone_on, walk_on, at_first, goes_to, goes_by, goes}
+use Rattle.tcap_ber.specs.Walking.{is_ending, within_limit, opened, closed, passed, behind_header, gone_to, gone_on, walk_on, at_first, goes_to, goes_by, goes}
 use Rattle.tcap_ber.specs.Progress.{header_octets}
 use Rattle.tcap_ber.proofs.Steps.{chosen, bind_ok, bind_err, ok_is, err_is, ok_not_err}
 use Rattle.tcap_ber.proofs.OpeningLaws.{from, FindsIndefinite, IsOpeningFault, definite_sound, indefinite_sound, definite_complete, indefinite_complete, opening_fault, opening_refused, opening_within}
@@ -23,11 +26,247 @@ use Rattle.tcap_ber.proofs.HeaderLaws.{FindsHeader}
 use Rattle.tcap_ber.proofs.WalkLaws.{Goes, left, Reaches, ReachesIn, walk, walk_stops, walk_goes, content_began, content_count, progress_of, note, notes, notes_goes, notes_there}
 
 pub nothing_walked : (octets : List ℕ) → IsWalked octets [] octets
-nothing_walked octets = ?
+nothing_walked octets = record { left = depth_limit; are_open = refl; is_within = omega arith; joined = refl }
 
 -- elements open at most to the limit
 pub open_within : (n : ℕ) (levels : List Level) → AreOpen n levels → n + length levels ≡ depth_limit
-open_within n levels o = ?
+open_within n [] o = omega (arith, o)
+open_within n (level ∷ outer) o = omega (arith, open_within (suc n) outer o.3)
+
+-- one more may be open where they are not at the limit
+one_more : (n : ℕ) (levels : List Level) → AreOpen n levels → length levels < depth_limit → (m : ℕ) × AreOpen (suc m) levels
+one_more zero levels o deep = absurd (omega (arith, open_within zero levels o))
+one_more (suc m) levels o deep = (m, o)
+
+-- ---- where a step leads
+
+-- a place is its three numbers
+place_is : (p q : Progress) → p.at ≡ q.at → p.depth ≡ q.depth → p.limit ≡ q.limit → p ≡ q
+place_is p q a b c =
+    let at : Progress = record { at = q.at; depth = p.depth; limit = p.limit } in
+    let depth : Progress = record { at = q.at; depth = q.depth; limit = p.limit } in
+    let one : p ≡ at = ap (λ (n : ℕ). record { at = n; depth = p.depth; limit = p.limit }) a in
+    let two : at ≡ depth = ap (λ (n : ℕ). record { at = q.at; depth = n; limit = p.limit }) b in
+    let three : depth ≡ q = ap (λ (n : ℕ). record { at = q.at; depth = q.depth; limit = n }) c in
+    one ∙ two ∙ three
+
+-- a place within the limit
+within_ok : (p next q : Progress) → within_limit p next ≡ Ok q → (next ≡ q) × (next.at ≤ p.limit)
+within_ok p next q e =
+    elim (chosen (nat_lt p.limit next.at) _ _ (Ok q) e) [
+      | inl k ↦ absurd cc
+      | inr k ↦ (ok_is next q k.1, ltb-false p.limit next.at k.0)
+    ]
+
+-- a place behind the limit
+within_err : (p next : Progress) (f : Fault) → within_limit p next ≡ Err f → (p.limit < next.at) × (fault reasons.TooLong 0 ≡ f)
+within_err p next f e =
+    elim (chosen (nat_lt p.limit next.at) _ _ (Err f) e) [
+      | inl k ↦ (ltb-true p.limit next.at k.0, err_is {A = Progress} (fault reasons.TooLong 0) f k.1)
+      | inr k ↦ absurd (ok_not_err next f k.1)
+    ]
+
+-- a step of so many octets, to this depth, where an element is open
+record Moves (p : Progress) (len depth : ℕ) (next : Progress) : Type 0 where
+  pub at_is : next.at ≡ p.at + len
+  pub depth_is : next.depth ≡ depth
+  pub limit_is : next.limit ≡ p.limit
+  pub within : next.at ≤ p.limit
+
+moves : (p : Progress) (len depth : ℕ) (next : Progress) → within_limit p (record { at = p.at + len; depth = depth; limit = p.limit }) ≡ Ok next → Moves p len depth next
+moves p len depth next e =
+    let w = within_ok p (record { at = p.at + len; depth = depth; limit = p.limit }) next e in
+    subst (Moves p len depth) w.0 (record { at_is = refl; depth_is = refl; limit_is = refl; within = w.1 })
+
+-- a first element of indefinite length opens, or one in another
+opens_ok : (p next : Progress) (len : ℕ) → opened p len ≡ Ok next
+    → (p.depth < depth_limit) × (((p.depth ≡ 0) × (record { at = p.at + len; depth = 1; limit = p.at + len + content_limit } ≡ next)) ⊎ ((p.depth ≢ 0) × Moves p len (p.depth + 1) next))
+opens_ok p next len e =
+    elim (chosen (nat_lt p.depth depth_limit) _ _ (Ok next) e) [
+      | inl k ↦ elim (chosen (p.depth == 0) _ _ (Ok next) k.1) [
+        | inl l ↦ (ltb-true p.depth depth_limit k.0, inl (eqb-true p.depth 0 l.0, ok_is _ next l.1))
+        | inr l ↦ (ltb-true p.depth depth_limit k.0, inr (eqb-false p.depth 0 l.0, moves p len (p.depth + 1) next l.1))
+      ]
+      | inr k ↦ absurd cc
+    ]
+
+opens_err : (p : Progress) (len : ℕ) (f : Fault) → opened p len ≡ Err f
+    → ((depth_limit ≤ p.depth) × (fault reasons.TooDeep p.at ≡ f)) ⊎ ((p.depth < depth_limit) × (p.depth ≢ 0) × (p.limit < p.at + len) × (fault reasons.TooLong 0 ≡ f))
+opens_err p len f e =
+    elim (chosen (nat_lt p.depth depth_limit) _ _ (Err f) e) [
+      | inl k ↦ elim (chosen (p.depth == 0) _ _ (Err f) k.1) [
+        | inl l ↦ absurd cc
+        | inr l ↦ let w = within_err p _ f l.1 in inr (ltb-true p.depth depth_limit k.0, eqb-false p.depth 0 l.0, w.0, w.1)
+      ]
+      | inr k ↦ inl (ltb-false p.depth depth_limit k.0, err_is {A = Progress} (fault reasons.TooDeep p.at) f k.1)
+    ]
+
+closes_ok : (p next : Progress) → closed p ≡ Ok next
+    → ((p.depth ≡ 1) × (record { at = p.at + 2; depth = 0; limit = p.limit } ≡ next)) ⊎ ((p.depth ≢ 1) × Moves p 2 (p.depth - 1) next)
+closes_ok p next e =
+    elim (chosen (p.depth == 1) _ _ (Ok next) e) [
+      | inl l ↦ inl (eqb-true p.depth 1 l.0, ok_is _ next l.1)
+      | inr l ↦ inr (eqb-false p.depth 1 l.0, moves p 2 (p.depth - 1) next l.1)
+    ]
+
+closes_err : (p : Progress) (f : Fault) → closed p ≡ Err f → (p.depth ≢ 1) × (p.limit < p.at + 2) × (fault reasons.TooLong 0 ≡ f)
+closes_err p f e =
+    elim (chosen (p.depth == 1) _ _ (Err f) e) [
+      | inl l ↦ absurd cc
+      | inr l ↦ let w = within_err p _ f l.1 in (eqb-false p.depth 1 l.0, w.0, w.1)
+    ]
+
+passes_ok : (p next : Progress) (len : ℕ) → passed p len ≡ Ok next
+    → ((p.depth ≡ 0) × (record { at = p.at + len; depth = 0; limit = p.limit } ≡ next)) ⊎ ((p.depth ≢ 0) × Moves p len p.depth next)
+passes_ok p next len e =
+    elim (chosen (p.depth == 0) _ _ (Ok next) e) [
+      | inl l ↦ inl (eqb-true p.depth 0 l.0, ok_is _ next l.1)
+      | inr l ↦ inr (eqb-false p.depth 0 l.0, moves p len p.depth next l.1)
+    ]
+
+passes_err : (p : Progress) (len : ℕ) (f : Fault) → passed p len ≡ Err f → (p.depth ≢ 0) × (p.limit < p.at + len) × (fault reasons.TooLong 0 ≡ f)
+passes_err p len f e =
+    elim (chosen (p.depth == 0) _ _ (Err f) e) [
+      | inl l ↦ absurd cc
+      | inr l ↦ let w = within_err p _ f l.1 in (eqb-false p.depth 0 l.0, w.0, w.1)
+    ]
+
+-- behind a header of definite length: an ending, or an element of definite length
+definite_step : (p : Progress) (octets : List ℕ) (h : Header) (r : Result Progress Fault) → behind_header p octets (Definite h) ≡ r
+    → ((0 < p.depth) × (is_ending octets ≡ true) × (closed p ≡ r)) ⊎ (((0 < p.depth → is_ending octets ≡ false)) × (passed p (h.len + h.content_len) ≡ r))
+definite_step p octets h r e =
+    elim (chosen (nat_lt 0 p.depth && is_ending octets) _ _ r e) [
+      | inl k ↦ let b = and_parts (nat_lt 0 p.depth) (is_ending octets) k.0 in inl (ltb-true 0 p.depth b.0, b.1, k.1)
+      | inr k ↦ inr (λ inside. not_both inside (is_ending octets) refl k.0, k.1)
+    ]
+  where
+    not_both : 0 < p.depth → (b : Bool) → is_ending octets ≡ b → (nat_lt 0 p.depth && is_ending octets) ≡ false → is_ending octets ≡ false
+    not_both inside false i a = i
+    not_both inside true i a = let t = and_from (nat_lt 0 p.depth) (is_ending octets) (lt-ltb 0 p.depth inside) i in absurd cc
+
+-- ---- the open elements
+
+-- the octets of an open element up to its last item
+abbrev begun : Level → List ℕ
+begun level = level.tag ++ 0x80 ∷ concat level.items
+
+-- with one item more
+abbrev grow : Level → List ℕ → Level
+grow level item = record { tag = level.tag; items = level.items ++ item ∷ [] }
+
+-- with its ending it is an element
+abbrev whole : Level → List ℕ
+whole level = level.tag ++ 0x80 ∷ concat level.items ++ ending
+
+concat_push : (items : List (List ℕ)) (item : List ℕ) → concat (items ++ item ∷ []) ≡ concat items ++ item
+concat_push items item = concat-append items (item ∷ []) ∙ ap (λ (x : List ℕ). concat items ++ x) (append-nil item)
+
+all_push : {X : Type 0} (P : X → Type 0) (items : List X) (item : X) → AllByRecursion P items → P item → AllByRecursion P (items ++ item ∷ [])
+all_push P [] item a b = (b, tt)
+all_push P (first ∷ more) item a b = (a.0, all_push P more item a.1 b)
+
+grown_walked : (level : Level) (outer : List Level) (item : List ℕ) → walked (grow level item ∷ outer) ≡ walked (level ∷ outer) ++ item
+grown_walked level outer item =
+    ap (λ (x : List ℕ). walked outer ++ (level.tag ++ 0x80 ∷ x)) (concat_push level.items item)
+    ∙ ap (λ (x : List ℕ). walked outer ++ x) (sym (append_assoc level.tag (0x80 ∷ concat level.items) item))
+    ∙ sym (append_assoc (walked outer) (begun level) item)
+
+grown_began : (level : Level) (outer : List Level) (item : List ℕ) → content_began (grow level item ∷ outer) ≡ content_began (level ∷ outer)
+grown_began level [] item = refl
+grown_began level (next ∷ outer) item = refl
+
+grown_length : (level : Level) (outer : List Level) (item : List ℕ) → length (walked (grow level item ∷ outer)) ≡ length (walked (level ∷ outer)) + length item
+grown_length level outer item = ap length (grown_walked level outer item) ∙ length-append (walked (level ∷ outer)) item
+
+grown_content : (level : Level) (outer : List Level) (item : List ℕ) → content_walked (grow level item ∷ outer) ≡ content_walked (level ∷ outer) + length item
+grown_content level outer item =
+    omega (arith, content_count (grow level item ∷ outer), content_count (level ∷ outer), grown_began level outer item, grown_length level outer item)
+
+grown_open : (n : ℕ) (level : Level) (outer : List Level) (item : List ℕ) → AreOpen n (level ∷ outer) → ((tag content : List ℕ) × IsNested n tag content item) → item ≢ ending → AreOpen n (grow level item ∷ outer)
+grown_open n level outer item o nested other =
+    (o.0, o.1, all_push (λ x. ((tag content : List ℕ) × IsNested n tag content x) × (x ≢ ending)) level.items item o.2 (nested, other), o.3)
+
+-- behind one item more
+grown : (octets behind : List ℕ) (n : ℕ) (level : Level) (outer : List Level) (item : List ℕ) → AreOpen n (level ∷ outer) → ((tag content : List ℕ) × IsNested n tag content item) → item ≢ ending
+    → content_walked (level ∷ outer) + length item ≤ content_limit → octets ≡ (walked (level ∷ outer) ++ item) ++ behind → IsWalked octets (grow level item ∷ outer) behind
+grown octets behind n level outer item o nested other within joined = record {
+  left = n;
+  are_open = grown_open n level outer item o nested other;
+  is_within = omega (arith, grown_content level outer item, within);
+  joined = joined ∙ ap (λ (x : List ℕ). x ++ behind) (sym (grown_walked level outer item));
+}
+
+-- the place behind one item more
+grown_place : (next : Progress) (level : Level) (outer : List Level) (item : List ℕ) → next.at ≡ length (walked (level ∷ outer)) + length item → next.depth ≡ suc (length outer)
+    → next.limit ≡ content_began (level ∷ outer) + content_limit → next ≡ progress_of (grow level item ∷ outer)
+grown_place next level outer item a b c =
+    place_is next (progress_of (grow level item ∷ outer)) (omega (arith, a, grown_length level outer item)) b (omega (arith, c, grown_began level outer item))
+
+-- what stands behind so many octets
+left_behind : (p next : Progress) (rest front behind : List ℕ) → rest ≡ front ++ behind → next.at ≡ p.at + length front → left p next rest ≡ behind
+left_behind p next rest front behind joined at = ap (drop (next.at - p.at)) joined ∙ drop_at front behind (next.at - p.at) (omega (arith, at))
+
+-- an element of definite length at the front
+record FindsDefinite (rest : List ℕ) (len : ℕ) : Type 0 where
+  pub tag : List ℕ
+  pub content : List ℕ
+  pub item : List ℕ
+  pub behind : List ℕ
+  pub is_definite : IsDefinite tag content item
+  pub joined : rest ≡ item ++ behind
+  pub len_is : length item ≡ len
+
+finds_definite : (rest : List ℕ) (h : Header) → FindsHeader rest h → h.len + h.content_len ≤ length rest → FindsDefinite rest (h.len + h.content_len)
+finds_definite rest h f room =
+    let header : List ℕ = f.tag ++ f.length_octets in
+    let content : List ℕ = take h.content_len f.rest in
+    let here : rest ≡ header ++ f.rest = f.joined ∙ sym (append_assoc f.tag f.length_octets f.rest) in
+    let header_len : length header ≡ h.len = omega (arith, length-append f.tag f.length_octets, f.len) in
+    let content_len : length content ≡ h.content_len = length-take-le h.content_len f.rest (omega (arith, ap length here, length-append header f.rest, header_len, room)) in
+    record {
+      tag = f.tag;
+      content = content;
+      item = header ++ content;
+      behind = drop h.content_len f.rest;
+      is_definite = record {
+        length_octets = f.length_octets;
+        is_tag = f.is_tag;
+        is_length = subst (λ (n : ℕ). IsLength n f.length_octets) (sym content_len) f.is_length;
+        is_within = omega (arith, content_len, f.within);
+        joined = refl;
+      };
+      joined = here ∙ ap (λ (x : List ℕ). header ++ x) (sym (take-append-drop h.content_len f.rest)) ∙ sym (append_assoc header content (drop h.content_len f.rest));
+      len_is = omega (arith, length-append header content, header_len, content_len);
+    }
+
+-- an element of definite length may stand in any other
+definite_nested : (n : ℕ) (tag content item : List ℕ) → IsDefinite tag content item → IsNested n tag content item
+definite_nested zero tag content item d = d
+definite_nested (suc n) tag content item d = inl d
+
+-- where two zero octets begin what is left
+ending_there : (rest : List ℕ) → is_ending rest ≡ true → (behind : List ℕ) × (rest ≡ ending ++ behind)
+ending_there [] e = absurd cc
+ending_there (first ∷ []) e = absurd cc
+ending_there (first ∷ second ∷ more) e =
+    let b = and_parts (first == 0) (second == 0) e in
+    let one : first ∷ second ∷ more ≡ 0 ∷ second ∷ more = ap (λ (x : ℕ). x ∷ second ∷ more) (eqb-true first 0 b.0) in
+    (more, one ∙ ap (λ (x : ℕ). 0 ∷ x ∷ more) (eqb-true second 0 b.1))
+
+-- what is no ending, by its first octets
+not_ending : (rest front behind : List ℕ) → is_ending rest ≡ false → rest ≡ front ++ behind → front ≢ ending
+not_ending rest front behind e joined same =
+    let there : is_ending rest ≡ true = ap is_ending (joined ∙ ap (λ (x : List ℕ). x ++ behind) same) in absurd cc
+
+-- an element of indefinite length has more octets than an ending
+whole_length : (level : Level) → length (whole level) ≡ length (begun level) + 2
+whole_length level = length-append (begun level) ending
+
+begun_length : (level : Level) → 1 ≤ length (begun level)
+begun_length level = omega (arith, length-append level.tag (0x80 ∷ concat level.items))
+
+whole_no_ending : (level : Level) → whole level ≢ ending
+whole_no_ending level same = omega (arith, ap length same, whole_length level, begun_length level)
 
 -- where a step from a place with these elements open leads
 pub record Stepped (octets : List ℕ) (levels : List Level) (rest : List ℕ) (next : Progress) : Type 0 where
