@@ -50,6 +50,14 @@ place_is p q a b c =
     let three : depth ≡ q = ap (λ (n : ℕ). record { at = q.at; depth = q.depth; limit = n }) c in
     one ∙ two ∙ three
 
+walked_at : (levels : List Level) → (progress_of levels).at ≡ length (walked levels)
+walked_at [] = refl
+walked_at (level ∷ outer) = refl
+
+walked_depth : (levels : List Level) → (progress_of levels).depth ≡ length levels
+walked_depth [] = refl
+walked_depth (level ∷ outer) = refl
+
 -- a place within the limit
 within_ok : (p next q : Progress) → within_limit p next ≡ Ok q → (next ≡ q) × (next.at ≤ p.limit)
 within_ok p next q e =
@@ -268,14 +276,136 @@ begun_length level = omega (arith, length-append level.tag (0x80 ∷ concat leve
 whole_no_ending : (level : Level) → whole level ≢ ending
 whole_no_ending level same = omega (arith, ap length same, whole_length level, begun_length level)
 
+-- an open element that ends has the elements that were walked in it
+whole_nested : (n : ℕ) (level : Level) (outer : List Level) → AreOpen n (level ∷ outer) → length (concat level.items) ≤ content_limit → IsNested (suc n) level.tag (concat level.items) (whole level)
+whole_nested n level outer o within = inr (record { items = level.items; is_tag = o.0; is_constructed = o.1; are_items = o.2; content_is = refl; is_within = within; joined = refl })
+
+-- the innermost content is in the outermost
+first_content : (level : Level) (outer : List Level) → length (concat level.items) ≤ content_walked (level ∷ outer)
+first_content level [] = omega arith
+first_content level (next ∷ outer) = omega (arith, length-append level.tag (0x80 ∷ concat level.items))
+
+closed_length : (level : Level) (outer : List Level) → length (walked (level ∷ outer)) + 2 ≡ length (walked outer) + length (whole level)
+closed_length level outer = omega (arith, length-append (walked outer) (begun level), whole_length level)
+
+-- an element that has just begun
+abbrev fresh : List ℕ → Level
+fresh tag = record { tag = tag; items = [] }
+
 -- where a step from a place with these elements open leads
 pub record Stepped (octets : List ℕ) (levels : List Level) (rest : List ℕ) (next : Progress) : Type 0 where
   pub others : List Level
   pub is_walked : IsWalked octets others (left (progress_of levels) next rest)
   pub next_is : next ≡ progress_of others
 
+-- behind the header of an element of indefinite length
+fresh_walked : (octets behind tag : List ℕ) (m : ℕ) (levels : List Level) → AreOpen (suc m) levels → IsTag tag → IsConstructed tag → content_walked (fresh tag ∷ levels) ≤ content_limit
+    → octets ≡ walked levels ++ (tag ++ 0x80 ∷ behind) → IsWalked octets (fresh tag ∷ levels) behind
+fresh_walked octets behind tag m levels o is_tag is_constructed within joined = record {
+  left = m;
+  are_open = (is_tag, is_constructed, tt, o);
+  is_within = within;
+  joined = joined ∙ ap (λ (x : List ℕ). walked levels ++ x) (sym (append_assoc tag (0x80 ∷ []) behind)) ∙ sym (append_assoc (walked levels) (tag ++ 0x80 ∷ []) behind);
+}
+
+fresh_length : (tag : List ℕ) (levels : List Level) → length (walked (fresh tag ∷ levels)) ≡ length (walked levels) + (length tag + 1)
+fresh_length tag levels = omega (arith, length-append (walked levels) (tag ++ 0x80 ∷ []), length-append tag (0x80 ∷ []))
+
+fresh_place : (tag : List ℕ) (levels : List Level) (next : Progress)
+    → (((progress_of levels).depth ≡ 0) × (record { at = (progress_of levels).at + (length tag + 1); depth = 1; limit = (progress_of levels).at + (length tag + 1) + content_limit } ≡ next))
+    ⊎ (((progress_of levels).depth ≢ 0) × Moves (progress_of levels) (length tag + 1) ((progress_of levels).depth + 1) next)
+    → (next ≡ progress_of (fresh tag ∷ levels)) × (content_walked (fresh tag ∷ levels) ≤ content_limit)
+fresh_place tag [] next (inl k) = (sym k.1 ∙ place_is _ (progress_of (fresh tag ∷ [])) (omega (arith, fresh_length tag [])) refl (omega arith), omega arith)
+fresh_place tag [] next (inr k) = absurd (k.0 refl)
+fresh_place tag (level ∷ outer) next (inl k) = absurd (omega (arith, k.0))
+fresh_place tag (level ∷ outer) next (inr k) =
+    let l = fresh_length tag (level ∷ outer) in
+    (place_is next (progress_of (fresh tag ∷ level ∷ outer)) (omega (arith, k.1.at_is, l)) (omega (arith, k.1.depth_is)) k.1.limit_is,
+    omega (arith, k.1.at_is, k.1.within, l, content_count (level ∷ outer), content_count (fresh tag ∷ level ∷ outer)))
+
+step_opened : (octets rest : List ℕ) (tag : ℕ) (levels : List Level) (next : Progress) → IsWalked octets levels rest → FindsIndefinite rest tag → opened (progress_of levels) (tag + 1) ≡ Ok next → Stepped octets levels rest next
+step_opened octets rest tag levels next w f e =
+    let o = opens_ok (progress_of levels) next (length f.tag + 1) (rw (← f.count_is) e) in
+    let at = fresh_place f.tag levels next o.1 in
+    let more = one_more w.left levels w.are_open (omega (arith, o.0, walked_depth levels)) in
+    let front : rest ≡ (f.tag ++ 0x80 ∷ []) ++ f.rest = f.joined ∙ sym (append_assoc f.tag (0x80 ∷ []) f.rest) in
+    let behind : left (progress_of levels) next rest ≡ f.rest = left_behind (progress_of levels) next rest (f.tag ++ 0x80 ∷ []) f.rest front
+    (omega (arith, ap (λ (q : Progress). q.at) at.0, fresh_length f.tag levels, walked_at levels, length-append f.tag (0x80 ∷ []))) in
+    record {
+      others = fresh f.tag ∷ levels;
+      is_walked = subst (IsWalked octets (fresh f.tag ∷ levels)) (sym behind) (fresh_walked octets f.rest f.tag more.0 levels more.1 f.is_tag f.is_constructed at.1 (w.joined ∙ ap (λ (x : List ℕ). walked levels ++ x) f.joined));
+      next_is = at.0;
+    }
+
+-- behind the ending of an element in another
+step_closed : (octets rest : List ℕ) (levels : List Level) (next : Progress) → IsWalked octets levels rest → 0 < next.depth → is_ending rest ≡ true → closed (progress_of levels) ≡ Ok next → Stepped octets levels rest next
+step_closed octets rest [] next w inside ends e =
+    elim (closes_ok at_first next e) [
+      | inl k ↦ absurd (omega (arith, k.0))
+      | inr k ↦ absurd (omega (arith, k.1.depth_is, inside))
+    ]
+step_closed octets rest (level ∷ []) next w inside ends e =
+    elim (closes_ok (progress_of (level ∷ [])) next e) [
+      | inl k ↦ absurd (omega (arith, ap (λ (q : Progress). q.depth) k.1, inside))
+      | inr k ↦ absurd (k.0 refl)
+    ]
+step_closed octets rest (level ∷ within ∷ outer) next w inside ends e =
+    elim (closes_ok (progress_of (level ∷ within ∷ outer)) next e) [
+      | inl k ↦ absurd (omega (arith, k.0))
+      | inr k ↦
+          let o = w.are_open in
+          let behind = ending_there rest ends in
+          let all = content_count (level ∷ within ∷ outer) in
+          let len = closed_length level (within ∷ outer) in
+          let room : content_walked (within ∷ outer) + length (whole level) ≤ content_limit = omega (arith, k.1.at_is, k.1.within, len, content_count (within ∷ outer)) in
+          let nested = whole_nested w.left level (within ∷ outer) o (omega (arith, first_content level (within ∷ outer), w.is_within)) in
+          let joined = w.joined ∙ ap (λ (x : List ℕ). walked (level ∷ within ∷ outer) ++ x) behind.1 ∙ sym (append_assoc (walked (level ∷ within ∷ outer)) ending behind.0)
+          ∙ ap (λ (x : List ℕ). x ++ behind.0) (append_assoc (walked (within ∷ outer)) (begun level) ending) in
+          let left_is : left (progress_of (level ∷ within ∷ outer)) next rest ≡ behind.0 = left_behind (progress_of (level ∷ within ∷ outer)) next rest ending behind.0 behind.1 k.1.at_is in
+          record {
+            others = grow within (whole level) ∷ outer;
+            is_walked = subst (IsWalked octets (grow within (whole level) ∷ outer)) (sym left_is)
+            (grown octets behind.0 (suc w.left) within outer (whole level) o.3 (level.tag, concat level.items, nested) (whole_no_ending level) room joined);
+            next_is = grown_place next within outer (whole level) (omega (arith, k.1.at_is, len)) (omega (arith, k.1.depth_is)) k.1.limit_is;
+          }
+    ]
+
+-- behind an element of definite length in another
+step_passed : (octets rest : List ℕ) (levels : List Level) (next : Progress) (h : Header) → IsWalked octets levels rest → 0 < next.depth → next.at - (progress_of levels).at ≤ length rest → FindsHeader rest h
+    → (0 < (progress_of levels).depth → is_ending rest ≡ false) → passed (progress_of levels) (h.len + h.content_len) ≡ Ok next → Stepped octets levels rest next
+step_passed octets rest [] next h w inside room f other e =
+    elim (passes_ok at_first next (h.len + h.content_len) e) [
+      | inl k ↦ absurd (omega (arith, ap (λ (q : Progress). q.depth) k.1, inside))
+      | inr k ↦ absurd (k.0 refl)
+    ]
+step_passed octets rest (level ∷ outer) next h w inside room f other e =
+    elim (passes_ok (progress_of (level ∷ outer)) next (h.len + h.content_len) e) [
+      | inl k ↦ absurd (omega (arith, k.0))
+      | inr k ↦
+          let d = finds_definite rest h f (omega (arith, k.1.at_is, room)) in
+          let within : content_walked (level ∷ outer) + length d.item ≤ content_limit = omega (arith, k.1.at_is, k.1.within, d.len_is, content_count (level ∷ outer)) in
+          let joined = w.joined ∙ ap (λ (x : List ℕ). walked (level ∷ outer) ++ x) d.joined ∙ sym (append_assoc (walked (level ∷ outer)) d.item d.behind) in
+          let no_end = not_ending rest d.item d.behind (other (omega arith)) d.joined in
+          let at : next.at ≡ length (walked (level ∷ outer)) + length d.item = omega (arith, k.1.at_is, d.len_is) in
+          let left_is : left (progress_of (level ∷ outer)) next rest ≡ d.behind = left_behind (progress_of (level ∷ outer)) next rest d.item d.behind d.joined at in
+          record {
+            others = grow level d.item ∷ outer;
+            is_walked = subst (IsWalked octets (grow level d.item ∷ outer)) (sym left_is)
+            (grown octets d.behind w.left level outer d.item w.are_open (d.tag, d.content, definite_nested w.left d.tag d.content d.item d.is_definite) no_end within joined);
+            next_is = grown_place next level outer d.item at k.1.depth_is k.1.limit_is;
+          }
+    ]
+
 pub steps : (octets rest : List ℕ) (levels : List Level) (next : Progress) → IsWalked octets levels rest → Goes (progress_of levels) rest next → Stepped octets levels rest next
-steps octets rest levels next w g = ?
+steps octets rest levels next w g = by_opening g.opening g.read g.behind
+  where
+    by_opening : (opening : Opening) → opening_at (from (progress_of levels).at rest) ≡ Ok (Some opening) → behind_header (progress_of levels) rest opening ≡ Ok next → Stepped octets levels rest next
+    by_opening (Indefinite tag) read behind = step_opened octets rest tag levels next w (indefinite_sound (progress_of levels).at rest tag read) behind
+    by_opening (Definite h) read behind =
+        elim (definite_step (progress_of levels) rest h (Ok next) behind) [
+          | inl k ↦ step_closed octets rest levels next w g.inside k.1 k.2
+          | inr k ↦ step_passed octets rest levels next h w g.inside g.room (definite_sound (progress_of levels).at rest h read) k.0 k.1
+        ]
 
 -- a place that was reached is one with elements open
 pub record StandsAt (octets : List ℕ) (q : Progress) (rest : List ℕ) : Type 0 where
@@ -284,12 +414,113 @@ pub record StandsAt (octets : List ℕ) (q : Progress) (rest : List ℕ) : Type 
   pub place_is : q ≡ progress_of levels
 
 pub stands : (octets rest behind : List ℕ) (levels : List Level) (q : Progress) → IsWalked octets levels rest → Reaches (progress_of levels) rest q behind → StandsAt octets q behind
-stands octets rest behind levels q w r = ?
+stands octets rest behind levels q w r = by_steps r.0 rest levels w r.1
+  where
+    by_steps : (n : ℕ) (rest : List ℕ) (levels : List Level) → IsWalked octets levels rest → ReachesIn n (progress_of levels) rest q behind → StandsAt octets q behind
+    by_steps zero rest levels w r = record { levels = levels; is_walked = subst (IsWalked octets levels) r.1 w; place_is = sym r.0 }
+    by_steps (suc n) rest levels w r =
+        let s = steps octets rest levels r.0 w r.1 in
+        by_steps n (left (progress_of levels) r.0 rest) s.others s.is_walked (subst (λ (x : Progress). ReachesIn n x (left (progress_of levels) r.0 rest) q behind) s.next_is r.2)
 
 -- ---- where it stops
 
+-- a walk that goes no step more
+abbrev nowhere : Progress → List ℕ → Result Outer Fault
+nowhere p octets = Ok (Need 0)
+
+-- it is at the end of the outermost element
+ends_whole : (p next : Progress) (octets : List ℕ) (n : ℕ) → gone_to nowhere p octets next ≡ Ok (Whole n) → (next.at - p.at ≤ length octets) × (next.depth ≡ 0) × (next.at ≡ n)
+ends_whole p next octets n e =
+    elim (chosen (nat_lt (length octets) (next.at - p.at)) _ _ (Ok (Whole n)) e) [
+      | inl k ↦ absurd cc
+      | inr k ↦ elim (chosen (next.depth == 0) _ _ (Ok (Whole n)) k.1) [
+        | inl l ↦ (ltb-false (length octets) (next.at - p.at) k.0, eqb-true next.depth 0 l.0, whole_is next.at n l.1)
+        | inr l ↦ absurd cc
+      ]
+    ]
+  where
+    whole_is : (n m : ℕ) → (let a : Result Outer Fault = Ok (Whole n) in a) ≡ Ok (Whole m) → n ≡ m
+    whole_is n m e = cc
+
+nested_element : (tag content item : List ℕ) → IsNested depth_limit tag content item → IsElement tag content item
+unfolding IsElement
+nested_element tag content item nested = nested
+
+-- an ending of the outermost element
+whole_closed : (octets rest : List ℕ) (levels : List Level) (next : Progress) → IsWalked octets levels rest → next.depth ≡ 0 → 0 < (progress_of levels).depth → is_ending rest ≡ true → closed (progress_of levels) ≡ Ok next
+    → BeginsElement octets next.at
+whole_closed octets rest [] next w none inside ends e = absurd (omega (arith, inside))
+whole_closed octets rest (level ∷ []) next w none inside ends e =
+    elim (closes_ok (progress_of (level ∷ [])) next e) [
+      | inl k ↦
+          let behind = ending_there rest ends in
+          let nested = whole_nested w.left level [] w.are_open (omega (arith, first_content level [], w.is_within)) in
+          record {
+            tag = level.tag;
+            content = concat level.items;
+            element = whole level;
+            rest = behind.0;
+            is_element = nested_element level.tag (concat level.items) (whole level) (subst (λ (n : ℕ). IsNested n level.tag (concat level.items) (whole level)) w.are_open.3 nested);
+            joined = w.joined ∙ ap (λ (x : List ℕ). begun level ++ x) behind.1 ∙ sym (append_assoc (begun level) ending behind.0);
+            len = omega (arith, ap (λ (q : Progress). q.at) k.1, whole_length level);
+          }
+      | inr k ↦ absurd (k.0 refl)
+    ]
+whole_closed octets rest (level ∷ within ∷ outer) next w none inside ends e =
+    elim (closes_ok (progress_of (level ∷ within ∷ outer)) next e) [
+      | inl k ↦ absurd (omega (arith, k.0))
+      | inr k ↦ absurd (omega (arith, k.1.depth_is, none))
+    ]
+
+-- an outermost element of definite length
+whole_passed : (octets rest : List ℕ) (levels : List Level) (next : Progress) (h : Header) → IsWalked octets levels rest → next.depth ≡ 0 → next.at - (progress_of levels).at ≤ length rest → FindsHeader rest h
+    → passed (progress_of levels) (h.len + h.content_len) ≡ Ok next → BeginsElement octets next.at
+whole_passed octets rest [] next h w none room f e =
+    elim (passes_ok at_first next (h.len + h.content_len) e) [
+      | inl k ↦
+          let at : next.at ≡ h.len + h.content_len = omega (arith, ap (λ (q : Progress). q.at) k.1) in
+          let d = finds_definite rest h f (omega (arith, at, room)) in
+          record {
+            tag = d.tag;
+            content = d.content;
+            element = d.item;
+            rest = d.behind;
+            is_element = nested_element d.tag d.content d.item (definite_nested depth_limit d.tag d.content d.item d.is_definite);
+            joined = w.joined ∙ d.joined;
+            len = omega (arith, at, d.len_is);
+          }
+      | inr k ↦ absurd (k.0 refl)
+    ]
+whole_passed octets rest (level ∷ outer) next h w none room f e =
+    elim (passes_ok (progress_of (level ∷ outer)) next (h.len + h.content_len) e) [
+      | inl k ↦ absurd (omega (arith, k.0))
+      | inr k ↦ absurd (omega (arith, k.1.depth_is, none))
+    ]
+
+whole_behind : (octets rest : List ℕ) (levels : List Level) (opening : Opening) (next : Progress) → IsWalked octets levels rest → opening_at (from (progress_of levels).at rest) ≡ Ok (Some opening)
+    → behind_header (progress_of levels) rest opening ≡ Ok next → next.depth ≡ 0 → next.at - (progress_of levels).at ≤ length rest → BeginsElement octets next.at
+whole_behind octets rest levels (Indefinite tag) next w read e none room =
+    elim (opens_ok (progress_of levels) next (tag + 1) e).1 [
+      | inl k ↦ absurd (omega (arith, ap (λ (q : Progress). q.depth) k.1, none))
+      | inr k ↦ absurd (omega (arith, k.1.depth_is, none))
+    ]
+whole_behind octets rest levels (Definite h) next w read e none room =
+    elim (definite_step (progress_of levels) rest h (Ok next) e) [
+      | inl k ↦ whole_closed octets rest levels next w none k.0 k.1 k.2
+      | inr k ↦ whole_passed octets rest levels next h w none room (definite_sound (progress_of levels).at rest h read) k.1
+    ]
+
 pub whole_there : (octets rest : List ℕ) (levels : List Level) (n : ℕ) → IsWalked octets levels rest → goes (progress_of levels) rest ≡ None → walk (progress_of levels) rest ≡ Ok (Whole n) → BeginsElement octets n
-whole_there octets rest levels n w stop e = ?
+whole_there octets rest levels n w stop e =
+    let a = bind_ok (opening_at (from (progress_of levels).at rest)) (gone_on nowhere (progress_of levels) rest) (Whole n) (sym (walk_stops (progress_of levels) rest nowhere stop) ∙ e) in
+    by_found a.0 a.1 a.2
+  where
+    by_found : (found : Option Opening) → opening_at (from (progress_of levels).at rest) ≡ Ok found → gone_on nowhere (progress_of levels) rest found ≡ Ok (Whole n) → BeginsElement octets n
+    by_found None read a = absurd cc
+    by_found (Some opening) read a =
+        let b = bind_ok (behind_header (progress_of levels) rest opening) (gone_to nowhere (progress_of levels) rest) (Whole n) a in
+        let end = ends_whole (progress_of levels) b.0 rest n b.2 in
+        subst (BeginsElement octets) end.2 (whole_behind octets rest levels opening b.0 w read b.1 end.1 end.0)
 
 pub wrong_there : (octets rest : List ℕ) (levels : List Level) (f : Fault) → IsWalked octets levels rest → goes (progress_of levels) rest ≡ None → walk (progress_of levels) rest ≡ Err f → IsWrongThere levels rest f.reason f.place
 wrong_there octets rest levels f w stop e = ?
