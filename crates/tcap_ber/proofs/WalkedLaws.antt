@@ -522,8 +522,87 @@ whole_there octets rest levels n w stop e =
         let end = ends_whole (progress_of levels) b.0 rest n b.2 in
         subst (BeginsElement octets) end.2 (whole_behind octets rest levels opening b.0 w read b.1 end.1 end.0)
 
+-- a fault of a header is one at its place
+wrong_header : (rest : List ℕ) (levels : List Level) (reason : Reason) (place offset : ℕ) → place ≡ (progress_of levels).at + offset → IsOpeningFault rest reason offset → IsWrongThere levels rest reason place
+wrong_header rest levels reasons.TagForm place offset at wrong = (wrong.0, omega (arith, at, walked_at levels, wrong.1))
+wrong_header rest levels reasons.LengthForm place offset at wrong = (wrong.0, offset, wrong.1, wrong.2, omega (arith, at, walked_at levels))
+wrong_header rest levels reasons.Indefinite place offset at wrong = (offset, wrong.0, wrong.1, omega (arith, at, walked_at levels))
+wrong_header rest levels reasons.TooLong place offset at wrong = inl (wrong.0, omega (arith, at, walked_at levels, wrong.1))
+wrong_header rest levels _ place offset at wrong = absurd wrong
+
+-- what is announced goes over the limit
+wrong_count : (rest front more : List ℕ) (levels : List Level) (count : ℕ) → (progress_of levels).depth ≢ 0 → rest ≡ front ++ more → Announces levels front count
+    → (progress_of levels).limit < (progress_of levels).at + count → IsWrongThere levels rest reasons.TooLong 0
+wrong_count rest front more [] count inside joined announces over = absurd (inside refl)
+wrong_count rest front more (level ∷ outer) count inside joined announces over =
+    inr (λ e. absurd cc, refl, (front, more, count, joined, announces, omega (arith, over, content_count (level ∷ outer))))
+
+wrong_opened : (octets rest : List ℕ) (levels : List Level) (tag : ℕ) (f : Fault) → IsWalked octets levels rest → FindsIndefinite rest tag → opened (progress_of levels) (tag + 1) ≡ Err f → IsWrongThere levels rest f.reason f.place
+wrong_opened octets rest levels tag f w i e =
+    elim (opens_err (progress_of levels) (tag + 1) f e) [
+      | inl k ↦ subst (λ (x : Fault). IsWrongThere levels rest x.reason x.place) k.1
+          (length i.tag, record { tag = i.tag; rest = i.rest; is_tag = i.is_tag; joined = i.joined; place_is = refl }, i.is_constructed, omega (arith, k.0, walked_depth levels, open_within w.left levels w.are_open), walked_at levels)
+      | inr k ↦
+          let front : List ℕ = i.tag ++ 0x80 ∷ [] in
+          let joined : rest ≡ front ++ i.rest = i.joined ∙ sym (append_assoc i.tag (0x80 ∷ []) i.rest) in
+          let count : tag + 1 ≡ length front = omega (arith, i.count_is, length-append i.tag (0x80 ∷ [])) in
+          subst (λ (x : Fault). IsWrongThere levels rest x.reason x.place) k.3
+          (wrong_count rest front i.rest levels (tag + 1) k.1 joined (inr (inl (i.tag, i.is_tag, i.is_constructed, omega (arith, k.0, walked_depth levels), refl, count))) k.2)
+    ]
+
+wrong_closed : (rest : List ℕ) (levels : List Level) (f : Fault) → 0 < (progress_of levels).depth → is_ending rest ≡ true → closed (progress_of levels) ≡ Err f → IsWrongThere levels rest f.reason f.place
+wrong_closed rest levels f inside ends e =
+    let behind = ending_there rest ends in
+    let k = closes_err (progress_of levels) f e in
+    let deep : 1 < length levels = omega (arith, k.0, inside, walked_depth levels) in
+    let outside : (progress_of levels).depth ≢ 0 = λ e. omega (arith, e, inside) in
+    subst (λ (x : Fault). IsWrongThere levels rest x.reason x.place) k.2 (wrong_count rest ending behind.0 levels 2 outside behind.1 (inr (inr (refl, deep, refl))) k.1)
+
+wrong_passed : (rest : List ℕ) (levels : List Level) (h : Header) (f : Fault) → FindsHeader rest h → (0 < (progress_of levels).depth → is_ending rest ≡ false) → passed (progress_of levels) (h.len + h.content_len) ≡ Err f
+    → IsWrongThere levels rest f.reason f.place
+wrong_passed rest levels h f d other e =
+    let k = passes_err (progress_of levels) (h.len + h.content_len) f e in
+    let front : List ℕ = d.tag ++ d.length_octets in
+    let joined : rest ≡ front ++ d.rest = d.joined ∙ sym (append_assoc d.tag d.length_octets d.rest) in
+    let no_end : front ≢ ending = not_ending rest front d.rest (other (omega (arith, k.0))) joined in
+    let count : h.len + h.content_len ≡ length front + h.content_len = omega (arith, d.len, length-append d.tag d.length_octets) in
+    subst (λ (x : Fault). IsWrongThere levels rest x.reason x.place) k.2
+    (wrong_count rest front d.rest levels (h.len + h.content_len) k.0 joined (inl (d.tag, d.length_octets, h.content_len, d.is_tag, d.is_length, d.within, refl, no_end, count)) k.1)
+
+wrong_behind : (octets rest : List ℕ) (levels : List Level) (opening : Opening) (f : Fault) → IsWalked octets levels rest → opening_at (from (progress_of levels).at rest) ≡ Ok (Some opening)
+    → behind_header (progress_of levels) rest opening ≡ Err f → IsWrongThere levels rest f.reason f.place
+wrong_behind octets rest levels (Indefinite tag) f w read e = wrong_opened octets rest levels tag f w (indefinite_sound (progress_of levels).at rest tag read) e
+wrong_behind octets rest levels (Definite h) f w read e =
+    elim (definite_step (progress_of levels) rest h (Err f) e) [
+      | inl k ↦ wrong_closed rest levels f k.0 k.1 k.2
+      | inr k ↦ wrong_passed rest levels h f (definite_sound (progress_of levels).at rest h read) k.0 k.1
+    ]
+
+-- such a walk has no fault of its own
+ends_well : (p next : Progress) (octets : List ℕ) (f : Fault) → gone_to nowhere p octets next ≡ Err f → ⊥
+ends_well p next octets f e =
+    elim (chosen (nat_lt (length octets) (next.at - p.at)) _ _ (Err f) e) [
+      | inl k ↦ absurd cc
+      | inr k ↦ elim (chosen (next.depth == 0) _ _ (Err f) k.1) [
+        | inl l ↦ absurd cc
+        | inr l ↦ absurd cc
+      ]
+    ]
+
 pub wrong_there : (octets rest : List ℕ) (levels : List Level) (f : Fault) → IsWalked octets levels rest → goes (progress_of levels) rest ≡ None → walk (progress_of levels) rest ≡ Err f → IsWrongThere levels rest f.reason f.place
-wrong_there octets rest levels f w stop e = ?
+wrong_there octets rest levels f w stop e =
+    elim (bind_err (opening_at (from (progress_of levels).at rest)) (gone_on nowhere (progress_of levels) rest) f (sym (walk_stops (progress_of levels) rest nowhere stop) ∙ e)) [
+      | inl a ↦ let k = opening_fault (progress_of levels).at rest f a in wrong_header rest levels f.reason f.place k.0 k.1 k.2
+      | inr a ↦ by_found a.0 a.1 a.2
+    ]
+  where
+    by_found : (found : Option Opening) → opening_at (from (progress_of levels).at rest) ≡ Ok found → gone_on nowhere (progress_of levels) rest found ≡ Err f → IsWrongThere levels rest f.reason f.place
+    by_found None read a = absurd cc
+    by_found (Some opening) read a =
+        elim (bind_err (behind_header (progress_of levels) rest opening) (gone_to nowhere (progress_of levels) rest) f a) [
+          | inl b ↦ wrong_behind octets rest levels opening f w read b
+          | inr b ↦ absurd (ends_well (progress_of levels) b.0 rest f b.2)
+        ]
 
 pub refused_there : (octets rest : List ℕ) (levels : List Level) (reason : Reason) (place : ℕ) → IsWalked octets levels rest → IsWrongThere levels rest reason place → walk (progress_of levels) rest ≡ Err (fault reason place)
 refused_there octets rest levels reason place w wrong = ?
@@ -546,4 +625,5 @@ pub noted_there : (octets rest behind : List ℕ) (levels others : List Level) (
 noted_there octets rest behind levels others noted w v r stop e = ?
 
 pub opened_innermost : (levels : List Level) → opened_at (length levels) levels 0 ≡ innermost levels []
-opened_innermost levels = ?
+opened_innermost [] = refl
+opened_innermost (level ∷ outer) = rw (eq-eqb (suc (length outer)) (suc (length outer)) refl) refl
