@@ -1,5 +1,5 @@
 -- Each place that the walk reaches is one that the definition names, and what it answers there is so.
-use Rattle.std.proofs.Common.{◌≡◌, ℕ, zero, suc, ◌+◌, ◌-◌, ◌*◌, ◌<◌, ◌≤◌, ◌⊎◌, Bool, true, false, List, [], ◌∷◌, ◌++◌, length, take, drop, Option, Some, None, Result, Ok, Err, refl, sym, ap, subst, ◌∙◌, inl, inr, arith, append_assoc}
+use Rattle.std.proofs.Common.{◌≡◌, ℕ, zero, suc, ◌+◌, ◌-◌, ◌*◌, ◌<◌, ◌≤◌, ◌⊎◌, Bool, true, false, List, [], ◌∷◌, ◌++◌, length, take, drop, Option, Some, None, Result, Ok, Err, refl, sym, ap, subst, ◌∙◌, inl, inr, arith, append_assoc, add-one}
 use Rattle.std.specs.Prelude.{◌≢◌, ◌%◌, nat_lt, ◌==◌, ◌&&◌, if◌then◌else◌}
 use Rattle.std.specs.List.{AllByRecursion, concat}
 use Rattle.std.proofs.lemmas.List.{take_at, drop_at, take-append-drop, length-append, length-take-le, length-drop, append-nil}
@@ -604,12 +604,134 @@ wrong_there octets rest levels f w stop e =
           | inr b ↦ absurd (ends_well (progress_of levels) b.0 rest f b.2)
         ]
 
+walk_step : (p : Progress) (octets : List ℕ) → walk p octets ≡ (opening_at (from p.at octets) >>= gone_on (walk_on (length octets)) p octets)
+walk_step p octets = ap (λ (n : ℕ). walk_on n p octets) (add-one (length octets))
+
+-- a fault of the header is what the walk answers
+refused_header : (rest : List ℕ) (levels : List Level) (reason : Reason) (place offset : ℕ) → place ≡ length (walked levels) + offset → IsOpeningFault rest reason offset → walk (progress_of levels) rest ≡ Err (fault reason place)
+refused_header rest levels reason place offset at wrong =
+    let place_is : (progress_of levels).at + offset ≡ place = omega (arith, at, walked_at levels) in
+    walk_step (progress_of levels) rest
+    ∙ ap (λ (r : Result (Option Opening) Fault). r >>= gone_on (walk_on (length rest)) (progress_of levels) rest) (opening_refused (progress_of levels).at offset rest reason wrong)
+    ∙ ap (λ (n : ℕ). Err (fault reason n)) place_is
+
+-- a fault behind the header is what it answers
+refused_behind : (p : Progress) (octets joined : List ℕ) (opening : Opening) (f : Fault) → octets ≡ joined → opening_at (from p.at joined) ≡ Ok (Some opening) → behind_header p octets opening ≡ Err f → walk p octets ≡ Err f
+refused_behind p octets joined opening f same read e =
+    walk_step p octets
+    ∙ ap (λ (r : Result (Option Opening) Fault). r >>= gone_on (walk_on (length octets)) p octets) (ap (λ (x : List ℕ). opening_at (from p.at x)) same ∙ read)
+    ∙ ap (λ (r : Result Progress Fault). r >>= gone_to (walk_on (length octets)) p octets) e
+
+opens_deep : (p : Progress) (len : ℕ) → depth_limit ≤ p.depth → opened p len ≡ Err (fault reasons.TooDeep p.at)
+opens_deep p len deep = rw (le-ltb p.depth depth_limit deep) refl
+
+opens_long : (p : Progress) (len : ℕ) → p.depth < depth_limit → p.depth ≢ 0 → p.limit < p.at + len → opened p len ≡ Err (fault reasons.TooLong 0)
+opens_long p len deep inside over = rw (lt-ltb p.depth depth_limit deep, ne_eqb p.depth 0 inside, lt-ltb p.limit (p.at + len) over) refl
+
+closes_long : (p : Progress) (octets : List ℕ) (h : Header) → 1 < p.depth → is_ending octets ≡ true → p.limit < p.at + 2 → behind_header p octets (Definite h) ≡ Err (fault reasons.TooLong 0)
+closes_long p octets h inside ends over =
+    rw (and_from (nat_lt 0 p.depth) (is_ending octets) (lt-ltb 0 p.depth (omega arith)) ends, ne_eqb p.depth 1 (λ e. omega arith), lt-ltb p.limit (p.at + 2) over) refl
+
+and_off : (b c : Bool) → c ≡ false → (b && c) ≡ false
+and_off false c e = refl
+and_off true c e = e
+
+passes_long : (p : Progress) (octets : List ℕ) (h : Header) → p.depth ≢ 0 → is_ending octets ≡ false → p.limit < p.at + (h.len + h.content_len) → behind_header p octets (Definite h) ≡ Err (fault reasons.TooLong 0)
+passes_long p octets h inside other over =
+    rw (and_off (nat_lt 0 p.depth) (is_ending octets) other, ne_eqb p.depth 0 inside, lt-ltb p.limit (p.at + (h.len + h.content_len)) over) refl
+
+-- a header of definite length that begins with two zero octets is these
+header_ending : (tag length_octets more behind : List ℕ) (n : ℕ) → IsTag tag → IsLength n length_octets → (tag ++ length_octets) ++ more ≡ ending ++ behind → tag ++ length_octets ≡ ending
+header_ending [] length_octets more behind n t l e = absurd t
+header_ending (first ∷ tag) [] more behind n t l e = absurd l
+header_ending (first ∷ []) (octet ∷ octets) more behind n t (inl l) e =
+    let a : first ≡ 0 = cc in
+    let b : octet ≡ 0 = cc in
+    ap (λ (x : ℕ). x ∷ octet ∷ octets) a ∙ ap (λ (x : ℕ). 0 ∷ x ∷ octets) b ∙ ap (λ (x : List ℕ). 0 ∷ 0 ∷ x) l.1
+header_ending (first ∷ []) (octet ∷ octets) more behind n t (inr l) e = let b : octet ≡ 0 = cc in absurd (omega (arith, b, l.0))
+header_ending (first ∷ second ∷ tag) (octet ∷ octets) more behind n (inl t) l e = absurd cc
+header_ending (first ∷ second ∷ tag) (octet ∷ octets) more behind n (inr t) l e = let a : first ≡ 0 = cc in absurd (omega (arith, ap (λ (x : ℕ). x % 32) a, t.0))
+
+from_not_true : (b : Bool) → (b ≡ true → ⊥) → b ≡ false
+from_not_true false not = refl
+from_not_true true not = absurd (not refl)
+
+header_no_ending : (tag length_octets more : List ℕ) (n : ℕ) → IsTag tag → IsLength n length_octets → tag ++ length_octets ≢ ending → is_ending ((tag ++ length_octets) ++ more) ≡ false
+header_no_ending tag length_octets more n t l other =
+    from_not_true (is_ending ((tag ++ length_octets) ++ more)) (λ ends.
+    let behind = ending_there ((tag ++ length_octets) ++ more) ends in
+    other (header_ending tag length_octets more behind.0 n t l behind.1))
+
+-- more announced than the limit allows is what the walk answers
+refused_count : (rest front more : List ℕ) (count : ℕ) (levels : List Level) → levels ≢ [] → rest ≡ front ++ more → Announces levels front count → content_limit < content_walked levels + count
+    → walk (progress_of levels) rest ≡ Err (fault reasons.TooLong 0)
+refused_count rest front more count [] some joined announces over = absurd (some refl)
+refused_count rest front more count (level ∷ outer) some joined (inl a) over =
+    let p : Progress = progress_of (level ∷ outer) in
+    let h : Header = record { tag_len = length a.0; len = length a.0 + length a.1; content_len = a.2 } in
+    let here : rest ≡ (a.0 ++ a.1) ++ more = joined ∙ ap (λ (x : List ℕ). x ++ more) a.6 in
+    let other : a.0 ++ a.1 ≢ ending = λ e. a.7 (a.6 ∙ e) in
+    let no_end : is_ending rest ≡ false = ap is_ending here ∙ header_no_ending a.0 a.1 more a.2 a.3 a.4 other in
+    let behind = passes_long p rest h (λ e. omega (arith, e)) no_end (omega (arith, over, a.8, ap length a.6, length-append a.0 a.1, content_count (level ∷ outer))) in
+    refused_behind p rest (a.0 ++ (a.1 ++ more)) (Definite h) (fault reasons.TooLong 0) (here ∙ append_assoc a.0 a.1 more) (definite_complete p.at a.2 a.0 a.1 more a.3 a.4 a.5) behind
+refused_count rest front more count (level ∷ outer) some joined (inr (inl a)) over =
+    let p : Progress = progress_of (level ∷ outer) in
+    let here : rest ≡ a.0 ++ 0x80 ∷ more = joined ∙ ap (λ (x : List ℕ). x ++ more) a.4 ∙ append_assoc a.0 (0x80 ∷ []) more in
+    let behind = opens_long p (length a.0 + 1) a.3 (λ e. omega (arith, e)) (omega (arith, over, a.5, ap length a.4, length-append a.0 (0x80 ∷ []), content_count (level ∷ outer))) in
+    refused_behind p rest (a.0 ++ 0x80 ∷ more) (Indefinite (length a.0)) (fault reasons.TooLong 0) here (indefinite_complete p.at a.0 more a.1 a.2) behind
+refused_count rest front more count (level ∷ outer) some joined (inr (inr a)) over =
+    let p : Progress = progress_of (level ∷ outer) in
+    let h : Header = record { tag_len = 1; len = 2; content_len = 0 } in
+    let here : rest ≡ ending ++ more = joined ∙ ap (λ (x : List ℕ). x ++ more) a.0 in
+    let read : opening_at (from p.at (ending ++ more)) ≡ Ok (Some (Definite h)) =
+    definite_complete p.at 0 (0 ∷ []) (0 ∷ []) more (inl ((λ e. omega (arith, e)), refl)) (inl (omega arith, refl, refl)) (omega arith) in
+    let behind = closes_long p rest h a.1 (ap is_ending here) (omega (arith, over, a.2, ap length a.0, content_count (level ∷ outer))) in
+    refused_behind p rest (ending ++ more) (Definite h) (fault reasons.TooLong 0) here read behind
+
+refused_deep : (rest : List ℕ) (levels : List Level) (offset : ℕ) (h : HasLengthOctet 0x80 rest offset) → IsConstructed h.tag → length levels ≡ depth_limit → walk (progress_of levels) rest ≡ Err (fault reasons.TooDeep (progress_of levels).at)
+refused_deep rest levels offset h constructed deep =
+    refused_behind (progress_of levels) rest (h.tag ++ 0x80 ∷ h.rest) (Indefinite (length h.tag)) (fault reasons.TooDeep (progress_of levels).at) h.joined
+    (indefinite_complete (progress_of levels).at h.tag h.rest h.is_tag constructed) (opens_deep (progress_of levels) (length h.tag + 1) (omega (arith, deep, walked_depth levels)))
+
 pub refused_there : (octets rest : List ℕ) (levels : List Level) (reason : Reason) (place : ℕ) → IsWalked octets levels rest → IsWrongThere levels rest reason place → walk (progress_of levels) rest ≡ Err (fault reason place)
-refused_there octets rest levels reason place w wrong = ?
+refused_there octets rest levels reasons.TagForm place w wrong = refused_header rest levels reasons.TagForm place 0 (omega (arith, wrong.1)) (wrong.0, refl)
+refused_there octets rest levels reasons.LengthForm place w wrong = refused_header rest levels reasons.LengthForm place wrong.1 wrong.4 (wrong.0, wrong.2, wrong.3)
+refused_there octets rest levels reasons.Indefinite place w wrong = refused_header rest levels reasons.Indefinite place wrong.0 wrong.3 (wrong.1, wrong.2)
+refused_there octets rest levels reasons.TooDeep place w wrong =
+    refused_deep rest levels wrong.0 wrong.1 wrong.2 wrong.3 ∙ ap (λ (n : ℕ). Err (fault reasons.TooDeep n)) (walked_at levels ∙ sym wrong.4)
+refused_there octets rest levels reasons.TooLong place w (inl wrong) = refused_header rest levels reasons.TooLong place 0 (omega (arith, wrong.1)) (wrong.0, refl)
+refused_there octets rest levels reasons.TooLong place w (inr wrong) =
+    refused_count rest wrong.2.0 wrong.2.1 wrong.2.2 levels wrong.0 wrong.2.3 wrong.2.4 wrong.2.5 ∙ ap (λ (n : ℕ). Err (fault reasons.TooLong n)) (sym wrong.1)
+refused_there octets rest levels _ place w wrong = absurd wrong
+
+-- the octets of what was walked and what is left
+all_octets : (octets rest : List ℕ) (levels : List Level) → IsWalked octets levels rest → length octets ≡ length (walked levels) + length rest
+all_octets octets rest levels w = ap length w.joined ∙ length-append (walked levels) rest
+
+octet_within : (octet offset : ℕ) (rest : List ℕ) → HasLengthOctet octet rest offset → offset < length rest
+octet_within octet offset rest h = omega (arith, h.place_is, ap length h.joined, length-append h.tag (octet ∷ h.rest))
+
+long_tag_within : (rest : List ℕ) → HasLongTag rest → 0 < length rest
+long_tag_within rest h = omega (arith, ap length h.joined)
+
+long_length_within : (rest tag length_octets behind : List ℕ) → IsTag tag → rest ≡ tag ++ length_octets ++ behind → 0 < length rest
+long_length_within rest [] length_octets behind t joined = absurd t
+long_length_within rest (first ∷ tag) length_octets behind t joined = omega (arith, ap length joined)
+
+some_within : (levels : List Level) → levels ≢ [] → 0 < length (walked levels)
+some_within [] some = absurd (some refl)
+some_within (level ∷ outer) some = omega (arith, length-append (walked outer) (begun level), begun_length level)
 
 -- what is wrong stands among the octets
 pub wrong_within : (octets rest : List ℕ) (levels : List Level) (reason : Reason) (place : ℕ) → IsWalked octets levels rest → IsWrongThere levels rest reason place → place < length octets
-wrong_within octets rest levels reason place w wrong = ?
+wrong_within octets rest levels reasons.TagForm place w wrong = omega (arith, all_octets octets rest levels w, wrong.1, long_tag_within rest wrong.0)
+wrong_within octets rest levels reasons.LengthForm place w wrong = omega (arith, all_octets octets rest levels w, wrong.4, octet_within wrong.0 wrong.1 rest wrong.3)
+wrong_within octets rest levels reasons.Indefinite place w wrong = omega (arith, all_octets octets rest levels w, wrong.3, octet_within 0x80 wrong.0 rest wrong.1)
+wrong_within octets rest levels reasons.TooDeep place w wrong = omega (arith, all_octets octets rest levels w, wrong.4, octet_within 0x80 wrong.0 rest wrong.1)
+wrong_within octets rest levels reasons.TooLong place w (inl wrong) =
+    let h = wrong.0 in omega (arith, all_octets octets rest levels w, wrong.1, long_length_within rest h.tag h.length_octets h.rest h.is_tag h.joined)
+wrong_within octets rest levels reasons.TooLong place w (inr wrong) = omega (arith, all_octets octets rest levels w, wrong.1, some_within levels wrong.0)
+wrong_within octets rest levels _ place w wrong = absurd wrong
 
 -- ---- the innermost open element
 
