@@ -23,7 +23,7 @@ use Rattle.tcap_ber.specs.Progress.{header_octets}
 use Rattle.tcap_ber.proofs.Steps.{chosen, bind_ok, bind_err, ok_is, err_is, ok_not_err}
 use Rattle.tcap_ber.proofs.OpeningLaws.{from, FindsIndefinite, IsOpeningFault, definite_sound, indefinite_sound, definite_complete, indefinite_complete, opening_fault, opening_refused, opening_within}
 use Rattle.tcap_ber.proofs.HeaderLaws.{FindsHeader}
-use Rattle.tcap_ber.proofs.WalkLaws.{Goes, left, Reaches, ReachesIn, walk, walk_stops, walk_goes, content_began, content_count, progress_of, note, notes, notes_goes, notes_there}
+use Rattle.tcap_ber.proofs.WalkLaws.{Goes, left, Reaches, ReachesIn, walk, walk_stops, walk_goes, content_began, content_count, progress_of, note, notes, notes_goes, notes_there, left_shorter, reaches_fewer, moved, passes_all, reaches_levels}
 
 pub nothing_walked : (octets : List ℕ) → IsWalked octets [] octets
 nothing_walked octets = record { left = depth_limit; are_open = refl; is_within = omega arith; joined = refl }
@@ -739,6 +739,159 @@ wrong_within octets rest levels _ place w wrong = absurd wrong
 abbrev pub opened_at : ℕ → List Level → ℕ → ℕ
 opened_at depth [] noted = noted
 opened_at depth (level ∷ outer) noted = if suc (length outer) == depth then length (walked outer) else opened_at depth outer noted
+
+tested : (b : Bool) → (b ≡ true) ⊎ (b ≡ false)
+tested true = inl refl
+tested false = inr refl
+
+-- a step is at most one deeper
+rises : (p next : Progress) (octets : List ℕ) → Goes p octets next → next.depth ≤ p.depth + 1
+rises p next octets g = by_opening g.opening g.behind
+  where
+    by_opening : (opening : Opening) → behind_header p octets opening ≡ Ok next → next.depth ≤ p.depth + 1
+    by_opening (Indefinite tag) e =
+        elim (opens_ok p next (tag + 1) e).1 [
+          | inl k ↦ omega (arith, ap (λ (q : Progress). q.depth) k.1)
+          | inr k ↦ omega (arith, k.1.depth_is)
+        ]
+    by_opening (Definite h) e =
+        elim (definite_step p octets h (Ok next) e) [
+          | inl k ↦ elim (closes_ok p next k.2) [
+            | inl l ↦ omega (arith, ap (λ (q : Progress). q.depth) l.1)
+            | inr l ↦ omega (arith, l.1.depth_is)
+          ]
+          | inr k ↦ elim (passes_ok p next (h.len + h.content_len) k.1) [
+            | inl l ↦ omega (arith, ap (λ (q : Progress). q.depth) l.1)
+            | inr l ↦ omega (arith, l.1.depth_is)
+          ]
+        ]
+
+note_at : (d noted : ℕ) (p next : Progress) → p.depth + 1 ≡ d → next.depth ≡ d → note d noted p next ≡ p.at
+note_at d noted p next a b = rw (eq-eqb (p.depth + 1) d a, eq-eqb next.depth d b) refl
+
+note_from : (d noted : ℕ) (p next : Progress) → p.depth + 1 ≢ d → note d noted p next ≡ noted
+note_from d noted p next a = rw (ne_eqb (p.depth + 1) d a) refl
+
+note_to : (d noted : ℕ) (p next : Progress) → next.depth ≢ d → note d noted p next ≡ noted
+note_to d noted p next b = rw (and_off (p.depth + 1 == d) (next.depth == d) (ne_eqb next.depth d b)) refl
+
+-- where a walk has come it has noted something
+notes_reach : (d n noted : ℕ) (p q : Progress) (octets rest : List ℕ) → ReachesIn n p octets q rest → (x : ℕ) × (notes d noted p octets ≡ notes d x q rest)
+notes_reach d zero noted p q octets rest r = (noted, ap (λ (x : Progress). notes d noted x octets) r.0 ∙ ap (notes d noted q) r.1)
+notes_reach d (suc n) noted p q octets rest r =
+    let k = notes_reach d n (note d noted p r.0) r.0 q (left p r.0 octets) rest r.2 in
+    (k.0, notes_goes d noted p r.0 octets r.1 ∙ k.1)
+
+same_note : (d one two : ℕ) (p next : Progress) (octets : List ℕ) → Goes p octets next → note d one p next ≡ note d two p next → notes d one p octets ≡ notes d two p octets
+same_note d one two p next octets g e = notes_goes d one p next octets g ∙ ap (λ (x : ℕ). notes d x next (left p next octets)) e ∙ sym (notes_goes d two p next octets g)
+
+-- a step to another depth
+unnoted : (d noted : ℕ) (p next : Progress) (octets : List ℕ) → Goes p octets next → next.depth ≢ d → notes d noted p octets ≡ notes d noted next (left p next octets)
+unnoted d noted p next octets g other = notes_goes d noted p next octets g ∙ ap (λ (x : ℕ). notes d x next (left p next octets)) (note_to d noted p next other)
+
+-- what was noted before it came to that depth makes no difference
+notes_any : (d n one two : ℕ) (p q : Progress) (octets rest : List ℕ) → p.depth < d → q.depth ≡ d → ReachesIn n p octets q rest → notes d one p octets ≡ notes d two p octets
+notes_any d zero one two p q octets rest low there r = absurd (omega (arith, low, there, ap (λ (x : Progress). x.depth) r.0))
+notes_any d (suc n) one two p q octets rest low there r =
+    let up = rises p r.0 octets r.1 in
+    elim (tested (r.0.depth == d)) [
+      | inl t ↦
+          let here : r.0.depth ≡ d = eqb-true r.0.depth d t in
+          let above : p.depth + 1 ≡ d = omega (arith, low, here, up) in
+          same_note d one two p r.0 octets r.1 (note_at d one p r.0 above here ∙ sym (note_at d two p r.0 above here))
+      | inr t ↦
+          let other = eqb-false r.0.depth d t in
+          let more = notes_any d n one two r.0 q (left p r.0 octets) rest (omega (arith, low, other, up)) there r.2 in
+          unnoted d one p r.0 octets r.1 other ∙ more ∙ sym (unnoted d two p r.0 octets r.1 other)
+    ]
+
+-- ---- the same octets, so much deeper
+
+abbrev shift : ℕ → Progress → Progress
+shift s p = record { at = p.at; depth = p.depth + s; limit = p.limit }
+
+same_moves : (s len depth deeper : ℕ) (p next other : Progress) → deeper ≡ depth + s → Moves p len depth next → Moves (shift s p) len deeper other → other ≡ shift s next
+same_moves s len depth deeper p next other e a b =
+    place_is other (shift s next) (omega (arith, a.at_is, b.at_is)) (omega (arith, e, a.depth_is, b.depth_is)) (b.limit_is ∙ sym a.limit_is)
+
+-- a step leads to the same place, so much deeper
+same_step : (s : ℕ) (p next other : Progress) (octets : List ℕ) → 0 < p.depth → Goes p octets next → Goes (shift s p) octets other → other ≡ shift s next
+same_step s p next other octets inside g k = by_opening g.opening g.behind (subst (λ (x : Opening). behind_header (shift s p) octets x ≡ Ok other) (opening_is k.opening g.opening (sym k.read ∙ g.read)) k.behind)
+  where
+    opening_is : (x y : Opening) → (let a : Result (Option Opening) Fault = Ok (Some x) in a) ≡ Ok (Some y) → x ≡ y
+    opening_is x y e = cc
+
+    by_opening : (opening : Opening) → behind_header p octets opening ≡ Ok next → behind_header (shift s p) octets opening ≡ Ok other → other ≡ shift s next
+    by_opening (Indefinite tag) a b =
+        elim (opens_ok p next (tag + 1) a).1 [
+          | inl m ↦ absurd (omega (arith, inside, m.0))
+          | inr m ↦ elim (opens_ok (shift s p) other (tag + 1) b).1 [
+            | inl n ↦ absurd (omega (arith, inside, n.0))
+            | inr n ↦ same_moves s (tag + 1) (p.depth + 1) (p.depth + s + 1) p next other (omega arith) m.1 n.1
+          ]
+        ]
+    by_opening (Definite h) a b =
+        elim (definite_step p octets h (Ok next) a) [
+          | inl m ↦ elim (definite_step (shift s p) octets h (Ok other) b) [
+            | inl n ↦ by_closing m.2 n.2
+            | inr n ↦ let f = n.0 (omega (arith, inside)) in let t = m.1 in absurd cc
+          ]
+          | inr m ↦ elim (definite_step (shift s p) octets h (Ok other) b) [
+            | inl n ↦ let f = m.0 inside in let t = n.1 in absurd cc
+            | inr n ↦ by_passing (h.len + h.content_len) m.1 n.1
+          ]
+        ]
+      where
+        by_closing : closed p ≡ Ok next → closed (shift s p) ≡ Ok other → other ≡ shift s next
+        by_closing a b =
+            elim (closes_ok p next a) [
+              | inl m ↦ absurd (omega (arith, g.inside, ap (λ (q : Progress). q.depth) m.1))
+              | inr m ↦ elim (closes_ok (shift s p) other b) [
+                | inl n ↦ absurd (omega (arith, inside, m.0, n.0))
+                | inr n ↦ same_moves s 2 (p.depth - 1) (p.depth + s - 1) p next other (omega (arith, inside)) m.1 n.1
+              ]
+            ]
+
+        by_passing : (len : ℕ) → passed p len ≡ Ok next → passed (shift s p) len ≡ Ok other → other ≡ shift s next
+        by_passing len a b =
+            elim (passes_ok p next len a) [
+              | inl m ↦ absurd (omega (arith, inside, m.0))
+              | inr m ↦ elim (passes_ok (shift s p) other len b) [
+                | inl n ↦ absurd (omega (arith, inside, n.0))
+                | inr n ↦ same_moves s len p.depth (p.depth + s) p next other refl m.1 n.1
+              ]
+            ]
+
+-- a step has octets
+not_still : (n : ℕ) (p q : Progress) (octets rest : List ℕ) → ReachesIn (suc n) p octets q rest → octets ≢ rest
+not_still n p q octets rest r e =
+    omega (arith, ap length e, left_shorter p r.0 octets r.1, r.1.some, reaches_fewer r.0 q (left p r.0 octets) rest (n, r.2))
+
+-- while an element is open that is open so much less deep, nothing is noted at depths down to its own
+notes_deep : (d s n m noted : ℕ) (p q r : Progress) (octets rest : List ℕ) → d ≤ s + 1 → 0 < p.depth → ReachesIn n p octets q rest → ReachesIn m (shift s p) octets r rest → notes d noted (shift s p) octets ≡ notes d noted r rest
+notes_deep d s zero zero noted p q r octets rest low inside a b = ap (λ (x : Progress). notes d noted x octets) b.0 ∙ ap (notes d noted r) b.1
+notes_deep d s zero (suc m) noted p q r octets rest low inside a b = absurd (not_still m (shift s p) r octets rest b a.1)
+notes_deep d s (suc n) zero noted p q r octets rest low inside a b = absurd (not_still n p q octets rest a b.1)
+notes_deep d s (suc n) (suc m) noted p q r octets rest low inside a b =
+    let same = same_step s p a.0 b.0 octets inside a.1 b.1 in
+    let kept : note d noted (shift s p) b.0 ≡ noted = note_from d noted (shift s p) b.0 (λ e. omega (arith, e, low, inside)) in
+    let more : ReachesIn m (shift s a.0) (left p a.0 octets) r rest = subst (λ (x : Progress). ReachesIn m x (left (shift s p) x octets) r rest) same b.2 in
+    notes_goes d noted (shift s p) b.0 octets b.1
+    ∙ ap (λ (x : ℕ). notes d x b.0 (left (shift s p) b.0 octets)) kept
+    ∙ ap (λ (x : Progress). notes d noted x (left (shift s p) x octets)) same
+    ∙ notes_deep d s n m noted a.0 q r (left p a.0 octets) rest low a.1.inside a.2 more
+
+-- nothing is noted over the items of an open element
+notes_items : (d depth noted : ℕ) (items : List (List ℕ)) (rest : List ℕ) (p : Progress) → AllByRecursion (λ item. ((tag content : List ℕ) × IsNested depth tag content item) × (item ≢ ending)) items
+    → d ≤ p.depth → 0 < p.depth → p.depth + depth ≤ depth_limit → p.at + length (concat items) ≤ p.limit → notes d noted p (concat items ++ rest) ≡ notes d noted (moved (length (concat items)) p) rest
+notes_items d depth noted items rest p all low inside deep within =
+    let first : Progress = record { at = p.at; depth = 1; limit = p.limit } in
+    let same : shift (p.depth - 1) first ≡ p = place_is (shift (p.depth - 1) first) p refl (omega (arith, inside)) refl in
+    let a = passes_all depth items rest first all (omega arith) (omega (arith, deep, inside)) within in
+    let b = passes_all depth items rest p all inside deep within in
+    let c = subst (λ (x : Progress). ReachesIn b.0 x (concat items ++ rest) (moved (length (concat items)) p) rest) (sym same) b.1 in
+    ap (λ (x : Progress). notes d noted x (concat items ++ rest)) (sym same)
+    ∙ notes_deep d (p.depth - 1) a.0 b.0 noted first (moved (length (concat items)) first) (moved (length (concat items)) p) (concat items ++ rest) rest (omega (arith, low, inside)) (omega arith) a.1 c
 
 -- the walk notes that of the open element at the depth where it stops
 pub noted_there : (octets rest behind : List ℕ) (levels others : List Level) (noted : ℕ) → IsWalked octets levels rest → IsWalked octets others behind → Reaches (progress_of levels) rest (progress_of others) behind
