@@ -893,11 +893,119 @@ notes_items d depth noted items rest p all low inside deep within =
     ap (λ (x : Progress). notes d noted x (concat items ++ rest)) (sym same)
     ∙ notes_deep d (p.depth - 1) a.0 b.0 noted first (moved (length (concat items)) first) (moved (length (concat items)) p) (concat items ++ rest) rest (omega (arith, low, inside)) (omega arith) a.1 c
 
+-- ---- with these elements open
+
+outer_content : (level : Level) (outer : List Level) → content_walked outer ≤ content_walked (level ∷ outer)
+outer_content level [] = omega arith
+outer_content level (next ∷ outer) = omega arith
+
+fresh_content : (level : Level) (outer : List Level) → content_walked (fresh level.tag ∷ outer) ≤ content_walked (level ∷ outer)
+fresh_content level [] = omega arith
+fresh_content level (next ∷ outer) = omega (arith, length-append level.tag (0x80 ∷ concat level.items), length-append level.tag (0x80 ∷ []))
+
+fresh_began : (level : Level) (outer : List Level) → content_began (fresh level.tag ∷ outer) ≡ content_began (level ∷ outer)
+fresh_began level [] = refl
+fresh_began level (next ∷ outer) = refl
+
+full_length : (level : Level) (outer : List Level) → length (walked (level ∷ outer)) ≡ length (walked (fresh level.tag ∷ outer)) + length (concat level.items)
+full_length level outer = omega (arith, length-append (walked outer) (begun level), length-append level.tag (0x80 ∷ concat level.items), fresh_length level.tag outer)
+
+-- what was left where an element opened
+opened_rest : (level : Level) (rest : List ℕ) → begun level ++ rest ≡ level.tag ++ 0x80 ∷ (concat level.items ++ rest)
+opened_rest level rest = append_assoc level.tag (0x80 ∷ concat level.items) rest
+
+-- before the innermost opened
+outer_walked : (octets rest : List ℕ) (level : Level) (outer : List Level) → IsWalked octets (level ∷ outer) rest → IsWalked octets outer (level.tag ++ 0x80 ∷ (concat level.items ++ rest))
+outer_walked octets rest level outer w = record {
+  left = suc w.left;
+  are_open = w.are_open.3;
+  is_within = omega (arith, outer_content level outer, w.is_within);
+  joined = w.joined ∙ append_assoc (walked outer) (begun level) rest ∙ ap (λ (x : List ℕ). walked outer ++ x) (opened_rest level rest);
+}
+
+opens_within : (p : Progress) (len : ℕ) → p.depth < depth_limit → p.depth ≢ 0 → p.at + len ≤ p.limit → opened p len ≡ Ok (record { at = p.at + len; depth = p.depth + 1; limit = p.limit })
+opens_within p len deep inside within = rw (lt-ltb p.depth depth_limit deep, ne_eqb p.depth 0 inside, le-ltb p.limit (p.at + len) within) refl
+
+opens_fresh : (tag : List ℕ) (levels : List Level) → length levels < depth_limit → content_walked (fresh tag ∷ levels) ≤ content_limit → opened (progress_of levels) (length tag + 1) ≡ Ok (progress_of (fresh tag ∷ levels))
+opens_fresh tag [] deep within = ap (λ (x : Progress). Ok x) (place_is _ (progress_of (fresh tag ∷ [])) (omega (arith, fresh_length tag [])) refl (omega arith))
+opens_fresh tag (level ∷ outer) deep within =
+    let p : Progress = progress_of (level ∷ outer) in
+    let len = fresh_length tag (level ∷ outer) in
+    let room : p.at + (length tag + 1) ≤ p.limit = omega (arith, within, len, content_count (fresh tag ∷ level ∷ outer)) in
+    opens_within p (length tag + 1) deep (λ e. omega (arith, e)) room ∙ ap (λ (x : Progress). Ok x) (place_is _ (progress_of (fresh tag ∷ level ∷ outer)) (omega (arith, len)) (omega arith) refl)
+
+goes_fresh : (tag more : List ℕ) (levels : List Level) → IsTag tag → IsConstructed tag → length levels < depth_limit → content_walked (fresh tag ∷ levels) ≤ content_limit → Goes (progress_of levels) (tag ++ 0x80 ∷ more) (progress_of (fresh tag ∷ levels))
+goes_fresh tag more levels is_tag is_constructed deep within = record {
+  opening = Indefinite (length tag);
+  read = indefinite_complete (progress_of levels).at tag more is_tag is_constructed;
+  behind = opens_fresh tag levels deep within;
+  room = omega (arith, fresh_length tag levels, walked_at levels, length-append tag (0x80 ∷ more));
+  some = omega (arith, fresh_length tag levels, walked_at levels);
+  inside = omega arith;
+}
+
+-- from where an element opened to where the walk is in it
+notes_level : (d noted : ℕ) (octets rest : List ℕ) (level : Level) (outer : List Level) → IsWalked octets (level ∷ outer) rest → d ≤ suc (length outer)
+    → notes d noted (progress_of outer) (level.tag ++ 0x80 ∷ (concat level.items ++ rest)) ≡ notes d (note d noted (progress_of outer) (progress_of (fresh level.tag ∷ outer))) (progress_of (level ∷ outer)) rest
+notes_level d noted octets rest level outer w low =
+    let p : Progress = progress_of outer in
+    let q : Progress = progress_of (fresh level.tag ∷ outer) in
+    let here : List ℕ = level.tag ++ 0x80 ∷ (concat level.items ++ rest) in
+    let behind : List ℕ = concat level.items ++ rest in
+    let x : ℕ = note d noted p q in
+    let o = w.are_open in
+    let count = open_within w.left (level ∷ outer) o in
+    let g = goes_fresh level.tag behind outer o.0 o.1 (omega (arith, count)) (omega (arith, fresh_content level outer, w.is_within)) in
+    let at : q.at ≡ p.at + length (level.tag ++ 0x80 ∷ []) = omega (arith, fresh_length level.tag outer, walked_at outer, length-append level.tag (0x80 ∷ [])) in
+    let left_is : left p q here ≡ behind = left_behind p q here (level.tag ++ 0x80 ∷ []) behind (sym (append_assoc level.tag (0x80 ∷ []) behind)) at in
+    let room : q.at + length (concat level.items) ≤ q.limit = omega (arith, full_length level outer, fresh_began level outer, content_count (level ∷ outer), w.is_within) in
+    let end : moved (length (concat level.items)) q ≡ progress_of (level ∷ outer) = place_is _ (progress_of (level ∷ outer)) (sym (full_length level outer)) refl (omega (arith, fresh_began level outer)) in
+    notes_goes d noted p q here g
+    ∙ ap (notes d x q) left_is
+    ∙ notes_items d w.left x level.items rest q o.2 low (omega arith) (omega (arith, count)) room
+    ∙ ap (λ (y : Progress). notes d x y rest) end
+
+-- the walk has noted that of each open element
+notes_levels : (d : ℕ) (octets rest : List ℕ) (levels : List Level) → IsWalked octets levels rest → d ≤ length levels → notes d 0 at_first octets ≡ notes d (opened_at d levels 0) (progress_of levels) rest
+notes_levels d octets rest [] w low = ap (notes d 0 at_first) w.joined
+notes_levels d octets rest (level ∷ outer) w low =
+    let p : Progress = progress_of outer in
+    let q : Progress = progress_of (fresh level.tag ∷ outer) in
+    let here : List ℕ = level.tag ++ 0x80 ∷ (concat level.items ++ rest) in
+    let v = outer_walked octets rest level outer w in
+    let last : ℕ → ℕ = λ x. notes d x (progress_of (level ∷ outer)) rest in
+    elim (tested (suc (length outer) == d)) [
+      | inl t ↦
+          let deep : suc (length outer) ≡ d = eqb-true (suc (length outer)) d t in
+          let r = reaches_levels octets here outer v in
+          let k = notes_reach d r.0 0 at_first p octets here r.1 in
+          let is : opened_at d (level ∷ outer) 0 ≡ length (walked outer) = rw t refl in
+          k.1 ∙ notes_level d k.0 octets rest level outer w low ∙ ap last (note_at d k.0 p q (omega (arith, deep, walked_depth outer)) deep ∙ walked_at outer ∙ sym is)
+      | inr t ↦
+          let other = eqb-false (suc (length outer)) d t in
+          let x : ℕ = opened_at d outer 0 in
+          let is : opened_at d (level ∷ outer) 0 ≡ x = rw t refl in
+          notes_levels d octets here outer v (omega (arith, low, other)) ∙ notes_level d x octets rest level outer w low ∙ ap last (note_to d x p q other ∙ sym is)
+    ]
+
 -- the walk notes that of the open element at the depth where it stops
 pub noted_there : (octets rest behind : List ℕ) (levels others : List Level) (noted : ℕ) → IsWalked octets levels rest → IsWalked octets others behind → Reaches (progress_of levels) rest (progress_of others) behind
     → goes (progress_of others) behind ≡ None → (length others ≤ length levels → noted ≡ opened_at (length others) levels 0)
     → notes (length others) noted (progress_of levels) rest ≡ opened_at (length others) others 0
-noted_there octets rest behind levels others noted w v r stop e = ?
+noted_there octets rest behind levels others noted w v r stop e =
+    let d : ℕ = length others in
+    let end : notes d 0 at_first octets ≡ opened_at d others 0 =
+    notes_levels d octets behind others v (omega arith) ∙ notes_there d (opened_at d others 0) (progress_of others) behind stop in
+    elim (tested (nat_lt (length levels) d)) [
+      | inl t ↦
+          let k = reaches_levels octets rest levels w in
+          let x = notes_reach d k.0 0 at_first (progress_of levels) octets rest k.1 in
+          let low : (progress_of levels).depth < d = omega (arith, walked_depth levels, ltb-true (length levels) d t) in
+          notes_any d r.0 noted x.0 (progress_of levels) (progress_of others) rest behind low (walked_depth others) r.1 ∙ sym x.1 ∙ end
+      | inr t ↦
+          let low : d ≤ length levels = ltb-false (length levels) d t in
+          ap (λ (x : ℕ). notes d x (progress_of levels) rest) (e low) ∙ sym (notes_levels d octets rest levels w low) ∙ end
+    ]
 
 pub opened_innermost : (levels : List Level) → opened_at (length levels) levels 0 ≡ innermost levels []
 opened_innermost [] = refl
