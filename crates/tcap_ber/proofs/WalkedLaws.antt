@@ -1,8 +1,8 @@
 -- Each place that the walk reaches is one that the definition names, and what it answers there is so.
-use Rattle.std.proofs.Common.{◌≡◌, ℕ, zero, suc, ◌+◌, ◌-◌, ◌*◌, ◌<◌, ◌≤◌, ◌⊎◌, Bool, true, false, List, [], ◌∷◌, ◌++◌, length, take, drop, Option, Some, None, Result, Ok, Err, refl, sym, ap, subst, ◌∙◌, inl, inr, arith, append_assoc, add-one}
+use Rattle.std.proofs.Common.{◌≡◌, ℕ, zero, suc, ◌+◌, ◌-◌, ◌<◌, ◌≤◌, ◌⊎◌, Bool, true, false, List, [], ◌∷◌, ◌++◌, length, take, drop, Option, Some, None, Result, Ok, Err, refl, sym, ap, subst, ◌∙◌, inl, inr, arith, append_assoc, add-one}
 use Rattle.std.specs.Prelude.{◌≢◌, ◌%◌, nat_lt, ◌==◌, ◌&&◌, if◌then◌else◌}
 use Rattle.std.specs.List.{AllByRecursion, concat}
-use Rattle.std.proofs.lemmas.List.{take_at, drop_at, take-append-drop, length-append, length-take-le, length-drop, append-nil}
+use Rattle.std.proofs.lemmas.List.{drop_at, take-append-drop, length-append, length-take-le, append-nil}
 use Rattle.std.proofs.lemmas.List.Folds.{concat-append}
 use Rattle.std.proofs.lemmas.Bool.{ltb-true, ltb-false, lt-ltb, le-ltb, eqb-true, eqb-false, eq-eqb, ne_eqb, and_parts, and_from}
 use Rattle.tcap_ber.specs.declared.fault.Fault.{Fault}
@@ -14,16 +14,15 @@ use Rattle.tcap_ber.specs.declared.header.Opening.TheVariants.{Definite, Indefin
 use Rattle.tcap_ber.specs.declared.progress.Progress.{Progress}
 use Rattle.tcap_ber.specs.declared.element.Outer.{Outer}
 use Rattle.tcap_ber.specs.declared.element.Outer.TheVariants.{Whole, Need}
-use Rattle.tcap_ber.specs.Element.{IsTag, IsLength, content_limit, IsConstructed, ending, IsDefinite, IsIndefinite, IsNested, depth_limit, IsElement}
-use Rattle.tcap_ber.specs.Header.{HasLongTag, HasLengthOctet, HasLongLength}
+use Rattle.tcap_ber.specs.Element.{IsTag, IsLength, content_limit, IsConstructed, ending, IsDefinite, IsNested, depth_limit, IsElement}
+use Rattle.tcap_ber.specs.Header.{HasLongTag, HasLengthOctet}
 use Rattle.tcap_ber.specs.Walked.{Level, walked, AreOpen, content_walked, IsWalked, Announces, IsWrongThere, innermost, BeginsElement}
 use Rattle.tcap_ber.specs.HeaderReading.{fault, ◌>>=◌, opening_at}
-use Rattle.tcap_ber.specs.Walking.{is_ending, within_limit, opened, closed, passed, behind_header, gone_to, gone_on, walk_on, at_first, goes_to, goes_by, goes}
-use Rattle.tcap_ber.specs.Progress.{header_octets}
+use Rattle.tcap_ber.specs.Walking.{is_ending, within_limit, opened, closed, passed, behind_header, gone_to, gone_on, walk_on, at_first, goes}
 use Rattle.tcap_ber.proofs.Steps.{chosen, bind_ok, bind_err, ok_is, err_is, ok_not_err}
-use Rattle.tcap_ber.proofs.OpeningLaws.{from, FindsIndefinite, IsOpeningFault, definite_sound, indefinite_sound, definite_complete, indefinite_complete, opening_fault, opening_refused, opening_within}
+use Rattle.tcap_ber.proofs.OpeningLaws.{from, FindsIndefinite, IsOpeningFault, definite_sound, indefinite_sound, definite_complete, indefinite_complete, opening_fault, opening_refused}
 use Rattle.tcap_ber.proofs.HeaderLaws.{FindsHeader}
-use Rattle.tcap_ber.proofs.WalkLaws.{Goes, left, Reaches, ReachesIn, walk, walk_stops, walk_goes, content_began, content_count, progress_of, note, notes, notes_goes, notes_there, left_shorter, reaches_fewer, moved, passes_all, reaches_levels}
+use Rattle.tcap_ber.proofs.WalkLaws.{Goes, left, Reaches, ReachesIn, walk, walk_stops, content_began, content_count, progress_of, note, notes, notes_goes, notes_there, left_shorter, reaches_fewer, moved, passes_all, reaches_levels}
 
 pub nothing_walked : (octets : List ℕ) → IsWalked octets [] octets
 nothing_walked octets = record { left = depth_limit; are_open = refl; is_within = omega arith; joined = refl }
@@ -50,10 +49,12 @@ place_is p q a b c =
     let three : depth ≡ q = ap (λ (n : ℕ). record { at = q.at; depth = q.depth; limit = n }) c in
     one ∙ two ∙ three
 
+-- the walk stands behind what was walked
 walked_at : (levels : List Level) → (progress_of levels).at ≡ length (walked levels)
 walked_at [] = refl
 walked_at (level ∷ outer) = refl
 
+-- as deep as elements are open
 walked_depth : (levels : List Level) → (progress_of levels).depth ≡ length levels
 walked_depth [] = refl
 walked_depth (level ∷ outer) = refl
@@ -81,6 +82,7 @@ record Moves (p : Progress) (len depth : ℕ) (next : Progress) : Type 0 where
   pub limit_is : next.limit ≡ p.limit
   pub within : next.at ≤ p.limit
 
+-- a step within the limit
 moves : (p : Progress) (len depth : ℕ) (next : Progress) → within_limit p (record { at = p.at + len; depth = depth; limit = p.limit }) ≡ Ok next → Moves p len depth next
 moves p len depth next e =
     let w = within_ok p (record { at = p.at + len; depth = depth; limit = p.limit }) next e in
@@ -98,6 +100,7 @@ opens_ok p next len e =
       | inr k ↦ absurd cc
     ]
 
+-- why none opens
 opens_err : (p : Progress) (len : ℕ) (f : Fault) → opened p len ≡ Err f
     → ((depth_limit ≤ p.depth) × (fault reasons.TooDeep p.at ≡ f)) ⊎ ((p.depth < depth_limit) × (p.depth ≢ 0) × (p.limit < p.at + len) × (fault reasons.TooLong 0 ≡ f))
 opens_err p len f e =
@@ -109,6 +112,7 @@ opens_err p len f e =
       | inr k ↦ inl (ltb-false p.depth depth_limit k.0, err_is {A = Progress} (fault reasons.TooDeep p.at) f k.1)
     ]
 
+-- the outermost element ends, or one in another
 closes_ok : (p next : Progress) → closed p ≡ Ok next
     → ((p.depth ≡ 1) × (record { at = p.at + 2; depth = 0; limit = p.limit } ≡ next)) ⊎ ((p.depth ≢ 1) × Moves p 2 (p.depth - 1) next)
 closes_ok p next e =
@@ -117,6 +121,7 @@ closes_ok p next e =
       | inr l ↦ inr (eqb-false p.depth 1 l.0, moves p 2 (p.depth - 1) next l.1)
     ]
 
+-- why none ends
 closes_err : (p : Progress) (f : Fault) → closed p ≡ Err f → (p.depth ≢ 1) × (p.limit < p.at + 2) × (fault reasons.TooLong 0 ≡ f)
 closes_err p f e =
     elim (chosen (p.depth == 1) _ _ (Err f) e) [
@@ -124,6 +129,7 @@ closes_err p f e =
       | inr l ↦ let w = within_err p _ f l.1 in (eqb-false p.depth 1 l.0, w.0, w.1)
     ]
 
+-- behind an outermost element of definite length, or one in another
 passes_ok : (p next : Progress) (len : ℕ) → passed p len ≡ Ok next
     → ((p.depth ≡ 0) × (record { at = p.at + len; depth = 0; limit = p.limit } ≡ next)) ⊎ ((p.depth ≢ 0) × Moves p len p.depth next)
 passes_ok p next len e =
@@ -132,6 +138,7 @@ passes_ok p next len e =
       | inr l ↦ inr (eqb-false p.depth 0 l.0, moves p len p.depth next l.1)
     ]
 
+-- why it is not passed
 passes_err : (p : Progress) (len : ℕ) (f : Fault) → passed p len ≡ Err f → (p.depth ≢ 0) × (p.limit < p.at + len) × (fault reasons.TooLong 0 ≡ f)
 passes_err p len f e =
     elim (chosen (p.depth == 0) _ _ (Err f) e) [
@@ -166,30 +173,37 @@ grow level item = record { tag = level.tag; items = level.items ++ item ∷ [] }
 abbrev whole : Level → List ℕ
 whole level = level.tag ++ 0x80 ∷ concat level.items ++ ending
 
+-- one item more adds its octets
 concat_push : (items : List (List ℕ)) (item : List ℕ) → concat (items ++ item ∷ []) ≡ concat items ++ item
 concat_push items item = concat-append items (item ∷ []) ∙ ap (λ (x : List ℕ). concat items ++ x) (append-nil item)
 
+-- what holds of each holds with one more
 all_push : {X : Type 0} (P : X → Type 0) (items : List X) (item : X) → AllByRecursion P items → P item → AllByRecursion P (items ++ item ∷ [])
 all_push P [] item a b = (b, tt)
 all_push P (first ∷ more) item a b = (a.0, all_push P more item a.1 b)
 
+-- one item more is walked behind the others
 grown_walked : (level : Level) (outer : List Level) (item : List ℕ) → walked (grow level item ∷ outer) ≡ walked (level ∷ outer) ++ item
 grown_walked level outer item =
     ap (λ (x : List ℕ). walked outer ++ (level.tag ++ 0x80 ∷ x)) (concat_push level.items item)
     ∙ ap (λ (x : List ℕ). walked outer ++ x) (sym (append_assoc level.tag (0x80 ∷ concat level.items) item))
     ∙ sym (append_assoc (walked outer) (begun level) item)
 
+-- the outermost content begins where it began
 grown_began : (level : Level) (outer : List Level) (item : List ℕ) → content_began (grow level item ∷ outer) ≡ content_began (level ∷ outer)
 grown_began level [] item = refl
 grown_began level (next ∷ outer) item = refl
 
+-- the count of octets that were walked grows by the item
 grown_length : (level : Level) (outer : List Level) (item : List ℕ) → length (walked (grow level item ∷ outer)) ≡ length (walked (level ∷ outer)) + length item
 grown_length level outer item = ap length (grown_walked level outer item) ∙ length-append (walked (level ∷ outer)) item
 
+-- the outermost content that was walked grows by the item
 grown_content : (level : Level) (outer : List Level) (item : List ℕ) → content_walked (grow level item ∷ outer) ≡ content_walked (level ∷ outer) + length item
 grown_content level outer item =
     omega (arith, content_count (grow level item ∷ outer), content_count (level ∷ outer), grown_began level outer item, grown_length level outer item)
 
+-- elements stay open with one item more
 grown_open : (n : ℕ) (level : Level) (outer : List Level) (item : List ℕ) → AreOpen n (level ∷ outer) → ((tag content : List ℕ) × IsNested n tag content item) → item ≢ ending → AreOpen n (grow level item ∷ outer)
 grown_open n level outer item o nested other =
     (o.0, o.1, all_push (λ x. ((tag content : List ℕ) × IsNested n tag content x) × (x ≢ ending)) level.items item o.2 (nested, other), o.3)
@@ -224,6 +238,7 @@ record FindsDefinite (rest : List ℕ) (len : ℕ) : Type 0 where
   pub joined : rest ≡ item ++ behind
   pub len_is : length item ≡ len
 
+-- a header of definite length whose content is there begins an element
 finds_definite : (rest : List ℕ) (h : Header) → FindsHeader rest h → h.len + h.content_len ≤ length rest → FindsDefinite rest (h.len + h.content_len)
 finds_definite rest h f room =
     let header : List ℕ = f.tag ++ f.length_octets in
@@ -270,9 +285,11 @@ not_ending rest front behind e joined same =
 whole_length : (level : Level) → length (whole level) ≡ length (begun level) + 2
 whole_length level = length-append (begun level) ending
 
+-- an open element has octets
 begun_length : (level : Level) → 1 ≤ length (begun level)
 begun_length level = omega (arith, length-append level.tag (0x80 ∷ concat level.items))
 
+-- an element of indefinite length is no ending
 whole_no_ending : (level : Level) → whole level ≢ ending
 whole_no_ending level same = omega (arith, ap length same, whole_length level, begun_length level)
 
@@ -285,6 +302,7 @@ first_content : (level : Level) (outer : List Level) → length (concat level.it
 first_content level [] = omega arith
 first_content level (next ∷ outer) = omega (arith, length-append level.tag (0x80 ∷ concat level.items))
 
+-- an ending makes the innermost open element an item
 closed_length : (level : Level) (outer : List Level) → length (walked (level ∷ outer)) + 2 ≡ length (walked outer) + length (whole level)
 closed_length level outer = omega (arith, length-append (walked outer) (begun level), whole_length level)
 
@@ -308,9 +326,11 @@ fresh_walked octets behind tag m levels o is_tag is_constructed within joined = 
   joined = joined ∙ ap (λ (x : List ℕ). walked levels ++ x) (sym (append_assoc tag (0x80 ∷ []) behind)) ∙ sym (append_assoc (walked levels) (tag ++ 0x80 ∷ []) behind);
 }
 
+-- the count of octets that were walked grows by the header
 fresh_length : (tag : List ℕ) (levels : List Level) → length (walked (fresh tag ∷ levels)) ≡ length (walked levels) + (length tag + 1)
 fresh_length tag levels = omega (arith, length-append (walked levels) (tag ++ 0x80 ∷ []), length-append tag (0x80 ∷ []))
 
+-- the place behind the header, and its content is within the limit
 fresh_place : (tag : List ℕ) (levels : List Level) (next : Progress)
     → (((progress_of levels).depth ≡ 0) × (record { at = (progress_of levels).at + (length tag + 1); depth = 1; limit = (progress_of levels).at + (length tag + 1) + content_limit } ≡ next))
     ⊎ (((progress_of levels).depth ≢ 0) × Moves (progress_of levels) (length tag + 1) ((progress_of levels).depth + 1) next)
@@ -323,6 +343,7 @@ fresh_place tag (level ∷ outer) next (inr k) =
     (place_is next (progress_of (fresh tag ∷ level ∷ outer)) (omega (arith, k.1.at_is, l)) (omega (arith, k.1.depth_is)) k.1.limit_is,
     omega (arith, k.1.at_is, k.1.within, l, content_count (level ∷ outer), content_count (fresh tag ∷ level ∷ outer)))
 
+-- a step over a header of indefinite length
 step_opened : (octets rest : List ℕ) (tag : ℕ) (levels : List Level) (next : Progress) → IsWalked octets levels rest → FindsIndefinite rest tag → opened (progress_of levels) (tag + 1) ≡ Ok next → Stepped octets levels rest next
 step_opened octets rest tag levels next w f e =
     let o = opens_ok (progress_of levels) next (length f.tag + 1) (rw (← f.count_is) e) in
@@ -442,6 +463,7 @@ ends_whole p next octets n e =
     whole_is : (n m : ℕ) → (let a : Result Outer Fault = Ok (Whole n) in a) ≡ Ok (Whole m) → n ≡ m
     whole_is n m e = cc
 
+-- an element that may be nested to the limit is an element
 nested_element : (tag content item : List ℕ) → IsNested depth_limit tag content item → IsElement tag content item
 unfolding IsElement
 nested_element tag content item nested = nested
@@ -497,6 +519,7 @@ whole_passed octets rest (level ∷ outer) next h w none room f e =
       | inr k ↦ absurd (omega (arith, k.1.depth_is, none))
     ]
 
+-- the outermost element ends behind an ending or an element of definite length
 whole_behind : (octets rest : List ℕ) (levels : List Level) (opening : Opening) (next : Progress) → IsWalked octets levels rest → opening_at (from (progress_of levels).at rest) ≡ Ok (Some opening)
     → behind_header (progress_of levels) rest opening ≡ Ok next → next.depth ≡ 0 → next.at - (progress_of levels).at ≤ length rest → BeginsElement octets next.at
 whole_behind octets rest levels (Indefinite tag) next w read e none room =
@@ -537,6 +560,7 @@ wrong_count rest front more [] count inside joined announces over = absurd (insi
 wrong_count rest front more (level ∷ outer) count inside joined announces over =
     inr (λ e. absurd cc, refl, (front, more, count, joined, announces, omega (arith, over, content_count (level ∷ outer))))
 
+-- where no element opens, too many are open or the header is over the limit
 wrong_opened : (octets rest : List ℕ) (levels : List Level) (tag : ℕ) (f : Fault) → IsWalked octets levels rest → FindsIndefinite rest tag → opened (progress_of levels) (tag + 1) ≡ Err f → IsWrongThere levels rest f.reason f.place
 wrong_opened octets rest levels tag f w i e =
     elim (opens_err (progress_of levels) (tag + 1) f e) [
@@ -550,6 +574,7 @@ wrong_opened octets rest levels tag f w i e =
           (wrong_count rest front i.rest levels (tag + 1) k.1 joined (inr (inl (i.tag, i.is_tag, i.is_constructed, omega (arith, k.0, walked_depth levels), refl, count))) k.2)
     ]
 
+-- where an ending is not passed it is over the limit
 wrong_closed : (rest : List ℕ) (levels : List Level) (f : Fault) → 0 < (progress_of levels).depth → is_ending rest ≡ true → closed (progress_of levels) ≡ Err f → IsWrongThere levels rest f.reason f.place
 wrong_closed rest levels f inside ends e =
     let behind = ending_there rest ends in
@@ -558,6 +583,7 @@ wrong_closed rest levels f inside ends e =
     let outside : (progress_of levels).depth ≢ 0 = λ e. omega (arith, e, inside) in
     subst (λ (x : Fault). IsWrongThere levels rest x.reason x.place) k.2 (wrong_count rest ending behind.0 levels 2 outside behind.1 (inr (inr (refl, deep, refl))) k.1)
 
+-- where an element of definite length is not passed it is over the limit
 wrong_passed : (rest : List ℕ) (levels : List Level) (h : Header) (f : Fault) → FindsHeader rest h → (0 < (progress_of levels).depth → is_ending rest ≡ false) → passed (progress_of levels) (h.len + h.content_len) ≡ Err f
     → IsWrongThere levels rest f.reason f.place
 wrong_passed rest levels h f d other e =
@@ -569,6 +595,7 @@ wrong_passed rest levels h f d other e =
     subst (λ (x : Fault). IsWrongThere levels rest x.reason x.place) k.2
     (wrong_count rest front d.rest levels (h.len + h.content_len) k.0 joined (inl (d.tag, d.length_octets, h.content_len, d.is_tag, d.is_length, d.within, refl, no_end, count)) k.1)
 
+-- a fault behind a header is one at its place
 wrong_behind : (octets rest : List ℕ) (levels : List Level) (opening : Opening) (f : Fault) → IsWalked octets levels rest → opening_at (from (progress_of levels).at rest) ≡ Ok (Some opening)
     → behind_header (progress_of levels) rest opening ≡ Err f → IsWrongThere levels rest f.reason f.place
 wrong_behind octets rest levels (Indefinite tag) f w read e = wrong_opened octets rest levels tag f w (indefinite_sound (progress_of levels).at rest tag read) e
@@ -604,6 +631,7 @@ wrong_there octets rest levels f w stop e =
           | inr b ↦ absurd (ends_well (progress_of levels) b.0 rest f b.2)
         ]
 
+-- the first step of a walk
 walk_step : (p : Progress) (octets : List ℕ) → walk p octets ≡ (opening_at (from p.at octets) >>= gone_on (walk_on (length octets)) p octets)
 walk_step p octets = ap (λ (n : ℕ). walk_on n p octets) (add-one (length octets))
 
@@ -622,20 +650,25 @@ refused_behind p octets joined opening f same read e =
     ∙ ap (λ (r : Result (Option Opening) Fault). r >>= gone_on (walk_on (length octets)) p octets) (ap (λ (x : List ℕ). opening_at (from p.at x)) same ∙ read)
     ∙ ap (λ (r : Result Progress Fault). r >>= gone_to (walk_on (length octets)) p octets) e
 
+-- no element opens at the limit of depth
 opens_deep : (p : Progress) (len : ℕ) → depth_limit ≤ p.depth → opened p len ≡ Err (fault reasons.TooDeep p.at)
 opens_deep p len deep = rw (le-ltb p.depth depth_limit deep) refl
 
+-- nor where its header is over the limit
 opens_long : (p : Progress) (len : ℕ) → p.depth < depth_limit → p.depth ≢ 0 → p.limit < p.at + len → opened p len ≡ Err (fault reasons.TooLong 0)
 opens_long p len deep inside over = rw (lt-ltb p.depth depth_limit deep, ne_eqb p.depth 0 inside, lt-ltb p.limit (p.at + len) over) refl
 
+-- an ending over the limit is refused
 closes_long : (p : Progress) (octets : List ℕ) (h : Header) → 1 < p.depth → is_ending octets ≡ true → p.limit < p.at + 2 → behind_header p octets (Definite h) ≡ Err (fault reasons.TooLong 0)
 closes_long p octets h inside ends over =
     rw (and_from (nat_lt 0 p.depth) (is_ending octets) (lt-ltb 0 p.depth (omega arith)) ends, ne_eqb p.depth 1 (λ e. omega arith), lt-ltb p.limit (p.at + 2) over) refl
 
+-- a test that fails makes both fail
 and_off : (b c : Bool) → c ≡ false → (b && c) ≡ false
 and_off false c e = refl
 and_off true c e = e
 
+-- an element of definite length over the limit is refused
 passes_long : (p : Progress) (octets : List ℕ) (h : Header) → p.depth ≢ 0 → is_ending octets ≡ false → p.limit < p.at + (h.len + h.content_len) → behind_header p octets (Definite h) ≡ Err (fault reasons.TooLong 0)
 passes_long p octets h inside other over =
     rw (and_off (nat_lt 0 p.depth) (is_ending octets) other, ne_eqb p.depth 0 inside, lt-ltb p.limit (p.at + (h.len + h.content_len)) over) refl
@@ -652,10 +685,12 @@ header_ending (first ∷ []) (octet ∷ octets) more behind n t (inr l) e = let 
 header_ending (first ∷ second ∷ tag) (octet ∷ octets) more behind n (inl t) l e = absurd cc
 header_ending (first ∷ second ∷ tag) (octet ∷ octets) more behind n (inr t) l e = let a : first ≡ 0 = cc in absurd (omega (arith, ap (λ (x : ℕ). x % 32) a, t.0))
 
+-- what is not true is false
 from_not_true : (b : Bool) → (b ≡ true → ⊥) → b ≡ false
 from_not_true false not = refl
 from_not_true true not = absurd (not refl)
 
+-- a header of definite length that is no ending does not begin with one
 header_no_ending : (tag length_octets more : List ℕ) (n : ℕ) → IsTag tag → IsLength n length_octets → tag ++ length_octets ≢ ending → is_ending ((tag ++ length_octets) ++ more) ≡ false
 header_no_ending tag length_octets more n t l other =
     from_not_true (is_ending ((tag ++ length_octets) ++ more)) (λ ends.
@@ -688,6 +723,7 @@ refused_count rest front more count (level ∷ outer) some joined (inr (inr a)) 
     let behind = closes_long p rest h a.1 (ap is_ending here) (omega (arith, over, a.2, ap length a.0, content_count (level ∷ outer))) in
     refused_behind p rest (ending ++ more) (Definite h) (fault reasons.TooLong 0) here read behind
 
+-- one more element than may be open is what the walk answers
 refused_deep : (rest : List ℕ) (levels : List Level) (offset : ℕ) (h : HasLengthOctet 0x80 rest offset) → IsConstructed h.tag → length levels ≡ depth_limit → walk (progress_of levels) rest ≡ Err (fault reasons.TooDeep (progress_of levels).at)
 refused_deep rest levels offset h constructed deep =
     refused_behind (progress_of levels) rest (h.tag ++ 0x80 ∷ h.rest) (Indefinite (length h.tag)) (fault reasons.TooDeep (progress_of levels).at) h.joined
@@ -708,16 +744,20 @@ refused_there octets rest levels _ place w wrong = absurd wrong
 all_octets : (octets rest : List ℕ) (levels : List Level) → IsWalked octets levels rest → length octets ≡ length (walked levels) + length rest
 all_octets octets rest levels w = ap length w.joined ∙ length-append (walked levels) rest
 
+-- a length octet is among the octets
 octet_within : (octet offset : ℕ) (rest : List ℕ) → HasLengthOctet octet rest offset → offset < length rest
 octet_within octet offset rest h = omega (arith, h.place_is, ap length h.joined, length-append h.tag (octet ∷ h.rest))
 
+-- a long tag has octets
 long_tag_within : (rest : List ℕ) → HasLongTag rest → 0 < length rest
 long_tag_within rest h = omega (arith, ap length h.joined)
 
+-- a header has octets
 long_length_within : (rest tag length_octets behind : List ℕ) → IsTag tag → rest ≡ tag ++ length_octets ++ behind → 0 < length rest
 long_length_within rest [] length_octets behind t joined = absurd t
 long_length_within rest (first ∷ tag) length_octets behind t joined = omega (arith, ap length joined)
 
+-- open elements have octets
 some_within : (levels : List Level) → levels ≢ [] → 0 < length (walked levels)
 some_within [] some = absurd (some refl)
 some_within (level ∷ outer) some = omega (arith, length-append (walked outer) (begun level), begun_length level)
@@ -740,6 +780,7 @@ abbrev pub opened_at : ℕ → List Level → ℕ → ℕ
 opened_at depth [] noted = noted
 opened_at depth (level ∷ outer) noted = if suc (length outer) == depth then length (walked outer) else opened_at depth outer noted
 
+-- a test is true or false
 tested : (b : Bool) → (b ≡ true) ⊎ (b ≡ false)
 tested true = inl refl
 tested false = inr refl
@@ -766,12 +807,15 @@ rises p next octets g = by_opening g.opening g.behind
           ]
         ]
 
+-- a step that opens at the depth notes its place
 note_at : (d noted : ℕ) (p next : Progress) → p.depth + 1 ≡ d → next.depth ≡ d → note d noted p next ≡ p.at
 note_at d noted p next a b = rw (eq-eqb (p.depth + 1) d a, eq-eqb next.depth d b) refl
 
+-- one from another depth than the one above notes nothing
 note_from : (d noted : ℕ) (p next : Progress) → p.depth + 1 ≢ d → note d noted p next ≡ noted
 note_from d noted p next a = rw (ne_eqb (p.depth + 1) d a) refl
 
+-- one to another depth notes nothing
 note_to : (d noted : ℕ) (p next : Progress) → next.depth ≢ d → note d noted p next ≡ noted
 note_to d noted p next b = rw (and_off (p.depth + 1 == d) (next.depth == d) (ne_eqb next.depth d b)) refl
 
@@ -782,6 +826,7 @@ notes_reach d (suc n) noted p q octets rest r =
     let k = notes_reach d n (note d noted p r.0) r.0 q (left p r.0 octets) rest r.2 in
     (k.0, notes_goes d noted p r.0 octets r.1 ∙ k.1)
 
+-- what was noted before makes no difference where a step notes the same
 same_note : (d one two : ℕ) (p next : Progress) (octets : List ℕ) → Goes p octets next → note d one p next ≡ note d two p next → notes d one p octets ≡ notes d two p octets
 same_note d one two p next octets g e = notes_goes d one p next octets g ∙ ap (λ (x : ℕ). notes d x next (left p next octets)) e ∙ sym (notes_goes d two p next octets g)
 
@@ -807,9 +852,11 @@ notes_any d (suc n) one two p q octets rest low there r =
 
 -- ---- the same octets, so much deeper
 
+-- the same place, so much deeper
 abbrev shift : ℕ → Progress → Progress
 shift s p = record { at = p.at; depth = p.depth + s; limit = p.limit }
 
+-- a step of the same octets leads to the same place, so much deeper
 same_moves : (s len depth deeper : ℕ) (p next other : Progress) → deeper ≡ depth + s → Moves p len depth next → Moves (shift s p) len deeper other → other ≡ shift s next
 same_moves s len depth deeper p next other e a b =
     place_is other (shift s next) (omega (arith, a.at_is, b.at_is)) (omega (arith, e, a.depth_is, b.depth_is)) (b.limit_is ∙ sym a.limit_is)
@@ -895,18 +942,22 @@ notes_items d depth noted items rest p all low inside deep within =
 
 -- ---- with these elements open
 
+-- of the outermost content more was walked than where the innermost opened
 outer_content : (level : Level) (outer : List Level) → content_walked outer ≤ content_walked (level ∷ outer)
 outer_content level [] = omega arith
 outer_content level (next ∷ outer) = omega arith
 
+-- and than behind its header
 fresh_content : (level : Level) (outer : List Level) → content_walked (fresh level.tag ∷ outer) ≤ content_walked (level ∷ outer)
 fresh_content level [] = omega arith
 fresh_content level (next ∷ outer) = omega (arith, length-append level.tag (0x80 ∷ concat level.items), length-append level.tag (0x80 ∷ []))
 
+-- the outermost content began where it did when the innermost opened
 fresh_began : (level : Level) (outer : List Level) → content_began (fresh level.tag ∷ outer) ≡ content_began (level ∷ outer)
 fresh_began level [] = refl
 fresh_began level (next ∷ outer) = refl
 
+-- the items were walked behind the header
 full_length : (level : Level) (outer : List Level) → length (walked (level ∷ outer)) ≡ length (walked (fresh level.tag ∷ outer)) + length (concat level.items)
 full_length level outer = omega (arith, length-append (walked outer) (begun level), length-append level.tag (0x80 ∷ concat level.items), fresh_length level.tag outer)
 
@@ -923,9 +974,11 @@ outer_walked octets rest level outer w = record {
   joined = w.joined ∙ append_assoc (walked outer) (begun level) rest ∙ ap (λ (x : List ℕ). walked outer ++ x) (opened_rest level rest);
 }
 
+-- an element opens in another within the limits
 opens_within : (p : Progress) (len : ℕ) → p.depth < depth_limit → p.depth ≢ 0 → p.at + len ≤ p.limit → opened p len ≡ Ok (record { at = p.at + len; depth = p.depth + 1; limit = p.limit })
 opens_within p len deep inside within = rw (lt-ltb p.depth depth_limit deep, ne_eqb p.depth 0 inside, le-ltb p.limit (p.at + len) within) refl
 
+-- an element opens where these are open
 opens_fresh : (tag : List ℕ) (levels : List Level) → length levels < depth_limit → content_walked (fresh tag ∷ levels) ≤ content_limit → opened (progress_of levels) (length tag + 1) ≡ Ok (progress_of (fresh tag ∷ levels))
 opens_fresh tag [] deep within = ap (λ (x : Progress). Ok x) (place_is _ (progress_of (fresh tag ∷ [])) (omega (arith, fresh_length tag [])) refl (omega arith))
 opens_fresh tag (level ∷ outer) deep within =
@@ -934,6 +987,7 @@ opens_fresh tag (level ∷ outer) deep within =
     let room : p.at + (length tag + 1) ≤ p.limit = omega (arith, within, len, content_count (fresh tag ∷ level ∷ outer)) in
     opens_within p (length tag + 1) deep (λ e. omega (arith, e)) room ∙ ap (λ (x : Progress). Ok x) (place_is _ (progress_of (fresh tag ∷ level ∷ outer)) (omega (arith, len)) (omega arith) refl)
 
+-- the walk goes over its header
 goes_fresh : (tag more : List ℕ) (levels : List Level) → IsTag tag → IsConstructed tag → length levels < depth_limit → content_walked (fresh tag ∷ levels) ≤ content_limit → Goes (progress_of levels) (tag ++ 0x80 ∷ more) (progress_of (fresh tag ∷ levels))
 goes_fresh tag more levels is_tag is_constructed deep within = record {
   opening = Indefinite (length tag);
