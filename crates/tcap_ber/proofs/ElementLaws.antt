@@ -13,7 +13,7 @@ use Rattle.tcap_ber.specs.declared.progress.Progress.{Progress}
 use Rattle.tcap_ber.specs.declared.element.Outer.{Outer}
 use Rattle.tcap_ber.specs.declared.element.Outer.TheVariants.{Whole, Need}
 use Rattle.tcap_ber.specs.Element.{IsTag, IsLength, IsDefinite, IsIndefinite, IsNested, IsElement, depth_limit, ending, is_next, content_start}
-use Rattle.tcap_ber.specs.Walked.{IsUnfinished, IsWalkFault, IsInnermost}
+use Rattle.tcap_ber.specs.Walked.{BeginsElement, IsUnfinished, IsWalkFault, IsInnermost}
 use Rattle.tcap_ber.specs.Grammar.{IsElementFault}
 use Rattle.tcap_ber.specs.Found.{FindsElement}
 use Rattle.tcap_ber.specs.Span.{Span, behind}
@@ -171,6 +171,25 @@ next_complete place tag content octets rest e =
       | inl d ↦ rw (opening_definite place tag content octets rest d) (definite_read place tag content octets rest d)
       | inr i ↦ rw (opening_indefinite place (IsInner i.0) tag content octets rest i.1, outer_of_element tag content octets rest e)
           (indefinite_read place (IsInner i.0) tag content octets rest i.1)
+    ]
+
+definite_not : (h : Header) (tag : ℕ) → (let a : Result (Option Opening) Fault = Ok (Some (Definite h)) in a) ≡ Ok (Some (Indefinite tag)) → ⊥
+definite_not h tag e = cc
+
+tag_is : (n tag : ℕ) → (let a : Result (Option Opening) Fault = Ok (Some (Indefinite n)) in a) ≡ Ok (Some (Indefinite tag)) → n ≡ tag
+tag_is n tag e = cc
+
+-- how many octets an element has whose header is a tag of so many octets and the octet 80
+pub indefinite_bounds : (s : Span) (tag n : ℕ) → opening_at s ≡ Ok (Some (Indefinite tag)) → BeginsElement s.octets n → (tag + 3 ≤ n) × (n ≤ length s.octets)
+indefinite_bounds s tag n e b =
+    let there : opening_at (from s.place (b.element ++ b.rest)) ≡ Ok (Some (Indefinite tag)) = ap (λ (x : List ℕ). opening_at (from s.place x)) (sym b.joined) ∙ e in
+    (least there, omega (arith, b.len, ap length b.joined, length-append b.element b.rest))
+  where
+    least : opening_at (from s.place (b.element ++ b.rest)) ≡ Ok (Some (Indefinite tag)) → tag + 3 ≤ n
+    least there = elim (element_form b.tag b.content b.element b.is_element) [
+      | inl d ↦ absurd (definite_not _ tag (sym (opening_definite s.place b.tag b.content b.element b.rest d) ∙ there))
+      | inr i ↦ omega (arith, b.len, indefinite_len (IsInner i.0) b.tag b.content b.element i.1,
+          tag_is (length b.tag) tag (sym (opening_indefinite s.place (IsInner i.0) b.tag b.content b.element b.rest i.1) ∙ there))
     ]
 
 -- ---- what is wrong with it, or with its fit, is answered

@@ -14,7 +14,7 @@ use Rattle.tcap_ber.specs.declared.element.Outer.TheVariants.{Whole}
 use Rattle.tcap_ber.specs.Element.{IsTag, IsLength, content_limit, IsConstructed, ending, IsDefinite, IsIndefinite, IsNested, depth_limit, IsElement}
 use Rattle.tcap_ber.specs.Walked.{Level, walked, AreOpen, content_walked, IsWalked}
 use Rattle.tcap_ber.specs.HeaderReading.{◌>>=◌, opening_at}
-use Rattle.tcap_ber.specs.Walking.{is_ending, within_limit, opened, closed, passed, behind_header, gone_to, gone_on, walk_on, at_first, goes_to, goes_by, goes, stopped_by, stopped_on, noted_by, noted_on}
+use Rattle.tcap_ber.specs.Walking.{is_ending, within_limit, opened, closed, passed, behind_header, gone_to, gone_on, walk_on, at_first, goes_to, goes_by, goes, stopped_by, stopped_on, noted_by, noted_on, note}
 use Rattle.tcap_ber.specs.Progress.{header_octets}
 use Rattle.tcap_ber.proofs.Steps.{chosen, ok_is}
 use Rattle.tcap_ber.proofs.OpeningLaws.{from, definite_sound, definite_complete, indefinite_complete, opening_within}
@@ -241,9 +241,6 @@ stops_goes p next octets g =
 
 pub stops_there : (p : Progress) (octets : List ℕ) → goes p octets ≡ None → stops p octets ≡ (p, octets)
 stops_there p octets e = stops_first p octets ∙ ap (stopped_by (stopped_on (length octets)) p octets) e
-
-abbrev pub note : ℕ → ℕ → Progress → Progress → ℕ
-note depth noted p next = if (p.depth + 1 == depth) && (next.depth == depth) then p.at else noted
 
 -- the place that is noted, by two ways on that agree
 note_same : (depth noted : ℕ) (p : Progress) (octets : List ℕ) (f g : ℕ → Progress → List ℕ → ℕ) (found : Option Progress)

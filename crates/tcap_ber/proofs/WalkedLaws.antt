@@ -18,11 +18,11 @@ use Rattle.tcap_ber.specs.Element.{IsTag, IsLength, content_limit, IsConstructed
 use Rattle.tcap_ber.specs.Header.{HasLongTag, HasLengthOctet}
 use Rattle.tcap_ber.specs.Walked.{Level, walked, AreOpen, content_walked, IsWalked, Announces, IsWrongThere, innermost, BeginsElement}
 use Rattle.tcap_ber.specs.HeaderReading.{fault, ◌>>=◌, opening_at}
-use Rattle.tcap_ber.specs.Walking.{is_ending, within_limit, opened, closed, passed, behind_header, gone_to, gone_on, walk_on, at_first, goes}
+use Rattle.tcap_ber.specs.Walking.{is_ending, within_limit, opened, closed, passed, behind_header, gone_to, gone_on, walk_on, at_first, goes, note}
 use Rattle.tcap_ber.proofs.Steps.{chosen, bind_ok, bind_err, ok_is, err_is, ok_not_err}
 use Rattle.tcap_ber.proofs.OpeningLaws.{from, FindsIndefinite, IsOpeningFault, definite_sound, indefinite_sound, definite_complete, indefinite_complete, opening_fault, opening_refused}
 use Rattle.tcap_ber.proofs.HeaderLaws.{FindsHeader}
-use Rattle.tcap_ber.proofs.WalkLaws.{Goes, left, Reaches, ReachesIn, walk, walk_stops, content_began, content_count, progress_of, note, notes, notes_goes, notes_there, left_shorter, reaches_fewer, moved, passes_all, reaches_levels}
+use Rattle.tcap_ber.proofs.WalkLaws.{Goes, left, Reaches, ReachesIn, walk, walk_stops, content_began, content_count, progress_of, notes, notes_goes, notes_there, left_shorter, reaches_fewer, moved, passes_all, reaches_levels}
 
 pub nothing_walked : (octets : List ℕ) → IsWalked octets [] octets
 nothing_walked octets = record { left = depth_limit; are_open = refl; is_within = omega arith; joined = refl }

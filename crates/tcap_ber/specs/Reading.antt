@@ -38,11 +38,15 @@ definite_at s h =
       behind (h.len + h.content_len) s,
     )
 
--- the element of indefinite length with a tag of so many octets, by a walk over it
-abbrev pub indefinite_at : Span → ℕ → Result Outer Fault → Result (Element × Span) Fault
-indefinite_at s tag (Err f) = Err (fault f.reason (s.place + f.place))
-indefinite_at s tag (Ok (Need n)) = Err (fault Overrun (s.place + innermost_at s.octets))
-indefinite_at s tag (Ok (Whole n)) = Ok (
+-- how many octets a walk over the first element gives it; a fault has its place in the window
+abbrev pub walked_len : Span → Result Outer Fault → Result ℕ Fault
+walked_len s (Err f) = Err (fault f.reason (s.place + f.place))
+walked_len s (Ok (Need n)) = Err (fault Overrun (s.place + innermost_at s.octets))
+walked_len s (Ok (Whole n)) = Ok n
+
+-- the element of indefinite length that has a tag of so many octets, and so many in all
+abbrev pub indefinite_of : Span → ℕ → ℕ → Result (Element × Span) Fault
+indefinite_of s tag n = Ok (
   record {
     tag = take tag s.octets;
     content = record { octets = take (n - (tag + 3)) (drop (tag + 1) s.octets); place = s.place + (tag + 1) };
@@ -50,6 +54,9 @@ indefinite_at s tag (Ok (Whole n)) = Ok (
   },
   behind n s,
 )
+
+abbrev pub indefinite_at : Span → ℕ → Result Outer Fault → Result (Element × Span) Fault
+indefinite_at s tag outer = walked_len s outer >>= indefinite_of s tag
 
 abbrev pub element_of : Span → Option Opening → Result (Element × Span) Fault
 element_of s None = Err (fault Overrun s.place)

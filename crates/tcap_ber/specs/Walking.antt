@@ -99,11 +99,15 @@ stopped_on (suc n) p octets = stopped_by (stopped_on n) p octets (goes p octets)
 unfoldable pub stopped : List ℕ → Progress × List ℕ
 stopped octets = stopped_on (length octets + 1) at_first octets
 
+-- the place is noted where an element of indefinite length opens at that depth
+abbrev pub note : ℕ → ℕ → Progress → Progress → ℕ
+note depth noted p next = if (p.depth + 1 == depth) && (next.depth == depth) then p.at else noted
+
 -- the place where the last element of indefinite length was opened at that depth; noted is that of the one before
 abbrev pub noted_by : (ℕ → Progress → List ℕ → ℕ) → ℕ → ℕ → Progress → List ℕ → Option Progress → ℕ
 noted_by walk depth noted p octets None = noted
 noted_by walk depth noted p octets (Some next) =
-    walk (if (p.depth + 1 == depth) && (next.depth == depth) then p.at else noted) next (drop (next.at - p.at) octets)
+    walk (note depth noted p next) next (drop (next.at - p.at) octets)
 
 abbrev pub noted_on : ℕ → ℕ → ℕ → Progress → List ℕ → ℕ
 noted_on zero depth noted p octets = noted

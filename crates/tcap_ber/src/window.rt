@@ -1,6 +1,6 @@
 //! Reading the elements of a window one after the other.
 
-ghost use Rattle.std.specs.Prelude.{◌≡◌, ◌<◌, ◌⊎◌, ◌↔◌, ◌++◌, ◌∷◌, [], ℕ, List, length, Some, Ok, Err, IfOk, IfErr, IsOk, IsOkAnd, IsTrue};
+ghost use Rattle.std.specs.Prelude.{◌≡◌, ◌+◌, ◌<◌, ◌≤◌, ◌⊎◌, ◌↔◌, ◌++◌, ◌∷◌, [], ℕ, List, length, Some, Ok, Err, IfOk, IfErr, IsOk, IsOkAnd, IsTrue};
 ghost use Rattle.tcap_ber.specs.declared.element.Outer.{Outer};
 ghost use Rattle.tcap_ber.specs.declared.fault.Fault.{Fault};
 ghost use Rattle.tcap_ber.specs.declared.fault.Reason.{Reason};
@@ -9,13 +9,19 @@ ghost use Rattle.tcap_ber.specs.Element.{IsElement};
 ghost use Rattle.tcap_ber.specs.Walked.{BeginsElement, NeedsMore, IsWalkFault};
 ghost use Rattle.tcap_ber.specs.Grammar.{BeginsWith, IsMissing, IsElementFault, IsUnexpected};
 ghost use Rattle.tcap_ber.specs.Found.{FindsElement};
-ghost use Rattle.tcap_ber.specs.Reading.{Gives, span, element, opening_at, outer_at, innermost_at, definite_at, indefinite_at, next_at, required_at, some_at, is_next, end_at};
+ghost use Rattle.tcap_ber.specs.Reading.{Gives, span, element, opening_at, outer_at, innermost_at, definite_at, walked_len, indefinite_at, next_at, required_at, some_at, is_next, end_at};
 
 use crate::element::{Outer, Tag, Tlv, Window};
 use crate::fault::{Fault, Reason};
 use crate::header::{Header, Opening, read_opening};
 use crate::innermost::innermost;
 use crate::walk::Walk;
+
+fn read_outer(octets: &[u8]) -> Result<Outer, Fault>
+    ensures exact { Gives (λ x. x) result (outer_at octets.now) }
+{
+    Walk::new().go_on(octets)
+}
 
 /// How `octets` begin: with a whole element of so many octets, or with none yet and no fault so far, so
 /// that at least so many octets are needed in all. A fault where the octets as far as they stand there are
@@ -29,7 +35,7 @@ pub fn outer(octets: &[u8]) -> Result<Outer, Fault>
     ensures fault { (fault : Fault) → (result ≡ Err fault) ↔ IsWalkFault octets.now fault.reason fault.place }
     ensures exact { Gives (λ x. x) result (outer_at octets.now) }
 {
-    Walk::new().go_on(octets)
+    read_outer(octets)
 }
 
 /// The element at the front of a window, which has this header of definite length.
@@ -59,34 +65,39 @@ fn read_definite<'a>(window: Window<'a>, header: Header) -> Result<(Tlv<'a>, Win
     Ok((found, window.behind(len)))
 }
 
+/// How many octets the element of indefinite length at the front of a window has, whose tag has so many.
+fn walked_len(window: Window, tag_len: usize) -> Result<usize, Fault>
+    requires opening { opening_at (span window) ≡ Ok (Some (Opening.Indefinite tag_len)) }
+    ensures exact { Gives (λ n. n) result (walked_len (span window.entry) (outer_at window.entry.octets.now)) }
+    ensures bounds { IfOk result (λ n. (tag_len + 3 ≤ n) × (n ≤ length window.entry.octets.now)) }
+{
+    match outer(window.octets) {
+        Ok(Outer::Whole(len)) => Ok(len),
+        Ok(Outer::Need(_)) => Err(Fault {
+            reason: Reason::Overrun,
+            place: window.place + innermost(window.octets) as u64,
+        }),
+        Err(fault) => Err(Fault {
+            reason: fault.reason,
+            place: window.place + fault.place,
+        }),
+    }
+}
+
 /// The element of indefinite length at the front of a window, whose tag has so many octets.
 fn read_indefinite<'a>(window: Window<'a>, tag_len: usize) -> Result<(Tlv<'a>, Window<'a>), Fault>
     requires opening { opening_at (span window) ≡ Ok (Some (Opening.Indefinite tag_len)) }
     ensures exact { Gives (λ x. (element x.0, span x.1)) result (indefinite_at (span window.entry) tag_len (outer_at window.entry.octets.now)) }
 {
-    let len = match outer(window.octets) {
-        Ok(Outer::Whole(len)) => len,
-        Ok(Outer::Need(_)) => {
-            return Err(Fault {
-                reason: Reason::Overrun,
-                place: window.place + innermost(window.octets) as u64,
-            });
-        }
-        Err(fault) => {
-            return Err(Fault {
-                reason: fault.reason,
-                place: window.place + fault.place,
-            });
-        }
-    };
-    let start = tag_len + 1;
-    let (octets, _) = window.octets.split_at(len);
-    let (tag, _) = octets.split_at(tag_len);
+    let len = walked_len(window, tag_len)?;
+    let (tag, _) = window.octets.split_at(tag_len);
+    let content = window.behind(tag_len + 1);
+    let (octets, _) = content.octets.split_at(len - (tag_len + 3));
     let found = Tlv {
         tag: Tag { octets: tag },
         content: Window {
-            octets: &octets[start..len - 2],
-            place: window.place + start as u64,
+            octets,
+            place: content.place,
         },
         start: window.place,
     };

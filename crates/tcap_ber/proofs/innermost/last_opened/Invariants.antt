@@ -1,0 +1,12 @@
+use Rattle.std.proofs.Common.{◌≡◌, ◌+◌, ◌<◌, length}
+use Rattle.tcap_ber.specs.Walking.{at_first}
+use Rattle.tcap_ber.specs.Progress.{IsPlaced}
+use Rattle.tcap_ber.proofs.WalkLaws.{notes}
+use Rattle.tcap_ber.proofs.innermost.last_opened.Given as goal
+
+abbrev pub invariant-loop-next : goal.invariant-loop-next
+invariant-loop-next l =
+    (notes l.depth 0 at_first l.octets ≡ notes l.depth l.noted l.progress l.rest) × IsPlaced l.progress × (l.progress.depth ≡ 0 → l.progress.at ≡ 0) × (l.progress.at + length l.rest ≡ length l.octets)
+
+abbrev pub decreases-loop-next : goal.decreases-loop-next
+decreases-loop-next l = length l.rest
