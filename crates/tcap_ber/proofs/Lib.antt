@@ -7,6 +7,7 @@ pub mod WalkLaws
 pub mod WalkedLaws
 pub mod ResumeLaws
 pub mod ResumingLaws
+pub mod StayLaws
 pub mod OuterLaws
 pub mod ElementLaws
 pub mod FaultLaws

@@ -64,6 +64,9 @@ outer_refused octets reason place (levels, rest, w, wrong) =
 pub walk_fault_within : (octets : List ℕ) (reason : Reason) (place : ℕ) → IsWalkFault octets reason place → place < length octets
 walk_fault_within octets reason place (levels, rest, w, wrong) = wrong_within octets rest levels reason place w wrong
 
+pub whole_is : (n m : ℕ) → (let a : Outer = Whole n in a) ≡ Whole m → n ≡ m
+whole_is n m e = cc
+
 -- ---- octets that are needed
 
 need_not_whole : (n m : ℕ) → (let a : Result Outer Fault = Ok (Need n) in a) ≡ Ok (Whole m) → ⊥

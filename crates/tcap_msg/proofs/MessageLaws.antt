@@ -8,13 +8,14 @@ use Rattle.tcap_ber.specs.declared.fault.Reason.TheVariants as reasons
 use Rattle.tcap_ber.specs.declared.element.Outer.{Outer}
 use Rattle.tcap_ber.specs.declared.element.Outer.TheVariants.{Whole, Need}
 use Rattle.tcap_ber.specs.Element.{IsElement}
-use Rattle.tcap_ber.specs.Header.{HasLengthOctet, IsHeaderFault, IsUnfinished}
+use Rattle.tcap_ber.specs.Walked.{IsWalkFault, IsUnfinished}
 use Rattle.tcap_ber.specs.Grammar.{after}
 use Rattle.tcap_ber.specs.Span.{Span}
 use Rattle.tcap_ber.specs.Reading.{◌>>=◌, fault, outer_at}
 use Rattle.tcap_ber.proofs.Steps.{bind_ok, bind_err, ok_is, err_is, ok_not_err}
 use Rattle.tcap_ber.proofs.ElementLaws.{element_len_at_least}
 use Rattle.tcap_ber.proofs.FaultLaws.{refused_by}
+use Rattle.tcap_ber.proofs.StayLaws.{walk_fault_stays}
 use Rattle.tcap_ber.proofs.OuterLaws.{outer_whole, outer_of_element, outer_needs, outer_fault, outer_refused, whole_is}
 use Rattle.tcap_msg.specs.declared.message.Message.{Message}
 use Rattle.tcap_msg.specs.Message.{Spells, message, whole, IsFaulty, BeginsNoMessage, IsNeverMessage}
@@ -85,9 +86,9 @@ message_refused octets f e =
           | inl missing ↦ let some = element_len_at_least here.tag here.content here.element here.is_element in
               absurd (omega (arith, some, ap length missing.ends, ap length here.joined, length-append here.element here.rest))
           | inr h ↦ elim h [
-            | inl wrong ↦ elim wrong [
-              | inl k ↦ let at : k.0 ≡ f.place = omega (arith, k.1) in inr (inl (subst (IsHeaderFault octets f.reason) at k.2))
-              | inr k ↦ absurd (k.3.no_element here.tag here.content here.element here.rest here.is_element here.joined)
+            | inl wrong ↦ elim wrong.2 [
+              | inl k ↦ let at : wrong.0 ≡ f.place = omega (arith, wrong.1) in inr (inl (subst (IsWalkFault octets f.reason) at k))
+              | inr k ↦ absurd (k.2.no_element here.tag here.content here.element here.rest here.is_element here.joined)
             ]
             | inr k ↦ inr (inr k)
           ]
@@ -126,46 +127,6 @@ one_fault octets f g a b = err_is {A = Message × ℕ} f g (sym (message_stops o
 
 -- ---- for ever
 
-length_octet_stays : (octet : ℕ) (octets more : List ℕ) (place : ℕ) → HasLengthOctet octet octets place → HasLengthOctet octet (octets ++ more) place
-length_octet_stays octet octets more place h = record {
-  tag = h.tag;
-  rest = h.rest ++ more;
-  is_tag = h.is_tag;
-  place_is = h.place_is;
-  joined = ap (λ (x : List ℕ). x ++ more) h.joined ∙ append_assoc h.tag (octet ∷ h.rest) more;
-}
-
--- what is wrong with a header stays wrong, whatever comes behind
-header_stays : (octets more : List ℕ) (reason : Reason) (place : ℕ) → IsHeaderFault octets reason place → IsHeaderFault (octets ++ more) reason place
-header_stays octets more reasons.TagForm place h = (
-  record {
-    first = h.0.first;
-    four = h.0.four;
-    rest = h.0.rest ++ more;
-    is_long = h.0.is_long;
-    are_four = h.0.are_four;
-    go_on = h.0.go_on;
-    joined = ap (λ (x : List ℕ). x ++ more) h.0.joined ∙ append_assoc (h.0.first ∷ h.0.four) h.0.rest more;
-  },
-  h.1,
-)
-header_stays octets more reasons.LengthForm place h = (h.0, h.1, length_octet_stays h.0 octets more place h.2)
-header_stays octets more reasons.Indefinite place h = length_octet_stays 128 octets more place h
-header_stays octets more reasons.TooLong place h = (
-  record {
-    tag = h.0.tag;
-    length_octets = h.0.length_octets;
-    rest = h.0.rest ++ more;
-    count = h.0.count;
-    is_tag = h.0.is_tag;
-    is_length = h.0.is_length;
-    is_over = h.0.is_over;
-    joined = ap (λ (x : List ℕ). x ++ more) h.0.joined ∙ append_assoc (h.0.tag ++ h.0.length_octets) h.0.rest more;
-  },
-  h.1,
-)
-header_stays octets more _ place h = absurd h
-
 -- two elements that begin the same octets are one
 pub one_element : (tag content element rest tag' content' element' rest' : List ℕ) → IsElement tag content element → IsElement tag' content' element'
     → element ++ rest ≡ element' ++ rest' → element ≡ element'
@@ -174,8 +135,8 @@ one_element tag content element rest tag' content' element' rest' e e' same =
     (sym (outer_of_element tag content element rest e) ∙ ap outer_at same ∙ outer_of_element tag' content' element' rest' e')) in
     sym (take_at element rest (length element) refl) ∙ ap (take (length element)) same ∙ take_at element' rest' (length element) (sym len)
 
--- an element does not begin octets whose header is wrong
-no_element_there : (octets front rest : List ℕ) (m : Message) (f : Fault) → IsHeaderFault octets f.reason f.place → Spells m front → octets ≡ front ++ rest → ⊥
+-- no element begins octets with which something is wrong
+no_element_there : (octets front rest : List ℕ) (m : Message) (f : Fault) → IsWalkFault octets f.reason f.place → Spells m front → octets ≡ front ++ rest → ⊥
 no_element_there octets front rest m f wrong spelled joined =
     let refused = outer_refused octets f.reason f.place wrong in
     let whole_one = ap outer_at joined ∙ outer_of_element spelled.tag spelled.content front rest spelled.is_element in
@@ -196,7 +157,7 @@ pub never_message : (octets : List ℕ) (f : Fault) → message_at octets ≡ Er
 unfolding message_at
 never_message octets f e other = record {
   going_on = λ more. elim (bind_err (outer_at octets) (in_outer octets) f e) [
-    | inl h ↦ λ m front rest spelled joined. no_element_there (octets ++ more) front rest m f (header_stays octets more f.reason f.place (outer_fault octets f h)) spelled joined
+    | inl h ↦ λ m front rest spelled joined. no_element_there (octets ++ more) front rest m f (walk_fault_stays octets more f.reason f.place (outer_fault octets f h)) spelled joined
     | inr a ↦ of_outer more a.0 a.1 a.2
   ];
   cut_off = cut_off octets f e;

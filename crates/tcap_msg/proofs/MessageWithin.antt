@@ -4,7 +4,8 @@ use Rattle.tcap_ber.specs.declared.fault.Reason.{Reason}
 use Rattle.tcap_ber.specs.declared.fault.Reason.TheVariants.{UnexpectedTag}
 use Rattle.tcap_ber.specs.Grammar.{required, optional, ended, ◌⨾◌, ◌⨾▹◌}
 use Rattle.tcap_ber.specs.Small.{small}
-use Rattle.tcap_ber.proofs.WithinLaws.{BodyWithin, FieldWithin, ContentWithin, header_fault_within, required_within, optional_within, absent_within, ended_within, then_by_within, then_within, small_within, others_within, tagged_within, one_of_within}
+use Rattle.tcap_ber.proofs.OuterLaws.{walk_fault_within}
+use Rattle.tcap_ber.proofs.WithinLaws.{BodyWithin, FieldWithin, ContentWithin, required_within, optional_within, absent_within, ended_within, then_by_within, then_within, small_within, others_within, tagged_within, one_of_within}
 use Rattle.tcap_parts.specs.declared.dialogue.Dialogue.{Dialogue}
 use Rattle.tcap_parts.specs.Component.{portion}
 use Rattle.tcap_parts.specs.Dialogue.{dialogue}
@@ -73,5 +74,5 @@ message_within =
 
 pub faulty_within : (octets : List ℕ) (reason : Reason) (place : ℕ) → IsFaulty octets reason place → place ≤ length octets
 faulty_within octets reason place (inl h) = omega (arith, h.1)
-faulty_within octets reason place (inr (inl h)) = header_fault_within octets reason place h
+faulty_within octets reason place (inr (inl h)) = omega (arith, walk_fault_within octets reason place h)
 faulty_within octets reason place (inr (inr h)) = omega (arith, message_within (whole octets) reason place (inr (inr h)))

@@ -3,7 +3,7 @@ use Rattle.std.specs.Prelude.{◌≡◌, ℕ, ◌⊎◌, List, [], ◌++◌, len
 use Rattle.tcap_ber.specs.declared.fault.Reason.{Reason}
 use Rattle.tcap_ber.specs.declared.fault.Reason.TheVariants.{Cut, UnexpectedTag}
 use Rattle.tcap_ber.specs.Span.{Span}
-use Rattle.tcap_ber.specs.Header.{IsHeaderFault, IsUnfinished}
+use Rattle.tcap_ber.specs.Walked.{IsWalkFault, IsUnfinished}
 use Rattle.tcap_ber.specs.Grammar.{Body, Field, required, optional, absent, ended, ◌⨾◌, ◌⨾▹◌, structure, made}
 use Rattle.tcap_ber.specs.Choice.{Choice, ◌▹◌, ◌∣◌, others_are, IsFaultyChoice, one_of}
 use Rattle.tcap_ber.specs.Small.{small}
@@ -92,7 +92,7 @@ whole octets = record { octets = octets; place = 0 }
 abbrev pub IsFaulty : List ℕ → Reason → ℕ → Type 0
 IsFaulty octets reason place =
     ((reason ≡ Cut) × (place ≡ length octets) × IsUnfinished octets)
-    ⊎ IsHeaderFault octets reason place
+    ⊎ IsWalkFault octets reason place
     ⊎ IsFaultyChoice messages (whole octets) reason place
 
 -- a message of so many octets is at the front

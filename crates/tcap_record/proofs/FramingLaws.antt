@@ -10,8 +10,8 @@ use Rattle.tcap_ber.specs.Element.{IsElement, IsRaw}
 use Rattle.tcap_ber.specs.Span.{Span}
 use Rattle.tcap_ber.specs.Reading.{◌>>=◌, outer_at}
 use Rattle.tcap_ber.proofs.Steps.{chosen, bind_ok, ok_is}
-use Rattle.tcap_ber.specs.Header.{BeginsElement}
-use Rattle.tcap_ber.proofs.OuterLaws.{outer_whole, outer_of_element, outer_needs, outer_fault}
+use Rattle.tcap_ber.specs.Walked.{BeginsElement}
+use Rattle.tcap_ber.proofs.OuterLaws.{walk_fault_within, outer_whole, outer_of_element, outer_needs, outer_fault}
 use Rattle.tcap_msg.specs.declared.message.Message.{Message}
 use Rattle.tcap_msg.specs.Message.{Spells, whole}
 use Rattle.tcap_msg.specs.Reading.{message_in, with_len as with_count, in_outer, message_at}
@@ -25,13 +25,12 @@ use Rattle.tcap_record.specs.Framed.{octet_of, IsBody, FramedFrom, IsEndOctet, I
 use Rattle.tcap_record.specs.Framing.{feed_fault, end_in, body_of, body_at, len_of, len_at, entry_of, with_len, with_end, entry_at}
 use Rattle.tcap_record.specs.Reading.{EndsAs, IsReadAs}
 use Rattle.tcap_msg.proofs.MessageLaws.{message_sound, message_complete, message_refused}
-use Rattle.tcap_ber.proofs.WithinLaws.{header_fault_within}
 use Rattle.tcap_msg.proofs.MessageWithin.{faulty_within}
 
 -- ---- places
 
 pub outer_fault_within : (octets : List ℕ) (f : Fault) → outer_at octets ≡ Err f → f.place ≤ length octets
-outer_fault_within octets f e = header_fault_within octets f.reason f.place (outer_fault octets f e)
+outer_fault_within octets f e = omega (arith, walk_fault_within octets f.reason f.place (outer_fault octets f e))
 
 pub message_fault_within : (octets : List ℕ) (f : Fault) → message_at octets ≡ Err f → f.place ≤ length octets
 message_fault_within octets f e = faulty_within octets f.reason f.place (message_refused octets f e)
@@ -173,7 +172,7 @@ entry_not_there count place first more f room e = of_end (end_in first) refl e
         subst (StopsAt count (record { octets = first ∷ more; place = place })) (is_err (feed_fault feed.CutRecord (place + 1 + length more)) f k)
         (record { offset = 1 + length more; place = omega arith; is_fault = (room, is, (outer_needs more n o).unfinished, refl) })
     of_outer (Err g) is o side k =
-        subst (StopsAt count (record { octets = first ∷ more; place = place })) (is_err (feed_fault (feed.Header g.reason) (place + 1 + g.place)) f k)
+        subst (StopsAt count (record { octets = first ∷ more; place = place })) (is_err (feed_fault (feed.Element g.reason) (place + 1 + g.place)) f k)
         (record { offset = 1 + g.place; place = omega arith; is_fault = (room, is, (g.place, refl, outer_fault more g o)) })
 
     of_end : (o : Option End) → end_in first ≡ o → with_end (record { octets = first ∷ more; place = place }) o ≡ Err f → StopsAt count (record { octets = first ∷ more; place = place }) f
@@ -200,7 +199,7 @@ not_memory count [] offset h = h
 not_memory count (first ∷ more) offset h = h
 
 ends_as : (count total : ℕ) (rest : List ℕ) (reason : FeedReason) (place offset : ℕ) → place ≡ total - length rest + offset → IsRestFault count rest reason offset → EndsAs count total rest reason place
-ends_as count total rest (feed.Header reason) place offset at h = (offset, at, h)
+ends_as count total rest (feed.Element reason) place offset at h = (offset, at, h)
 ends_as count total rest feed.BadEnd place offset at h = (offset, at, h)
 ends_as count total rest feed.CutRecord place offset at h = (offset, at, h)
 ends_as count total rest feed.TooManyEntries place offset at h = (offset, at, h)

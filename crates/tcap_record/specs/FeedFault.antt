@@ -6,7 +6,7 @@ use Rattle.tcap_record.specs.declared.fault.FeedReason.TheVariants as feed
 
 -- the number that a line of output gives for a reason
 abbrev pub feed_number_of : FeedReason → ℕ
-feed_number_of (feed.Header reason) = number_of reason
+feed_number_of (feed.Element reason) = number_of reason
 feed_number_of feed.BadEnd = 20
 feed_number_of feed.CutRecord = 21
 feed_number_of feed.TooManyEntries = 22

@@ -1,7 +1,7 @@
 -- Records: entries one after the other, each an end's octet and one element.
 use Rattle.std.specs.Prelude.{◌≡◌, ℕ, ◌+◌, ◌<◌, ◌⊎◌, List, [], ◌∷◌, ◌++◌, length}
 use Rattle.tcap_ber.specs.Element.{IsRaw}
-use Rattle.tcap_ber.specs.Header.{IsHeaderFault, IsUnfinished}
+use Rattle.tcap_ber.specs.Walked.{IsWalkFault, IsUnfinished}
 use Rattle.tcap_msg.specs.declared.message.Message.{Message}
 use Rattle.tcap_msg.specs.Message.{Spells, IsFaulty}
 use Rattle.tcap_record.specs.declared.entry.End.{End}
@@ -53,9 +53,9 @@ abbrev pub IsRestFault : ℕ → List ℕ → FeedReason → ℕ → Type 0
 IsRestFault count [] reason offset = ⊥
 IsRestFault count (first ∷ more) feed.TooManyEntries offset = (count ≡ entry_limit) × (offset ≡ 0)
 IsRestFault count (first ∷ more) feed.BadEnd offset = (count < entry_limit) × (IsEndOctet first → ⊥) × (offset ≡ 0)
-IsRestFault count (first ∷ more) (feed.Header reason) offset =
+IsRestFault count (first ∷ more) (feed.Element reason) offset =
     (count < entry_limit) × IsEndOctet first
-    × ((place : ℕ) × (offset ≡ 1 + place) × IsHeaderFault more reason place)
+    × ((place : ℕ) × (offset ≡ 1 + place) × IsWalkFault more reason place)
 IsRestFault count (first ∷ more) feed.CutRecord offset =
     (count < entry_limit) × IsEndOctet first × IsUnfinished more × (offset ≡ 1 + length more)
 IsRestFault count (first ∷ more) feed.Read offset = ⊥

@@ -41,7 +41,7 @@ body_at s = body_of s.place (message_at s.octets)
 abbrev pub len_of : Span → Result Outer Fault → Result ℕ FeedFault
 len_of s (Ok (Whole n)) = Ok n
 len_of s (Ok (Need n)) = Err (feed_fault feed.CutRecord (s.place + length s.octets))
-len_of s (Err f) = Err (feed_fault (feed.Header f.reason) (s.place + f.place))
+len_of s (Err f) = Err (feed_fault (feed.Element f.reason) (s.place + f.place))
 
 -- the count of the octets of the element at the front
 unfoldable pub len_at : Span → Result ℕ FeedFault

@@ -8,8 +8,8 @@ use tcap_ber::Reason;
 /// Why octets are refused as a record, beyond the messages in it.
 #[derive(Clone, Copy, Debug, PartialEq, Eq)]
 pub enum FeedReason {
-    /// The header of an entry's element is wrong.
-    Header(Reason),
+    /// An entry's element is wrong, by its header or, where it is of indefinite length, by that of one in it.
+    Element(Reason),
     /// An entry's first octet is neither 41 nor 42.
     BadEnd,
     /// The octets end within an entry.
@@ -38,7 +38,7 @@ impl FeedReason {
         ensures { result ≡ feed_number_of self }
     {
         match self {
-            FeedReason::Header(reason) => reason.number(),
+            FeedReason::Element(reason) => reason.number(),
             FeedReason::BadEnd => 20,
             FeedReason::CutRecord => 21,
             FeedReason::TooManyEntries => 22,

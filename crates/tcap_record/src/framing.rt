@@ -79,7 +79,7 @@ fn element_len(window: Window) -> Result<usize, FeedFault>
             place: window.place + window.octets.len() as u64,
         }),
         Err(fault) => Err(FeedFault {
-            reason: FeedReason::Header(fault.reason),
+            reason: FeedReason::Element(fault.reason),
             place: window.place + fault.place,
         }),
     }
