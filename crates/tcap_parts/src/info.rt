@@ -108,8 +108,8 @@ impl<'a> InfoView<'a> {
         InfoView::from_content(tlv)
     }
 
-    /// The count of the EXTERNALs: exactly those that the octets are spelled by. It costs the time of reading their
-    /// headers.
+    /// The count of the EXTERNALs: exactly those that the octets spell. It costs the time of reading their headers, and
+    /// of walking those of indefinite length.
     pub fn count(self) -> usize
         ensures spelled { (externals : List (List ℕ)) × (each external).spells externals self.entry.octets.now × (result ≡ length externals) }
         ensures exact { result ≡ length (externals_of self.entry.octets.now) }
