@@ -6,7 +6,7 @@ use std::test::Fail;
 
 /// PDUs of structured dialogues as hexadecimal digits, and the reason and the place of the fault. The PDU stands at 20
 /// of the Begin, its content at 22.
-const STRUCTURED: [(&str, u8, u64); 72] = [
+const STRUCTURED: [(&str, u8, u64); 73] = [
     // No PDU, two, and those that the syntax has not.
     ("", 9, 20),
     ("64038001006403800100", 10, 25),
@@ -15,8 +15,8 @@ const STRUCTURED: [(&str, u8, u64); 72] = [
     ("a000", 13, 20),
     ("7f6000", 13, 20),
     ("6401", 5, 20),
-    ("6480", 16, 21),
-    // Protocol versions: eight unused bits, no version 1, one octet, three, none, two versions.
+    ("6480", 5, 20),
+    // Protocol versions: eight unused bits, no version 1, one octet, three, none, two versions, and the length octet 80.
     ("600f80020880a109060704000001001302", 12, 22),
     ("600f8002ff80a109060704000001001302", 12, 22),
     ("600f8002077fa109060704000001001302", 12, 22),
@@ -26,6 +26,7 @@ const STRUCTURED: [(&str, u8, u64); 72] = [
     ("600d8000a109060704000001001302", 12, 22),
     ("611580020880a10306012aa203020100a305a103020100", 12, 22),
     ("60138002078080020780a109060704000001001302", 8, 26),
+    ("60028080", 16, 23),
     // Application context names.
     ("6000", 9, 22),
     ("600480020780", 9, 26),
@@ -44,14 +45,14 @@ const STRUCTURED: [(&str, u8, u64); 72] = [
     // User information: another element in it, one that goes past it, and octets behind it.
     ("600c80020780a10306012abe0128", 5, 33),
     ("600d80020780a10306012abe022801", 5, 33),
-    ("600d80020780a10306012abe022880", 16, 34),
+    ("600d80020780a10306012abe022880", 5, 33),
     ("600d80020780a10306012abe022885", 2, 34),
     ("600d80020780a10306012abe020500", 8, 33),
     ("600f80020780a10306012abe0428000500", 8, 35),
     ("600f80020780a10306012abe0228000500", 10, 35),
     ("600d80020780a10306012abe00be00", 10, 33),
     ("600b80020780a10306012abe01", 5, 31),
-    ("600b80020780a10306012abe80", 16, 32),
+    ("600b80020780a10306012abe80", 5, 31),
     // Dialogue responses: the result.
     ("610980020780a10306012a", 9, 31),
     ("610b80020780a10306012aa200", 9, 33),
@@ -120,7 +121,7 @@ const PORTIONS: [(&str, u8, u64); 18] = [
     ("0500", 8, 7),
     ("2801", 5, 7),
     ("28", 5, 7),
-    ("2880", 16, 8),
+    ("2880", 5, 7),
     // Its first element.
     ("2800", 9, 9),
     ("28020500", 13, 9),

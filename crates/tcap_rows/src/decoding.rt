@@ -6,10 +6,12 @@ use std::test::Fail;
 use tcap_msg::{Message, MessageParts, decode, view};
 use tcap_parts::{Code, Component};
 
-/// A Begin with Invoke 1 of 45, its length in the short form and padded.
+/// A Begin with Invoke 1 of 45, its length in the short form, padded and indefinite.
 const BEGIN: &str = "620d4801016c08a10602010102012d";
 
 const PADDED: &str = "62810d4801016c08a10602010102012d";
+
+const INDEFINITE: &str = "62804801016c80a18002010102012d000000000000";
 
 /// Octets as hexadecimal digits, and the number and the place of the reason why they are refused.
 const REFUSED: [(&str, u8, u64); 76] = [
@@ -25,7 +27,7 @@ const REFUSED: [(&str, u8, u64); 76] = [
     ("620748050102030405", 15, 2),
     ("62024800", 15, 2),
     ("620e4801016c09a1070202000102012d", 6, 9),
-    ("62804801010000", 16, 1),
+    ("4880", 16, 1),
     ("62054801016c00", 11, 5),
     // A missing part, a part of another tag, and the limits of the integers.
     ("6200", 9, 2),
@@ -166,7 +168,7 @@ fn viewed_begin(alloc: Global, octets: &[u8]) -> Result<usize, Fail> {
 
 #[test]
 fn decodes(rt: HostRuntime) -> Result<(), Fail> {
-    for (text, len) in [(BEGIN, 15), (PADDED, 16)] {
+    for (text, len) in [(BEGIN, 15), (PADDED, 16), (INDEFINITE, 21)] {
         let mut octets = octets_of(rt.alloc(), text)?;
         assert_eq!(rt; decoded_begin(rt.alloc(), &octets)?, len, "{text}");
         assert_eq!(rt; viewed_begin(rt.alloc(), &octets)?, len, "{text}");

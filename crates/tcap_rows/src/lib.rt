@@ -31,4 +31,6 @@ mod values;
 #[cfg(test)]
 mod vectors;
 #[cfg(test)]
+mod walking;
+#[cfg(test)]
 mod words;

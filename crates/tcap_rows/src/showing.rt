@@ -6,7 +6,7 @@ use tcap_ber::{Counted, Failing};
 use tcap_judge::{Status, run_show};
 
 /// Octets as hexadecimal digits, what is printed of them, and the status.
-const ROWS: [(&str, &str, u8); 22] = [
+const ROWS: [(&str, &str, u8); 28] = [
     // A Begin with an Invoke, its length in the short form and padded.
     (
         "41620d4801016c08a10602010102012d",
@@ -89,6 +89,18 @@ const ROWS: [(&str, &str, u8); 22] = [
         "0 A FAULT 11 6\n1 B Begin otid=01\n",
         3,
     ),
+    // Entries of indefinite length, and a bad entry with an element that goes past it.
+    ("4162804801010000", "0 A Begin otid=01\n", 0),
+    (
+        "4262804801016c80a18002010102012d0000000000004167804901020000",
+        "0 B Begin otid=01\n  Invoke id=1 op=45\n1 A Abort dtid=02\n",
+        0,
+    ),
+    (
+        "4162054801016c80426203480101",
+        "0 A FAULT 5 6\n1 B Begin otid=01\n",
+        3,
+    ),
     // Components of each kind.
     (
         "41622d4801016c28a10c02010580010106042a864801a708020102300302012da306020101020122a406020101810107",
@@ -96,7 +108,10 @@ const ROWS: [(&str, &str, u8); 22] = [
         0,
     ),
     // Faults of the record.
-    ("4162804801010000", "FAULT 16 2\n", 3),
+    ("4162804880", "FAULT 16 4\n", 3),
+    ("4162806c82ffff", "FAULT 3 1\n", 3),
+    ("4162804801018585", "FAULT 2 7\n", 3),
+    ("416280480101", "FAULT 21 6\n", 3),
     ("41620348010143", "0 A Begin otid=01\nFAULT 20 6\n", 3),
     ("", "", 0),
 ];

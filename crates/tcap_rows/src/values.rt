@@ -38,6 +38,12 @@ fn raw_elements(rt: HostRuntime) -> Result<(), Fail> {
     assert_eq!(rt; raw.octets(), [4, 1, 42].as_slice());
     assert!(rt; Raw::new(rt.alloc(), &[4, 1, 42, 0])?.is_none());
     assert!(rt; Raw::new(rt.alloc(), &[4, 2, 42])?.is_none());
+    // Elements of indefinite length: whole, with an octet behind, cut, and a primitive one.
+    let raw = Raw::new(rt.alloc(), &[0x24, 0x80, 4, 0, 0, 0])?.ok_or("an element")?;
+    assert_eq!(rt; raw.octets(), [0x24, 0x80, 4, 0, 0, 0].as_slice());
+    assert!(rt; Raw::new(rt.alloc(), &[0x24, 0x80, 4, 0, 0, 0, 0])?.is_none());
+    assert!(rt; Raw::new(rt.alloc(), &[0x24, 0x80, 4, 0, 0])?.is_none());
+    assert!(rt; Raw::new(rt.alloc(), &[4, 0x80, 0, 0])?.is_none());
     Ok(())
 }
 
@@ -128,14 +134,16 @@ fn lent_transaction_ids(rt: HostRuntime) -> Result<(), Fail> {
     Ok(())
 }
 
-/// User information: none, one EXTERNAL, two, one with a padded length, and the counts of EXTERNALs.
-const EXTERNALS: [(&[u8], usize); 6] = [
+/// User information: none, one EXTERNAL, two, some with padded or indefinite lengths, and the counts of EXTERNALs.
+const EXTERNALS: [(&[u8], usize); 8] = [
     (&[], 0),
     (&[0x28, 0], 1),
     (&[0x28, 3, 5, 0, 0x80], 1),
     (&[0x28, 1, 0x28, 0x28, 0], 2),
     (&[0x28, 0x83, 0, 0, 1, 0xFF], 1),
     (&[0x28, 0, 0x28, 0, 0x28, 0x81, 0], 3),
+    (&[0x28, 0x80, 0, 0], 1),
+    (&[0x28, 0x80, 0x28, 0, 0, 0, 0x28, 0], 2),
 ];
 
 #[test]
@@ -155,7 +163,7 @@ fn user_information(rt: HostRuntime) -> Result<(), Fail> {
 }
 
 /// Octets that are no EXTERNALs up to their end: another tag, cut ones, and lengths that are not taken.
-const NO_EXTERNALS: [&[u8]; 10] = [
+const NO_EXTERNALS: [&[u8]; 11] = [
     &[0x05, 0],
     &[0x08, 0],
     &[0x28],
@@ -163,7 +171,8 @@ const NO_EXTERNALS: [&[u8]; 10] = [
     &[0x28, 0, 0x28],
     &[0x28, 0, 0x05, 0],
     &[0x28, 2, 0x28],
-    &[0x28, 0x80, 0, 0],
+    &[0x28, 0x80, 0],
+    &[0x08, 0x80, 0, 0],
     &[0x28, 0x85, 0, 0, 0, 0, 0],
     &[0x28, 0x83, 1, 0, 0],
 ];
