@@ -88,7 +88,7 @@ abbrev pub whole : List ℕ → Span
 whole octets = record { octets = octets; place = 0 }
 
 -- A reason stands at a place of octets that are to begin with a message: they end before their outer
--- element does; or its header is wrong; or it is no message, or something inside is wrong.
+-- element does; or that is wrong itself, as far as it is there; or it is no message, or something inside is wrong.
 abbrev pub IsFaulty : List ℕ → Reason → ℕ → Type 0
 IsFaulty octets reason place =
     ((reason ≡ Cut) × (place ≡ length octets) × IsUnfinished octets)
