@@ -1,7 +1,8 @@
 """Shows that `tcapjudge show` and reading messages as views take time linear in the octets: prints the ratio of the times
 for an input and for one of twice and of four times as many entries or messages. The records are of entries of few octets,
 of many, of as many components as an entry can hold, and of dialogue portions; the messages that are viewed are those of
-the worked rows, one after the other. `make bench` builds both programs first."""
+the worked rows, one after the other. So it does for walks over an element of indefinite length that is made of elements
+of two octets, in one go and one octet at a time. `make bench` builds both programs first."""
 
 import re
 import subprocess
@@ -24,6 +25,11 @@ with open("crates/tcap_rows/src/vectors.rt") as file:
     # The digits of a row stand behind its name, and may go on in the next line behind a backslash.
     DIGITS = re.findall(r'\(\s*"\w+",\s*"([0-9a-f\\\s]+)",', file.read())
 VECTORS = b"".join(bytes.fromhex(re.sub(r"[\\\s]", "", digits)) for digits in DIGITS)
+
+
+def element(count):
+    """An element of indefinite length of so many elements of two octets."""
+    return bytes.fromhex("6280") + bytes.fromhex("0400") * count + bytes(2)
 
 
 def seconds(command, given):
@@ -56,3 +62,11 @@ print(
     f"view of the {len(DIGITS)} vectors, {20 * ROUNDS} times: {once:.3f} s, {each:.0f} ns a message;"
     f" twice as many {twice / once:.2f}, four times {again / once:.2f}"
 )
+QUARTER = 8_125
+for way, name in (("walk", "in one go"), ("octets", "one octet at a time")):
+    once, twice, again = (seconds(VIEW + [way], element(QUARTER * times)) for times in (1, 2, 4))
+    each = again / (ROUNDS * 4 * QUARTER * 2) * 1e9
+    print(
+        f"walk of an element of {QUARTER * 8} octets, {name}, {ROUNDS} times: {again:.3f} s, {each:.1f} ns an octet;"
+        f" a quarter of it {once:.3f} s, half {twice / once:.2f} times that, all {again / once:.2f}"
+    )

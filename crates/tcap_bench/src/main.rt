@@ -1,13 +1,18 @@
 //! A program for `make bench`: it reads the messages on standard input, one after the other, as views, round by
-//! round, and prints how many it read.
+//! round, and prints how many it read. With the word `walk` it walks the element on standard input instead, and with
+//! `octets` it does so one octet at a time; then it prints how many octets the element has in all rounds.
 #![tactic(auto)]
 
-use std::io;
+ghost use Rattle.std.specs.Prelude.{◌≡◌};
+ghost use Rattle.tcap_ber.specs.Walking.{outer_at};
+ghost use Rattle.tcap_bench.specs.Whole.{whole_len};
+
 use std::process::ExitCode;
-use tcap_ber::{Counted, read_to_end};
+use std::{env, io};
+use tcap_ber::{Counted, Fault, Outer, Walk, outer, read_to_end};
 use tcap_msg::view;
 
-/// How often the messages are read.
+/// How often the octets are read.
 const ROUNDS: u32 = 200;
 
 /// How many messages stand in `octets` one after the other, up to the first fault or the end.
@@ -30,12 +35,63 @@ fn count_rounds(octets: &[u8]) -> usize {
     count
 }
 
+/// How many octets the element has, or 0 where it is not whole.
+fn whole_len(answer: Result<Outer, Fault>) -> usize
+    ensures { result ≡ whole_len answer }
+{
+    match answer {
+        Ok(Outer::Whole(len)) => len,
+        _ => 0,
+    }
+}
+
+/// How many octets the element has that begins `octets`, by a walk over them one at a time; 0 where none is whole.
+fn count_walked(octets: &[u8]) -> usize
+    ensures { result ≡ whole_len (outer_at octets.now) }
+{
+    let mut walk = Walk::new();
+    let mut len = 0;
+    let mut rest = octets;
+    while !rest.is_empty() {
+        let (octet, more) = rest.split_at(1);
+        len = whole_len(walk.go_on(octet));
+        rest = more;
+    }
+    len
+}
+
+/// How many octets the elements have that were walked in all rounds, one octet at a time or not.
+fn count_walks(octets: &[u8], one_at_a_time: bool) -> usize {
+    let mut count: usize = 0;
+    for _ in 0..ROUNDS {
+        let len = if one_at_a_time {
+            count_walked(octets)
+        } else {
+            whole_len(outer(octets))
+        };
+        count = count.saturating_add(len);
+    }
+    count
+}
+
+/// The word behind the program's name, if there is one.
+fn word(rt: &HostRuntime) -> io::Result<Option<String>> {
+    let texts: Vec<String> = env::args(rt)?.collect(rt.alloc())?;
+    let mut texts = texts.into_iter();
+    texts.next();
+    Ok(texts.next())
+}
+
 fn run(rt: &HostRuntime) -> io::Result<()> {
     let mut octets = Vec::new(rt.alloc());
     if read_to_end(&mut Counted::new(rt.reader()), &mut octets).is_err() {
         return Err(io::Error::from(io::ErrorKind::Other));
     }
-    let count = count_rounds(&octets);
+    let count = match word(rt)? {
+        Some(word) if word.as_str() == "walk" => count_walks(&octets, false),
+        Some(word) if word.as_str() == "octets" => count_walks(&octets, true),
+        _ => count_rounds(&octets),
+    };
     println!(rt; "{count}")
 }
 
