@@ -209,6 +209,13 @@ fn is_dialogue_portion(dialogue: &Option<Dialogue>)
     }
 }
 
+fn has_portions(dialogue: &Option<Dialogue>, components: &Option<Portion>)
+    ensures { IsDialoguePortion dialogue.now × IsComponentPortion components.now }
+{
+    is_dialogue_portion(dialogue);
+    is_component_portion(components);
+}
+
 fn is_reason(reason: &Option<AbortReason>)
     ensures { IsAbortReason reason.now }
 {
@@ -239,8 +246,7 @@ pub fn is_message(message: &Message)
             components,
         } => {
             otid.octets();
-            is_dialogue_portion(dialogue);
-            is_component_portion(components);
+            has_portions(dialogue, components);
         }
         Message::Continue {
             otid,
@@ -250,8 +256,7 @@ pub fn is_message(message: &Message)
         } => {
             otid.octets();
             dtid.octets();
-            is_dialogue_portion(dialogue);
-            is_component_portion(components);
+            has_portions(dialogue, components);
         }
         Message::End {
             dtid,
@@ -259,8 +264,7 @@ pub fn is_message(message: &Message)
             components,
         } => {
             dtid.octets();
-            is_dialogue_portion(dialogue);
-            is_component_portion(components);
+            has_portions(dialogue, components);
         }
         Message::Abort { dtid, reason } => {
             dtid.octets();

@@ -4,6 +4,7 @@ ghost use Rattle.std.specs.Prelude.{◌≡◌, IfOk};
 ghost use Rattle.std.specs.Option.{option_map};
 ghost use Rattle.tcap_parts.specs.Meaning.{components_of};
 ghost use Rattle.tcap_parts.specs.DialogueMeaning.{dialogue_of};
+ghost use Rattle.tcap_msg.specs.declared.message.Message.TheVariants as Message;
 ghost use Rattle.tcap_msg.specs.Meaning.{reason_of, message_of};
 
 use crate::message::{AbortReason, Message};
@@ -107,6 +108,23 @@ fn lend_reason(reason: &Option<AbortReason>) -> Option<AbortReasonView<'_>>
     }
 }
 
+/// A Continue of these parts, lent.
+fn lend_continue<'a>(
+    otid: &'a TransactionId,
+    dtid: &'a TransactionId,
+    dialogue: &'a Option<Dialogue>,
+    components: &'a Option<Portion>,
+) -> MessageView<'a>
+    ensures { message_of result ≡ Message.Continue otid.now dtid.now dialogue.now components.now }
+{
+    MessageView::Continue {
+        otid: otid.view(),
+        dtid: dtid.view(),
+        dialogue: lend_dialogue(dialogue),
+        components: lend_portion(components),
+    }
+}
+
 impl Message {
     /// The message, lent.
     pub fn view(&self) -> MessageView<'_>
@@ -134,12 +152,7 @@ impl Message {
                 dtid,
                 dialogue,
                 components,
-            } => MessageView::Continue {
-                otid: otid.view(),
-                dtid: dtid.view(),
-                dialogue: lend_dialogue(dialogue),
-                components: lend_portion(components),
-            },
+            } => lend_continue(otid, dtid, dialogue, components),
             Message::End {
                 dtid,
                 dialogue,
