@@ -2,7 +2,7 @@
 use Rattle.std.proofs.Common.{◌≡◌, ℕ, zero, suc, ◌+◌, ◌-◌, ◌*◌, ◌<◌, ◌≤◌, ◌⊎◌, Bool, true, false, List, [], ◌∷◌, ◌++◌, length, take, drop, Option, Some, None, Result, Ok, Err, refl, sym, ap, subst, ◌∙◌, inl, inr, arith, append_assoc}
 use Rattle.std.specs.Prelude.{nat_lt, if◌then◌else◌}
 use Rattle.std.proofs.lemmas.List.{take_at, drop_at, length-append}
-use Rattle.std.proofs.lemmas.Bool.{ltb-true, ltb-false, le-ltb, lt-ltb, ne_eqb}
+use Rattle.std.proofs.lemmas.Bool.{ltb-true, le-ltb, lt-ltb, ne_eqb}
 use Rattle.tcap_ber.specs.declared.fault.Fault.{Fault}
 use Rattle.tcap_ber.specs.declared.fault.Reason.{Reason}
 use Rattle.tcap_ber.specs.declared.fault.Reason.TheVariants.{Overrun}
@@ -13,15 +13,15 @@ use Rattle.tcap_ber.specs.declared.progress.Progress.{Progress}
 use Rattle.tcap_ber.specs.declared.element.Outer.{Outer}
 use Rattle.tcap_ber.specs.declared.element.Outer.TheVariants.{Whole, Need}
 use Rattle.tcap_ber.specs.Element.{IsTag, IsLength, IsDefinite, IsIndefinite, IsNested, IsElement, depth_limit, ending, is_next, content_start}
-use Rattle.tcap_ber.specs.Walked.{BeginsElement, IsUnfinished, IsWalkFault, IsInnermost}
+use Rattle.tcap_ber.specs.Walked.{BeginsElement}
 use Rattle.tcap_ber.specs.Grammar.{IsElementFault}
 use Rattle.tcap_ber.specs.Found.{FindsElement}
-use Rattle.tcap_ber.specs.Span.{Span, behind}
+use Rattle.tcap_ber.specs.Span.{Span}
 use Rattle.tcap_ber.specs.Walking.{at_first, goes, gone_on, outer_at, innermost_at}
 use Rattle.tcap_ber.specs.Reading.{fault, ◌>>=◌, opening_at, Element, definite_at, indefinite_at, element_of, next_at}
-use Rattle.tcap_ber.proofs.Steps.{chosen, ok_is, err_is, ok_not_err}
+use Rattle.tcap_ber.proofs.Steps.{ok_is, err_is, ok_not_err}
 use Rattle.tcap_ber.proofs.OpeningLaws.{from, definite_complete, indefinite_complete, opening_fault, opening_refused, opening_moves}
-use Rattle.tcap_ber.proofs.WalkLaws.{walk, walk_stops}
+use Rattle.tcap_ber.proofs.WalkLaws.{walk_stops}
 use Rattle.tcap_ber.proofs.WalkedLaws.{nothing_walked}
 use Rattle.tcap_ber.proofs.OuterLaws.{outer_whole, outer_of_element, outer_fault, outer_refused, is_unfinished, place_there, innermost_sound, innermost_unique}
 
@@ -188,8 +188,12 @@ indefinite_bounds s tag n e b =
     least : opening_at (from s.place (b.element ++ b.rest)) ≡ Ok (Some (Indefinite tag)) → tag + 3 ≤ n
     least there = elim (element_form b.tag b.content b.element b.is_element) [
       | inl d ↦ absurd (definite_not _ tag (sym (opening_definite s.place b.tag b.content b.element b.rest d) ∙ there))
-      | inr i ↦ omega (arith, b.len, indefinite_len (IsInner i.0) b.tag b.content b.element i.1,
-          tag_is (length b.tag) tag (sym (opening_indefinite s.place (IsInner i.0) b.tag b.content b.element b.rest i.1) ∙ there))
+      | inr i ↦ omega (
+        arith,
+        b.len,
+        indefinite_len (IsInner i.0) b.tag b.content b.element i.1,
+        tag_is (length b.tag) tag (sym (opening_indefinite s.place (IsInner i.0) b.tag b.content b.element b.rest i.1) ∙ there),
+      )
     ]
 
 -- ---- what is wrong with it, or with its fit, is answered
@@ -293,15 +297,18 @@ outer_is octets = of (outer_at octets) refl
 pub next_of_whole : (s : Span) (n : ℕ) → outer_at s.octets ≡ Ok (Whole n) → (x : Element × Span) × (next_at s ≡ Ok x) × FindsElement s x.0 x.1
 next_of_whole s n e =
     let b = outer_whole s.octets n e in
-    let read = ap (λ (o : List ℕ). next_at (record { octets = o; place = s.place })) b.joined ∙ next_complete s.place b.tag b.content b.element b.rest b.is_element in
-    (read_element s.place b.tag b.content b.element b.rest, read, record {
-      octets = b.element;
-      is_element = b.is_element;
-      joined = b.joined;
-      content_place = refl;
-      place = refl;
-      behind_place = refl;
-    })
+    let read = ap (λ (o : List ℕ). next_at (record { octets = o; place = s.place })) b.joined ∙ next_complete s.place b.tag b.content b.element b.rest b.is_element in (
+      read_element s.place b.tag b.content b.element b.rest,
+      read,
+      record {
+        octets = b.element;
+        is_element = b.is_element;
+        joined = b.joined;
+        content_place = refl;
+        place = refl;
+        behind_place = refl;
+      },
+    )
 
 pub next_sound : (s : Span) (x : Element × Span) → next_at s ≡ Ok x → FindsElement s x.0 x.1
 next_sound s x e =

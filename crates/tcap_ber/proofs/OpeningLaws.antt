@@ -331,20 +331,19 @@ wrong_stays octets more reasons.TagForm offset (h, z) =
     (record { first = h.first; four = h.four; rest = h.rest ++ more; is_long = h.is_long; are_four = h.are_four; go_on = h.go_on; joined = ap (λ (x : List ℕ). x ++ more) h.joined ∙ ap (λ (x : List ℕ). h.first ∷ x) (append_assoc h.four h.rest more) }, z)
 wrong_stays octets more reasons.LengthForm offset h = (h.0, h.1, octet_stays h.0 offset octets more h.2)
 wrong_stays octets more reasons.Indefinite offset h = (octet_stays 0x80 offset octets more h.0, h.1)
-wrong_stays octets more reasons.TooLong offset (h, z) =
-    (
-      record {
-        tag = h.tag;
-        length_octets = h.length_octets;
-        rest = h.rest ++ more;
-        count = h.count;
-        is_tag = h.is_tag;
-        is_length = h.is_length;
-        is_over = h.is_over;
-        joined = ap (λ (x : List ℕ). x ++ more) h.joined ∙ append_assoc (h.tag ++ h.length_octets) h.rest more;
-      },
-      z,
-    )
+wrong_stays octets more reasons.TooLong offset (h, z) = (
+  record {
+    tag = h.tag;
+    length_octets = h.length_octets;
+    rest = h.rest ++ more;
+    count = h.count;
+    is_tag = h.is_tag;
+    is_length = h.is_length;
+    is_over = h.is_over;
+    joined = ap (λ (x : List ℕ). x ++ more) h.joined ∙ append_assoc (h.tag ++ h.length_octets) h.rest more;
+  },
+  z,
+)
 wrong_stays octets more _ offset h = absurd h
 
 -- and nothing behind a fault

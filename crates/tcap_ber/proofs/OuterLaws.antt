@@ -1,5 +1,5 @@
 -- What is answered of the octets that a message or an entry begins with.
-use Rattle.std.proofs.Common.{◌≡◌, ℕ, ◌+◌, ◌-◌, ◌<◌, ◌≤◌, true, List, [], ◌∷◌, ◌++◌, length, take, drop, Option, Some, None, Result, Ok, Err, refl, sym, ap, subst, ◌∙◌, inl, inr, arith, append_assoc}
+use Rattle.std.proofs.Common.{◌≡◌, ℕ, ◌+◌, ◌<◌, ◌≤◌, true, List, [], ◌∷◌, ◌++◌, length, Option, Some, None, Result, Ok, Err, refl, sym, ap, subst, ◌∙◌, inl, inr, arith}
 use Rattle.std.proofs.lemmas.List.{length-append, append-nil, nil_from_length}
 use Rattle.std.proofs.lemmas.Bool.{eqb-true, eq-eqb}
 use Rattle.std.specs.List.{concat}
@@ -13,7 +13,7 @@ use Rattle.tcap_ber.specs.Walked.{Level, walked, IsWalked, IsWalkFault, IsUnfini
 use Rattle.tcap_ber.specs.Walking.{at_first, goes, outer_at, stopped, last_opened, innermost_by, innermost_at}
 use Rattle.tcap_ber.specs.Reading.{fault, is_whole, is_raw}
 use Rattle.tcap_ber.proofs.Steps.{ok_not_err}
-use Rattle.tcap_ber.proofs.WalkLaws.{Goes, stops_there, left, left_shorter, walk, stops, notes, Reaches, reaches_walk, reaches_stops, reaches_fewer, reaches_stop, progress_of, reaches_levels, walk_of_element, goes_sound}
+use Rattle.tcap_ber.proofs.WalkLaws.{stops_there, left, left_shorter, walk, stops, notes, reaches_walk, reaches_stops, reaches_fewer, reaches_stop, progress_of, reaches_levels, walk_of_element, goes_sound}
 use Rattle.tcap_ber.proofs.WalkedLaws.{nothing_walked, steps, stands, whole_there, wrong_there, refused_there, wrong_within, noted_there, opened_innermost}
 use Rattle.tcap_ber.proofs.ResumeLaws.{needed, needs_more}
 

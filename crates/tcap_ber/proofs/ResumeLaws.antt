@@ -134,8 +134,8 @@ goes_behind octet header octets p next opening goes_on none e behind =
     ∙ behind_it front octets p next (omega arith) (omega arith)
     ∙ ap (λ (x : List ℕ). gone_to (walk_on (length x)) p x next) (append_assoc header (octet ∷ []) octets)
     ∙ sym (resume_is_walk header (octet ∷ octets) p goes_on ∙ walk_step p all
-      ∙ ap (λ (r : Result (Option Opening) Fault). r >>= gone_on (walk_on (length all)) p all) (read_there octet header octets p opening e)
-      ∙ ap (λ (r : Result Progress Fault). r >>= gone_to (walk_on (length all)) p all) (behind_there octet header octets p opening e ∙ behind))
+    ∙ ap (λ (r : Result (Option Opening) Fault). r >>= gone_on (walk_on (length all)) p all) (read_there octet header octets p opening e)
+    ∙ ap (λ (r : Result Progress Fault). r >>= gone_to (walk_on (length all)) p all) (behind_there octet header octets p opening e ∙ behind))
 
 -- ---- how many octets are needed at least
 
@@ -145,7 +145,7 @@ reach p = p.at + 2 * p.depth
 
 -- the place behind, where the limit is kept
 within_is : (p q next : Progress) → within_limit p q ≡ Ok next → q ≡ next
-within_is p q next e = elim (chosen (nat_lt p.limit q.at) _ _ (Ok next) e) [ | inl k ↦ absurd cc | inr k ↦ ok_is q next k.1 ]
+within_is p q next e = elim (chosen (nat_lt p.limit q.at) _ _ (Ok next) e) [ inl k ↦ absurd cc | inr k ↦ ok_is q next k.1 ]
 
 -- where an element opens, its ending has to come
 opened_rises : (p next : Progress) (len : ℕ) → opened p len ≡ Ok next → reach p ≤ reach next
@@ -208,10 +208,13 @@ gone_of : (walk : Progress → List ℕ → Result Outer Fault) (p : Progress) (
 gone_of walk p octets next out e =
     elim (chosen (nat_lt (length octets) (next.at - p.at)) _ _ (Ok out) e) [
       | inl h ↦ inl (ltb-true (length octets) (next.at - p.at) h.0, ok_is _ out h.1)
-      | inr h ↦ inr (ltb-false (length octets) (next.at - p.at) h.0, elim (chosen (next.depth == 0) _ _ (Ok out) h.1) [
-        | inl k ↦ inl (eqb-true next.depth 0 k.0, ok_is _ out k.1)
-        | inr k ↦ inr (eqb-false next.depth 0 k.0, k.1)
-      ])
+      | inr h ↦ inr (
+        ltb-false (length octets) (next.at - p.at) h.0,
+        elim (chosen (next.depth == 0) _ _ (Ok out) h.1) [
+          | inl k ↦ inl (eqb-true next.depth 0 k.0, ok_is _ out k.1)
+          | inr k ↦ inr (eqb-false next.depth 0 k.0, k.1)
+        ],
+      )
     ]
 
 -- the variants of an answer and their numbers

@@ -1,6 +1,6 @@
 -- What a walk that stopped gives, after each of its steps.
-use Rattle.std.proofs.Common.{◌≡◌, ℕ, ◌+◌, ◌-◌, ◌<◌, ◌≤◌, ◌⊎◌, true, false, List, [], ◌∷◌, ◌++◌, length, take, drop, Option, Some, None, Result, Ok, Err, refl, sym, ap, ◌∙◌, inl, inr, arith}
-use Rattle.std.specs.Prelude.{◌≢◌, nat_lt}
+use Rattle.std.proofs.Common.{◌≡◌, ℕ, ◌+◌, ◌-◌, ◌<◌, ◌≤◌, ◌⊎◌, List, [], ◌∷◌, ◌++◌, length, take, drop, Option, Some, None, Ok, Err, refl, sym, ap, ◌∙◌, inl, inr, arith}
+use Rattle.std.specs.Prelude.{◌≢◌}
 use Rattle.std.proofs.lemmas.Bool.{lt-ltb, le-ltb, eq-eqb}
 use Rattle.std.proofs.lemmas.List.{length-append, length-drop, drop-append-le}
 use Rattle.std.proofs.Math.Seq.{take-length}
@@ -12,7 +12,6 @@ use Rattle.tcap_ber.specs.HeaderReading.{opening_at}
 use Rattle.tcap_ber.specs.Walking.{behind_header, walk_on, at_first, outer_at, resume, resume_unless}
 use Rattle.tcap_ber.specs.Resuming.{resumes, IsStopped}
 use Rattle.tcap_ber.proofs.OpeningLaws.{from}
-use Rattle.tcap_ber.proofs.WalkLaws.{walk}
 use Rattle.tcap_ber.proofs.ResumeLaws.{skips, holds, fails, fails_behind, goes_behind}
 
 -- before the first octet

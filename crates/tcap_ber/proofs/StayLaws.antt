@@ -1,9 +1,9 @@
 -- What is wrong with octets stays wrong, whatever comes behind them.
-use Rattle.std.proofs.Common.{◌≡◌, ℕ, List, ◌∷◌, ◌++◌, ap, ◌∙◌, inl, inr, append_assoc}
+use Rattle.std.proofs.Common.{ℕ, List, ◌∷◌, ◌++◌, ap, ◌∙◌, inl, inr, append_assoc}
 use Rattle.tcap_ber.specs.declared.fault.Reason.{Reason}
 use Rattle.tcap_ber.specs.declared.fault.Reason.TheVariants as reasons
 use Rattle.tcap_ber.specs.Header.{HasLongTag, HasLengthOctet, HasLongLength}
-use Rattle.tcap_ber.specs.Walked.{Level, walked, IsWalked, IsWrongThere, IsWalkFault}
+use Rattle.tcap_ber.specs.Walked.{Level, walked, IsWrongThere, IsWalkFault}
 
 long_tag_stays : (octets more : List ℕ) → HasLongTag octets → HasLongTag (octets ++ more)
 long_tag_stays octets more h = record {

@@ -1,6 +1,6 @@
 -- Walking as a function, without its count of steps: which places it reaches.
 use Rattle.std.proofs.Common.{◌≡◌, ℕ, zero, suc, ◌+◌, ◌-◌, ◌<◌, ◌≤◌, Bool, true, false, cond, List, [], ◌∷◌, ◌++◌, length, drop, Option, Some, None, Result, Ok, Err, refl, sym, ap, subst, ◌∙◌, inl, inr, arith, append_assoc}
-use Rattle.std.specs.Prelude.{◌≢◌, nat_lt, ◌==◌, ◌&&◌, if◌then◌else◌}
+use Rattle.std.specs.Prelude.{◌≢◌, nat_lt, ◌==◌, ◌&&◌}
 use Rattle.std.specs.List.{AllByRecursion, concat}
 use Rattle.std.proofs.lemmas.List.{drop_at, length-append, length-drop, nil_from_length}
 use Rattle.std.proofs.lemmas.Bool.{ltb-false, lt-ltb, le-ltb, eqb-true, eqb-false, eq-eqb, ne_eqb, and_parts, false_from_ne_true}
@@ -102,13 +102,13 @@ behind_further p next octets (Definite h) read behind =
 goes_there : (p next : Progress) (octets : List ℕ) (opening : Opening) → opening_at (from p.at octets) ≡ Ok (Some opening) → behind_header p octets opening ≡ Ok next
     → nat_lt (length octets) (next.at - p.at) ≡ false → (next.depth == 0) ≡ false → Goes p octets next
 goes_there p next octets opening read behind k l = record {
-    opening = opening;
-    read = read;
-    behind = behind;
-    room = ltb-false (length octets) (next.at - p.at) k;
-    some = omega (arith, behind_further p next octets opening read behind, (opening_within p.at octets opening read).0);
-    inside = let d : next.depth ≢ 0 = eqb-false next.depth 0 l in omega (arith, d);
-  }
+  opening = opening;
+  read = read;
+  behind = behind;
+  room = ltb-false (length octets) (next.at - p.at) k;
+  some = omega (arith, behind_further p next octets opening read behind, (opening_within p.at octets opening read).0);
+  inside = let d : next.depth ≢ 0 = eqb-false next.depth 0 l in omega (arith, d);
+}
 
 pub goes_sound : (p next : Progress) (octets : List ℕ) → goes p octets ≡ Some next → Goes p octets next
 unfolding goes
@@ -415,7 +415,7 @@ opens : (tag rest : List ℕ) (p : Progress) → IsTag tag → IsConstructed tag
 opens tag rest p t c inside deep within =
     let deeply : p.depth ≢ 0 = λ e. omega (arith, inside, e) in
     let behind : opened p (length tag + 1) ≡ Ok (deeper (length tag + 1) p) =
-        rw (lt-ltb p.depth depth_limit deep, ne_eqb p.depth 0 deeply, le-ltb p.limit (p.at + (length tag + 1)) within) refl in
+    rw (lt-ltb p.depth depth_limit deep, ne_eqb p.depth 0 deeply, le-ltb p.limit (p.at + (length tag + 1)) within) refl in
     over p (deeper (length tag + 1) p) (tag ++ 0x80 ∷ rest) (tag ++ 0x80 ∷ []) rest (Indefinite (length tag)) (sym (append_assoc tag (0x80 ∷ []) rest))
     (indefinite_complete p.at tag rest t c) behind (omega (arith, length-append tag (0x80 ∷ []))) (omega arith)
 
@@ -441,7 +441,7 @@ closes rest p inside within =
     let next : Progress = record { at = p.at + 2; depth = p.depth - 1; limit = p.limit } in
     let deep : p.depth ≢ 1 = λ e. omega (arith, inside, e) in
     let behind : behind_header p (ending ++ rest) (Definite (header_for (0 ∷ []) (0 ∷ []) 0)) ≡ Ok next =
-        rw (lt-ltb 0 p.depth (omega (arith, inside)), ne_eqb p.depth 1 deep, le-ltb p.limit (p.at + 2) within) refl in
+    rw (lt-ltb 0 p.depth (omega (arith, inside)), ne_eqb p.depth 1 deep, le-ltb p.limit (p.at + 2) within) refl in
     over p next (ending ++ rest) ending rest (Definite (header_for (0 ∷ []) (0 ∷ []) 0)) refl (ending_read p.at rest) behind refl (omega (arith, inside))
 
 -- the same with another place
@@ -471,9 +471,9 @@ items_passed depth each (item ∷ items) rest p all inside deep within =
     let len : length (item ++ concat items) ≡ length item + length (concat items) = length-append item (concat items) in
     let q : Progress = moved (length item) p in
     let one : Reaches p (item ++ (concat items ++ rest)) q (concat items ++ rest) =
-        each all.0.0.0 all.0.0.1 item (concat items ++ rest) p all.0.0.2 all.0.1 inside deep (omega (arith, len, within)) in
+    each all.0.0.0 all.0.0.1 item (concat items ++ rest) p all.0.0.2 all.0.1 inside deep (omega (arith, len, within)) in
     let more : Reaches q (concat items ++ rest) (moved (length (concat items)) q) rest =
-        items_passed depth each items rest q all.1 inside deep (omega (arith, len, within)) in
+    items_passed depth each items rest q all.1 inside deep (omega (arith, len, within)) in
     let total : p.at + length item + length (concat items) ≡ p.at + length (item ++ concat items) = omega (arith, len) in
     let placed = λ (n : ℕ). placed_at n p in
     reaches_is p (moved (length (concat items)) q) (moved (length (item ++ concat items)) p) (item ++ (concat items ++ rest)) ((item ++ concat items) ++ rest) rest
@@ -501,9 +501,9 @@ passes_indefinite depth each tag content item rest p i inside deep within =
     let q : Progress = deeper (length tag + 1) p in
     let r : Progress = moved (length inner) q in
     let one : Reaches p (tag ++ 0x80 ∷ (inner ++ (ending ++ rest))) q (inner ++ (ending ++ rest)) =
-        opens tag (inner ++ (ending ++ rest)) p i.is_tag i.is_constructed inside (omega (arith, deep)) (omega (arith, len, within)) in
+    opens tag (inner ++ (ending ++ rest)) p i.is_tag i.is_constructed inside (omega (arith, deep)) (omega (arith, len, within)) in
     let more : Reaches q (inner ++ (ending ++ rest)) r (ending ++ rest) =
-        items_passed depth each i.items (ending ++ rest) q i.are_items (omega arith) (omega (arith, deep)) (omega (arith, len, within)) in
+    items_passed depth each i.items (ending ++ rest) q i.are_items (omega arith) (omega (arith, deep)) (omega (arith, len, within)) in
     let last : Reaches r (ending ++ rest) (placed_at (r.at + 2) (shallower r)) rest = closes rest r (omega (arith, inside)) (omega (arith, len, within)) in
     let total : p.at + (length tag + 1) + length inner + 2 ≡ p.at + length item = omega (arith, len) in
     let back : p.depth + 1 - 1 ≡ p.depth = omega arith in
@@ -594,9 +594,9 @@ levels_reached n (level ∷ outer) rest o within =
     let a : Reaches at_first (walked outer ++ behind) p behind = levels_reached (suc n) outer behind o.3 (omega (arith, within, outer_walked level outer)) in
     let b : Reaches p behind q (inner ++ rest) = opens_level level outer (inner ++ rest) o.0 o.1 (omega (arith, count)) within in
     let c : Reaches q (inner ++ rest) (moved (length inner) q) rest =
-        passes_all n level.items rest q o.2 (omega arith) (omega (arith, count)) (omega (arith, total, within, len)) in
+    passes_all n level.items rest q o.2 (omega arith) (omega (arith, count)) (omega (arith, total, within, len)) in
     let grouped : walked outer ++ behind ≡ walked (level ∷ outer) ++ rest =
-        sym (append_assoc (walked outer) (level.tag ++ 0x80 ∷ inner) rest ∙ ap (λ (x : List ℕ). walked outer ++ x) (append_assoc level.tag (0x80 ∷ inner) rest)) in
+    sym (append_assoc (walked outer) (level.tag ++ 0x80 ∷ inner) rest ∙ ap (λ (x : List ℕ). walked outer ++ x) (append_assoc level.tag (0x80 ∷ inner) rest)) in
     let placed = λ (n : ℕ). placed_at n q in
     reaches_is at_first (moved (length inner) q) (progress_of (level ∷ outer)) (walked outer ++ behind) (walked (level ∷ outer) ++ rest) rest grouped (ap placed (sym len))
     (reaches_on at_first p (moved (length inner) q) (walked outer ++ behind) behind rest a
@@ -633,11 +633,11 @@ indefinite_walked depth tag content element rest limit i =
     let r : Progress = moved (length inner) q in
     let next : Progress = record { at = r.at + 2; depth = 0; limit = r.limit } in
     let one : Reaches at_first (tag ++ 0x80 ∷ (inner ++ (ending ++ rest))) q (inner ++ (ending ++ rest)) =
-        opens_first tag (inner ++ (ending ++ rest)) i.is_tag i.is_constructed in
+    opens_first tag (inner ++ (ending ++ rest)) i.is_tag i.is_constructed in
     let more : Reaches q (inner ++ (ending ++ rest)) r (ending ++ rest) =
-        passes_all depth i.items (ending ++ rest) q i.are_items (omega arith) (omega (arith, limit)) (omega (arith, i.is_within, ap length i.content_is)) in
+    passes_all depth i.items (ending ++ rest) q i.are_items (omega arith) (omega (arith, limit)) (omega (arith, i.is_within, ap length i.content_is)) in
     let last : walk r (ending ++ rest) ≡ Ok (Whole next.at) =
-        ends_whole r next (ending ++ rest) ending rest (Definite (header_for (0 ∷ []) (0 ∷ []) 0)) refl (ending_read r.at rest) refl refl refl in
+    ends_whole r next (ending ++ rest) ending rest (Definite (header_for (0 ∷ []) (0 ∷ []) 0)) refl (ending_read r.at rest) refl refl refl in
     let same : next.at ≡ length element = omega (arith, len) in
     ap (walk at_first) (indefinite_grouped _ tag content element rest i)
     ∙ reaches_walk at_first r (tag ++ 0x80 ∷ (inner ++ (ending ++ rest))) (ending ++ rest) (reaches_on at_first q r (tag ++ 0x80 ∷ (inner ++ (ending ++ rest))) (inner ++ (ending ++ rest)) (ending ++ rest) one more)

@@ -339,9 +339,10 @@ fresh_place tag [] next (inl k) = (sym k.1 ∙ place_is _ (progress_of (fresh ta
 fresh_place tag [] next (inr k) = absurd (k.0 refl)
 fresh_place tag (level ∷ outer) next (inl k) = absurd (omega (arith, k.0))
 fresh_place tag (level ∷ outer) next (inr k) =
-    let l = fresh_length tag (level ∷ outer) in
-    (place_is next (progress_of (fresh tag ∷ level ∷ outer)) (omega (arith, k.1.at_is, l)) (omega (arith, k.1.depth_is)) k.1.limit_is,
-    omega (arith, k.1.at_is, k.1.within, l, content_count (level ∷ outer), content_count (fresh tag ∷ level ∷ outer)))
+    let l = fresh_length tag (level ∷ outer) in (
+      place_is next (progress_of (fresh tag ∷ level ∷ outer)) (omega (arith, k.1.at_is, l)) (omega (arith, k.1.depth_is)) k.1.limit_is,
+      omega (arith, k.1.at_is, k.1.within, l, content_count (level ∷ outer), content_count (fresh tag ∷ level ∷ outer)),
+    )
 
 -- a step over a header of indefinite length
 step_opened : (octets rest : List ℕ) (tag : ℕ) (levels : List Level) (next : Progress) → IsWalked octets levels rest → FindsIndefinite rest tag → opened (progress_of levels) (tag + 1) ≡ Ok next → Stepped octets levels rest next
@@ -386,7 +387,7 @@ step_closed octets rest (level ∷ within ∷ outer) next w inside ends e =
           record {
             others = grow within (whole level) ∷ outer;
             is_walked = subst (IsWalked octets (grow within (whole level) ∷ outer)) (sym left_is)
-            (grown octets behind.0 (suc w.left) within outer (whole level) o.3 (level.tag, concat level.items, nested) (whole_no_ending level) room joined);
+                (grown octets behind.0 (suc w.left) within outer (whole level) o.3 (level.tag, concat level.items, nested) (whole_no_ending level) room joined);
             next_is = grown_place next within outer (whole level) (omega (arith, k.1.at_is, len)) (omega (arith, k.1.depth_is)) k.1.limit_is;
           }
     ]
@@ -412,7 +413,7 @@ step_passed octets rest (level ∷ outer) next h w inside room f other e =
           record {
             others = grow level d.item ∷ outer;
             is_walked = subst (IsWalked octets (grow level d.item ∷ outer)) (sym left_is)
-            (grown octets d.behind w.left level outer d.item w.are_open (d.tag, d.content, definite_nested w.left d.tag d.content d.item d.is_definite) no_end within joined);
+                (grown octets d.behind w.left level outer d.item w.are_open (d.tag, d.content, definite_nested w.left d.tag d.content d.item d.is_definite) no_end within joined);
             next_is = grown_place next level outer d.item at k.1.depth_is k.1.limit_is;
           }
     ]

@@ -1,5 +1,5 @@
 -- A choice: at a place has to be one of several elements, each known by its tag.
-use Rattle.std.specs.Prelude.{◌≡◌, ◌≢◌, ℕ, ◌-◌, ◌+◌, ◌⊎◌, List, [], ◌∷◌, ◌++◌, length}
+use Rattle.std.specs.Prelude.{◌≡◌, ◌≢◌, ℕ, ◌+◌, ◌⊎◌, List, [], ◌∷◌, ◌++◌}
 use Rattle.tcap_ber.specs.declared.fault.Reason.{Reason}
 use Rattle.tcap_ber.specs.Element.{IsElement, content_start}
 use Rattle.tcap_ber.specs.Grammar.{Body, Field, IsMissing, IsElementFault}

@@ -2,7 +2,7 @@
 -- stand at which places where octets are none of its spellings. Reading goes from left to right: the
 -- start of a content is reached where its header is sound and its tag the wanted one, and a place in a
 -- content is reached where all that stands before it is spelled as it should be.
-use Rattle.std.specs.Prelude.{◌≡◌, ◌≢◌, ℕ, ◌+◌, ◌-◌, ◌<◌, ◌≤◌, ◌⊎◌, ℤ, List, [], ◌∷◌, ◌++◌, length, Option, Some, None}
+use Rattle.std.specs.Prelude.{◌≡◌, ◌≢◌, ℕ, ◌+◌, ◌<◌, ◌≤◌, ◌⊎◌, ℤ, List, [], ◌∷◌, ◌++◌, length, Option, Some, None}
 use Rattle.tcap_ber.specs.declared.fault.Reason.{Reason}
 use Rattle.tcap_ber.specs.declared.fault.Reason.TheVariants.{Overrun, BadInteger, UnexpectedTag, Missing, Trailing}
 use Rattle.tcap_ber.specs.Element.{IsElement, IsRaw, content_start}

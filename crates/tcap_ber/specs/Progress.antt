@@ -1,10 +1,9 @@
 -- How far a walk may be, and what a header has at most.
-use Rattle.std.specs.Prelude.{◌≡◌, ℕ, ◌+◌, ◌<◌, ◌≤◌, ◌⊎◌, List, length, Option, Some, None, Result, Ok}
-use Rattle.tcap_ber.specs.declared.fault.Fault.{Fault}
+use Rattle.std.specs.Prelude.{◌≡◌, ℕ, ◌+◌, ◌<◌, ◌≤◌, List, None, Ok}
 use Rattle.tcap_ber.specs.declared.header.Opening.{Opening}
 use Rattle.tcap_ber.specs.declared.header.Opening.TheVariants.{Definite, Indefinite}
 use Rattle.tcap_ber.specs.declared.progress.Progress.{Progress}
-use Rattle.tcap_ber.specs.Element.{content_limit, depth_limit}
+use Rattle.tcap_ber.specs.Element.{depth_limit}
 use Rattle.tcap_ber.specs.HeaderReading.{opening_at}
 
 -- how many octets the header has

@@ -1,12 +1,11 @@
 -- Reading elements from left to right, up to the first fault.
-use Rattle.std.specs.Prelude.{Bool, true, false, not, ◌&&◌, ℤ, ◌≡◌, ℕ, zero, suc, ◌+◌, ◌-◌, List, [], ◌∷◌, length, take, drop, Option, Some, None, Result, Ok, Err, nat_lt, ◌==◌, if◌then◌else◌}
+use Rattle.std.specs.Prelude.{Bool, true, false, not, ◌&&◌, ℤ, ℕ, zero, suc, ◌+◌, ◌-◌, List, [], ◌∷◌, length, take, drop, Option, Some, None, Result, Ok, Err, nat_lt, ◌==◌, if◌then◌else◌}
 use Rattle.tcap_ber.specs.declared.fault.Fault.{Fault}
 use Rattle.tcap_ber.specs.declared.fault.Reason.{Reason}
 use Rattle.tcap_ber.specs.declared.fault.Reason.TheVariants.{BadInteger, BadObjectId, Overrun, Missing, UnexpectedTag, Trailing, BadSize}
 use Rattle.tcap_ber.specs.declared.header.Header.{Header}
 use Rattle.tcap_ber.specs.declared.header.Opening.{Opening}
 use Rattle.tcap_ber.specs.declared.header.Opening.TheVariants.{Definite, Indefinite}
-use Rattle.tcap_ber.specs.declared.element.Window.{Window}
 use Rattle.tcap_ber.specs.declared.element.Tlv.{Tlv}
 use Rattle.tcap_ber.specs.declared.element.Outer.{Outer}
 use Rattle.tcap_ber.specs.declared.element.Outer.TheVariants.{Whole, Need}

@@ -1,6 +1,6 @@
 -- Walking an element's octets from left to right: which places are reached, and what is wrong there. An element of
 -- indefinite length is open from its length octet 80 to its ending; what stands in it is walked element by element.
-use Rattle.std.specs.Prelude.{◌≡◌, ◌≢◌, ℕ, zero, suc, ◌+◌, ◌<◌, ◌≤◌, ◌⊎◌, List, [], ◌∷◌, ◌++◌, length}
+use Rattle.std.specs.Prelude.{◌≡◌, ◌≢◌, ℕ, suc, ◌+◌, ◌<◌, ◌≤◌, ◌⊎◌, List, [], ◌∷◌, ◌++◌, length}
 use Rattle.std.specs.List.{AllByRecursion, concat}
 use Rattle.tcap_ber.specs.declared.fault.Reason.{Reason}
 use Rattle.tcap_ber.specs.declared.fault.Reason.TheVariants.{LengthForm, TooLong, TagForm, Indefinite, TooDeep}

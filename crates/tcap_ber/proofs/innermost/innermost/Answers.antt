@@ -1,4 +1,4 @@
-use Rattle.std.proofs.Common.{◌≡◌, ◌≤◌, length, arith}
+use Rattle.std.proofs.Common.{arith}
 use Rattle.tcap_ber.proofs.OuterLaws.{innermost_within}
 use Rattle.tcap_ber.proofs.innermost.innermost.Goals as goal
 

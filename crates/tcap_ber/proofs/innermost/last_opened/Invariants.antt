@@ -1,4 +1,4 @@
-use Rattle.std.proofs.Common.{◌≡◌, ◌+◌, ◌<◌, length}
+use Rattle.std.proofs.Common.{◌≡◌, ◌+◌, length}
 use Rattle.tcap_ber.specs.Walking.{at_first}
 use Rattle.tcap_ber.specs.Progress.{IsPlaced}
 use Rattle.tcap_ber.proofs.WalkLaws.{notes}

@@ -1,6 +1,5 @@
-use Rattle.std.proofs.Common.{◌≡◌, ◌+◌, ◌<◌, length, sym, ◌∙◌, refl, ap, arith, Ok, Fits, w64}
+use Rattle.std.proofs.Common.{◌∙◌, ap, arith, Ok}
 use Rattle.tcap_ber.specs.declared.element.Outer.{Outer}
-use Rattle.tcap_ber.specs.declared.fault.Fault.{Fault}
 use Rattle.tcap_ber.specs.Reading.{span}
 use Rattle.tcap_ber.proofs.OuterLaws.{walk_fault_within}
 use Rattle.tcap_ber.proofs.ElementLaws.{indefinite_bounds}

@@ -1,4 +1,4 @@
-use Rattle.std.proofs.Common.{◌≡◌, ◌<◌, [], ap, sym, subst, ◌∙◌, refl, arith}
+use Rattle.std.proofs.Common.{◌<◌, [], ap, sym, subst, ◌∙◌, refl, arith}
 use Rattle.tcap_ber.specs.declared.progress.Progress.{Progress}
 use Rattle.tcap_ber.specs.Progress.{IsPlaced}
 use Rattle.tcap_ber.specs.Walking.{at_first, resume}

@@ -1,4 +1,4 @@
-use Rattle.std.proofs.Common.{◌≡◌, ◌+◌, ◌-◌, ◌≤◌, ◌++◌, ◌∷◌, [], ℕ, List, length, take, Option, Some, None, Ok, Err, ap, sym, ◌∙◌, arith}
+use Rattle.std.proofs.Common.{◌≡◌, ◌+◌, ◌-◌, ◌≤◌, ◌++◌, ◌∷◌, [], ℕ, List, length, Option, Some, None, Ok, ap, sym, ◌∙◌, arith}
 use Rattle.tcap_ber.specs.declared.header.Opening.{Opening}
 use Rattle.tcap_ber.specs.declared.progress.Progress.{Progress}
 use Rattle.tcap_ber.specs.HeaderReading.{opening_at}
