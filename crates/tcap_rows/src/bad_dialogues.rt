@@ -16,7 +16,7 @@ const STRUCTURED: [(&str, u8, u64); 73] = [
     ("7f6000", 13, 20),
     ("6401", 5, 20),
     ("6480", 5, 20),
-    // Protocol versions: eight unused bits, no version 1, one octet, three, none, two versions, and the length octet 80.
+    // Protocol versions: eight unused bits, no version 1, one octet, three, none, two versions, the length octet 80.
     ("600f80020880a109060704000001001302", 12, 22),
     ("600f8002ff80a109060704000001001302", 12, 22),
     ("600f8002077fa109060704000001001302", 12, 22),

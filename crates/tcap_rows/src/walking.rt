@@ -199,8 +199,8 @@ fn len_of(octets: &[u8]) -> Result<usize, (u8, u64)> {
     }
 }
 
-/// The fronts of messages, how many elements of indefinite length are opened behind, how many endings follow, and what is
-/// wanted of it. Those around an element of definite length are not counted in it.
+/// The fronts of messages, how many elements of indefinite length are opened behind, how many endings follow, and what
+/// is wanted of it. Those around an element of definite length are not counted in it.
 const NESTED: [(&str, u32, u32, Result<usize, (u8, u64)>); 8] = [
     ("62818f4801016c8189a1818602010102012d", 32, 32, Ok(146)),
     (
@@ -265,8 +265,8 @@ fn begun(octets: &[u8]) -> Result<Outer, (u8, u64)> {
     }
 }
 
-/// Elements of 65,535 and of 65,536 octets of content: their front, a count of zero octets, what stands behind those, and
-/// what they begin with.
+/// Elements of 65,535 octets of content and of more: their front, a count of zero octets, what stands behind those,
+/// and what they begin with.
 const LONG: [(&str, usize, &str, Result<Outer, (u8, u64)>); 11] = [
     ("3082ffff", 65_535, "", Ok(Outer::Whole(65_539))),
     ("3083010000", 65_536, "", Err((3, 0))),
@@ -403,8 +403,8 @@ fn needs_at_each(octets: &[u8]) -> bool {
     true
 }
 
-/// Whether a walk to which the octets come in pieces of this size, and no octets behind each, answers what `outer` does of
-/// all that came.
+/// Whether a walk to which the octets come in pieces of this size, and no octets behind each, answers what `outer` does
+/// of all that came.
 fn is_walked(octets: &[u8], size: usize) -> bool {
     let mut walk = Walk::new();
     let mut count = 0_usize;
