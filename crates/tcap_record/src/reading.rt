@@ -23,8 +23,8 @@ pub struct Reading {
 }
 
 /// Reads a record up to the reader's end. The faults are those of the first octets that are no entry:
-/// `TooManyEntries` behind 100,000 entries, `BadEnd` at an octet of no end, `Header` where the header of
-/// an entry's element is wrong, `CutRecord` where the octets end within an entry. `Read` is answered
+/// `TooManyEntries` behind 100,000 entries, `BadEnd` at an octet of no end, `Element` where an entry's
+/// element is wrong, `CutRecord` where the octets end within an entry. `Read` is answered
 /// where the reader failed and what it told before is entries and at most a cut one, and `Memory` where
 /// memory ran out. The entries before the fault are kept.
 pub fn read_entries<R: Read>(alloc: Global, reader: &mut R) -> Reading
