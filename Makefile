@@ -1,7 +1,8 @@
 # make demo      shows the records of examples/ by the program, run unproved
 # make program   proves and builds the program, and prints where it lies
 # make test      the gate: all proofs, the must-fail edits, the tests and runs of the program, with the seconds of each part
-# make bench     prints how the time grows with the record, and with the messages that are read as views
+# make bench     prints how the time grows with the record, with the messages that are read as views, and with an element
+#                that is walked
 # make memory    lets each allocation of a run fail in turn
 .PHONY: demo program test bench memory needs
 

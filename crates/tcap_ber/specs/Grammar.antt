@@ -1,7 +1,8 @@
 -- The words that productions are written in. Each says which octets spell a value, and which reasons
 -- stand at which places where octets are none of its spellings. Reading goes from left to right: the
--- start of a content is reached where its header is sound and its tag the wanted one, and a place in a
--- content is reached where all that stands before it is spelled as it should be.
+-- start of a content is reached where the element is whole, nothing is wrong in the walk over it, and its
+-- tag is the wanted one; a place in a content is reached where all that stands before it is spelled as it
+-- should be.
 use Rattle.std.specs.Prelude.{◌≡◌, ◌≢◌, ℕ, ◌+◌, ◌<◌, ◌≤◌, ◌⊎◌, ℤ, List, [], ◌∷◌, ◌++◌, length, Option, Some, None}
 use Rattle.tcap_ber.specs.declared.fault.Reason.{Reason}
 use Rattle.tcap_ber.specs.declared.fault.Reason.TheVariants.{Overrun, BadInteger, UnexpectedTag, Missing, Trailing}

@@ -39,8 +39,9 @@ pub record IsWalked (octets : List ℕ) (levels : List Level) (rest : List ℕ) 
   pub is_within : content_walked levels ≤ content_limit
   pub joined : octets ≡ walked levels ++ rest
 
--- A whole header, or an ending, begins what is left, and with it so many octets of the outermost open element's
--- content are known: those of the header and, where the length is definite, of the content that it announces.
+-- A whole header, or an ending, begins what is left, and with it so many octets more of the outermost open element's
+-- content are known: those of the header and, where the length is definite, of the content that it announces; or the
+-- two of the ending.
 abbrev pub Announces : List Level → List ℕ → ℕ → Type 0
 Announces levels front count =
     ((tag length_octets : List ℕ) × (n : ℕ) × IsTag tag × IsLength n length_octets × (n ≤ content_limit)

@@ -12,8 +12,8 @@ use crate::progress::Progress;
 const HEADER_LIMIT: usize = 10;
 
 /// A walk over the octets of one element from left to right (X.690 8.1). An element of definite length is gone over as
-/// its length says; what stands in one of indefinite length is walked element by element, up to its ending. It keeps no
-/// octets but those of a header that has begun, and takes no memory.
+/// its length says; what stands in one of indefinite length is walked element by element, up to its ending. It uses no
+/// octets again but those of a header that has begun, and takes no memory.
 #[derive(Clone, Copy, Debug)]
 pub struct Walk {
     // Where it goes on, once the octets to skip have come.

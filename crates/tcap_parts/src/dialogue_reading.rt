@@ -310,8 +310,8 @@ fn read_dialogue(content: Window) -> Result<DialogueView, Fault>
 /// The PDU of a dialogue portion whose content is `content`, lent from its octets (Q.773 4.2.3).
 ///
 /// A fault is the first from left to right. Its place is the first octet of the element that is named below; that of
-/// `Missing` is the end of what the element is missing in, and those of `LengthForm` and `Indefinite` are a length
-/// octet.
+/// `Missing` is the end of the content that the element is missing in. What is wrong in an element of indefinite length,
+/// and what goes past its window, stands where [`next_tlv`](tcap_ber::next_tlv) says.
 ///
 /// - `DialogueSyntax` at the EXTERNAL's first element where it has another tag than 06 and where its contents name
 ///   another abstract syntax, at its second element where that has another tag than A0, and at a PDU in the single
