@@ -1,7 +1,7 @@
 -- A walk that stopped gives of what comes then what a walk over all of it gives.
-use Rattle.std.proofs.Common.{◌≡◌, ℕ, zero, suc, ◌+◌, ◌-◌, ◌*◌, ◌<◌, ◌≤◌, ◌⊎◌, Bool, true, false, List, [], ◌∷◌, ◌++◌, length, drop, Option, Some, None, Result, Ok, Err, refl, sym, ap, subst, ◌∙◌, inl, inr, arith, append_assoc, add-one}
+use Rattle.std.proofs.Common.{◌≡◌, ℕ, zero, suc, ◌+◌, ◌-◌, ◌*◌, ◌<◌, ◌≤◌, ◌⊎◌, Bool, true, false, List, [], ◌∷◌, ◌++◌, length, take, drop, Option, Some, None, Result, Ok, Err, refl, sym, ap, subst, ◌∙◌, inl, inr, arith, append_assoc, add-one}
 use Rattle.std.specs.Prelude.{◌≢◌, nat_lt, ◌==◌, ◌&&◌}
-use Rattle.std.proofs.lemmas.List.{length-append, length-drop, drop-drop, drop_at, drop-append-le}
+use Rattle.std.proofs.lemmas.List.{length-append, length-drop, drop-drop, drop_at, drop-append-le, take-append-drop}
 use Rattle.std.proofs.lemmas.Bool.Decides.{nat_tests}
 use Rattle.std.proofs.lemmas.Bool.{ltb-true, ltb-false, lt-ltb, le-ltb, eqb-true, eqb-false, ne_eqb}
 use Rattle.tcap_ber.specs.declared.fault.Fault.{Fault}
@@ -13,6 +13,7 @@ use Rattle.tcap_ber.specs.declared.element.Outer.TheVariants.{Whole, Need}
 use Rattle.tcap_ber.specs.Element.{depth_limit}
 use Rattle.tcap_ber.specs.HeaderReading.{◌>>=◌, opening_at}
 use Rattle.tcap_ber.specs.Walking.{is_ending, within_limit, opened, closed, passed, behind_header, gone_to, gone_on, walk_on, resume}
+use Rattle.tcap_ber.specs.Progress.{header_octets}
 use Rattle.tcap_ber.proofs.Steps.{chosen, bind_ok, ok_is}
 use Rattle.tcap_ber.proofs.OpeningLaws.{from, opening_stays, fault_stays, opening_within, opening_exact}
 use Rattle.tcap_ber.proofs.WalkLaws.{left, walk, enough_steps, behind_further}
@@ -120,22 +121,42 @@ behind_it front octets p next some further =
     let there = enough_steps (length (front ++ octets)) next (drop skip octets) (omega (arith, len, length-drop skip octets)) in
     rw (test, over, gone, here, there) refl
 
--- one that is whole: behind it the content is skipped
+-- behind a whole header its content is skipped
+walks_behind : (octets : List ℕ) (p next : Progress) (opening : Opening) → opening_at (from p.at octets) ≡ Ok (Some opening) → behind_header p octets opening ≡ Ok next
+    → resume (next.at - p.at - header_octets opening) [] next (drop (header_octets opening) octets) ≡ walk p octets
+walks_behind octets p next opening read behind =
+    let count = header_octets opening in
+    let front = take count octets in
+    let within = opening_within p.at octets opening read in
+    let joined = take-append-drop count octets in
+    let len : length front ≡ count = omega (arith, ap length joined, length-append front (drop count octets), length-drop count octets, within.1) in
+    ap (λ (n : ℕ). resume (next.at - p.at - n) [] next (drop count octets)) (sym len)
+    ∙ behind_it front (drop count octets) p next (omega (arith, len, within.0)) (omega (arith, len, behind_further p next octets opening read behind))
+    ∙ ap (λ (x : List ℕ). gone_to (walk_on (length x)) p x next) joined
+    ∙ sym (walk_step p octets
+    ∙ ap (λ (r : Result (Option Opening) Fault). r >>= gone_on (walk_on (length octets)) p octets) read
+    ∙ ap (λ (r : Result Progress Fault). r >>= gone_to (walk_on (length octets)) p octets) behind)
+
+-- one that is whole with that octet
 pub goes_behind : (octet : ℕ) (header octets : List ℕ) (p next : Progress) (opening : Opening) → ((p.depth ≡ 0) × (0 < p.at) → ⊥) → opening_at (from p.at header) ≡ Ok None
     → opening_at (from p.at (header ++ octet ∷ [])) ≡ Ok (Some opening) → behind_header p (header ++ octet ∷ []) opening ≡ Ok next
     → resume (next.at - p.at - (length header + 1)) [] next octets ≡ resume 0 header p (octet ∷ octets)
 goes_behind octet header octets p next opening goes_on none e behind =
-    let all = header ++ octet ∷ octets in
     let front = header ++ octet ∷ [] in
-    let len : length front ≡ length header + 1 = length-append header (octet ∷ []) in
-    let further = behind_further p next front opening e behind in
     let exact = opening_exact p.at octet header opening none e in
-    ap (λ (n : ℕ). resume (next.at - p.at - n) [] next octets) (sym len)
-    ∙ behind_it front octets p next (omega arith) (omega arith)
-    ∙ ap (λ (x : List ℕ). gone_to (walk_on (length x)) p x next) (append_assoc header (octet ∷ []) octets)
-    ∙ sym (resume_is_walk header (octet ∷ octets) p goes_on ∙ walk_step p all
-    ∙ ap (λ (r : Result (Option Opening) Fault). r >>= gone_on (walk_on (length all)) p all) (read_there octet header octets p opening e)
-    ∙ ap (λ (r : Result Progress Fault). r >>= gone_to (walk_on (length all)) p all) (behind_there octet header octets p opening e ∙ behind))
+    let gone : drop (length header + 1) (header ++ octet ∷ octets) ≡ octets =
+    ap (drop (length header + 1)) (sym (append_assoc header (octet ∷ []) octets)) ∙ drop_at front octets (length header + 1) (length-append header (octet ∷ [])) in
+    ap (resume (next.at - p.at - (length header + 1)) [] next) (sym gone)
+    ∙ ap (λ (n : ℕ). resume (next.at - p.at - n) [] next (drop n (header ++ octet ∷ octets))) (sym exact)
+    ∙ walks_behind (header ++ octet ∷ octets) p next opening (read_there octet header octets p opening e) (behind_there octet header octets p opening e ∙ behind)
+    ∙ sym (resume_is_walk header (octet ∷ octets) p goes_on)
+
+-- one that was whole from the first
+pub goes_behind_whole : (octets more : List ℕ) (p next : Progress) (opening : Opening) → ((p.depth ≡ 0) × (0 < p.at) → ⊥) → opening_at (from p.at octets) ≡ Ok (Some opening)
+    → behind_header p octets opening ≡ Ok next → resume (next.at - p.at - header_octets opening) [] next (drop (header_octets opening) (octets ++ more)) ≡ resume 0 [] p (octets ++ more)
+goes_behind_whole octets more p next opening goes_on read behind =
+    walks_behind (octets ++ more) p next opening (opening_stays p.at octets more opening read) (behind_stays p octets more opening read ∙ behind)
+    ∙ sym (resume_is_walk [] (octets ++ more) p goes_on)
 
 -- ---- how many octets are needed at least
 

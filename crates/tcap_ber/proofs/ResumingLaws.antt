@@ -11,8 +11,9 @@ use Rattle.tcap_ber.specs.declared.walk.Walk.{Walk}
 use Rattle.tcap_ber.specs.HeaderReading.{opening_at}
 use Rattle.tcap_ber.specs.Walking.{behind_header, walk_on, at_first, outer_at, resume, resume_unless}
 use Rattle.tcap_ber.specs.Resuming.{resumes, IsStopped}
-use Rattle.tcap_ber.proofs.OpeningLaws.{from}
-use Rattle.tcap_ber.proofs.ResumeLaws.{skips, holds, fails, fails_behind, goes_behind}
+use Rattle.tcap_ber.specs.Progress.{header_octets}
+use Rattle.tcap_ber.proofs.OpeningLaws.{from, opening_within}
+use Rattle.tcap_ber.proofs.ResumeLaws.{skips, holds, fails, fails_behind, goes_behind, goes_behind_whole}
 
 -- before the first octet
 pub first_gives : (octets : List ℕ) → resume 0 [] at_first octets ≡ outer_at octets
@@ -95,6 +96,17 @@ pub octet_goes_behind : (w : Walk) (octet : ℕ) (more : List ℕ) (opening : Op
     → resume (next.at - w.progress.at - (length (take w.held w.header) + 1)) [] next more ≡ resumes w (octet ∷ more)
 octet_goes_behind w octet more opening next nothing stopped none e behind =
     goes_behind octet (take w.held w.header) more w.progress next opening (not_over w nothing stopped) none e behind ∙ sym (resumes_plainly w (octet ∷ more) nothing stopped)
+
+-- where none is held, a whole header is read from the octets
+pub whole_goes_behind : (w : Walk) (len : ℕ) (octets more : List ℕ) (opening : Opening) (next : Progress) → w.skip ≡ 0 → (IsStopped w → ⊥) → w.held ≡ 0 → len ≡ header_octets opening
+    → opening_at (from w.progress.at octets) ≡ Ok (Some opening) → behind_header w.progress octets opening ≡ Ok next
+    → resume (next.at - w.progress.at - len) [] next (take (length octets - len) (drop len octets) ++ more) ≡ resumes w (octets ++ more)
+whole_goes_behind w len octets more opening next nothing stopped none len_is read behind =
+    ap (resume (next.at - w.progress.at - len) [] next) (left_with len octets more (omega (arith, len_is, opening_within w.progress.at octets opening read)))
+    ∙ ap (λ (n : ℕ). resume (next.at - w.progress.at - n) [] next (drop n (octets ++ more))) len_is
+    ∙ goes_behind_whole octets more w.progress next opening (not_over w nothing stopped) read behind
+    ∙ ap (λ (n : ℕ). resume 0 (take n w.header) w.progress (octets ++ more)) (sym none)
+    ∙ sym (resumes_plainly w (octets ++ more) nothing stopped)
 
 -- a walk by its parts
 pub gives_by : (w : Walk) (skip : ℕ) (header : List ℕ) (next : Progress) (more : List ℕ) → w.fault ≡ None → w.skip ≡ skip → w.progress ≡ next → take w.held w.header ≡ header

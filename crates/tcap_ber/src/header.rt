@@ -1,10 +1,10 @@
 //! The header of an element: its tag and its length (X.690 8.1.2, 8.1.3).
 
-ghost use Rattle.std.specs.Prelude.{◌≡◌, ◌+◌, ◌<◌, ◌≤◌, length, IfOk, IfSome};
+ghost use Rattle.std.specs.Prelude.{◌≡◌, ◌+◌, ◌^◌, ◌<◌, ◌≤◌, length, IfOk, IfSome};
 ghost use Rattle.tcap_ber.specs.Element.{number};
 ghost use Rattle.tcap_ber.specs.Element.{is_next};
 ghost use Rattle.tcap_ber.specs.HeaderReading.{Gives, tag_at, length_at, definite_behind, is_constructed, opening_at, span};
-ghost use Rattle.tcap_ber.specs.Progress.{IsHeaderWithin};
+ghost use Rattle.tcap_ber.specs.Progress.{header_octets, IsHeaderWithin};
 
 use crate::element::Window;
 use crate::fault::{Fault, Reason};
@@ -27,6 +27,19 @@ pub(crate) enum Opening {
     Definite(Header),
     /// With a tag of so many octets and the length octet 80 (X.690 8.1.3.6).
     Indefinite(usize),
+}
+
+impl Opening {
+    /// The count of octets of the header.
+    pub(crate) fn len(self) -> usize
+        requires { header_octets self < 2 ^ 64 }
+        ensures { result ≡ header_octets self }
+    {
+        match self {
+            Opening::Definite(header) => header.len,
+            Opening::Indefinite(tag_len) => tag_len + 1,
+        }
+    }
 }
 
 /// The count of octets of the tag at the front, or `None` where the octets end before it does.

@@ -1,6 +1,6 @@
 //! A walk over an element's octets that can stop at any octet and go on when more have come.
 
-ghost use Rattle.std.specs.Prelude.{◌≡◌, ◌+◌, ◌<◌, ◌≤◌, ◌⊎◌, ◌++◌, ◌∷◌, ◌↔◌, [], ℕ, List, length, take, Option, None, Err, IsTrue};
+ghost use Rattle.std.specs.Prelude.{◌≡◌, ◌+◌, ◌<◌, ◌≤◌, ◌⊎◌, ◌++◌, ◌∷◌, ◌↔◌, [], ℕ, List, length, take, Option, None, Err, IsTrue, IfSome};
 ghost use Rattle.tcap_ber.specs.Progress.{IsPlaced, IsUnfinishedHeader};
 
 use crate::element::{Outer, Window};
@@ -157,6 +157,51 @@ impl Walk {
         }
     }
 
+    /// The walk behind a header that begins `octets`, and what is left of them; or `None` where it does not stand there
+    /// whole, or something is wrong with it.
+    fn behind_whole(self, octets: &[u8]) -> Option<(Walk, &[u8])>
+        requires none { self.skip ≡ 0 }
+        requires goes { IsStopped self → ⊥ }
+        requires nothing { self.held ≡ 0 }
+        ensures same { IfSome result (λ x. (more : List ℕ) → resumes x.0 (x.1.now ++ more) ≡ resumes self (octets.now ++ more)) }
+        ensures fewer { IfSome result (λ x. length x.1.now < length octets.now) }
+    {
+        let window = Window {
+            octets,
+            place: self.progress.at as u64,
+        };
+        let Ok(Some(opening)) = read_opening(window) else {
+            return None;
+        };
+        let Ok(next) = self.progress.behind_header(octets, opening) else {
+            return None;
+        };
+        let len = opening.len();
+        Some((
+            self.behind(next, next.at - self.progress.at - len),
+            &octets[len..],
+        ))
+    }
+
+    /// The walk behind some of `octets`, which has none to skip, and what is left of them.
+    fn with_octets(self, octets: &[u8]) -> (Walk, &[u8])
+        requires none { self.skip ≡ 0 }
+        requires goes { IsStopped self → ⊥ }
+        requires some { 0 < length octets.now }
+        ensures same { (more : List ℕ) → resumes result.0 (result.1.now ++ more) ≡ resumes self (octets.now ++ more) }
+        ensures fewer { length result.1.now < length octets.now }
+    {
+        if self.held == 0 {
+            if let Some(found) = self.behind_whole(octets) {
+                return found;
+            }
+        }
+        match octets {
+            [octet, more @ ..] => (self.with_octet(*octet), more),
+            [] => unreachable!(),
+        }
+    }
+
     /// What the octets that it went over begin with.
     fn answer(self) -> Result<Outer, Fault>
         ensures exact { Gives (λ x. x) result (resumes self []) }
@@ -186,14 +231,12 @@ impl Walk {
             let (skipped, left) = walk.skipping(rest);
             walk = skipped;
             rest = left;
-            let Some((octet, more)) = rest.split_first() else {
-                break;
-            };
-            if walk.is_stopped() {
+            if rest.is_empty() || walk.is_stopped() {
                 break;
             }
-            walk = walk.with_octet(*octet);
-            rest = more;
+            let (further, left) = walk.with_octets(rest);
+            walk = further;
+            rest = left;
         }
         *self = walk;
         walk.answer()

@@ -2,8 +2,8 @@ use Rattle.std.proofs.Common.{◌≡◌, ◌++◌, ℕ, List, length}
 use Rattle.tcap_ber.specs.Resuming.{resumes}
 use Rattle.tcap_ber.proofs.walk.Walk.go_on.Given as goal
 
-abbrev pub invariant-loop-octet : goal.invariant-loop-octet
-invariant-loop-octet l = (more : List ℕ) → resumes l.walk (l.rest ++ more) ≡ resumes l.initial.self (l.octets ++ more)
+abbrev pub invariant-loop-rest : goal.invariant-loop-rest
+invariant-loop-rest l = (more : List ℕ) → resumes l.walk (l.rest ++ more) ≡ resumes l.initial.self (l.octets ++ more)
 
-abbrev pub decreases-loop-octet : goal.decreases-loop-octet
-decreases-loop-octet l = length l.rest
+abbrev pub decreases-loop-rest : goal.decreases-loop-rest
+decreases-loop-rest l = length l.rest
