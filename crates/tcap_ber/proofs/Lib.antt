@@ -2,12 +2,12 @@ pub mod DeviceLemmas
 pub mod Steps
 pub mod TagLaws
 pub mod HeaderLaws
+pub mod StayLaws
 pub mod OpeningLaws
 pub mod WalkLaws
 pub mod WalkedLaws
 pub mod ResumeLaws
 pub mod ResumingLaws
-pub mod StayLaws
 pub mod OuterLaws
 pub mod ElementLaws
 pub mod FaultLaws

@@ -16,6 +16,7 @@ use Rattle.tcap_ber.specs.HeaderReading.{fault, ◌>>=◌, tag_rest, tag_in, tag
 use Rattle.tcap_ber.specs.Progress.{header_octets}
 use Rattle.tcap_ber.proofs.Steps.{chosen, bind_ok, bind_err, err_is, ok_not_err}
 use Rattle.tcap_ber.proofs.TagLaws.{FindsTag, tag_sound, tag_complete, tag_fault, tag_long}
+use Rattle.tcap_ber.proofs.StayLaws.{long_tag_stays, length_octet_stays, long_length_stays}
 use Rattle.tcap_ber.proofs.HeaderLaws.{FindsHeader, header_at, header_sound, header_complete, header_fault, header_refused, IsHeaderFault}
 
 -- octets from a place on
@@ -315,35 +316,12 @@ opening_stays place octets more (Indefinite tag) e =
       count_is = f.count_is;
     })
 
--- a first length octet stands there with more behind too
-abbrev octet_stays : (octet offset : ℕ) (octets more : List ℕ) → HasLengthOctet octet octets offset → HasLengthOctet octet (octets ++ more) offset
-octet_stays octet offset octets more h = record {
-  tag = h.tag;
-  rest = h.rest ++ more;
-  is_tag = h.is_tag;
-  joined = more_behind octets h.tag (octet ∷ []) h.rest more h.joined;
-  place_is = h.place_is;
-}
-
 -- what is wrong stays so with more behind
 wrong_stays : (octets more : List ℕ) (reason : Reason) (offset : ℕ) → IsOpeningFault octets reason offset → IsOpeningFault (octets ++ more) reason offset
-wrong_stays octets more reasons.TagForm offset (h, z) =
-    (record { first = h.first; four = h.four; rest = h.rest ++ more; is_long = h.is_long; are_four = h.are_four; go_on = h.go_on; joined = ap (λ (x : List ℕ). x ++ more) h.joined ∙ ap (λ (x : List ℕ). h.first ∷ x) (append_assoc h.four h.rest more) }, z)
-wrong_stays octets more reasons.LengthForm offset h = (h.0, h.1, octet_stays h.0 offset octets more h.2)
-wrong_stays octets more reasons.Indefinite offset h = (octet_stays 0x80 offset octets more h.0, h.1)
-wrong_stays octets more reasons.TooLong offset (h, z) = (
-  record {
-    tag = h.tag;
-    length_octets = h.length_octets;
-    rest = h.rest ++ more;
-    count = h.count;
-    is_tag = h.is_tag;
-    is_length = h.is_length;
-    is_over = h.is_over;
-    joined = ap (λ (x : List ℕ). x ++ more) h.joined ∙ append_assoc (h.tag ++ h.length_octets) h.rest more;
-  },
-  z,
-)
+wrong_stays octets more reasons.TagForm offset h = (long_tag_stays octets more h.0, h.1)
+wrong_stays octets more reasons.LengthForm offset h = (h.0, h.1, length_octet_stays h.0 octets more offset h.2)
+wrong_stays octets more reasons.Indefinite offset h = (length_octet_stays 0x80 octets more offset h.0, h.1)
+wrong_stays octets more reasons.TooLong offset h = (long_length_stays octets more h.0, h.1)
 wrong_stays octets more _ offset h = absurd h
 
 -- and nothing behind a fault

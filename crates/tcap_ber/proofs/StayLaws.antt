@@ -5,7 +5,7 @@ use Rattle.tcap_ber.specs.declared.fault.Reason.TheVariants as reasons
 use Rattle.tcap_ber.specs.Header.{HasLongTag, HasLengthOctet, HasLongLength}
 use Rattle.tcap_ber.specs.Walked.{Level, walked, IsWrongThere, IsWalkFault}
 
-long_tag_stays : (octets more : List ℕ) → HasLongTag octets → HasLongTag (octets ++ more)
+pub long_tag_stays : (octets more : List ℕ) → HasLongTag octets → HasLongTag (octets ++ more)
 long_tag_stays octets more h = record {
   first = h.first;
   four = h.four;
@@ -16,7 +16,7 @@ long_tag_stays octets more h = record {
   joined = ap (λ (x : List ℕ). x ++ more) h.joined ∙ append_assoc (h.first ∷ h.four) h.rest more;
 }
 
-abbrev length_octet_stays : (octet : ℕ) (octets more : List ℕ) (place : ℕ) → HasLengthOctet octet octets place → HasLengthOctet octet (octets ++ more) place
+abbrev pub length_octet_stays : (octet : ℕ) (octets more : List ℕ) (place : ℕ) → HasLengthOctet octet octets place → HasLengthOctet octet (octets ++ more) place
 length_octet_stays octet octets more place h = record {
   tag = h.tag;
   rest = h.rest ++ more;
@@ -25,7 +25,7 @@ length_octet_stays octet octets more place h = record {
   joined = ap (λ (x : List ℕ). x ++ more) h.joined ∙ append_assoc h.tag (octet ∷ h.rest) more;
 }
 
-long_length_stays : (octets more : List ℕ) → HasLongLength octets → HasLongLength (octets ++ more)
+pub long_length_stays : (octets more : List ℕ) → HasLongLength octets → HasLongLength (octets ++ more)
 long_length_stays octets more h = record {
   tag = h.tag;
   length_octets = h.length_octets;
