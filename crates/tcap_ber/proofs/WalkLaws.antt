@@ -288,19 +288,17 @@ reaches_on p q r octets rest behind a b = on_in a.0 p octets a.1
         let t = on_in n h.0 (left p h.0 octets) h.2 in
         (suc t.0, (h.0, h.1, t.1))
 
+-- what each step leaves the same is the same in so many steps
+same_in : {A : Type 0} (f : Progress → List ℕ → A) → ((p next : Progress) (octets : List ℕ) → Goes p octets next → f p octets ≡ f next (left p next octets))
+    → (n : ℕ) (p q : Progress) (octets rest : List ℕ) → ReachesIn n p octets q rest → f p octets ≡ f q rest
+same_in f step zero p q octets rest h = ap (λ (x : Progress). f x octets) h.0 ∙ ap (f q) h.1
+same_in f step (suc n) p q octets rest h = step p h.0 octets h.1 ∙ same_in f step n h.0 q (left p h.0 octets) rest h.2
+
 pub reaches_walk : (p q : Progress) (octets rest : List ℕ) → Reaches p octets q rest → walk p octets ≡ walk q rest
-reaches_walk p q octets rest a = walk_in a.0 p octets a.1
-  where
-    walk_in : (n : ℕ) (p : Progress) (octets : List ℕ) → ReachesIn n p octets q rest → walk p octets ≡ walk q rest
-    walk_in zero p octets h = ap (λ (x : Progress). walk x octets) h.0 ∙ ap (λ (x : List ℕ). walk q x) h.1
-    walk_in (suc n) p octets h = walk_goes p h.0 octets h.1 ∙ walk_in n h.0 (left p h.0 octets) h.2
+reaches_walk p q octets rest a = same_in walk walk_goes a.0 p q octets rest a.1
 
 pub reaches_stops : (p q : Progress) (octets rest : List ℕ) → Reaches p octets q rest → stops p octets ≡ stops q rest
-reaches_stops p q octets rest a = stops_in a.0 p octets a.1
-  where
-    stops_in : (n : ℕ) (p : Progress) (octets : List ℕ) → ReachesIn n p octets q rest → stops p octets ≡ stops q rest
-    stops_in zero p octets h = ap (λ (x : Progress). stops x octets) h.0 ∙ ap (λ (x : List ℕ). stops q x) h.1
-    stops_in (suc n) p octets h = stops_goes p h.0 octets h.1 ∙ stops_in n h.0 (left p h.0 octets) h.2
+reaches_stops p q octets rest a = same_in stops stops_goes a.0 p q octets rest a.1
 
 pub reaches_fewer : (p q : Progress) (octets rest : List ℕ) → Reaches p octets q rest → length rest ≤ length octets
 reaches_fewer p q octets rest a = fewer_in a.0 p octets a.1
