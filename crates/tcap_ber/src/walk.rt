@@ -191,7 +191,8 @@ impl Walk {
         ensures same { (more : List ℕ) → resumes result.0 (result.1.now ++ more) ≡ resumes self (octets.now ++ more) }
         ensures fewer { length result.1.now < length octets.now }
     {
-        if self.held == 0 {
+        // A header has two octets at least.
+        if self.held == 0 && octets.len() > 1 {
             if let Some(found) = self.behind_whole(octets) {
                 return found;
             }
