@@ -9,6 +9,7 @@ pub mod WalkedLaws
 pub mod ResumeLaws
 pub mod ResumingLaws
 pub mod OuterLaws
+pub mod RoomLaws
 pub mod ElementLaws
 pub mod FaultLaws
 pub mod RawLaws
