@@ -1,2 +1,10 @@
+pub mod DigitLaws
 pub mod LineLaws
 pub mod FramingLaws
+pub mod FrontLaws
+pub mod FedLaws
+pub mod FeederLaws
+pub mod HeldLaws
+pub mod TakenLaws
+pub mod ReadingLaws
+pub mod PackLaws

@@ -15,7 +15,7 @@ pub no_more : (old new front : List ℕ) → new ≡ old ++ front → new ≡ ol
 no_more old new front first = first ∙ ap (λ l. old ++ l) (sym (append-nil front))
 
 -- the lines of one entry more
-lines_one_more : (number k : ℕ) (entries : List Entry) (entry : Entry) → k ≡ number + length entries
+pub lines_one_more : (number k : ℕ) (entries : List Entry) (entry : Entry) → k ≡ number + length entries
     → lines_from number (entries ++ entry ∷ []) ≡ lines_from number entries ++ entry_lines k entry
 lines_one_more number k [] entry e =
     let same : number ≡ k = omega arith in append-nil (entry_lines number entry) ∙ ap (λ n. entry_lines n entry) same

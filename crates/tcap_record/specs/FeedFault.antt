@@ -11,4 +11,5 @@ feed_number_of feed.BadEnd = 20
 feed_number_of feed.CutRecord = 21
 feed_number_of feed.TooManyEntries = 22
 feed_number_of feed.Read = 23
+feed_number_of feed.BadHexLine = 24
 feed_number_of feed.Memory = 99

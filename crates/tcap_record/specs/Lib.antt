@@ -3,3 +3,10 @@ pub mod Lines
 pub mod FeedFault
 pub mod Reading
 pub mod Framing
+pub mod Held
+pub mod Front
+pub mod Viewed
+pub mod Feeding
+pub mod Kept
+pub mod HexLines
+pub mod Packing

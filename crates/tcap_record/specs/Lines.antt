@@ -23,7 +23,7 @@ use Rattle.tcap_msg.specs.Parts.{kind_in, otid_in, dtid_in, cause_in, dialogue_i
 use Rattle.tcap_record.specs.declared.entry.End.{End}
 use Rattle.tcap_record.specs.declared.entry.End.TheVariants as ends
 use Rattle.tcap_record.specs.declared.entry.Body.{Body}
-use Rattle.tcap_record.specs.declared.entry.Body.TheVariants.{Good, Bad}
+use Rattle.tcap_record.specs.declared.entry.Body.TheVariants.{Good, Bad, Quiet}
 use Rattle.tcap_record.specs.declared.entry.Entry.{Entry}
 
 abbrev pub line_end : List ℕ
@@ -145,10 +145,16 @@ message_text m = head_text m ++ line_end ++ flat_map component_line (components_
 abbrev pub body_text : Body → List ℕ
 body_text (Good m) = message_text m
 body_text (Bad f) = codes "FAULT " ++ decimal (number_of f.reason) ++ codes " " ++ decimal f.place ++ line_end
+body_text Quiet = codes "Q" ++ line_end
+
+-- the end that sent the entry; a quiet mark has none
+abbrev pub side_text : Option End → List ℕ
+side_text None = []
+side_text (Some side) = name_of_end side ++ codes " "
 
 -- the lines of the entry of that number
 abbrev pub entry_lines : ℕ → Entry → List ℕ
-entry_lines number entry = decimal number ++ codes " " ++ name_of_end entry.side ++ codes " " ++ body_text entry.body
+entry_lines number entry = decimal number ++ codes " " ++ side_text entry.side ++ body_text entry.body
 
 abbrev pub lines_from : ℕ → List Entry → List ℕ
 lines_from number [] = []

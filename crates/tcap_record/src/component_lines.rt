@@ -8,82 +8,75 @@ ghost use Rattle.tcap_parts.specs.declared.component.Component.TheVariants as Co
 ghost use Rattle.tcap_parts.specs.Meaning.{code_of, parameter_of, body_of, problem_of, component_of, components_left};
 ghost use Rattle.tcap_record.specs.Lines.{code_text, parameter_text, coded_text, operation_text, error_code_text, result_name, problem_text, component_text, component_line};
 
-use std::alloc::{AllocError, Global};
+use crate::digits::push_hex;
+use std::alloc::AllocError;
 use tcap_ber::RawView;
 use tcap_parts::{CodeView, ComponentView, Components, ProblemView, ResultBodyView};
 
 /// Appends a parameter, where there is one.
-fn push_parameter(
-    alloc: Global,
-    text: &mut String,
-    parameter: Option<RawView>,
-) -> Result<(), AllocError>
+fn push_parameter(text: &mut String, parameter: Option<RawView>) -> Result<(), AllocError>
     ensures { OnOk result (string_bytes text.new ≡ string_bytes text.old ++ parameter_text (parameter_of parameter.entry)) }
 {
     match parameter {
         Some(raw) => {
-            let octets = hex::encode(alloc, raw.octets)?;
-            write!(text, " parameter={octets}")
+            text.push_str(" parameter=")?;
+            push_hex(text, raw.octets)
         }
         None => Ok(()),
     }
 }
 
 /// Appends an operation code or an error code.
-fn push_code(alloc: Global, text: &mut String, code: CodeView) -> Result<(), AllocError>
+fn push_code(text: &mut String, code: CodeView) -> Result<(), AllocError>
     ensures { OnOk result (string_bytes text.new ≡ string_bytes text.old ++ code_text (code_of code.entry)) }
 {
     match code {
         CodeView::Local(number) => write!(text, "{number}"),
         CodeView::Global(id) => {
-            let octets = hex::encode(alloc, id.octets)?;
-            write!(text, "g:{octets}")
+            text.push_str("g:")?;
+            push_hex(text, id.octets)
         }
     }
 }
 
 /// Appends an operation code or an error code, and a parameter.
 fn push_coded(
-    alloc: Global,
     text: &mut String,
     code: CodeView,
     parameter: Option<RawView>,
 ) -> Result<(), AllocError>
     ensures { OnOk result (string_bytes text.new ≡ string_bytes text.old ++ coded_text (code_of code.entry) (parameter_of parameter.entry)) }
 {
-    push_code(alloc, text, code)?;
-    push_parameter(alloc, text, parameter)
+    push_code(text, code)?;
+    push_parameter(text, parameter)
 }
 
 /// Appends an operation code and a parameter, named.
 fn push_operation(
-    alloc: Global,
     text: &mut String,
     code: CodeView,
     parameter: Option<RawView>,
 ) -> Result<(), AllocError>
     ensures { OnOk result (string_bytes text.new ≡ string_bytes text.old ++ operation_text (code_of code.entry) (parameter_of parameter.entry)) }
 {
-    write!(text, " op=")?;
-    push_coded(alloc, text, code, parameter)
+    text.push_str(" op=")?;
+    push_coded(text, code, parameter)
 }
 
 /// Appends an error code and a parameter, named.
 fn push_error_code(
-    alloc: Global,
     text: &mut String,
     code: CodeView,
     parameter: Option<RawView>,
 ) -> Result<(), AllocError>
     ensures { OnOk result (string_bytes text.new ≡ string_bytes text.old ++ error_code_text (code_of code.entry) (parameter_of parameter.entry)) }
 {
-    write!(text, " error=")?;
-    push_coded(alloc, text, code, parameter)
+    text.push_str(" error=")?;
+    push_coded(text, code, parameter)
 }
 
 /// Appends an Invoke.
 fn push_invoke(
-    alloc: Global,
     text: &mut String,
     id: i8,
     linked: Option<i8>,
@@ -93,11 +86,13 @@ fn push_invoke(
     ensures { OnOk result (string_bytes text.new ≡ string_bytes text.old
         ++ component_text (Component.Invoke id linked (code_of code.entry) (parameter_of parameter.entry))) }
 {
-    write!(text, "Invoke id={id}")?;
+    text.push_str("Invoke id=")?;
+    write!(text, "{id}")?;
     if let Some(linked) = linked {
-        write!(text, " linked={linked}")?;
+        text.push_str(" linked=")?;
+        write!(text, "{linked}")?;
     }
-    push_operation(alloc, text, code, parameter)
+    push_operation(text, code, parameter)
 }
 
 /// The name of a Return Result, the last one or not.
@@ -113,7 +108,6 @@ fn name_of_result(last: bool) -> &'static str
 
 /// Appends a Return Result.
 fn push_result(
-    alloc: Global,
     text: &mut String,
     last: bool,
     id: i8,
@@ -122,17 +116,17 @@ fn push_result(
     ensures { OnOk result (string_bytes text.new ≡ string_bytes text.old
         ++ component_text (Component.ReturnResult last id (option_map body_of body.entry))) }
 {
-    let name = name_of_result(last);
-    write!(text, "{name} id={id}")?;
+    text.push_str(name_of_result(last))?;
+    text.push_str(" id=")?;
+    write!(text, "{id}")?;
     match body {
-        Some(body) => push_operation(alloc, text, body.code, body.parameter),
+        Some(body) => push_operation(text, body.code, body.parameter),
         None => Ok(()),
     }
 }
 
 /// Appends a Return Error.
 fn push_error(
-    alloc: Global,
     text: &mut String,
     id: i8,
     code: CodeView,
@@ -141,74 +135,69 @@ fn push_error(
     ensures { OnOk result (string_bytes text.new ≡ string_bytes text.old
         ++ component_text (Component.ReturnError id (code_of code.entry) (parameter_of parameter.entry))) }
 {
-    write!(text, "ReturnError id={id}")?;
-    push_error_code(alloc, text, code, parameter)
+    text.push_str("ReturnError id=")?;
+    write!(text, "{id}")?;
+    push_error_code(text, code, parameter)
 }
 
 /// Appends a problem.
 fn push_problem(text: &mut String, problem: ProblemView) -> Result<(), AllocError>
     ensures { OnOk result (string_bytes text.new ≡ string_bytes text.old ++ problem_text (problem_of problem)) }
 {
-    let (kind, number) = match problem {
-        ProblemView::General(number) => ("general", number),
-        ProblemView::Invoke(number) => ("invoke", number),
-        ProblemView::ReturnResult(number) => ("result", number),
-        ProblemView::ReturnError(number) => ("error", number),
+    let (label, number) = match problem {
+        ProblemView::General(number) => (" general=", number),
+        ProblemView::Invoke(number) => (" invoke=", number),
+        ProblemView::ReturnResult(number) => (" result=", number),
+        ProblemView::ReturnError(number) => (" error=", number),
     };
     let number = number.number;
-    write!(text, " {kind}={number}")
+    text.push_str(label)?;
+    write!(text, "{number}")
 }
 
 /// Appends a Reject.
 fn push_reject(text: &mut String, id: Option<i8>, problem: ProblemView) -> Result<(), AllocError>
     ensures { OnOk result (string_bytes text.new ≡ string_bytes text.old ++ component_text (Component.Reject id (problem_of problem))) }
 {
+    text.push_str("Reject id=")?;
     match id {
-        Some(id) => write!(text, "Reject id={id}")?,
-        None => write!(text, "Reject id=null")?,
+        Some(id) => write!(text, "{id}")?,
+        None => text.push_str("null")?,
     }
     push_problem(text, problem)
 }
 
 /// Appends the line of a component.
-fn push_component(
-    alloc: Global,
-    text: &mut String,
-    component: ComponentView,
-) -> Result<(), AllocError>
+fn push_component(text: &mut String, component: ComponentView) -> Result<(), AllocError>
     ensures { OnOk result (string_bytes text.new ≡ string_bytes text.old ++ component_line (component_of component.entry)) }
 {
-    write!(text, "  ")?;
+    text.push_str("  ")?;
     match component {
         ComponentView::Invoke {
             id,
             linked,
             code,
             parameter,
-        } => push_invoke(alloc, text, id, linked, code, parameter)?,
+        } => push_invoke(text, id, linked, code, parameter)?,
         ComponentView::ReturnResult { last, id, body } => {
-            push_result(alloc, text, last, id, body)?;
+            push_result(text, last, id, body)?;
         }
         ComponentView::ReturnError {
             id,
             code,
             parameter,
-        } => push_error(alloc, text, id, code, parameter)?,
+        } => push_error(text, id, code, parameter)?,
         ComponentView::Reject { id, problem } => push_reject(text, id, problem)?,
     }
-    writeln!(text)
+    text.push_str("\n")
 }
 
 /// Appends the lines of components.
-pub(crate) fn push_components(
-    alloc: Global,
-    text: &mut String,
-    components: Components,
-) -> Result<(), AllocError>
+pub(crate) fn push_components(text: &mut String, components: Components) -> Result<(), AllocError>
     ensures { OnOk result (string_bytes text.new ≡ string_bytes text.old ++ flat_map component_line (components_left components.entry)) }
 {
     for component in components {
-        push_component(alloc, text, component)?;
+        push_component(text, component)?;
     }
     Ok(())
 }

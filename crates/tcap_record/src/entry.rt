@@ -1,7 +1,11 @@
 //! The entries of a record.
 
+ghost use Rattle.std.specs.Prelude.{◌≡◌, IfOk};
+ghost use Rattle.tcap_record.specs.Viewed.{body_read, entry_read};
+
+use std::alloc::{AllocError, Global};
 use tcap_ber::Fault;
-use tcap_msg::Message;
+use tcap_msg::{Message, MessageParts, MessageView};
 
 /// An end of the dialogue.
 #[derive(Clone, Copy, Debug, PartialEq, Eq)]
@@ -12,27 +16,77 @@ pub enum End {
     B,
 }
 
-/// What stands behind an end's octet.
+/// What an entry is.
 #[derive(Debug, Drop)]
 pub enum Body {
     /// The message that the element spells.
     Good(Message),
     /// The element spells no message: why, and at which place of the record.
     Bad(Fault),
+    /// A quiet mark, by which a bench says that it saw all quiet.
+    Quiet,
 }
 
-/// A message that an end sent.
+/// A message that an end sent, or a quiet mark.
 #[derive(Debug, Drop)]
 pub struct Entry {
-    /// The end that sent it.
-    pub side: End,
-    /// The place of the message's first octet, counted from the record's first octet.
+    /// The end that sent it; `None` exactly where it is a quiet mark.
+    pub side: Option<End>,
+    /// The place of the element's first octet, or that of the quiet mark's octet, counted from the record's first octet.
     pub place: u64,
-    /// The message.
+    /// What it is.
     pub body: Body,
 }
 
-/// Entries in the order in which they were sent.
+/// What an entry is, lent from its octets.
+#[derive(Clone, Copy, Debug)]
+pub enum BodyView<'a> {
+    /// The message that the element spells.
+    Good(MessageView<'a>),
+    /// The element spells no message: why, and at which place of the record.
+    Bad(Fault),
+    /// A quiet mark.
+    Quiet,
+}
+
+/// An entry, lent from its octets.
+#[derive(Clone, Copy, Debug)]
+pub struct EntryView<'a> {
+    /// The end that sent it; `None` exactly where it is a quiet mark.
+    pub side: Option<End>,
+    /// The place of the element's first octet, or that of the quiet mark's octet, counted from the record's first octet.
+    pub place: u64,
+    /// What it is.
+    pub body: BodyView<'a>,
+}
+
+impl BodyView<'_> {
+    /// The body as a value of its own.
+    fn to_body(self, alloc: Global) -> Result<Body, AllocError>
+        ensures { IfOk result (λ body. body ≡ body_read self.entry) }
+    {
+        match self {
+            BodyView::Good(message) => Ok(Body::Good(message.to_message(alloc)?)),
+            BodyView::Bad(fault) => Ok(Body::Bad(fault)),
+            BodyView::Quiet => Ok(Body::Quiet),
+        }
+    }
+}
+
+impl EntryView<'_> {
+    /// The entry as a value of its own. Fails where memory ran out.
+    pub fn to_entry(self, alloc: Global) -> Result<Entry, AllocError>
+        ensures { IfOk result (λ entry. entry ≡ entry_read self.entry) }
+    {
+        Ok(Entry {
+            side: self.side,
+            place: self.place,
+            body: self.body.to_body(alloc)?,
+        })
+    }
+}
+
+/// Entries in their order.
 #[derive(Debug, Drop)]
 pub struct Record {
     /// The entries, numbered from 0.

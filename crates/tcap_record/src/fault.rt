@@ -8,14 +8,16 @@ use tcap_ber::Reason;
 /// Why octets are refused as a record, beyond the messages in it.
 #[derive(Clone, Copy, Debug, PartialEq, Eq)]
 pub enum FeedReason {
-    /// An entry's element is wrong, by its header or, where it is of indefinite length, by that of one in it.
+    /// An entry's element is wrong, as far as a walk over it meets.
     Element(Reason),
-    /// An entry's first octet is neither 41 nor 42.
+    /// An entry's first octet is neither 41, 42 nor 51.
     BadEnd,
     /// The octets end within an entry.
     CutRecord,
     /// There are over 100,000 entries, this profile's limit.
     TooManyEntries,
+    /// A line of hex digits is no line of a record.
+    BadHexLine,
     /// The reader failed.
     Read,
     /// Memory ran out.
@@ -23,7 +25,8 @@ pub enum FeedReason {
 }
 
 /// A refusal of a record: the reason and the place of the octet that it names, counted from 0. For
-/// `CutRecord` and `Read` the place is the count of octets read, for `Memory` it is 0.
+/// `CutRecord` and `Read` the place is the count of octets read, for `BadHexLine` the line's number from 1, for `Memory` it
+/// is 0.
 #[derive(Clone, Copy, Debug, PartialEq, Eq)]
 pub struct FeedFault {
     /// Why the octets are refused.
@@ -43,6 +46,7 @@ impl FeedReason {
             FeedReason::CutRecord => 21,
             FeedReason::TooManyEntries => 22,
             FeedReason::Read => 23,
+            FeedReason::BadHexLine => 24,
             FeedReason::Memory => 99,
         }
     }

@@ -2,14 +2,23 @@
 #![tactic(auto)]
 
 mod component_lines;
+mod digits;
 mod entry;
+mod entry_lines;
 mod fault;
+mod feeder;
+mod frames;
 mod framing;
 mod lines;
+mod packing;
 mod printing;
 mod reading;
 
-pub use entry::{Body, End, Entry, Record};
+pub use entry::{Body, BodyView, End, Entry, EntryView, Record};
+pub use entry_lines::push_view;
 pub use fault::{FeedFault, FeedReason};
+pub use feeder::Feeder;
+pub use frames::Frames;
+pub use packing::{PackFault, pack};
 pub use printing::{ShowFault, show};
-pub use reading::{Reading, read_entries, read_record};
+pub use reading::read_record;

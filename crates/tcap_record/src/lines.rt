@@ -1,28 +1,18 @@
-//! The lines of an entry.
+//! The lines of a message.
 
 ghost use Rattle.std.specs.Prelude.{◌≡◌, ◌++◌, OnOk};
 ghost use Rattle.std.specs.String.{string_bytes};
 ghost use Rattle.std.specs.Option.{option_map};
 ghost use Rattle.tcap_parts.specs.DialogueMeaning.{info_meaning, source_of, dialogue_of};
 ghost use Rattle.tcap_msg.specs.Meaning.{id_of, cause_of};
-ghost use Rattle.tcap_record.specs.Lines.{name_of_end, kind_name, id_text, cause_text, named_text, source_text, info_text, result_text, abort_source_text, dialogue_text, dialogue_portion_text, head_text, message_text, body_text, entry_lines};
+ghost use Rattle.tcap_record.specs.Lines.{kind_name, id_text, cause_text, named_text, source_text, info_text, result_text, abort_source_text, dialogue_text, dialogue_portion_text, head_text, message_text};
 
 use crate::component_lines::push_components;
-use crate::entry::{Body, End, Entry};
-use std::alloc::{AllocError, Global};
+use crate::digits::push_hex;
+use std::alloc::AllocError;
 use tcap_ber::{ObjectIdView, SmallView};
 use tcap_msg::{Kind, MessageParts, TransactionIdView};
 use tcap_parts::{DialogueView, InfoView, SourceView};
-
-/// The name of an end.
-fn name(side: End) -> &'static str
-    ensures { result.now ≡ name_of_end side }
-{
-    match side {
-        End::A => "A",
-        End::B => "B",
-    }
-}
 
 /// The name of a kind of messages.
 fn name_of_kind(kind: Kind) -> &'static str
@@ -38,18 +28,15 @@ fn name_of_kind(kind: Kind) -> &'static str
 }
 
 /// Appends a transaction ID of that name, where there is one.
-fn push_id(
-    alloc: Global,
-    text: &mut String,
-    name: &str,
-    id: Option<TransactionIdView>,
-) -> Result<(), AllocError>
+fn push_id(text: &mut String, name: &str, id: Option<TransactionIdView>) -> Result<(), AllocError>
     ensures { OnOk result (string_bytes text.new ≡ string_bytes text.old ++ id_text name.now (id_of id.entry)) }
 {
     match id {
         Some(id) => {
-            let octets = hex::encode(alloc, id.octets)?;
-            write!(text, " {name}={octets}")
+            text.push_str(" ")?;
+            text.push_str(name)?;
+            text.push_str("=")?;
+            push_hex(text, id.octets)
         }
         None => Ok(()),
     }
@@ -62,7 +49,8 @@ fn push_cause(text: &mut String, cause: Option<SmallView>) -> Result<(), AllocEr
     match cause {
         Some(cause) => {
             let number = cause.number;
-            write!(text, " cause={number}")
+            text.push_str(" cause=")?;
+            write!(text, "{number}")
         }
         None => Ok(()),
     }
@@ -75,35 +63,34 @@ fn push_info(text: &mut String, info: Option<InfoView>) -> Result<(), AllocError
     match info {
         Some(info) => {
             let count = info.count();
-            write!(text, " info={count}")
+            text.push_str(" info=")?;
+            write!(text, "{count}")
         }
         None => Ok(()),
     }
 }
 
 /// Appends the name of a PDU and its application context name.
-fn push_named(
-    alloc: Global,
-    text: &mut String,
-    name: &str,
-    context: ObjectIdView,
-) -> Result<(), AllocError>
+fn push_named(text: &mut String, name: &str, context: ObjectIdView) -> Result<(), AllocError>
     ensures { OnOk result (string_bytes text.new ≡ string_bytes text.old ++ named_text name.now context.entry.octets.now) }
 {
-    let octets = hex::encode(alloc, context.octets)?;
-    write!(text, " {name} context={octets}")
+    text.push_str(" ")?;
+    text.push_str(name)?;
+    text.push_str(" context=")?;
+    push_hex(text, context.octets)
 }
 
 /// Appends a diagnostic.
 fn push_source(text: &mut String, source: SourceView) -> Result<(), AllocError>
     ensures { OnOk result (string_bytes text.new ≡ string_bytes text.old ++ source_text (source_of source)) }
 {
-    let (name, number) = match source {
-        SourceView::User(number) => ("user", number),
-        SourceView::Provider(number) => ("provider", number),
+    let (label, number) = match source {
+        SourceView::User(number) => (" user=", number),
+        SourceView::Provider(number) => (" provider=", number),
     };
     let number = number.number;
-    write!(text, " {name}={number}")
+    text.push_str(label)?;
+    write!(text, "{number}")
 }
 
 /// Appends a result.
@@ -111,7 +98,8 @@ fn push_result(text: &mut String, number: SmallView) -> Result<(), AllocError>
     ensures { OnOk result (string_bytes text.new ≡ string_bytes text.old ++ result_text number.number) }
 {
     let number = number.number;
-    write!(text, " result={number}")
+    text.push_str(" result=")?;
+    write!(text, "{number}")
 }
 
 /// Appends the name of an ABRT and its abort source.
@@ -119,16 +107,17 @@ fn push_abort_source(text: &mut String, source: SmallView) -> Result<(), AllocEr
     ensures { OnOk result (string_bytes text.new ≡ string_bytes text.old ++ abort_source_text source.number) }
 {
     let number = source.number;
-    write!(text, " ABRT source={number}")
+    text.push_str(" ABRT source=")?;
+    write!(text, "{number}")
 }
 
 /// Appends a PDU of the dialogue portion.
-fn push_dialogue(alloc: Global, text: &mut String, dialogue: DialogueView) -> Result<(), AllocError>
+fn push_dialogue(text: &mut String, dialogue: DialogueView) -> Result<(), AllocError>
     ensures { OnOk result (string_bytes text.new ≡ string_bytes text.old ++ dialogue_text (dialogue_of dialogue.entry)) }
 {
     match dialogue {
         DialogueView::Request { context, info } => {
-            push_named(alloc, text, "AARQ", context)?;
+            push_named(text, "AARQ", context)?;
             push_info(text, info)
         }
         DialogueView::Response {
@@ -137,7 +126,7 @@ fn push_dialogue(alloc: Global, text: &mut String, dialogue: DialogueView) -> Re
             diagnostic,
             info,
         } => {
-            push_named(alloc, text, "AARE", context)?;
+            push_named(text, "AARE", context)?;
             push_result(text, result)?;
             push_source(text, diagnostic)?;
             push_info(text, info)
@@ -147,7 +136,7 @@ fn push_dialogue(alloc: Global, text: &mut String, dialogue: DialogueView) -> Re
             push_info(text, info)
         }
         DialogueView::Uni { context, info } => {
-            push_named(alloc, text, "AUDT", context)?;
+            push_named(text, "AUDT", context)?;
             push_info(text, info)
         }
     }
@@ -155,71 +144,36 @@ fn push_dialogue(alloc: Global, text: &mut String, dialogue: DialogueView) -> Re
 
 /// Appends the PDU of a dialogue portion, where there is one.
 fn push_dialogue_portion(
-    alloc: Global,
     text: &mut String,
     dialogue: Option<DialogueView>,
 ) -> Result<(), AllocError>
     ensures { OnOk result (string_bytes text.new ≡ string_bytes text.old ++ dialogue_portion_text (option_map dialogue_of dialogue.entry)) }
 {
     match dialogue {
-        Some(dialogue) => push_dialogue(alloc, text, dialogue),
+        Some(dialogue) => push_dialogue(text, dialogue),
         None => Ok(()),
     }
 }
 
 /// Appends what a message is but for its components.
-fn push_head<M: MessageParts>(
-    alloc: Global,
-    text: &mut String,
-    message: &M,
-) -> Result<(), AllocError>
+fn push_head<M: MessageParts>(text: &mut String, message: &M) -> Result<(), AllocError>
     ensures { OnOk result (string_bytes text.new ≡ string_bytes text.old ++ head_text (M.meaning message.now)) }
 {
-    let name = name_of_kind(message.kind());
-    write!(text, "{name}")?;
-    push_id(alloc, text, "otid", message.otid())?;
-    push_id(alloc, text, "dtid", message.dtid())?;
+    text.push_str(name_of_kind(message.kind()))?;
+    push_id(text, "otid", message.otid())?;
+    push_id(text, "dtid", message.dtid())?;
     push_cause(text, message.cause())?;
-    push_dialogue_portion(alloc, text, message.dialogue())
+    push_dialogue_portion(text, message.dialogue())
 }
 
 /// Appends the text of a message and the lines of its components.
-fn push_message<M: MessageParts>(
-    alloc: Global,
+pub(crate) fn push_message<M: MessageParts>(
     text: &mut String,
     message: &M,
 ) -> Result<(), AllocError>
     ensures { OnOk result (string_bytes text.new ≡ string_bytes text.old ++ message_text (M.meaning message.now)) }
 {
-    push_head(alloc, text, message)?;
-    writeln!(text)?;
-    push_components(alloc, text, message.components())
-}
-
-/// Appends what stands behind an entry's number and end, and the lines of its components.
-fn push_body(alloc: Global, text: &mut String, body: &Body) -> Result<(), AllocError>
-    ensures { OnOk result (string_bytes text.new ≡ string_bytes text.old ++ body_text body.now) }
-{
-    match body {
-        Body::Good(message) => push_message(alloc, text, message),
-        Body::Bad(fault) => {
-            let reason = fault.reason.number();
-            let place = fault.place;
-            writeln!(text, "FAULT {reason} {place}")
-        }
-    }
-}
-
-/// Appends the lines of the entry of that number.
-pub(crate) fn push_entry(
-    alloc: Global,
-    text: &mut String,
-    number: usize,
-    entry: &Entry,
-) -> Result<(), AllocError>
-    ensures { OnOk result (string_bytes text.new ≡ string_bytes text.old ++ entry_lines number entry.now) }
-{
-    let side = name(entry.side);
-    write!(text, "{number} {side} ")?;
-    push_body(alloc, text, &entry.body)
+    push_head(text, message)?;
+    text.push_str("\n")?;
+    push_components(text, message.components())
 }

@@ -7,7 +7,7 @@ ghost use Rattle.tcap_record.specs.declared.printing.ShowFault.{ShowFault};
 ghost use Rattle.tcap_record.specs.Lines.{lines_of};
 
 use crate::entry::Record;
-use crate::lines::push_entry;
+use crate::entry_lines::push_entry;
 use std::alloc::{AllocError, Global};
 use tcap_ber::{Failed, Write};
 
@@ -50,7 +50,7 @@ pub fn show<W: Write>(alloc: Global, record: &Record, writer: &mut W) -> Result<
     let mut text = String::new(alloc);
     for (number, entry) in record.entries.iter().enumerate() {
         text.clear();
-        push_entry(alloc, &mut text, number, entry)?;
+        push_entry(&mut text, number, entry)?;
         writer.write_all(text.as_bytes())?;
     }
     Ok(())

@@ -1,52 +1,50 @@
 //! Reading a record from a device.
 
-ghost use Rattle.std.specs.Prelude.{ℕ, List, MatchResult, Ok, Err};
+ghost use Rattle.std.specs.Prelude.{◌≡◌, [], ℕ, List, MatchResult, Ok, Err};
 ghost use Rattle.std.specs.Io.KnownBytes.{Consumes};
 ghost use Rattle.tcap_record.specs.declared.entry.Entry.{Entry};
 ghost use Rattle.tcap_record.specs.declared.fault.FeedFault.{FeedFault};
+ghost use Rattle.tcap_record.specs.Held.{nothing_held};
 ghost use Rattle.tcap_record.specs.Reading.{IsReadAs, EndsOnlyAtEnd, FailsOnlyByReader};
 ghost use Rattle.tcap_record.specs.Framing.{outcome};
 
 use crate::entry::Record;
-use crate::fault::FeedFault;
-use crate::framing::{OUT_OF_MEMORY, read_all, read_failed};
+use crate::fault::{FeedFault, FeedReason};
+use crate::feeder::Feeder;
 use std::alloc::Global;
-use tcap_ber::{Read, ReadError, read_to_end};
+use tcap_ber::{Failed, Read};
 
-/// What a reader told of a record: its entries, and how the octets end behind them.
-#[derive(Debug, Drop)]
-pub struct Reading {
-    /// The entries, up to the end or the first fault.
-    pub record: Record,
-    /// `Ok` where the octets end with the last entry, and why there is no further one otherwise.
-    pub end: Result<(), FeedFault>,
-}
+const PIECE_LEN: usize = 8192;
 
-/// Reads a record up to the reader's end. The faults are those of the first octets that are no entry:
-/// `TooManyEntries` behind 100,000 entries, `BadEnd` at an octet of no end, `Element` where an entry's
-/// element is wrong, `CutRecord` where the octets end within an entry. `Read` is answered
-/// where the reader failed and what it told before is entries and at most a cut one, and `Memory` where
-/// memory ran out. The entries before the fault are kept.
-pub fn read_entries<R: Read>(alloc: Global, reader: &mut R) -> Reading
+/// Feeds what `reader` tells, up to its end or the first fault.
+fn feed_all<R: Read>(feeder: &mut Feeder, reader: &mut R) -> Result<(), FeedFault>
+    requires { feeder.old ≡ record { held = nothing_held; waiting = [] } }
     ensures told { (told : List ℕ) × Consumes (R.untold reader.old) (R.untold reader.new) told
-        × IsReadAs result.record.entries.items result.«end» told }
-    ensures ended { EndsOnlyAtEnd (R.untold reader.new) result.«end» }
-    ensures failed { FailsOnlyByReader (R.failures reader.old) (R.failures reader.new) result.«end» }
+        × IsReadAs feeder.new.waiting result told }
+    ensures ended { EndsOnlyAtEnd (R.untold reader.new) result }
+    ensures failed { FailsOnlyByReader (R.failures reader.old) (R.failures reader.new) result }
 {
-    let mut octets = Vec::new(alloc);
-    let mut entries = Vec::new(alloc);
-    let end = match read_to_end(reader, &mut octets) {
-        Ok(()) => read_all(alloc, &octets, &mut entries),
-        Err(ReadError::Failed) => read_failed(alloc, &octets, &mut entries),
-        Err(ReadError::Memory) => Err(OUT_OF_MEMORY),
-    };
-    Reading {
-        record: Record { entries },
-        end,
+    let mut piece = [0; PIECE_LEN];
+    loop {
+        let place = feeder.fed();
+        let told = match reader.read(&mut piece) {
+            Ok(0) => return feeder.finish(),
+            Ok(told) => told,
+            Err(Failed) => {
+                return Err(FeedFault {
+                    reason: FeedReason::Read,
+                    place,
+                });
+            }
+        };
+        feeder.feed(&piece[..told])?;
     }
 }
 
-/// The record that a reader tells up to its end, or the first fault, as `read_entries` finds it.
+/// The record that a reader tells up to its end. The faults are those of the first octets that are no entry:
+/// `TooManyEntries` behind 100,000 entries, `BadEnd` at an octet that begins none, `Element` where an entry's element is
+/// wrong, `CutRecord` where the octets end within an entry. `Read` is answered where the reader failed and what it told
+/// before is entries and at most a cut one, and `Memory` where memory ran out.
 pub fn read_record<R: Read>(alloc: Global, reader: &mut R) -> Result<Record, FeedFault>
     ensures told { (told : List ℕ) × Consumes (R.untold reader.old) (R.untold reader.new) told
         × MatchResult result
@@ -55,7 +53,9 @@ pub fn read_record<R: Read>(alloc: Global, reader: &mut R) -> Result<Record, Fee
     ensures ended { EndsOnlyAtEnd (R.untold reader.new) (outcome result) }
     ensures failed { FailsOnlyByReader (R.failures reader.old) (R.failures reader.new) (outcome result) }
 {
-    let reading = read_entries(alloc, reader);
-    reading.end?;
-    Ok(reading.record)
+    let mut feeder = Feeder::new(alloc);
+    feed_all(&mut feeder, reader)?;
+    Ok(Record {
+        entries: feeder.into_waiting(),
+    })
 }

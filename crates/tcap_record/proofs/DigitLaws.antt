@@ -1,0 +1,38 @@
+-- Digits of octets, a piece of them after the other.
+use Rattle.std.proofs.Common.{◌≡◌, ℕ, List, [], ◌∷◌, ◌++◌, length, refl, sym, ap, ◌∙◌, append_assoc, append-nil, slice_index, ◌/◌, ◌%◌, arith}
+use Rattle.std.proofs.Math.Dec.{leb}
+use Rattle.std.proofs.lemmas.Bool.{leb-true}
+use Rattle.std.specs.Str.{IsUtf8}
+use Rattle.std.proofs.lemmas.List.Sums.{AllPass-from_list_all}
+use Rattle.std.proofs.lemmas.Str.{IsUtf8-from_ascii}
+use Rattle.std.proofs.lemmas.Str.Ascii.{IsAscii-from_all}
+use Rattle.hex.proofs.HexLemmas.{IsAscii-encode_with}
+use Rattle.hex.specs.Hex.{encode_with, encode_lower, lower_digits}
+
+-- the digits of two pieces
+encode_with-append : (digits front rest : List ℕ) → encode_with digits (front ++ rest) ≡ encode_with digits front ++ encode_with digits rest
+unfolding encode_with
+encode_with-append digits [] rest = refl
+encode_with-append digits (octet ∷ front) rest =
+    ap (λ l. slice_index digits (octet / 16) ∷ slice_index digits (octet % 16) ∷ l) (encode_with-append digits front rest)
+
+-- a text to which the digits of a piece were appended
+pub piece_more : (all old new piece rest left : List ℕ) → left ≡ piece ++ rest → new ≡ old ++ encode_lower piece
+    → old ++ encode_lower left ≡ all → new ++ encode_lower rest ≡ all
+piece_more all old new piece rest left parts grew so_far =
+    ap (λ l. l ++ encode_lower rest) grew ∙ append_assoc old _ _
+    ∙ ap (λ l. old ++ l) (sym (encode_with-append lower_digits piece rest) ∙ ap encode_lower (sym parts))
+    ∙ so_far
+
+-- a text of which no piece is left
+pub none_left : (all made rest : List ℕ) → length rest ≡ 0 → made ++ encode_lower rest ≡ all → made ≡ all
+unfolding encode_with
+none_left all made [] none so_far = sym (append-nil made) ∙ so_far
+none_left all made (octet ∷ rest) none so_far = cc none
+
+-- digits are ASCII, and so a text
+pub digits_are_text : (octets : List ℕ) → IsUtf8 (encode_lower octets)
+digits_are_text octets =
+    let passed = AllPass-from_list_all (λ digit. leb digit 127) lower_digits refl in
+    let ascii = IsAscii-from_all lower_digits (λ k d within. omega (arith, leb-true _ 127 (passed k d within))) in
+    IsUtf8-from_ascii (encode_lower octets) (IsAscii-encode_with lower_digits octets ascii)

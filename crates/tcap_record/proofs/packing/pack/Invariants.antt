@@ -1,0 +1,19 @@
+-- all that was told was packed, as far as there are whole lines, and what is behind them is held
+use Rattle.std.proofs.Common.{◌≡◌, ℕ, ◌-◌, ◌^◌, List, length}
+use Rattle.std.specs.Io.KnownBytes.{Consumes}
+use Rattle.tcap_record.specs.Packing.{IsOpen, Packs}
+use Rattle.tcap_record.proofs.packing.pack.Given as goal
+
+abbrev pub invariant-loop-read : goal.invariant-loop-read
+invariant-loop-read g l = record {
+  told : List ℕ;
+  consumed : Consumes (g.R.Read.untold l.fn.reader) (g.R.Read.untold l.reader) told;
+  packs : Packs l.initial.packing l.packing told (g.W.Write.taken l.fn.writer) (g.W.Write.taken l.writer);
+  is_open : IsOpen l.packing;
+  read_is : l.read ≡ length told;
+  none_failed : g.R.Read.failures l.reader ≡ g.R.Read.failures l.fn.reader;
+  none_refused : g.W.Write.failures l.writer ≡ g.W.Write.failures l.fn.writer;
+}
+
+abbrev pub decreases-loop-read : goal.decreases-loop-read
+decreases-loop-read g l = 2 ^ 64 - l.read

@@ -1,0 +1,125 @@
+-- Lines of hex digits, of which `pack` makes a record.
+use Rattle.std.specs.Prelude.{◌≡◌, ◌≢◌, ℕ, ◌+◌, ◌<◌, ◌≤◌, ◌⊎◌, List, [], ◌∷◌, ◌++◌, length, Option, Some, None, Ok}
+use Rattle.std.specs.List.{AllByRecursion, concat}
+use Rattle.std.specs.Io.KnownBytes.{Appends, IsAtEnd}
+use Rattle.hex.specs.Hex.{decode_of}
+use Rattle.tcap_ber.specs.Element.{IsRaw}
+use Rattle.tcap_record.specs.declared.entry.End.{End}
+use Rattle.tcap_record.specs.declared.fault.FeedFault.{FeedFault}
+use Rattle.tcap_record.specs.declared.fault.FeedReason.{FeedReason}
+use Rattle.tcap_record.specs.declared.fault.FeedReason.TheVariants as feed
+use Rattle.tcap_record.specs.Framed.{octet_of, quiet_octet}
+
+abbrev pub newline : ℕ
+newline = 10
+
+abbrev pub carriage_return : ℕ
+carriage_return = 13
+
+abbrev pub number_sign : ℕ
+number_sign = 35
+
+abbrev pub space : ℕ
+space = 32
+
+-- the greatest count of octets of a line, its end left out, and of lines: this profile's limits
+abbrev pub line_limit : ℕ
+line_limit = 131092
+
+abbrev pub lines_limit : ℕ
+lines_limit = 1000000
+
+abbrev pub HasNoNewline : List ℕ → Type 0
+HasNoNewline octets = AllByRecursion (λ octet. octet ≢ newline) octets
+
+abbrev pub EndsInReturn : List ℕ → Type 0
+EndsInReturn octets = (front : List ℕ) × (octets ≡ front ++ carriage_return ∷ [])
+
+-- The octets are that content and its end: a newline, or a carriage return and a newline.
+abbrev pub IsEndedLine : List ℕ → List ℕ → Type 0
+IsEndedLine content octets =
+    HasNoNewline content
+    × ((octets ≡ content ++ carriage_return ∷ newline ∷ [])
+    ⊎ ((EndsInReturn content → ⊥) × (octets ≡ content ++ newline ∷ [])))
+
+-- a line that is skipped: an empty one, or a comment
+abbrev pub IsSkipped : List ℕ → Type 0
+IsSkipped [] = Unit {0}
+IsSkipped (first ∷ more) = first ≡ number_sign
+
+-- a message that an end sent: the end's letter, a space, and digits that are exactly one element
+pub record IsSentLine (content entry : List ℕ) : Type 0 where
+  pub side : End
+  pub digits : List ℕ
+  pub element : List ℕ
+  pub content_is : content ≡ octet_of side ∷ space ∷ digits
+  pub decoded : decode_of digits ≡ Ok element
+  pub raw : IsRaw element
+  pub entry_is : entry ≡ octet_of side ∷ element
+
+-- What a line stands for, by its content: nothing where it is skipped, or the octets of an entry.
+abbrev pub StandsFor : List ℕ → Option (List ℕ) → Type 0
+StandsFor content None = (length content ≤ line_limit) × IsSkipped content
+StandsFor content (Some entry) =
+    (length content ≤ line_limit)
+    × (IsSentLine content entry ⊎ ((content ≡ quiet_octet ∷ []) × (entry ≡ quiet_octet ∷ [])))
+
+-- no such line
+abbrev pub IsNoLine : List ℕ → Type 0
+IsNoLine content = (line : Option (List ℕ)) → StandsFor content line → ⊥
+
+-- a text of lines, each with its end, and what they stand for
+abbrev pub AreLines : List (Option (List ℕ)) → List ℕ → Type 0
+AreLines [] text = text ≡ []
+AreLines (line ∷ lines) text =
+    (content octets more : List ℕ) × IsEndedLine content octets × StandsFor content line × (text ≡ octets ++ more) × AreLines lines more
+
+-- a whole text: its last line may lack its end
+abbrev pub IsText : List (Option (List ℕ)) → List ℕ → Type 0
+IsText lines text =
+    AreLines lines text
+    ⊎ ((before : List (Option (List ℕ))) × (last : Option (List ℕ)) × (front content : List ℕ)
+    × (lines ≡ before ++ last ∷ []) × (text ≡ front ++ content) × AreLines before front
+    × (content ≢ []) × HasNoNewline content × StandsFor content last)
+
+-- the entries that lines stand for
+abbrev pub entries_in : List (Option (List ℕ)) → List (List ℕ)
+entries_in [] = []
+entries_in (None ∷ lines) = entries_in lines
+entries_in (Some entry ∷ lines) = entry ∷ entries_in lines
+
+-- Why what was told behind so many lines goes on with no such line: there may be no more lines; or a whole line is none,
+-- or has too many octets, whatever its end will be; or the last line, at the reader's end, is none.
+abbrev pub IsRefusedLine : ℕ → List ℕ → Option (List ℕ) → Type 0
+IsRefusedLine count rest untold =
+    ((count ≡ lines_limit) × (rest ≢ []))
+    ⊎ ((content octets more : List ℕ) × IsEndedLine content octets × (rest ≡ octets ++ more) × IsNoLine content)
+    ⊎ ((content more : List ℕ) × HasNoNewline content × (rest ≡ content ++ more) × (line_limit + 1 < length content))
+    ⊎ (IsAtEnd untold × HasNoNewline rest × (rest ≢ []) × IsNoLine rest)
+
+-- Why packing stopped behind so many lines: at a line that is none; or the reader failed, and what is left has no whole
+-- line; or memory ran out.
+abbrev pub StopsAs : ℕ → ℕ → List ℕ → Option (List ℕ) → FeedReason → ℕ → Type 0
+StopsAs count total rest untold feed.BadHexLine place = (place ≡ count + 1) × IsRefusedLine count rest untold
+StopsAs count total rest untold feed.Read place = (place ≡ total) × HasNoNewline rest
+StopsAs count total rest untold feed.Memory place = place ≡ 0
+StopsAs count total rest untold _ place = ⊥
+
+-- What was told is a text of lines, and their entries were written, and are so many.
+pub record IsPacked (told : List ℕ) (count : ℕ) (taken taken' : Option (List ℕ)) : Type 0 where
+  pub lines : List (Option (List ℕ))
+  pub is_text : IsText lines told
+  pub within : length lines ≤ lines_limit
+  pub count_is : count ≡ length (entries_in lines)
+  pub written : Appends taken taken' (concat (entries_in lines))
+
+-- What was told begins with these lines, whose entries were written; and this is why it was packed no further.
+pub record IsPackedUpTo (told : List ℕ) (fault : FeedFault) (untold : Option (List ℕ)) (taken taken' : Option (List ℕ)) : Type 0 where
+  pub lines : List (Option (List ℕ))
+  pub front : List ℕ
+  pub rest : List ℕ
+  pub are_lines : AreLines lines front
+  pub joined : told ≡ front ++ rest
+  pub within : length lines ≤ lines_limit
+  pub stops : StopsAs (length lines) (length told) rest untold fault.reason fault.place
+  pub written : Appends taken taken' (concat (entries_in lines))

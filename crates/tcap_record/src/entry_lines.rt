@@ -1,0 +1,101 @@
+//! The lines of an entry.
+
+ghost use Rattle.std.specs.Prelude.{◌≡◌, ◌++◌, OnOk, codes};
+ghost use Rattle.std.specs.Fmt.{decimal};
+ghost use Rattle.std.specs.String.{string_bytes};
+ghost use Rattle.tcap_record.specs.declared.entry.Body.TheVariants.{Bad, Quiet};
+ghost use Rattle.tcap_record.specs.Lines.{name_of_end, body_text, side_text, entry_lines};
+ghost use Rattle.tcap_record.specs.Viewed.{body_read, entry_read};
+
+use crate::entry::{Body, BodyView, End, Entry, EntryView};
+use crate::lines::push_message;
+use std::alloc::AllocError;
+use tcap_ber::Fault;
+
+/// The name of an end.
+fn name(side: End) -> &'static str
+    ensures { result.now ≡ name_of_end side }
+{
+    match side {
+        End::A => "A",
+        End::B => "B",
+    }
+}
+
+/// Appends the end that sent an entry, where one did.
+fn push_side(text: &mut String, side: Option<End>) -> Result<(), AllocError>
+    ensures { OnOk result (string_bytes text.new ≡ string_bytes text.old ++ side_text side) }
+{
+    match side {
+        Some(side) => {
+            text.push_str(name(side))?;
+            text.push_str(" ")
+        }
+        None => Ok(()),
+    }
+}
+
+/// Appends an entry's number, and the end that sent it, where one did.
+fn push_front(text: &mut String, number: usize, side: Option<End>) -> Result<(), AllocError>
+    ensures { OnOk result (string_bytes text.new ≡ string_bytes text.old ++ decimal number ++ codes " " ++ side_text side) }
+{
+    write!(text, "{number}")?;
+    text.push_str(" ")?;
+    push_side(text, side)
+}
+
+/// Appends why an element spells no message, and at which place.
+fn push_bad(text: &mut String, fault: Fault) -> Result<(), AllocError>
+    ensures { OnOk result (string_bytes text.new ≡ string_bytes text.old ++ body_text (Bad fault)) }
+{
+    let reason = fault.reason.number();
+    let place = fault.place;
+    writeln!(text, "FAULT {reason} {place}")
+}
+
+/// Appends what a quiet mark is.
+fn push_quiet(text: &mut String) -> Result<(), AllocError>
+    ensures { OnOk result (string_bytes text.new ≡ string_bytes text.old ++ body_text Quiet) }
+{
+    text.push_str("Q\n")
+}
+
+/// Appends what stands behind an entry's number and end, and the lines of its components.
+fn push_body(text: &mut String, body: &Body) -> Result<(), AllocError>
+    ensures { OnOk result (string_bytes text.new ≡ string_bytes text.old ++ body_text body.now) }
+{
+    match body {
+        Body::Good(message) => push_message(text, &message.view()),
+        Body::Bad(fault) => push_bad(text, *fault),
+        Body::Quiet => push_quiet(text),
+    }
+}
+
+/// Appends what stands behind the number and the end of an entry that is lent, and the lines of its components.
+fn push_body_view(text: &mut String, body: BodyView) -> Result<(), AllocError>
+    ensures { OnOk result (string_bytes text.new ≡ string_bytes text.old ++ body_text (body_read body.entry)) }
+{
+    match body {
+        BodyView::Good(message) => push_message(text, &message),
+        BodyView::Bad(fault) => push_bad(text, fault),
+        BodyView::Quiet => push_quiet(text),
+    }
+}
+
+/// Appends the lines of the entry of that number. `Err` where memory ran out: then `text` holds some front of them
+/// behind what it held.
+pub(crate) fn push_entry(text: &mut String, number: usize, entry: &Entry) -> Result<(), AllocError>
+    ensures { OnOk result (string_bytes text.new ≡ string_bytes text.old ++ entry_lines number entry.now) }
+{
+    push_front(text, number, entry.side)?;
+    push_body(text, &entry.body)
+}
+
+/// Appends to `text` the lines of the entry of that number, as `show` writes them, of an entry that is lent. `Err`
+/// where memory ran out: then `text` holds some front of them behind what it held.
+pub fn push_view(text: &mut String, number: usize, entry: EntryView) -> Result<(), AllocError>
+    ensures { OnOk result (string_bytes text.new ≡ string_bytes text.old ++ entry_lines number (entry_read entry.entry)) }
+{
+    push_front(text, number, entry.side)?;
+    push_body_view(text, entry.body)
+}

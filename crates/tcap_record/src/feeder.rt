@@ -1,0 +1,209 @@
+//! The entries of a record as its octets come, kept until they are taken.
+
+ghost use Rattle.std.specs.Prelude.{◌≡◌, ◌≢◌, ◌++◌, ◌∷◌, ◌≤◌, ◌⊎◌, [], ℕ, List, length, take, true, false, Some, None, Ok, Err, OnOk, OnErr, IfOk, IfErr, IfSome, MatchResult};
+ghost use Rattle.tcap_record.specs.declared.entry.Entry.{Entry};
+ghost use Rattle.tcap_record.specs.declared.fault.FeedFault.{FeedFault};
+ghost use Rattle.tcap_record.specs.declared.fault.FeedReason.{FeedReason};
+ghost use Rattle.tcap_record.specs.Framing.{feed_fault};
+ghost use Rattle.tcap_record.specs.Held.{Fed, IsFront, IsHeld, IsPart, IsWhole};
+
+use crate::entry::Entry;
+use crate::fault::{FeedFault, FeedReason};
+use crate::frames::Frames;
+use crate::framing::OUT_OF_MEMORY;
+use std::alloc::{AllocError, Global};
+use std::collections::VecDeque;
+use std::marker::Model;
+
+/// The entries of a record, read as its octets come, in whatever pieces, and kept until they are taken.
+#[derive(Debug, Drop)]
+pub struct Feeder {
+    alloc: Global,
+    // The entry at the front of what was fed and is no whole entry yet.
+    frames: Frames,
+    // The entries that were not taken yet.
+    waiting: VecDeque<Entry>,
+}
+
+impl Model for Feeder {
+    ghost use Rattle.std.specs.Prelude.{◌≡◌, None};
+    ghost use Rattle.tcap_record.specs.Held.{IsPart, IsHeld};
+    ghost use Rattle.tcap_record.specs.Kept.{Kept};
+
+    ghost Value = { Kept };
+
+    ghost view = { λ a. record { held = a.frames; waiting = a.waiting.items } };
+
+    ghost invariant = { λ a. IsHeld a.frames × (a.frames.fault ≡ None → IsPart a.frames.octets) };
+}
+
+/// Appends the entry at the front as a value of its own, and answers whether a whole one stands there.
+fn keep_front(
+    alloc: Global,
+    frames: &Frames,
+    waiting: &mut VecDeque<Entry>,
+) -> Result<bool, AllocError>
+    ensures kept { result ≡ Ok true → (entry : Entry) × IsFront entry frames.now × (frames.now.fault ≡ None) × IsWhole frames.now.octets
+        × (waiting.new.items ≡ waiting.old.items ++ entry ∷ []) }
+    ensures none { result ≡ Ok false → ((frames.now.fault ≡ None) × IsWhole frames.now.octets → ⊥) × (waiting.new.items ≡ waiting.old.items) }
+    ensures failed { OnErr result (waiting.new.items ≡ waiting.old.items) }
+{
+    let Some(entry) = frames.front() else {
+        return Ok(false);
+    };
+    let owned = entry.to_entry(alloc)?;
+    waiting.push_back(owned)?;
+    Ok(true)
+}
+
+/// Takes all octets of `piece`, up to a fault, and keeps the entries that are whole then.
+fn keep_all(
+    alloc: Global,
+    frames: &mut Frames,
+    piece: &[u8],
+    waiting: &mut VecDeque<Entry>,
+) -> Result<(), FeedFault>
+    ensures kept { (more : List Entry) × (waiting.new.items ≡ waiting.old.items ++ more) }
+    ensures sound { OnOk result ((frames.new.fault ≡ None) × IsPart frames.new.octets) }
+    ensures failed { (f : FeedFault) → result ≡ Err f → (f ≡ feed_fault FeedReason.Memory 0) ⊎ (frames.new.fault ≡ Some f) }
+    ensures held { IsHeld frames.old → IsHeld frames.new }
+    ensures fed { (octets : List ℕ) (taken : List Entry) → Fed octets (taken ++ waiting.old.items) frames.old
+        → MatchResult result (λ _. Fed (octets ++ piece.now) (taken ++ waiting.new.items) frames.new)
+        (λ _. (n : ℕ) × (n ≤ length piece.now) × Fed (octets ++ take n piece.now) (taken ++ waiting.new.items) frames.new) }
+{
+    let mut rest = piece;
+    loop {
+        let taken = frames.feed_some(rest)?;
+        rest = &rest[taken..];
+        if !keep_front(alloc, frames, waiting)? {
+            return Ok(());
+        }
+        frames.drop_front();
+    }
+}
+
+/// Whether memory ran out.
+fn ran_out(kept: Result<(), FeedFault>) -> bool
+    ensures { result ≡ false → IfErr kept (λ f. f ≢ feed_fault FeedReason.Memory 0) }
+{
+    match kept {
+        Ok(()) => false,
+        Err(fault) => fault.reason == FeedReason::Memory,
+    }
+}
+
+/// Keeps the entry at the front and those in `piece` behind it: what is held then, and how the piece goes on. `None` where no
+/// whole entry stands at the front.
+fn keep_rest(
+    alloc: Global,
+    frames: &Frames,
+    piece: &[u8],
+    waiting: &mut VecDeque<Entry>,
+) -> Result<Option<(Frames, Result<(), FeedFault>)>, AllocError>
+    requires sound { frames.now.fault ≡ None }
+    requires held { IsHeld frames.now }
+    ensures none { result ≡ Ok None → (IsWhole frames.now.octets → ⊥) × (waiting.new.items ≡ waiting.old.items) }
+    ensures kept { (more : List Entry) × (waiting.new.items ≡ waiting.old.items ++ more) }
+    ensures sound { IfOk result (λ found. IfSome found (λ x. OnOk x.1 ((x.0.fault ≡ None) × IsPart x.0.octets))) }
+    ensures failed { IfOk result (λ found. IfSome found (λ x. IfErr x.1 (λ f. x.0.fault ≡ Some f))) }
+    ensures held { IfOk result (λ found. IfSome found (λ x. IsHeld x.0)) }
+    ensures fed { IfOk result (λ found. IfSome found (λ x. (octets : List ℕ) (taken : List Entry) → Fed octets (taken ++ waiting.old.items) frames.now
+        → MatchResult x.1 (λ _. Fed (octets ++ piece.now) (taken ++ waiting.new.items) x.0)
+        (λ _. (n : ℕ) × (n ≤ length piece.now) × Fed (octets ++ take n piece.now) (taken ++ waiting.new.items) x.0))) }
+{
+    if !keep_front(alloc, frames, waiting)? {
+        return Ok(None);
+    }
+    let mut behind = frames.behind_front(alloc);
+    let kept = keep_all(alloc, &mut behind, piece, waiting);
+    if ran_out(kept) {
+        return Err(AllocError);
+    }
+    Ok(Some((behind, kept)))
+}
+
+impl Feeder {
+    ghost use Rattle.std.specs.Prelude.{◌≡◌, ◌+◌, ◌++◌, ◌∷◌, ◌≤◌, ◌↔◌, [], ℕ, List, length, take, Some, None, Err, IsOk, OnOk, MatchResult, MatchOption};
+    ghost use Rattle.tcap_record.specs.declared.entry.Entry.{Entry};
+    ghost use Rattle.tcap_record.specs.declared.fault.FeedFault.{FeedFault};
+    ghost use Rattle.tcap_record.specs.Held.{nothing_held, IsHeld, IsPart};
+    ghost use Rattle.tcap_record.specs.Feeding.{FinishesAs};
+    ghost use Rattle.tcap_record.specs.Kept.{Kept, FedTo, FeedsNot};
+
+    /// A feeder to which nothing was fed.
+    pub fn new(alloc: Global) -> Feeder
+        ensures { result ≡ record { held = nothing_held; waiting = [] } }
+    {
+        Feeder {
+            alloc,
+            frames: Frames::new(alloc),
+            waiting: VecDeque::new(alloc),
+        }
+    }
+
+    /// Reads the entries on as far as `piece` goes. Fails where something is wrong with the octets, which it does from then
+    /// on: `TooManyEntries`, `BadEnd` and `Element` at its place in the record; the entries before it can still be taken.
+    /// `Memory` where memory ran out: then nothing was fed, and the piece may be fed again.
+    pub fn feed(&mut self, piece: &[u8]) -> Result<(), FeedFault>
+        // Nothing is wrong, and what is held is a part of an entry, or nothing.
+        ensures sound { OnOk result ((self.old.held.fault ≡ None) × (self.new.held.fault ≡ None) × IsPart self.new.held.octets) }
+        ensures fails { (f : FeedFault) → result ≡ Err f → FeedsNot f self.old self.new }
+        // What is held is as it has to be.
+        ensures held { IsHeld self.new.held }
+        // The entries that waited wait still, before the new ones.
+        ensures kept { (more : List Entry) × (self.new.waiting ≡ self.old.waiting ++ more) }
+        // All octets fed so far are the entries taken, those that wait, and what is held.
+        ensures fed { (octets : List ℕ) (taken : List Entry) → FedTo octets taken self.old
+            → MatchResult result (λ _. FedTo (octets ++ piece.now) taken self.new)
+            (λ _. (n : ℕ) × (n ≤ length piece.now) × FedTo (octets ++ take n piece.now) taken self.new) }
+    {
+        let (held, walk) = (self.frames.buffered(), self.frames.walk());
+        let waiting = self.waiting.len();
+        let taken = self.frames.feed_some(piece)?;
+        match keep_rest(self.alloc, &self.frames, &piece[taken..], &mut self.waiting) {
+            Ok(None) => Ok(()),
+            Ok(Some((frames, kept))) => {
+                self.frames = frames;
+                kept
+            }
+            Err(AllocError) => {
+                self.waiting.truncate(waiting);
+                self.frames.cut(held, walk);
+                Err(OUT_OF_MEMORY)
+            }
+        }
+    }
+
+    /// Takes the first entry that waits. `None` where none does.
+    pub fn take(&mut self) -> Option<Entry>
+        ensures first { MatchOption result ((self.old.waiting ≡ []) × (self.new ≡ self.old)) (λ entry. self.old.waiting ≡ entry ∷ self.new.waiting) }
+        ensures held { self.new.held ≡ self.old.held }
+        ensures fed { (octets : List ℕ) (taken : List Entry) → FedTo octets taken self.old
+            → MatchOption result (FedTo octets taken self.new) (λ entry. FedTo octets (taken ++ entry ∷ []) self.new) }
+    {
+        self.waiting.pop_front()
+    }
+
+    /// How many octets were fed.
+    pub(crate) fn fed(&self) -> u64
+        ensures { result ≡ self.now.held.place + length self.now.held.octets }
+    {
+        self.frames.taken()
+    }
+
+    /// The entries that wait, in their order.
+    pub(crate) fn into_waiting(self) -> Vec<Entry>
+        ensures { result.items ≡ self.waiting }
+    {
+        self.waiting.into_vec()
+    }
+
+    /// Whether the record may end here: the fault where something is wrong with the octets, else `CutRecord` at the count
+    /// of all octets where a part of an entry is held. Entries may wait still.
+    pub fn finish(&self) -> Result<(), FeedFault>
+        ensures ok { IsOk result ↔ ((self.now.held.fault ≡ None) × (self.now.held.octets ≡ [])) }
+        ensures ends { FinishesAs result self.now.held }
+    {
+        self.frames.finish()
+    }
+}
