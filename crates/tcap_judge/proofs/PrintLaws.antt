@@ -1,5 +1,5 @@
 -- What was printed, from what the parts printed.
-use Rattle.std.proofs.Common.{◌≡◌, ℕ, ◌⊎◌, List, ◌++◌, take, length, Option, Result, Err, refl, sym, ap, ◌∙◌, inl, inr, arith}
+use Rattle.std.proofs.Common.{◌≡◌, ℕ, ◌⊎◌, List, ◌++◌, length, Option, Err, refl, sym, ap, ◌∙◌, inl, inr, arith}
 use Rattle.std.proofs.KnownBytes.{Appends-trans}
 use Rattle.std.proofs.lemmas.List.{take_all}
 use Rattle.std.specs.Io.KnownBytes.{Appends}
@@ -8,13 +8,6 @@ use Rattle.tcap_record.specs.declared.fault.FeedFault.{FeedFault}
 use Rattle.tcap_record.specs.Lines.{lines_of}
 use Rattle.tcap_judge.specs.declared.status.Status.TheVariants as statuses
 use Rattle.tcap_judge.specs.Shown.{Prints, fault_line, memory_line}
-
--- lines of the first entries, and that memory ran out
-pub out_of_memory : (entries : List Entry) (end : Result (Unit {0}) FeedFault) (old mid new : Option (List ℕ))
-    → ((count : ℕ) × Appends old mid (lines_of (take count entries))) → Appends mid new memory_line
-    → (text : List ℕ) × Prints entries end text statuses.Fault × Appends old new text
-out_of_memory entries end old mid new before line =
-    (lines_of (take before.0 entries) ++ memory_line, inr (before.0, refl, refl), Appends-trans old mid new _ _ before.1 line)
 
 -- all lines, and the fault's or that memory ran out
 pub faulted : (entries : List Entry) (fault : FeedFault) (old mid new : Option (List ℕ))

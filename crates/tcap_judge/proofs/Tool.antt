@@ -1,17 +1,17 @@
 -- What follows from words at which the command line has no fault.
-use Rattle.std.proofs.Common.{◌≡◌, Bool, true, false, List, [], ◌∷◌, Option, Some, None, is_some, inl, inr, refl, codes}
+use Rattle.std.proofs.Common.{◌≡◌, ◌⊎◌, Bool, true, false, List, [], ◌∷◌, Option, Some, None, is_some, inl, inr, refl, codes}
 use Rattle.std.specs.Prelude.{option_map, drop}
 use Rattle.std.specs.Str.{bytes_eq}
 use Rattle.std.proofs.lemmas.Slice.Eq.{bytes_eq-Decides}
 use Rattle.clap.proofs.OnLiterals.{clap_on_literals}
 use Rattle.clap.specs.Kinds.{HasKind, Kinds}
 use Rattle.clap.specs.Faults.{check_fault, defaults_fault, entered_fault, fault_of, is_simple_and_free, level_fault, settle_fault, walk_fault}
-use Rattle.clap.specs.Simple.{Shape, built, entered, is_simple, names_of}
+use Rattle.clap.specs.Simple.{Shape, built, entered, is_simple, names_of, subcommand_of}
 use Rattle.clap.specs.Values.{kind_of}
 use Rattle.clap.specs.Walk.{Row, Text, finished, nothing_held, settled, walk, walk_from}
 use Rattle.clap.specs.declared.error.Error.{Error}
 use Rattle.clap.specs.declared.error.kind.ErrorKind.TheVariants as kind
-use Rattle.tcap_judge.specs.Words.{Becomes, IsFaultOf, IsMemory, subcommand_named, tool}
+use Rattle.tcap_judge.specs.Words.{Becomes, IsFaultOf, IsMemory, tool}
 use Rattle.tcap_judge.specs.declared.words.WordsFault.{WordsFault}
 use Rattle.tcap_judge.specs.declared.words.WordsFault.TheVariants.{Words, Memory}
 use Rattle.tcap_judge.proofs.Help.{NotHelp, or_empty, walk_not}
@@ -50,8 +50,15 @@ level_clear s names words has below e =
     let f = or_empty (defaults_fault (settled s.rules end).rows s.rules) _ d.1 in
     (a.0, f.1)
 
--- words with no fault name `show`
-pub named : (words : List Text) → fault_of tool words ≡ [] → subcommand_named words ≡ Some (codes "show")
+-- the subcommand is one of the two
+abbrev pub IsKnown : Option Text → Type 0
+IsKnown name = (name ≡ Some (codes "show")) ⊎ (name ≡ Some (codes "pack"))
+
+abbrev name_of : Option (Text × List Row) → Option Text
+name_of = option_map (λ p. p.0)
+
+-- words with no fault name a subcommand
+pub named : (words : List Text) → fault_of tool words ≡ [] → IsKnown (name_of (subcommand_of tool words))
 unfolding tool
 named words e =
     let top = (built tool).top in
@@ -61,12 +68,14 @@ named words e =
     let clear = level_clear top names args (is_some (entered (built tool) stop)) (entered_fault (built tool) stop) e in
     go stop (finished top.rules (walk top.rules names nothing_held args).held) (walk_not top names (walk_from nothing_held) args refl tt clear.0) clear.1
   where
-    at : (p : Text × List Text) (rows : List Row) (show help : Bool) → bytes_eq (codes "show") p.0 ≡ show → bytes_eq (codes "help") p.0 ≡ help → help ≡ false
-        → check_fault (built tool).top rows (is_some (entered (built tool) (Some p))) ≡ [] → option_map (λ q. q.0) (entered (built tool) (Some p)) ≡ Some (codes "show")
-    at p rows true help is_show is_help off e = rw is_show refl
-    at p rows false true is_show is_help off e = cc
-    at p rows false false is_show is_help off e =
-        let bad : kind.MissingSubcommand ∷ [] ≡ [] = rw (is_show, is_help) at e in cc
+    at : (p : Text × List Text) (rows : List Row) (show pack help : Bool) → bytes_eq (codes "show") p.0 ≡ show → bytes_eq (codes "pack") p.0 ≡ pack
+        → bytes_eq (codes "help") p.0 ≡ help → help ≡ false → check_fault (built tool).top rows (is_some (entered (built tool) (Some p))) ≡ []
+        → IsKnown (name_of (entered (built tool) (Some p)))
+    at p rows true pack help is_show is_pack is_help off e = inl (rw is_show refl)
+    at p rows false true help is_show is_pack is_help off e = inr (rw (is_show, is_pack) refl)
+    at p rows false false true is_show is_pack is_help off e = cc
+    at p rows false false false is_show is_pack is_help off e =
+        let bad : kind.MissingSubcommand ∷ [] ≡ [] = rw (is_show, is_pack, is_help) at e in cc
 
     differs : (p : Text × List Text) → NotHelp (Some p) → (help : Bool) → bytes_eq (codes "help") p.0 ≡ help → help ≡ false
     differs p not_help false is = refl
@@ -76,7 +85,8 @@ named words e =
         cc
 
     go : (stop : Option (Text × List Text)) (rows : List Row) → NotHelp stop → check_fault (built tool).top rows (is_some (entered (built tool) stop)) ≡ []
-        → option_map (λ p. p.0) (entered (built tool) stop) ≡ Some (codes "show")
+        → IsKnown (name_of (entered (built tool) stop))
     go None rows not_help e = let bad : kind.MissingSubcommand ∷ [] ≡ [] = e in cc
     go (Some p) rows not_help e =
-        at p rows (bytes_eq (codes "show") p.0) (bytes_eq (codes "help") p.0) refl refl (differs p not_help (bytes_eq (codes "help") p.0) refl) e
+        at p rows (bytes_eq (codes "show") p.0) (bytes_eq (codes "pack") p.0) (bytes_eq (codes "help") p.0) refl refl refl
+        (differs p not_help (bytes_eq (codes "help") p.0) refl) e

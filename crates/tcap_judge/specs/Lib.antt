@@ -1,2 +1,4 @@
 pub mod Words
 pub mod Shown
+pub mod Showing
+pub mod Packed

@@ -5,7 +5,7 @@ use Rattle.std.specs.Fmt.{decimal}
 use Rattle.std.specs.Io.KnownBytes.{Appends, Consumes}
 use Rattle.tcap_record.specs.declared.entry.Entry.{Entry}
 use Rattle.tcap_record.specs.declared.entry.Body.{Body}
-use Rattle.tcap_record.specs.declared.entry.Body.TheVariants.{Good, Bad}
+use Rattle.tcap_record.specs.declared.entry.Body.TheVariants.{Good, Bad, Quiet}
 use Rattle.tcap_record.specs.declared.fault.FeedFault.{FeedFault}
 use Rattle.tcap_record.specs.FeedFault.{feed_number_of}
 use Rattle.tcap_record.specs.Reading.{IsReadAs, EndsOnlyAtEnd, FailsOnlyByReader}
@@ -37,6 +37,7 @@ is_bad entry = is_bad_body entry.body
     is_bad_body : Body → Bool
     is_bad_body (Good m) = false
     is_bad_body (Bad f) = true
+    is_bad_body Quiet = false
 
 -- whether there is a line of fault among the lines of the entries, or behind them
 abbrev pub has_fault : List Entry → Result (Unit {0}) FeedFault → Bool

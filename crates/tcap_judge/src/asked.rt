@@ -2,7 +2,9 @@
 
 /// What the program is asked to do.
 #[derive(Clone, Copy, Debug, PartialEq, Eq)]
-pub enum Request {
-    /// Print the entries of the record on standard input.
-    Show,
+pub enum Request<'a> {
+    /// Print the entries of the record in the file of this path, or on standard input.
+    Show(Option<&'a str>),
+    /// Make a record of the lines of hex digits in the file of this path, or on standard input.
+    Pack(Option<&'a str>),
 }

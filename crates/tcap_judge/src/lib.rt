@@ -2,11 +2,14 @@
 #![tactic(auto)]
 
 mod asked;
+mod fault_lines;
+mod packing;
 mod showing;
 mod status;
 mod words;
 
 pub use asked::Request;
+pub use packing::run_pack;
 pub use showing::run_show;
 pub use status::{Status, WriteFailed};
 pub use words::{WordsFault, request};

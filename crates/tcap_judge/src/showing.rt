@@ -1,88 +1,152 @@
 //! Printing the entries of a record.
 
-ghost use Rattle.std.specs.Prelude.{◌≡◌, ◌++◌, ◌⊎◌, ℕ, List, IfOk, OnOk, OnErr, string_bytes};
+ghost use Rattle.std.specs.Prelude.{◌≡◌, ◌≢◌, ◌⊎◌, ◌≤◌, ℕ, Bool, length, take, false, Some, None, Ok, Err, IfOk, OnOk, OnErr};
 ghost use Rattle.std.specs.Io.KnownBytes.{Appends};
-ghost use Rattle.std.specs.List.{list_any};
 ghost use Rattle.tcap_ber.specs.Device.{one_more};
-ghost use Rattle.tcap_judge.specs.Shown.{Prints, Shows, fault_line, is_bad, memory_line};
+ghost use Rattle.tcap_record.specs.declared.fault.FeedFault.{FeedFault};
+ghost use Rattle.tcap_record.specs.declared.fault.FeedReason.{FeedReason};
+ghost use Rattle.tcap_record.specs.declared.entry.Entry.{Entry};
+ghost use Rattle.tcap_record.specs.Framing.{feed_fault};
+ghost use Rattle.tcap_record.specs.Held.{IsFront, IsHeld, IsPart, IsWhole, nothing_held};
+ghost use Rattle.tcap_record.specs.Lines.{entry_lines};
+ghost use Rattle.tcap_judge.specs.declared.showing.Stop.{Stop};
+ghost use Rattle.tcap_judge.specs.Shown.{Shows, is_bad};
+ghost use Rattle.tcap_judge.specs.Showing.{Leads, ShowsAll, UnlessWrite};
 
+use crate::fault_lines::write_fault;
 use crate::status::{Status, WriteFailed};
 use std::alloc::{AllocError, Global};
-use tcap_ber::{Read, Write};
-use tcap_record::{Body, Entry, FeedFault, Reading, ShowFault, read_entries, show};
+use tcap_ber::{Failed, Read, Write};
+use tcap_record::{BodyView, FeedFault, FeedReason, Frames, push_view};
 
-/// The line where memory ran out.
-const MEMORY_LINE: &[u8] = b"FAULT 99 0\n";
+const PIECE_LEN: usize = 8192;
 
-/// Whether an entry's element is no message.
-fn has_bad(entries: &[Entry]) -> bool
-    ensures { result ≡ list_any is_bad entries.now }
-{
-    entries
-        .iter()
-        .any(|entry| matches!(entry.body, Body::Bad(_)))
+/// Why the lines of a record go no further.
+#[derive(Clone, Copy, Debug, PartialEq, Eq)]
+enum Stop {
+    /// The record has a fault, or memory ran out.
+    Fault(FeedFault),
+    /// The writer failed.
+    Write,
 }
 
-/// Appends the line of a fault of the record.
-fn push_fault(text: &mut String, fault: FeedFault) -> Result<(), AllocError>
-    ensures { OnOk result (string_bytes text.new ≡ string_bytes text.old ++ fault_line fault) }
-{
-    let number = fault.reason.number();
-    let place = fault.place;
-    writeln!(text, "FAULT {number} {place}")
-}
+impl From<FeedFault> for Stop {
+    ghost from_gives = { λ fault stop. stop ≡ Stop.Fault fault };
 
-fn write_line<W: Write>(writer: &mut W, line: &[u8]) -> Result<(), WriteFailed>
-    ensures line { OnOk result (Appends (W.taken writer.old) (W.taken writer.new) line.now) }
-    ensures counts { OnOk result (W.failures writer.new ≡ W.failures writer.old) }
-    ensures failed { OnErr result (W.failures writer.new ≡ one_more (W.failures writer.old)) }
-{
-    writer.write_all(line).map_err(|_| WriteFailed)
-}
-
-/// Writes the line of a fault of the record, or that memory ran out where there is none for it.
-fn write_fault<W: Write>(alloc: Global, fault: FeedFault, writer: &mut W) -> Result<(), WriteFailed>
-    ensures line { OnOk result ((line : List ℕ) × ((line ≡ fault_line fault) ⊎ (line ≡ memory_line))
-        × Appends (W.taken writer.old) (W.taken writer.new) line) }
-    ensures counts { OnOk result (W.failures writer.new ≡ W.failures writer.old) }
-    ensures failed { OnErr result (W.failures writer.new ≡ one_more (W.failures writer.old)) }
-{
-    let mut line = String::new(alloc);
-    match push_fault(&mut line, fault) {
-        Ok(()) => write_line(writer, line.as_bytes()),
-        Err(AllocError) => write_line(writer, MEMORY_LINE),
+    fn from(fault: FeedFault) -> Stop {
+        Stop::Fault(fault)
     }
 }
 
-/// Prints the entries that were read and the fault behind them.
-fn print<W: Write>(alloc: Global, reading: &Reading, writer: &mut W) -> Result<Status, WriteFailed>
-    ensures text { IfOk result (λ status. (text : List ℕ)
-        × Prints reading.now.«record».entries.items reading.now.«end» text status
-        × Appends (W.taken writer.old) (W.taken writer.new) text) }
-    ensures counts { OnOk result (W.failures writer.new ≡ W.failures writer.old) }
-    ensures failed { OnErr result (W.failures writer.new ≡ one_more (W.failures writer.old)) }
+impl From<AllocError> for Stop {
+    ghost from_gives = { λ _ stop. stop ≡ Stop.Fault (feed_fault FeedReason.Memory 0) };
+
+    fn from(_: AllocError) -> Stop {
+        Stop::Fault(FeedFault {
+            reason: FeedReason::Memory,
+            place: 0,
+        })
+    }
+}
+
+impl From<Failed> for Stop {
+    ghost from_gives = { λ _ stop. stop ≡ Stop.Write };
+
+    fn from(_: Failed) -> Stop {
+        Stop::Write
+    }
+}
+
+/// What is shown of a record as its octets come.
+#[derive(Debug, Drop)]
+struct Showing {
+    frames: Frames,
+    // The lines of one entry.
+    text: String,
+    // Whether an entry was no message.
+    bad: bool,
+}
+
+/// Writes the lines of the entry at the front, where a whole one stands there, and answers whether it is bad.
+fn show_front<W: Write>(
+    frames: &Frames,
+    text: &mut String,
+    writer: &mut W,
+) -> Result<Option<bool>, Stop>
+    ensures shown { (bad : Bool) → result ≡ Ok (Some bad) → (entry : Entry) × IsFront entry frames.now × (frames.now.fault ≡ None) × IsWhole frames.now.octets
+        × Appends (W.taken writer.old) (W.taken writer.new) (entry_lines frames.now.count entry) × (bad ≡ is_bad entry) }
+    ensures none { result ≡ Ok None → ((frames.now.fault ≡ None) × IsWhole frames.now.octets → ⊥) × (writer.new ≡ writer.old) }
+    ensures memory { (f : FeedFault) → result ≡ Err (Stop.Fault f) → (f ≡ feed_fault FeedReason.Memory 0) × (writer.new ≡ writer.old) }
+    ensures write { result ≡ Err Stop.Write → W.failures writer.new ≡ one_more (W.failures writer.old) }
+    ensures others { result ≢ Err Stop.Write → W.failures writer.new ≡ W.failures writer.old }
 {
-    match show(alloc, &reading.record, writer) {
-        Ok(()) => {}
-        Err(ShowFault::Write) => return Err(WriteFailed),
-        Err(ShowFault::Memory) => {
-            write_line(writer, MEMORY_LINE)?;
-            return Ok(Status::Fault);
+    let Some(entry) = frames.front() else {
+        return Ok(None);
+    };
+    text.clear();
+    push_view(text, frames.dropped(), entry)?;
+    writer.write_all(text.as_bytes())?;
+    Ok(Some(matches!(entry.body, BodyView::Bad(_))))
+}
+
+impl Showing {
+    /// Takes all octets of `piece`, up to a fault, and writes the lines of the entries that are whole then.
+    fn show_piece<W: Write>(&mut self, piece: &[u8], writer: &mut W) -> Result<(), Stop>
+        ensures shows { result ≢ Err Stop.Write → (n : ℕ) × (n ≤ length piece.now) × (result ≡ Ok tt → n ≡ length piece.now)
+            × Leads self.old.frames self.old.bad (W.taken writer.old) (take n piece.now) self.new.frames self.new.bad (W.taken writer.new) }
+        ensures sound { OnOk result ((self.new.frames.fault ≡ None) × IsPart self.new.frames.octets) }
+        ensures fault { (f : FeedFault) → result ≡ Err (Stop.Fault f) → (f ≡ feed_fault FeedReason.Memory 0) ⊎ (self.new.frames.fault ≡ Some f) }
+        ensures held { IsHeld self.old.frames → IsHeld self.new.frames }
+        ensures write { result ≡ Err Stop.Write → W.failures writer.new ≡ one_more (W.failures writer.old) }
+        ensures others { result ≢ Err Stop.Write → W.failures writer.new ≡ W.failures writer.old }
+    {
+        let mut rest = piece;
+        loop {
+            let taken = self.frames.feed_some(rest)?;
+            rest = &rest[taken..];
+            let Some(bad) = show_front(&self.frames, &mut self.text, writer)? else {
+                return Ok(());
+            };
+            self.bad = self.bad || bad;
+            self.frames.drop_front();
         }
     }
-    match reading.end {
-        Err(fault) => {
-            write_fault(alloc, fault, writer)?;
-            Ok(Status::Fault)
-        }
-        Ok(()) if has_bad(&reading.record.entries) => Ok(Status::Fault),
-        Ok(()) => Ok(Status::Fine),
+}
+
+/// Writes the lines of the entries of the record that `reader` tells up to its end, or to the first fault.
+fn show_all<R: Read, W: Write>(
+    showing: &mut Showing,
+    reader: &mut R,
+    writer: &mut W,
+) -> Result<(), Stop>
+    requires fresh { showing.old.frames ≡ nothing_held }
+    requires fine { showing.old.bad ≡ false }
+    ensures shows { UnlessWrite (ShowsAll (R.untold reader.old) (R.untold reader.new) (R.failures reader.old) (R.failures reader.new)
+        showing.new.bad (W.taken writer.old) (W.taken writer.new)) result }
+    ensures write { result ≡ Err Stop.Write → W.failures writer.new ≡ one_more (W.failures writer.old) }
+    ensures others { result ≢ Err Stop.Write → W.failures writer.new ≡ W.failures writer.old }
+{
+    let mut piece = [0; PIECE_LEN];
+    loop {
+        let taken = showing.frames.taken();
+        let told = match reader.read(&mut piece) {
+            Ok(0) => return Ok(showing.frames.finish()?),
+            Ok(told) => told,
+            Err(Failed) => {
+                return Err(Stop::Fault(FeedFault {
+                    reason: FeedReason::Read,
+                    place: taken,
+                }));
+            }
+        };
+        showing.show_piece(&piece[..told], writer)?;
     }
 }
 
-/// Prints the entries of the record that `reader` tells up to its end, and the fault behind them where
-/// there is one. The status says whether a line of fault was printed. Where memory runs out, lines of the
-/// first entries are printed, whole ones, and its line. `WriteFailed` where the writer failed in this call.
+/// Prints the entries of the record that `reader` tells up to its end, each as soon as its last octet was read, and the
+/// fault behind them where there is one. The status says whether a line of fault was printed. Where memory runs out, lines
+/// of the first entries are printed, whole ones, and its line. `WriteFailed` where the writer failed in this call. One
+/// entry is held at a time.
 pub fn run_show<R: Read, W: Write>(
     alloc: Global,
     reader: &mut R,
@@ -94,6 +158,18 @@ pub fn run_show<R: Read, W: Write>(
     ensures counts { OnOk result (W.failures writer.new ≡ W.failures writer.old) }
     ensures failed { OnErr result (W.failures writer.new ≡ one_more (W.failures writer.old)) }
 {
-    let reading = read_entries(alloc, reader);
-    print(alloc, &reading, writer)
+    let mut showing = Showing {
+        frames: Frames::new(alloc),
+        text: String::new(alloc),
+        bad: false,
+    };
+    match show_all(&mut showing, reader, writer) {
+        Ok(()) if showing.bad => Ok(Status::Fault),
+        Ok(()) => Ok(Status::Fine),
+        Err(Stop::Write) => Err(WriteFailed),
+        Err(Stop::Fault(fault)) => {
+            write_fault(alloc, fault, writer)?;
+            Ok(Status::Fault)
+        }
+    }
 }

@@ -1,13 +1,13 @@
 //! What the words of the command line ask for.
 
-ghost use Rattle.std.specs.Prelude.{◌≡◌, ◌∷◌, [], IfErr, IfOk, MatchResult, codes, true};
+ghost use Rattle.std.specs.Prelude.{◌≡◌, ◌∷◌, [], IfErr, IfOk, MatchResult, None, Some, codes, false, true};
 ghost use Rattle.clap.specs.Words.{app_of, fault_of, kind_of, takes};
 ghost use Rattle.clap.specs.Walk.{Text, texts};
-ghost use Rattle.tcap_judge.specs.Words.{Asks, Becomes, IsFaultOf, IsMemory, is_help, tool, words_status};
+ghost use Rattle.tcap_judge.specs.Words.{Asks, Becomes, IsFaultOf, IsMemory, IsPack, IsShow, begins_with_hyphen, is_help, tool, words_status};
 
 use crate::asked::Request;
 use clap::error::ErrorKind;
-use clap::{Command, Error};
+use clap::{Arg, ArgAction, Command, Error};
 use std::alloc::{AllocError, Global};
 use std::{error, fmt};
 
@@ -79,31 +79,60 @@ impl error::Error for WordsFault {}
 fn command<'a>(alloc: Global) -> Result<Command<'a>, AllocError>
     ensures { IfOk result (λ c. app_of c ≡ tool) }
 {
-    let show = Command::new(alloc, "show").about(
-        "Prints the entries of the record on standard input",
+    let record = Arg::new(alloc, "RECORD").action(ArgAction::Set).help(
+        "The file of the record; the standard input where it is left out",
     );
+    let lines = Arg::new(alloc, "LINES").action(ArgAction::Set).help(
+        "The file of the lines; the standard input where it is left out",
+    );
+    let show = Command::new(alloc, "show")
+        .about("Prints the entries of a record")
+        .arg(record)?;
+    let pack = Command::new(alloc, "pack")
+        .about("Makes a record of lines of hex digits")
+        .arg(lines)?;
     Command::new(alloc, "tcapjudge")
         .about("Reads records of TCAP messages")
         .subcommand_required(true)
-        .subcommand(show)
+        .subcommand(show)?
+        .subcommand(pack)
 }
 
-/// What `words` ask for: the program's name, and then the words behind it.
-pub fn request<'a>(alloc: Global, words: &'a [&'a str]) -> Result<Request, WordsFault>
+/// What `words` ask for, as clap reads them.
+fn parsed_request<'a>(alloc: Global, words: &'a [&'a str]) -> Result<Request<'a>, WordsFault>
     ensures asks { IfOk result (Asks (texts words.entry.now)) }
     ensures taken { takes tool (texts words.entry.now) ≡ true → IfErr result IsMemory }
-    ensures show { (program : Text) → texts words.entry.now ≡ program ∷ codes "show" ∷ []
-        → IfErr result IsMemory }
     ensures faults { MatchResult result (λ _. fault_of tool (texts words.entry.now) ≡ [])
         (IsFaultOf (fault_of tool (texts words.entry.now))) }
 {
     let command = command(alloc)?;
     let matches = command.try_get_matches_from(words)?;
-    let Some(name) = matches.subcommand_name() else {
+    let Some((name, found)) = matches.subcommand() else {
         unreachable!()
     };
     match name {
-        "show" => Ok(Request::Show),
+        "show" => Ok(Request::Show(found.get_str("RECORD"))),
+        "pack" => Ok(Request::Pack(found.get_str("LINES"))),
         _ => unreachable!(),
     }
+}
+
+/// What `words` ask for: the program's name, and then the words behind it.
+pub fn request<'a>(alloc: Global, words: &'a [&'a str]) -> Result<Request<'a>, WordsFault>
+    ensures asks { IfOk result (Asks (texts words.entry.now)) }
+    ensures taken { takes tool (texts words.entry.now) ≡ true → IfErr result IsMemory }
+    ensures show { (program : Text) → texts words.entry.now ≡ program ∷ codes "show" ∷ []
+        → MatchResult result (IsShow None) IsMemory }
+    ensures show_path { (program path : Text)
+        → texts words.entry.now ≡ program ∷ codes "show" ∷ path ∷ []
+        → begins_with_hyphen path ≡ false → MatchResult result (IsShow (Some path)) IsMemory }
+    ensures pack { (program : Text) → texts words.entry.now ≡ program ∷ codes "pack" ∷ []
+        → MatchResult result (IsPack None) IsMemory }
+    ensures pack_path { (program path : Text)
+        → texts words.entry.now ≡ program ∷ codes "pack" ∷ path ∷ []
+        → begins_with_hyphen path ≡ false → MatchResult result (IsPack (Some path)) IsMemory }
+    ensures faults { MatchResult result (λ _. fault_of tool (texts words.entry.now) ≡ [])
+        (IsFaultOf (fault_of tool (texts words.entry.now))) }
+{
+    parsed_request(alloc, words)
 }

@@ -1,12 +1,12 @@
-//! The program `tcapjudge`: its words, its standard streams and its exit status. What it does stands in
+//! The program `tcapjudge`: its words, its files and standard streams, and its exit status. What it does stands in
 //! the library `tcap_judge`.
 #![tactic(auto)]
 
 use std::io::BufWriter;
 use std::process::ExitCode;
-use std::{env, io};
-use tcap_ber::Counted;
-use tcap_judge::{Request, Status, WordsFault, request, run_show};
+use std::{env, fs, io};
+use tcap_ber::{Counted, Failing, Read};
+use tcap_judge::{Request, Status, WordsFault, WriteFailed, request, run_pack, run_show};
 
 /// The exit status where a word of the command is not text, so that it is not for `clap` to say.
 const NO_TEXT: u8 = 4;
@@ -25,7 +25,7 @@ fn run(rt: &HostRuntime) -> io::Result<u8> {
     let texts: Vec<String> = args.collect(alloc)?;
     let words: Vec<&str> = texts.iter().map(|text| text.as_str()).collect(alloc)?;
     match request(alloc, &words) {
-        Ok(Request::Show) => show(rt),
+        Ok(request) => answer(rt, request),
         Err(WordsFault::Memory) => Err(io::Error::from(io::ErrorKind::OutOfMemory)),
         Err(fault) if fault.is_help() => {
             print!(rt; "{fault}")?;
@@ -38,14 +38,34 @@ fn run(rt: &HostRuntime) -> io::Result<u8> {
     }
 }
 
-/// Prints the record on standard input on standard output.
-fn show(rt: &HostRuntime) -> io::Result<u8> {
-    let mut reader = Counted::new(rt.reader());
+/// Does what is asked for, over the file of that path, or the standard input. A file that can't be opened is a reader that
+/// fails at its first read.
+fn answer(rt: &HostRuntime, request: Request) -> io::Result<u8> {
+    let (Request::Show(path) | Request::Pack(path)) = request;
+    let Some(path) = path else {
+        return over(rt, request, &mut Counted::new(rt.reader()));
+    };
+    match fs::open(rt, path) {
+        Ok(file) => over(rt, request, &mut Counted::new(file)),
+        Err(_) => over(rt, request, &mut Failing::new(io::empty(), 0)),
+    }
+}
+
+/// Does what is asked for with what `reader` tells.
+fn over<R: Read>(rt: &HostRuntime, request: Request, reader: &mut R) -> io::Result<u8> {
     let mut writer = Counted::new(BufWriter::new(rt.alloc(), io::writer(rt))?);
-    let shown = run_show(rt.alloc(), &mut reader, &mut writer);
-    let status = match shown {
+    let ended = match request {
+        Request::Show(_) => run_show(rt.alloc(), reader, &mut writer),
+        Request::Pack(_) => run_pack(
+            rt.alloc(),
+            reader,
+            &mut writer,
+            &mut Counted::new(rt.stderr()),
+        ),
+    };
+    let status = match ended {
         Ok(status) => writer.flush().map_or(Status::Fault, |()| status),
-        Err(_) => Status::Fault,
+        Err(WriteFailed) => Status::Fault,
     };
     // Behind a failure nothing more is written: what the buffer still holds is dropped.
     let _ = writer.into_inner().into_parts();
