@@ -17,9 +17,13 @@ mod dialogues;
 #[cfg(test)]
 mod encoding;
 #[cfg(test)]
+mod feeding;
+#[cfg(test)]
 mod limits;
 #[cfg(test)]
 mod messages;
+#[cfg(test)]
+mod packing;
 #[cfg(test)]
 mod parts;
 #[cfg(test)]

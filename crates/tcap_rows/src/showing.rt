@@ -6,7 +6,7 @@ use tcap_ber::{Counted, Failing};
 use tcap_judge::{Status, run_show};
 
 /// Octets as hexadecimal digits, what is printed of them, and the status.
-const ROWS: [(&str, &str, u8); 28] = [
+const ROWS: [(&str, &str, u8); 32] = [
     // A Begin with an Invoke, its length in the short form and padded.
     (
         "41620d4801016c08a10602010102012d",
@@ -113,6 +113,15 @@ const ROWS: [(&str, &str, u8); 28] = [
     ("4162804801018585", "FAULT 2 7\n", 3),
     ("416280480101", "FAULT 21 6\n", 3),
     ("41620348010143", "0 A Begin otid=01\nFAULT 20 6\n", 3),
+    // Quiet marks, which count among the entries.
+    ("51", "0 Q\n", 0),
+    (
+        "515141620348010151",
+        "0 Q\n1 Q\n2 A Begin otid=01\n3 Q\n",
+        0,
+    ),
+    ("514162054801016c0051", "0 Q\n1 A FAULT 11 7\n2 Q\n", 3),
+    ("5150", "0 Q\nFAULT 20 1\n", 3),
     ("", "", 0),
 ];
 

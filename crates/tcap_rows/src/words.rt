@@ -28,8 +28,23 @@ fn is_help<'a>(alloc: Global, words: &'a [&'a str]) -> Result<bool, Fail> {
 
 #[test]
 fn shows(rt: HostRuntime) -> Result<(), Fail> {
-    let asked = request(rt.alloc(), &["tcapjudge", "show"])?;
-    assert!(rt; asked == Request::Show);
+    let alloc = rt.alloc();
+    assert!(rt; request(alloc, &["tcapjudge", "show"])? == Request::Show(None));
+    assert!(rt; request(alloc, &["tcapjudge", "show", "x"])? == Request::Show(Some("x")));
+    assert!(rt; request(alloc, &["tcapjudge", "show", ""])? == Request::Show(Some("")));
+    assert!(rt; request(alloc, &["tcapjudge", "show", "pack"])? == Request::Show(Some("pack")));
+    assert!(rt; request(alloc, &["tcapjudge", "show", "help"])? == Request::Show(Some("help")));
+    assert!(rt; request(alloc, &["tcapjudge", "show", "--", "-x"])? == Request::Show(Some("-x")));
+    Ok(())
+}
+
+#[test]
+fn packs(rt: HostRuntime) -> Result<(), Fail> {
+    let alloc = rt.alloc();
+    assert!(rt; request(alloc, &["tcapjudge", "pack"])? == Request::Pack(None));
+    assert!(rt; request(alloc, &["tcapjudge", "pack", "x"])? == Request::Pack(Some("x")));
+    assert!(rt; request(alloc, &["tcapjudge", "pack", "show"])? == Request::Pack(Some("show")));
+    assert!(rt; request(alloc, &["tcapjudge", "pack", "--", "-x"])? == Request::Pack(Some("-x")));
     Ok(())
 }
 
@@ -48,10 +63,25 @@ fn refuses_wrong_words(rt: HostRuntime) -> Result<(), Fail> {
     assert!(rt;
         is_wrong(
             alloc,
-            &["tcapjudge", "show", "x"],
-            "unexpected argument 'x'"
+            &["tcapjudge", "show", "x", "y"],
+            "unexpected argument 'y'"
         )?
     );
+    assert!(rt;
+        is_wrong(
+            alloc,
+            &["tcapjudge", "pack", "x", "y"],
+            "unexpected argument 'y'"
+        )?
+    );
+    assert!(rt;
+        is_wrong(
+            alloc,
+            &["tcapjudge", "show", "-x"],
+            "unexpected argument '-x'"
+        )?
+    );
+    assert!(rt; is_wrong(alloc, &["tcapjudge", "x"], "unrecognized subcommand 'x'")?);
     Ok(())
 }
 
@@ -62,5 +92,9 @@ fn gives_help(rt: HostRuntime) -> Result<(), Fail> {
     assert!(rt; is_help(alloc, &["tcapjudge", "-h"])?);
     assert!(rt; is_help(alloc, &["tcapjudge", "help"])?);
     assert!(rt; is_help(alloc, &["tcapjudge", "show", "--help"])?);
+    assert!(rt; is_help(alloc, &["tcapjudge", "show", "x", "-h"])?);
+    assert!(rt; is_help(alloc, &["tcapjudge", "pack", "--help"])?);
+    assert!(rt; is_help(alloc, &["tcapjudge", "help", "show"])?);
+    assert!(rt; is_help(alloc, &["tcapjudge", "help", "pack"])?);
     Ok(())
 }
