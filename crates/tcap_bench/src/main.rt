@@ -1,19 +1,27 @@
 //! A program for `make bench`: it reads the messages on standard input, one after the other, as views, round by
 //! round, and prints how many it read. With the word `walk` it walks the element on standard input instead, and with
-//! `octets` it does so one octet at a time; then it prints how many octets the element has in all rounds.
+//! `octets` it does so one octet at a time; then it prints how many octets the element has in all rounds. With `frames` it
+//! frames the record on standard input in pieces, with `frames-octets` one octet at a time, and prints how many entries it
+//! has. For `make memory`, with `feed` it feeds the record one octet at a time, each once more where memory ran out, and
+//! prints how many entries it took, how often memory ran out, and whether the record ended well.
 #![tactic(auto)]
 
 ghost use Rattle.std.specs.Prelude.{◌≡◌};
 ghost use Rattle.tcap_ber.specs.Walking.{outer_at};
 ghost use Rattle.tcap_bench.specs.Whole.{whole_len};
 
+use std::alloc::Global;
 use std::process::ExitCode;
 use std::{env, io};
 use tcap_ber::{Counted, Fault, Outer, Walk, outer, read_to_end};
 use tcap_msg::view;
+use tcap_record::{FeedReason, Feeder, Frames};
 
 /// How often the octets are read.
 const ROUNDS: u32 = 200;
+
+/// How many octets a piece of a record has.
+const PIECE_LEN: usize = 8192;
 
 /// How many messages stand in `octets` one after the other, up to the first fault or the end.
 fn count_messages(octets: &[u8]) -> usize {
@@ -74,6 +82,46 @@ fn count_walks(octets: &[u8], one_at_a_time: bool) -> usize {
     count
 }
 
+/// How many entries begin the record, up to the first fault, framed in pieces or one octet at a time.
+fn count_entries(alloc: Global, octets: &[u8], one_at_a_time: bool) -> usize {
+    let mut frames = Frames::new(alloc);
+    let len = if one_at_a_time { 1 } else { PIECE_LEN };
+    for piece in octets.chunks(len) {
+        let mut rest = piece;
+        for _ in 0..=piece.len() {
+            let Ok(taken) = frames.feed_some(rest) else {
+                break;
+            };
+            rest = &rest[taken..];
+            if !frames.drop_front() {
+                break;
+            }
+        }
+    }
+    frames.dropped()
+}
+
+/// Feeds the record one octet at a time, each once more where memory ran out. How many entries were taken, how often memory
+/// ran out, and whether the record may end so.
+fn feed_octets(alloc: Global, octets: &[u8]) -> (usize, usize, bool) {
+    let mut feeder = Feeder::new(alloc);
+    let mut taken: usize = 0;
+    let mut failed: usize = 0;
+    for octet in octets.chunks(1) {
+        if feeder
+            .feed(octet)
+            .is_err_and(|fault| fault.reason == FeedReason::Memory)
+        {
+            failed = failed.saturating_add(1);
+            let _ = feeder.feed(octet);
+        }
+        if feeder.take().is_some() {
+            taken = taken.saturating_add(1);
+        }
+    }
+    (taken, failed, feeder.finish().is_ok())
+}
+
 /// The word behind the program's name, if there is one.
 fn word(rt: &HostRuntime) -> io::Result<Option<String>> {
     let texts: Vec<String> = env::args(rt)?.collect(rt.alloc())?;
@@ -90,6 +138,12 @@ fn run(rt: &HostRuntime) -> io::Result<()> {
     let count = match word(rt)? {
         Some(word) if word.as_str() == "walk" => count_walks(&octets, false),
         Some(word) if word.as_str() == "octets" => count_walks(&octets, true),
+        Some(word) if word.as_str() == "frames" => count_entries(rt.alloc(), &octets, false),
+        Some(word) if word.as_str() == "frames-octets" => count_entries(rt.alloc(), &octets, true),
+        Some(word) if word.as_str() == "feed" => {
+            let (taken, failed, ended) = feed_octets(rt.alloc(), &octets);
+            return println!(rt; "{taken} {failed} {ended}");
+        }
         _ => count_rounds(&octets),
     };
     println!(rt; "{count}")
