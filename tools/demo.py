@@ -1,20 +1,29 @@
-"""What `make demo` runs: shows the records of examples/ by the program as `rt try` runs it, compiled but not proved."""
+"""What `make demo` runs: makes records of the lines of examples/ by `pack` and shows them by `show`, by the program as
+`rt try` runs it, compiled but not proved."""
 
-import glob
 import os
+import re
 import subprocess
 import sys
 import tempfile
 
-print("This run proves nothing and takes half a minute; `make program` proves and builds the program.", flush=True)
+
+def run(word, folder, out):
+    """Runs the program with that word over each file of the folder, one after the other. `rt try` puts a line with a file's
+    name before what is printed of it, and a newline behind that."""
+    command = ["rt", "try", "--cases", os.path.abspath(folder), "--", word]
+    run = subprocess.run(command, cwd="crates/tcapjudge", stdout=out, stderr=subprocess.PIPE, check=False)
+    if run.returncode != 0:
+        sys.stderr.buffer.write(run.stderr)
+        sys.exit(run.returncode)
+    return run.stdout
+
+
+print("This run proves nothing and takes a minute; `make program` proves and builds the program.", flush=True)
+packed = run("pack", "examples", subprocess.PIPE).removesuffix(b"\n")
+parts = re.split(rb"(?:^|\n)== (\w+)\.hex\n", packed)
 with tempfile.TemporaryDirectory() as folder:
-    for example in glob.glob("examples/*.hex"):
-        with open(example) as file:
-            octets = bytes.fromhex("".join(line for line in file if not line.startswith("#")))
-        with open(f"{folder}/{os.path.basename(example)[:-4]}", "wb") as file:
+    for name, octets in zip(parts[1::2], parts[2::2]):
+        with open(f"{folder}/{name.decode()}", "wb") as file:
             file.write(octets)
-    command = ["rt", "try", "--cases", folder, "--", "show"]
-    run = subprocess.run(command, cwd="crates/tcapjudge", stderr=subprocess.PIPE, check=False)
-if run.returncode != 0:
-    sys.stderr.buffer.write(run.stderr)
-sys.exit(run.returncode)
+    run("show", folder, None)
