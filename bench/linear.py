@@ -1,11 +1,16 @@
-"""Shows that `tcapjudge show` and reading messages as views take time linear in the octets: prints the ratio of the times
-for an input and for one of twice and of four times as many entries or messages. The records are of entries of few octets,
+"""Shows that `tcapjudge show` and reading messages as views take time linear in the octets, and that `show` takes no more
+memory for a longer record: prints the ratio of the times, and the peak of memory, for an input and for one of twice and of
+four times as many entries or messages. The records are of entries of few octets,
 of many, of as many components as an entry can hold, and of dialogue portions; the messages that are viewed are those of
 the worked rows, one after the other. So it does for walks over an element of indefinite length that is made of elements
-of two octets, in one go and one octet at a time. `make bench` builds both programs first."""
+of two octets, and for framing a record, in one go and one octet at a time. Where a C compiler is there, it prints how much
+longer `show` takes than a plain C program that prints the same lines. `make bench` builds both programs first."""
 
 import re
+import shutil
 import subprocess
+import sys
+import tempfile
 import time
 
 SHOW = ["crates/tcapjudge/out/tcapjudge", "show"]
@@ -42,6 +47,24 @@ def seconds(command, given):
     return min(times)
 
 
+# Runs a command and prints the greatest memory that it took. A small process of its own, since what the one that starts a
+# program takes is counted for the program too.
+PEAK = """
+import resource, subprocess, sys
+subprocess.run(sys.argv[1:], stdout=subprocess.DEVNULL, check=True)
+print(resource.getrusage(resource.RUSAGE_CHILDREN).ru_maxrss)
+"""
+
+
+def peak(command, given):
+    """The greatest memory of a run over that input, in kilobytes, or that of a small Python where it is less."""
+    with tempfile.TemporaryFile() as file:
+        file.write(given)
+        file.seek(0)
+        run = subprocess.run([sys.executable, "-c", PEAK, *command], stdin=file, stdout=subprocess.PIPE, check=True)
+    return int(run.stdout)
+
+
 def growth(command, part, count):
     """The times for so many parts one after the other, for twice as many and for four times as many."""
     return [seconds(command, part * (count * times)) for times in (1, 2, 4)]
@@ -55,7 +78,11 @@ KINDS = [
 ]
 for name, entry, count in KINDS:
     once, twice, again = growth(SHOW, entry, count)
-    print(f"show, {name}: {count} in {once:.3f} s; twice as many {twice / once:.2f}, four times {again / once:.2f}")
+    least, most = (peak(SHOW, entry * (count * times)) for times in (1, 4))
+    print(
+        f"show, {name}: {count} in {once:.3f} s; twice as many {twice / once:.2f}, four times {again / once:.2f};"
+        f" memory {least} kB, of four times as many {most} kB"
+    )
 once, twice, again = growth(VIEW, VECTORS, 20)
 each = once / (20 * ROUNDS * len(DIGITS)) * 1e9
 print(
@@ -70,3 +97,13 @@ for way, name in (("walk", "in one go"), ("octets", "one octet at a time")):
         f"walk of an element of {QUARTER * 8} octets, {name}, {ROUNDS} times: {again:.3f} s, {each:.1f} ns an octet;"
         f" a quarter of it {once:.3f} s, half {twice / once:.2f} times that, all {again / once:.2f}"
     )
+PIECES, OCTETS = (seconds(VIEW + [way], SMALL * 50_000) for way in ("frames", "frames-octets"))
+print(f"framing 50000 small entries: in pieces {PIECES:.3f} s; one octet at a time {OCTETS / PIECES:.2f} times that")
+COMPILER = shutil.which("cc") or shutil.which("gcc")
+if COMPILER:
+    with tempfile.TemporaryDirectory() as folder:
+        plain = f"{folder}/show_begins"
+        subprocess.run([COMPILER, "-O2", "-o", plain, "bench/show_begins.c"], check=True)
+        for name, entry in (("Begins", bytes.fromhex("416203480101")), ("Begins with an Invoke", SMALL)):
+            ours, theirs = (seconds(command, entry * 100_000) for command in (SHOW, [plain]))
+            print(f"show of 100000 {name}: {ours:.4f} s, {ours / theirs:.1f} times the {theirs:.4f} s of a plain C program")

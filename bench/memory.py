@@ -1,6 +1,7 @@
 """Lets each allocation of a run of `tcapjudge show` fail in turn. What is printed then has to be the lines of the first
-entries and `FAULT 99 0`, with status 3, or all lines, with status 0, where the program did without that memory. The last
-allocation is taken to be behind it where ten in a row change nothing."""
+entries and `FAULT 99 0`, with status 3, or all lines, with status 0, where the program did without that memory. Then it does
+so with a feeder that is fed the record one octet at a time, and each octet once more where memory ran out: all entries have
+to be taken. The last allocation is taken to be behind where ten in a row change nothing."""
 
 import re
 import subprocess
@@ -17,7 +18,8 @@ WHOLE = ("".join(ENTRIES), "0")
 CUT = [("".join(ENTRIES[:count]) + "FAULT 99 0\n", "3") for count in range(len(ENTRIES) + 1)]
 
 with open(RECORD) as file:
-    OCTETS = bytes.fromhex("".join(line for line in file if not line.startswith("#")))
+    LINES = [line.split() for line in file if not line.startswith("#")]
+OCTETS = b"".join(end.encode() + bytes.fromhex(digits) for end, digits in LINES)
 
 
 def shown(failing):
@@ -36,3 +38,21 @@ while number < 10 or number - max(cut, default=0) < 10:
     elif answer != WHOLE:
         sys.exit(f"allocation {number}: {answer}")
 print(f"{max(cut, default=0)} allocations: {len(cut)} end in FAULT 99 0, and all lines are printed without the others")
+
+
+def fed(failing):
+    """What the feeder's program prints where the allocation of that number fails."""
+    command = ["rt", "try", "--fail-alloc", str(failing), "--", "feed"]
+    run = subprocess.run(command, cwd="crates/tcap_bench", input=OCTETS, capture_output=True, check=False)
+    return run.stdout.decode()
+
+
+again, number = [], 0
+while number < 10 or number - max(again, default=0) < 10:
+    number += 1
+    answer = fed(number)
+    if answer == "2 1 true\n":
+        again.append(number)
+    elif answer not in ("2 0 true\n", ""):
+        sys.exit(f"feeding, allocation {number}: {answer}")
+print(f"feeding: {len(again)} allocations fail, and the same octet fed again goes on")
