@@ -10,6 +10,7 @@ pub mod ResumeLaws
 pub mod ResumingLaws
 pub mod OuterLaws
 pub mod RoomLaws
+pub mod ShortLaws
 pub mod ElementLaws
 pub mod FaultLaws
 pub mod RawLaws

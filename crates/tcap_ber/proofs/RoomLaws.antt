@@ -9,7 +9,7 @@ use Rattle.tcap_ber.specs.declared.header.Opening.TheVariants.{Definite, Indefin
 use Rattle.tcap_ber.specs.declared.progress.Progress.{Progress}
 use Rattle.tcap_ber.specs.declared.element.Outer.{Outer}
 use Rattle.tcap_ber.specs.declared.element.Outer.TheVariants.{Whole, Need}
-use Rattle.tcap_ber.specs.Element.{IsTag, IsLength, depth_limit}
+use Rattle.tcap_ber.specs.Element.{IsTag, IsLength, IsElement, depth_limit}
 use Rattle.tcap_ber.specs.Walked.{Level, walked, AreOpen, IsWalked}
 use Rattle.tcap_ber.specs.HeaderReading.{◌>>=◌, opening_at}
 use Rattle.tcap_ber.specs.Walking.{is_ending, within_limit, opened, closed, passed, behind_header, gone_to, gone_on, outer_at}
@@ -17,6 +17,7 @@ use Rattle.tcap_ber.proofs.Steps.{chosen, bind_ok, ok_is}
 use Rattle.tcap_ber.proofs.OpeningLaws.{from, definite_sound, indefinite_sound, unfinished_within}
 use Rattle.tcap_ber.proofs.WalkLaws.{walk_stops, content_began, content_count, progress_of}
 use Rattle.tcap_ber.proofs.OuterLaws.{stop_of}
+use Rattle.tcap_ber.proofs.ElementLaws.{IsInner, element_form, definite_len, indefinite_len}
 
 -- ---- how long a header is
 
@@ -31,6 +32,14 @@ length_within : (n : ℕ) (octets : List ℕ) → IsLength n octets → length o
 length_within n [] l = absurd l
 length_within n (first ∷ more) (inl h) = omega (arith, ap length h.1)
 length_within n (first ∷ more) (inr h) = omega (arith, h.2)
+
+-- and an element has so many
+pub element_within : (tag content octets : List ℕ) → IsElement tag content octets → length octets ≤ 65545
+element_within tag content octets e =
+    elim (element_form tag content octets e) [
+      | inl d ↦ omega (arith, definite_len tag content octets d, d.is_within, tag_within tag d.is_tag, length_within (length content) d.length_octets d.is_length)
+      | inr i ↦ omega (arith, indefinite_len (IsInner i.0) tag content octets i.1, i.1.is_within, tag_within tag i.1.is_tag)
+    ]
 
 -- the header of the outermost open element has six at most
 began_within : (n : ℕ) (levels : List Level) → AreOpen n levels → content_began levels ≤ 6

@@ -17,3 +17,4 @@ pub mod Canonical
 pub mod Choice
 pub mod ObjectId
 pub mod Small
+pub mod Short

@@ -5,6 +5,7 @@ ghost use Rattle.tcap_ber.specs.Element.{number};
 ghost use Rattle.tcap_ber.specs.Element.{is_next};
 ghost use Rattle.tcap_ber.specs.HeaderReading.{Gives, tag_at, length_at, definite_behind, is_constructed, opening_at, span};
 ghost use Rattle.tcap_ber.specs.Progress.{header_octets, IsHeaderWithin};
+ghost use Rattle.tcap_ber.specs.Short.{IsShort};
 
 use crate::element::Window;
 use crate::fault::{Fault, Reason};
@@ -160,6 +161,17 @@ fn behind_tag(window: Window, tag_len: usize) -> Result<Option<Header>, Fault>
         len: tag_len + length_len,
         content_len,
     }))
+}
+
+/// The count of octets of the content that a header of two octets at the front announces, one of the tag and one of the
+/// length (X.690 8.1.2.2, 8.1.3.4); `None` where no such header stands there.
+pub(crate) fn short_content(octets: &[u8]) -> Option<usize>
+    ensures found { IfSome result (λ n. IsShort n octets.now) }
+{
+    match octets {
+        [first, second, ..] if first % 32 != 31 && *second < 0x80 => Some(usize::from(*second)),
+        _ => None,
+    }
 }
 
 /// The header at the front of `window`, or `None` where its octets end before the header does. A content of over

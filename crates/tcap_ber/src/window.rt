@@ -13,14 +13,18 @@ ghost use Rattle.tcap_ber.specs.Reading.{Gives, span, element, opening_at, outer
 
 use crate::element::{Outer, Tag, Tlv, Window};
 use crate::fault::{Fault, Reason};
-use crate::header::{Header, Opening, read_opening};
+use crate::header::{Header, Opening, read_opening, short_content};
 use crate::innermost::innermost;
 use crate::walk::Walk;
 
 fn read_outer(octets: &[u8]) -> Result<Outer, Fault>
     ensures exact { Gives (λ x. x) result (outer_at octets.now) }
 {
-    Walk::new().go_on(octets)
+    match short_content(octets) {
+        Some(len) if len + 2 <= octets.len() => Ok(Outer::Whole(len + 2)),
+        Some(len) => Ok(Outer::Need(len + 2)),
+        None => Walk::new().go_on(octets),
+    }
 }
 
 /// How `octets` begin: with a whole element of so many octets, or with none yet and no fault so far, so
@@ -109,6 +113,14 @@ fn read_next(window: Window) -> Result<(Tlv, Window), Fault>
     requires { 0 < length window.octets.now }
     ensures exact { Gives (λ x. (element x.0, span x.1)) result (next_at (span window.entry)) }
 {
+    if let Some(content_len) = short_content(window.octets) {
+        let header = Header {
+            tag_len: 1,
+            len: 2,
+            content_len,
+        };
+        return read_definite(window, header);
+    }
     match read_opening(window)? {
         Some(Opening::Definite(header)) => read_definite(window, header),
         Some(Opening::Indefinite(tag_len)) => read_indefinite(window, tag_len),

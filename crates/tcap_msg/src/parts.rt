@@ -63,8 +63,8 @@ pub trait MessageParts {
 }
 
 impl<'a> MessageView<'a> {
-    fn its_kind(self) -> Kind
-        ensures { result ≡ kind_in (message_of self.entry) }
+    fn its_kind(&self) -> Kind
+        ensures { result ≡ kind_in (message_of self.now) }
     {
         match self {
             MessageView::Unidirectional { .. } => Kind::Unidirectional,
@@ -75,69 +75,69 @@ impl<'a> MessageView<'a> {
         }
     }
 
-    fn its_otid(self) -> Option<TransactionIdView<'a>>
-        ensures { id_of result ≡ otid_in (message_of self.entry) }
+    fn its_otid(&self) -> Option<TransactionIdView<'a>>
+        ensures { id_of result ≡ otid_in (message_of self.now) }
     {
         match self {
-            MessageView::Begin { otid, .. } | MessageView::Continue { otid, .. } => Some(otid),
+            MessageView::Begin { otid, .. } | MessageView::Continue { otid, .. } => Some(*otid),
             _ => None,
         }
     }
 
-    fn its_dtid(self) -> Option<TransactionIdView<'a>>
-        ensures { id_of result ≡ dtid_in (message_of self.entry) }
+    fn its_dtid(&self) -> Option<TransactionIdView<'a>>
+        ensures { id_of result ≡ dtid_in (message_of self.now) }
     {
         match self {
             MessageView::Continue { dtid, .. }
             | MessageView::End { dtid, .. }
-            | MessageView::Abort { dtid, .. } => Some(dtid),
+            | MessageView::Abort { dtid, .. } => Some(*dtid),
             _ => None,
         }
     }
 
-    fn its_cause(self) -> Option<SmallView>
-        ensures { cause_of result ≡ cause_in (message_of self.entry) }
+    fn its_cause(&self) -> Option<SmallView>
+        ensures { cause_of result ≡ cause_in (message_of self.now) }
     {
         match self {
             MessageView::Abort {
                 reason: Some(AbortReasonView::Cause(cause)),
                 ..
-            } => Some(cause),
+            } => Some(*cause),
             _ => None,
         }
     }
 
-    fn its_dialogue(self) -> Option<DialogueView<'a>>
-        ensures { option_map dialogue_of result ≡ dialogue_in (message_of self.entry) }
+    fn its_dialogue(&self) -> Option<DialogueView<'a>>
+        ensures { option_map dialogue_of result ≡ dialogue_in (message_of self.now) }
     {
         match self {
             MessageView::Unidirectional { dialogue, .. }
             | MessageView::Begin { dialogue, .. }
             | MessageView::Continue { dialogue, .. }
-            | MessageView::End { dialogue, .. } => dialogue,
+            | MessageView::End { dialogue, .. } => *dialogue,
             MessageView::Abort {
                 reason: Some(AbortReasonView::Dialogue(dialogue)),
                 ..
-            } => Some(dialogue),
+            } => Some(*dialogue),
             MessageView::Abort { .. } => None,
         }
     }
 
     /// The component portion, where the message has one.
-    pub(crate) fn its_portion(self) -> Option<PortionView<'a>>
-        ensures { option_map components_of result ≡ portion_in (message_of self.entry) }
+    pub(crate) fn its_portion(&self) -> Option<PortionView<'a>>
+        ensures { option_map components_of result ≡ portion_in (message_of self.now) }
     {
         match self {
-            MessageView::Unidirectional { components, .. } => Some(components),
+            MessageView::Unidirectional { components, .. } => Some(*components),
             MessageView::Begin { components, .. }
             | MessageView::Continue { components, .. }
-            | MessageView::End { components, .. } => components,
+            | MessageView::End { components, .. } => *components,
             MessageView::Abort { .. } => None,
         }
     }
 
-    fn its_count(self) -> usize
-        ensures { result ≡ length (components_in (message_of self.entry)) }
+    fn its_count(&self) -> usize
+        ensures { result ≡ length (components_in (message_of self.now)) }
     {
         match self.its_portion() {
             Some(portion) => portion.count(),
@@ -145,9 +145,9 @@ impl<'a> MessageView<'a> {
         }
     }
 
-    fn its_component(self, index: usize) -> ComponentView<'a>
-        requires { index < length (components_in (message_of self)) }
-        ensures { slice_get (components_in (message_of self.entry)) index ≡ Some (component_of result) }
+    fn its_component(&self, index: usize) -> ComponentView<'a>
+        requires { index < length (components_in (message_of self.now)) }
+        ensures { slice_get (components_in (message_of self.now)) index ≡ Some (component_of result) }
     {
         match self.its_portion() {
             Some(portion) => portion.component(index),
@@ -155,8 +155,8 @@ impl<'a> MessageView<'a> {
         }
     }
 
-    fn its_components(self) -> Components<'a>
-        ensures { components_left result ≡ components_in (message_of self.entry) }
+    fn its_components(&self) -> Components<'a>
+        ensures { components_left result ≡ components_in (message_of self.now) }
     {
         match self.its_portion() {
             Some(portion) => portion.components(),
