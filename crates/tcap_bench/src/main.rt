@@ -15,13 +15,10 @@ use std::process::ExitCode;
 use std::{env, io};
 use tcap_ber::{Counted, Fault, Outer, Walk, outer, read_to_end};
 use tcap_msg::view;
-use tcap_record::{FeedReason, Feeder, Frames};
+use tcap_record::{FeedReason, Feeder, Frames, PIECE_LEN};
 
 /// How often the octets are read.
 const ROUNDS: u32 = 200;
-
-/// How many octets a piece of a record has.
-const PIECE_LEN: usize = 8192;
 
 /// How many messages stand in `octets` one after the other, up to the first fault or the end.
 fn count_messages(octets: &[u8]) -> usize {

@@ -21,11 +21,13 @@ pack_taken program = refl
 abbrev sub_built : Text → Text → Shape
 sub_built name id = built_leaf (inherited (on_top with_leaf_noted (on_top marked_built tool)).top (with_path name id))
 
-pub show_path_taken : (program path : Text) → begins_with_hyphen path ≡ false → takes tool (program ∷ codes "show" ∷ path ∷ []) ≡ true
+pub show_path_taken : (program path : Text) → begins_with_hyphen path ≡ false
+    → takes tool (program ∷ codes "show" ∷ path ∷ []) ≡ true
 unfolding tool clap_on_literals
 show_path_taken program path plain = ap (λ b. b && true) (level path plain (sub_built (codes "show") (codes "RECORD")))
 
-pub pack_path_taken : (program path : Text) → begins_with_hyphen path ≡ false → takes tool (program ∷ codes "pack" ∷ path ∷ []) ≡ true
+pub pack_path_taken : (program path : Text) → begins_with_hyphen path ≡ false
+    → takes tool (program ∷ codes "pack" ∷ path ∷ []) ≡ true
 unfolding tool clap_on_literals
 pack_path_taken program path plain = ap (λ b. b && true) (level path plain (sub_built (codes "pack") (codes "LINES")))
 
@@ -69,7 +71,8 @@ extra_unknown : (program : Text) → fault_of tool (program ∷ codes "show" ∷
 unfolding tool clap_on_literals
 extra_unknown program = refl
 
-extra_to_pack_unknown : (program : Text) → fault_of tool (program ∷ codes "pack" ∷ codes "x" ∷ codes "y" ∷ []) ≡ kind.UnknownArgument ∷ []
+extra_to_pack_unknown : (program : Text)
+    → fault_of tool (program ∷ codes "pack" ∷ codes "x" ∷ codes "y" ∷ []) ≡ kind.UnknownArgument ∷ []
 unfolding tool clap_on_literals
 extra_to_pack_unknown program = refl
 

@@ -33,16 +33,19 @@ module _ (word : Text) (plain : begins_with_hyphen word ≡ false) where
 
   is_no_flag : (s : Shape) (h : Held) → word_passes s [] false idle word h ≡ true
   is_no_flag s h =
-      ap₂ (λ (b : Bool) (o : Option (Text × Option Text)). b || flag_word_passes s.rules s.args_override_self o word h) (not_hyphens word plain) not_long
+      ap₂ (λ (b : Bool) (o : Option (Text × Option Text)). b || flag_word_passes s.rules s.args_override_self o word h)
+      (not_hyphens word plain) not_long
       ∙ ap (λ (o : Option Text). option_map_or (λ flags. bundle_passes s.rules s.args_override_self flags h) o true) not_short
 
   -- the walk behind the word
-  pub moved : (c : List Rule) → walked c [] (walk_from nothing_held) word ≡ to_positional c (arg_by_index c 1) word (walk_from nothing_held) nothing_held
+  pub moved : (c : List Rule)
+      → walked c [] (walk_from nothing_held) word ≡ to_positional c (arg_by_index c 1) word (walk_from nothing_held) nothing_held
   unfolding walked
   moved c = ap (λ (p : Held × Step). after_step c word (walk_from nothing_held) p.0 p.1) (is_value c nothing_held)
 
   turned : (s : Shape) → turn_passes s [] (walk_from nothing_held) word ≡ step_passes s 1 nothing_held value
-  turned s = ap₂ (λ (b : Bool) (p : Held × Step). b && step_passes s 1 p.0 p.1) (is_no_flag s nothing_held) (is_value s.rules nothing_held)
+  turned s = ap₂ (λ (b : Bool) (p : Held × Step). b && step_passes s 1 p.0 p.1) (is_no_flag s nothing_held)
+      (is_value s.rules nothing_held)
 
   -- what a level passes is what it passes behind the word
   abbrev pub passes_with : Shape → Bool → Walk → Bool
@@ -50,6 +53,7 @@ module _ (word : Text) (plain : begins_with_hyphen word ≡ false) where
       && (list_all default_passes s.rules && is_valid s (finished s.rules w.held) false))
 
   pub level : (s : Shape) → level_passes s [] nothing_held (word ∷ []) false
-      ≡ passes_with s (step_passes s 1 nothing_held value) (to_positional s.rules (arg_by_index s.rules 1) word (walk_from nothing_held) nothing_held)
+      ≡ passes_with s (step_passes s 1 nothing_held value)
+      (to_positional s.rules (arg_by_index s.rules 1) word (walk_from nothing_held) nothing_held)
   unfolding walk_passes
   level s = ap₂ (passes_with s) (turned s) (moved s.rules)

@@ -11,11 +11,18 @@ use Rattle.tcap_judge.specs.Shown.{Prints, fault_line, memory_line}
 
 -- all lines, and the fault's or that memory ran out
 pub faulted : (entries : List Entry) (fault : FeedFault) (old mid new : Option (List ℕ))
-    → Appends old mid (lines_of entries) → ((line : List ℕ) × ((line ≡ fault_line fault) ⊎ (line ≡ memory_line)) × Appends mid new line)
+    → Appends old mid (lines_of entries)
+    → ((line : List ℕ) × ((line ≡ fault_line fault) ⊎ (line ≡ memory_line)) × Appends mid new line)
     → (text : List ℕ) × Prints entries (Err fault) text statuses.Fault × Appends old new text
 faulted entries fault old mid new before behind =
     (lines_of entries ++ behind.0, which behind.1, Appends-trans old mid new _ _ before behind.2)
   where
-    which : ((behind.0 ≡ fault_line fault) ⊎ (behind.0 ≡ memory_line)) → Prints entries (Err fault) (lines_of entries ++ behind.0) statuses.Fault
+    which : ((behind.0 ≡ fault_line fault) ⊎ (behind.0 ≡ memory_line))
+        → Prints entries (Err fault) (lines_of entries ++ behind.0) statuses.Fault
     which (inl e) = inl (ap (λ (x : List ℕ). lines_of entries ++ x) e, refl)
-    which (inr e) = inr (length entries, ap (λ (x : List ℕ). lines_of entries ++ x) e ∙ ap (λ (x : List Entry). lines_of x ++ memory_line) (sym (take_all (length entries) entries (omega arith))), refl)
+    which (inr e) = inr (
+      length entries,
+      ap (λ (x : List ℕ). lines_of entries ++ x) e
+          ∙ ap (λ (x : List Entry). lines_of x ++ memory_line) (sym (take_all (length entries) entries (omega arith))),
+      refl,
+    )

@@ -12,8 +12,9 @@ use Rattle.tcap_record.specs.declared.fault.FeedReason.TheVariants as feed
 use Rattle.tcap_record.specs.Framed.{IsRestFault}
 use Rattle.tcap_record.specs.Framing.{feed_fault}
 use Rattle.tcap_record.specs.Feeding.{FailsFrom, FinishesAs}
-use Rattle.tcap_record.specs.Held.{Held, Fed, IsHeld, IsHeldWith, nothing_held}
+use Rattle.tcap_record.specs.Held.{Held, Fed, IsHeld, IsHeldWith, IsPart, IsWhole, nothing_held}
 use Rattle.tcap_record.proofs.FedLaws.{fed_grown}
+use Rattle.tcap_record.proofs.FeederLaws.{taken_on}
 use Rattle.tcap_judge.specs.declared.showing.Stop.{Stop}
 use Rattle.tcap_judge.specs.declared.showing.Stop.TheVariants as stops
 use Rattle.tcap_record.specs.Lines.{lines_of, entry_lines}
@@ -22,11 +23,6 @@ use Rattle.tcap_record.proofs.ReadingLaws.{read_to_memory, read_to_fault}
 use Rattle.tcap_record.proofs.LineLaws.{lines_one_more}
 use Rattle.tcap_judge.specs.Shown.{is_bad}
 use Rattle.tcap_judge.specs.Showing.{ShownSoFar, Leads, UnlessWrite}
-
--- nothing was taken
-pub leads_none : (h : Held) (bad : Bool) (taken : Option (List ℕ)) (octets : List ℕ) → Leads h bad taken (take 0 octets) h bad taken
-leads_none h bad taken octets told entries start so =
-    (entries, subst (λ (x : List ℕ). ShownSoFar x entries h bad start taken) (sym (append-nil told)) so)
 
 -- more octets were taken
 pub leads_fed : (h : Held) (bad : Bool) (taken : Option (List ℕ)) (piece rest : List ℕ) (n m : ℕ) (mid new : Held) (mid_bad : Bool) (mid_taken : Option (List ℕ)) → rest ≡ drop n piece
@@ -65,6 +61,34 @@ leads_shown h bad taken octets mid new mid_bad mid_taken new_taken entry step li
       },
     )
 
+-- an entry was shown and passed
+pub leads_passed : (h : Held) (bad : Bool) (taken : Option (List ℕ)) (piece octets : List ℕ) (n m : ℕ) (mid new : Held) (mid_bad : Bool) (mid_taken new_taken : Option (List ℕ)) (entry : Entry)
+    → octets ≡ take m (drop n piece)
+    → ((told : List ℕ) (entries : List Entry) → Fed told entries mid → Fed (told ++ octets) (entries ++ entry ∷ []) new)
+    → Appends mid_taken new_taken (entry_lines mid.count entry)
+    → Leads h bad taken (take n piece) mid mid_bad mid_taken → Leads h bad taken (take (n + m) piece) new (mid_bad || is_bad entry) new_taken
+leads_passed h bad taken piece octets n m mid new mid_bad mid_taken new_taken entry is step lines leads told entries start so =
+    let was = leads told entries start so in
+    let all : lines_of (was.0 ++ entry ∷ []) ≡ lines_of was.0 ++ entry_lines mid.count entry = lines_one_more 0 mid.count was.0 entry (omega (arith, was.1.fed.count_is)) in
+    let one : list_any is_bad (entry ∷ []) ≡ is_bad entry = or_false (is_bad entry) in
+    let at : (told ++ take n piece) ++ octets ≡ told ++ take (n + m) piece = ap (λ (x : List ℕ). (told ++ take n piece) ++ x) is ∙ taken_on told piece (drop n piece) n m refl in (
+      was.0 ++ entry ∷ [],
+      record {
+        fed = subst (λ (x : List ℕ). Fed x (was.0 ++ entry ∷ []) new) at (step (told ++ take n piece) was.0 was.1.fed);
+        written = subst (Appends start new_taken) (sym all) (Appends-trans start mid_taken new_taken _ _ was.1.written lines);
+        bad_is = ap₂ (λ (a b : Bool). a || b) was.1.bad_is (sym one) ∙ sym (list_any-append is_bad was.0 (entry ∷ []));
+      },
+    )
+
+-- octets were taken, and then more of the piece
+pub leads_then : (h : Held) (bad : Bool) (taken : Option (List ℕ)) (piece rest : List ℕ) (n m : ℕ) (mid new : Held) (mid_bad new_bad : Bool) (mid_taken new_taken : Option (List ℕ)) → rest ≡ drop n piece
+    → Leads mid mid_bad mid_taken (take m rest) new new_bad new_taken
+    → Leads h bad taken (take n piece) mid mid_bad mid_taken → Leads h bad taken (take (n + m) piece) new new_bad new_taken
+leads_then h bad taken piece rest n m mid new mid_bad new_bad mid_taken new_taken is after leads told entries start so =
+    let was = leads told entries start so in
+    let then = after (told ++ take n piece) was.0 start was.1 in
+    (then.0, subst (λ (x : List ℕ). ShownSoFar x then.0 new new_bad start new_taken) (taken_on told piece rest n m is) then.1)
+
 -- what is fed before a failure
 pub fails_fed : (f : FeedFault) (old new : Held) (piece : List ℕ) → FailsFrom f old new piece
     → (n : ℕ) × (n ≤ length piece) × ((octets : List ℕ) (entries : List Entry) → Fed octets entries old → Fed (octets ++ take n piece) entries new)
@@ -74,6 +98,21 @@ fails_fed f old new piece (inr (inl (sound, (n, most, grew)))) =
     (n, most, λ octets entries fed. rw grew (fed_grown octets entries old (take n piece) (Some f) fed))
 fails_fed f old new piece (inr (inr (sound, memory, same, some, part))) =
     (0, omega arith, λ octets entries fed. rw (same, append-nil octets) fed)
+
+-- why it failed
+pub fails_why : (f : FeedFault) (old new : Held) (piece : List ℕ) → FailsFrom f old new piece → (f ≡ feed_fault feed.Memory 0) ⊎ (new.fault ≡ Some f)
+fails_why f old new piece (inl (was, same)) = inr (ap (λ (h : Held). h.fault) same ∙ was)
+fails_why f old new piece (inr (inl (sound, (n, most, grew)))) = inr (ap (λ (h : Held). h.fault) grew)
+fails_why f old new piece (inr (inr (sound, memory, same, some, part))) = inl memory
+
+-- where nothing is wrong and no whole entry is held, a part is
+pub part_there : (h : Held) → IsHeld h → h.fault ≡ None → ((h.fault ≡ None) × IsWhole h.octets → ⊥) → IsPart h.octets
+part_there h held sound none =
+    let with : IsHeldWith h None = subst (IsHeldWith h) sound held.1 in
+    elim with.1 [
+      | inl part ↦ part
+      | inr whole ↦ absurd (none (sound, whole))
+    ]
 
 -- a stop that is not that of the writer is a fault
 pub is_fault : (stop : Stop) → stop ≢ stops.Write → (f : FeedFault) × (stop ≡ stops.Fault f)

@@ -40,8 +40,10 @@ fused f g None = refl
 fused f g (Some x) = refl
 
 -- a level with no fault passes its walk and its last checks
-level_clear : (s : Shape) (names : List (Text × List Text)) (words : List Text) (has : Bool) (below : Kinds) → level_fault s names nothing_held words has below ≡ []
-    → (walk_fault s names (walk_from nothing_held) words ≡ []) × (check_fault s (finished s.rules (walk s.rules names nothing_held words).held) has ≡ [])
+level_clear : (s : Shape) (names : List (Text × List Text)) (words : List Text) (has : Bool) (below : Kinds)
+    → level_fault s names nothing_held words has below ≡ []
+    → (walk_fault s names (walk_from nothing_held) words ≡ [])
+    × (check_fault s (finished s.rules (walk s.rules names nothing_held words).held) has ≡ [])
 level_clear s names words has below e =
     let end = (walk s.rules names nothing_held words).held in
     let a = or_empty (walk_fault s names (walk_from nothing_held) words) _ e in
@@ -66,10 +68,13 @@ named words e =
     let args = drop 1 words in
     let stop = (walk top.rules names nothing_held args).stopped in
     let clear = level_clear top names args (is_some (entered (built tool) stop)) (entered_fault (built tool) stop) e in
-    go stop (finished top.rules (walk top.rules names nothing_held args).held) (walk_not top names (walk_from nothing_held) args refl tt clear.0) clear.1
+    go stop (finished top.rules (walk top.rules names nothing_held args).held)
+    (walk_not top names (walk_from nothing_held) args refl tt clear.0) clear.1
   where
-    at : (p : Text × List Text) (rows : List Row) (show pack help : Bool) → bytes_eq (codes "show") p.0 ≡ show → bytes_eq (codes "pack") p.0 ≡ pack
-        → bytes_eq (codes "help") p.0 ≡ help → help ≡ false → check_fault (built tool).top rows (is_some (entered (built tool) (Some p))) ≡ []
+    at : (p : Text × List Text) (rows : List Row) (show pack help : Bool) → bytes_eq (codes "show") p.0 ≡ show
+        → bytes_eq (codes "pack") p.0 ≡ pack
+        → bytes_eq (codes "help") p.0 ≡ help → help ≡ false
+        → check_fault (built tool).top rows (is_some (entered (built tool) (Some p))) ≡ []
         → IsKnown (name_of (entered (built tool) (Some p)))
     at p rows true pack help is_show is_pack is_help off e = inl (rw is_show refl)
     at p rows false true help is_show is_pack is_help off e = inr (rw (is_show, is_pack) refl)
@@ -84,7 +89,8 @@ named words e =
         let other : bytes_eq p.0 (codes "help") ≡ true = rw (← same) refl in
         cc
 
-    go : (stop : Option (Text × List Text)) (rows : List Row) → NotHelp stop → check_fault (built tool).top rows (is_some (entered (built tool) stop)) ≡ []
+    go : (stop : Option (Text × List Text)) (rows : List Row) → NotHelp stop
+        → check_fault (built tool).top rows (is_some (entered (built tool) stop)) ≡ []
         → IsKnown (name_of (entered (built tool) stop))
     go None rows not_help e = let bad : kind.MissingSubcommand ∷ [] ≡ [] = e in cc
     go (Some p) rows not_help e =

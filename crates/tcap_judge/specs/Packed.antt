@@ -11,7 +11,8 @@ use Rattle.tcap_judge.specs.declared.status.Status.TheVariants as statuses
 
 -- The lines that were told were packed up to a fault, whose line was written, or that memory ran out where there was
 -- none for it; the reader failed where the fault says so.
-pub record FailsToPack (told : List ℕ) (untold : Option (List ℕ)) (failures failures' : ℕ) (taken taken' said said' : Option (List ℕ)) : Type 0 where
+pub record FailsToPack (told : List ℕ) (untold : Option (List ℕ)) (failures failures' : ℕ)
+    (taken taken' said said' : Option (List ℕ)) : Type 0 where
   pub fault : FeedFault
   pub line : List ℕ
   pub packed : IsPackedUpTo told fault untold taken taken'
@@ -21,18 +22,23 @@ pub record FailsToPack (told : List ℕ) (untold : Option (List ℕ)) (failures 
   pub says : Appends said said' line
 
 -- All lines that the reader told, up to its end, were packed, and nothing was said of a fault.
-pub record PacksAll (told : List ℕ) (untold : Option (List ℕ)) (failures failures' : ℕ) (taken taken' said said' : Option (List ℕ)) : Type 0 where
+pub record PacksAll (told : List ℕ) (untold : Option (List ℕ)) (failures failures' : ℕ) (taken taken' said said' : Option (List ℕ))
+    : Type 0 where
   pub count : ℕ
   pub packed : IsPacked told count taken taken'
   pub at_end : IsAtEnd untold
   pub sound : failures' ≡ failures
   pub says : said' ≡ said
 
-abbrev pub PacksSo : List ℕ → Option (List ℕ) → ℕ → ℕ → Option (List ℕ) → Option (List ℕ) → Option (List ℕ) → Option (List ℕ) → Status → Type 0
-PacksSo told untold failures failures' taken taken' said said' statuses.Fine = PacksAll told untold failures failures' taken taken' said said'
-PacksSo told untold failures failures' taken taken' said said' statuses.Fault = FailsToPack told untold failures failures' taken taken' said said'
+abbrev pub PacksSo : List ℕ → Option (List ℕ) → ℕ → ℕ → Option (List ℕ) → Option (List ℕ) → Option (List ℕ) → Option (List ℕ)
+    → Status → Type 0
+PacksSo told untold failures failures' taken taken' said said' statuses.Fine =
+    PacksAll told untold failures failures' taken taken' said said'
+PacksSo told untold failures failures' taken taken' said said' statuses.Fault =
+    FailsToPack told untold failures failures' taken taken' said said'
 
 -- What the reader told was packed, or why not was said, and the status says which.
-abbrev pub Packs : Option (List ℕ) → Option (List ℕ) → ℕ → ℕ → Option (List ℕ) → Option (List ℕ) → Option (List ℕ) → Option (List ℕ) → Status → Type 0
-Packs untold untold' failures failures' taken taken' said said' status =
+abbrev pub PacksTold : Option (List ℕ) → Option (List ℕ) → ℕ → ℕ → Option (List ℕ) → Option (List ℕ) → Option (List ℕ)
+    → Option (List ℕ) → Status → Type 0
+PacksTold untold untold' failures failures' taken taken' said said' status =
     (told : List ℕ) × Consumes untold untold' told × PacksSo told untold' failures failures' taken taken' said said' status

@@ -53,7 +53,8 @@ Prints entries end text status =
 
 -- What the reader told is these entries and the end behind them, which is the reader's own end, or its
 -- failure, where it says so; and what the writer took is what is printed of them.
-pub record Shows (untold untold' : Option (List ℕ)) (failures failures' : ℕ) (taken taken' : Option (List ℕ)) (status : Status) : Type 0 where
+pub record Shows (untold untold' : Option (List ℕ)) (failures failures' : ℕ) (taken taken' : Option (List ℕ)) (status : Status)
+    : Type 0 where
   pub told : List ℕ
   pub entries : List Entry
   pub end : Result (Unit {0}) FeedFault

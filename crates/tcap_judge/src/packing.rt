@@ -2,7 +2,7 @@
 
 ghost use Rattle.std.specs.Prelude.{◌≡◌, IfOk, OnOk, OnErr, ◌⊎◌};
 ghost use Rattle.tcap_ber.specs.Device.{one_more};
-ghost use Rattle.tcap_judge.specs.Packed.{Packs};
+ghost use Rattle.tcap_judge.specs.Packed.{PacksTold};
 
 use crate::fault_lines::write_fault;
 use crate::status::{Status, WriteFailed};
@@ -19,11 +19,13 @@ pub fn run_pack<R: Read, W: Write, F: Write>(
     writer: &mut W,
     faults: &mut F,
 ) -> Result<Status, WriteFailed>
-    ensures packed { IfOk result (Packs (R.untold reader.old) (R.untold reader.new)
+    ensures packed { IfOk result (PacksTold (R.untold reader.old) (R.untold reader.new)
         (R.failures reader.old) (R.failures reader.new)
         (W.taken writer.old) (W.taken writer.new) (F.taken faults.old) (F.taken faults.new)) }
-    ensures counts { OnOk result ((W.failures writer.new ≡ W.failures writer.old) × (F.failures faults.new ≡ F.failures faults.old)) }
-    ensures failed { OnErr result (((W.failures writer.new ≡ one_more (W.failures writer.old)) × (F.failures faults.new ≡ F.failures faults.old))
+    ensures counts { OnOk result ((W.failures writer.new ≡ W.failures writer.old)
+        × (F.failures faults.new ≡ F.failures faults.old)) }
+    ensures failed { OnErr result (((W.failures writer.new ≡ one_more (W.failures writer.old))
+        × (F.failures faults.new ≡ F.failures faults.old))
         ⊎ ((W.failures writer.new ≡ W.failures writer.old) × (F.failures faults.new ≡ one_more (F.failures faults.old)))) }
 {
     match pack(alloc, reader, writer) {

@@ -1,7 +1,7 @@
 //! What the words of the command line ask for.
 
 ghost use Rattle.std.specs.Prelude.{◌≡◌, ◌∷◌, [], IfErr, IfOk, MatchResult, None, Some, codes, false, true};
-ghost use Rattle.clap.specs.Words.{app_of, fault_of, kind_of, takes};
+ghost use Rattle.clap.specs.Words.{app_of, fault_of, takes};
 ghost use Rattle.clap.specs.Walk.{Text, texts};
 ghost use Rattle.tcap_judge.specs.Words.{Asks, Becomes, IsFaultOf, IsMemory, IsPack, IsShow, begins_with_hyphen, is_help, tool, words_status};
 

@@ -1,5 +1,5 @@
 -- Digits of octets, a piece of them after the other.
-use Rattle.std.proofs.Common.{◌≡◌, ℕ, List, [], ◌∷◌, ◌++◌, length, refl, sym, ap, ◌∙◌, append_assoc, append-nil, slice_index, ◌/◌, ◌%◌, arith}
+use Rattle.std.proofs.Common.{◌≡◌, ℕ, List, [], ◌∷◌, ◌++◌, length, take, drop, ◌-◌, ◌≤◌, refl, sym, ap, ◌∙◌, append_assoc, append-nil, slice_index, ◌/◌, ◌%◌, arith}
 use Rattle.std.proofs.Math.Dec.{leb}
 use Rattle.std.proofs.lemmas.Bool.{leb-true}
 use Rattle.std.specs.Str.{IsUtf8}
@@ -8,6 +8,7 @@ use Rattle.std.proofs.lemmas.Str.{IsUtf8-from_ascii}
 use Rattle.std.proofs.lemmas.Str.Ascii.{IsAscii-from_all}
 use Rattle.hex.proofs.HexLemmas.{IsAscii-encode_with}
 use Rattle.hex.specs.Hex.{encode_with, encode_lower, lower_digits}
+use Rattle.tcap_record.proofs.FeederLaws.{rest_is}
 
 -- the digits of two pieces
 encode_with-append : (digits front rest : List ℕ) → encode_with digits (front ++ rest) ≡ encode_with digits front ++ encode_with digits rest
@@ -29,6 +30,20 @@ pub none_left : (all made rest : List ℕ) → length rest ≡ 0 → made ++ enc
 unfolding encode_with
 none_left all made [] none so_far = sym (append-nil made) ∙ so_far
 none_left all made (octet ∷ rest) none so_far = cc none
+
+-- a text to which the two digits of an octet were appended, each as a character
+pub octet_more : (old mid new high low : List ℕ) (octet a b : ℕ) → mid ≡ old ++ high → high ≡ a ∷ [] → a ≡ slice_index lower_digits (octet / 16)
+    → new ≡ mid ++ low → low ≡ b ∷ [] → b ≡ slice_index lower_digits (octet % 16) → new ≡ old ++ encode_lower (octet ∷ [])
+unfolding encode_with
+octet_more old mid new high low octet a b first high_is a_is second low_is b_is =
+    second ∙ ap (λ l. l ++ low) first ∙ append_assoc old high low
+    ∙ ap (λ l. old ++ (l ++ low)) (high_is ∙ ap (λ (d : ℕ). d ∷ []) a_is)
+    ∙ ap (λ l. old ++ (slice_index lower_digits (octet / 16) ∷ l)) (low_is ∙ ap (λ (d : ℕ). d ∷ []) b_is)
+
+-- octets are their first one and those behind it
+pub first_then : (octets : List ℕ) → 1 ≤ length octets → octets ≡ (slice_index octets 0 ∷ []) ++ take (length octets - 1) (drop 1 octets)
+first_then [] some = absurd (omega (arith, some))
+first_then (octet ∷ more) some = ap (λ (l : List ℕ). octet ∷ l) (sym (rest_is (octet ∷ more) 1))
 
 -- digits are ASCII, and so a text
 pub digits_are_text : (octets : List ℕ) → IsUtf8 (encode_lower octets)

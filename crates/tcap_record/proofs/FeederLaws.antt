@@ -27,19 +27,23 @@ held_dropped h held sound whole =
     (omega (arith, room), ((λ some. absurd (some refl)), inl tt))
 
 -- octets of a piece, and more of what is left of it, are octets of the piece
-pub taken_on : (octets piece rest : List ℕ) (n m : ℕ) → rest ≡ drop n piece → (octets ++ take n piece) ++ take m rest ≡ octets ++ take (n + m) piece
+pub taken_on : (octets piece rest : List ℕ) (n m : ℕ) → rest ≡ drop n piece
+    → (octets ++ take n piece) ++ take m rest ≡ octets ++ take (n + m) piece
 taken_on octets piece rest n m is =
     append_assoc octets (take n piece) (take m rest)
     ∙ ap (λ (x : List ℕ). octets ++ (take n piece ++ take m x)) is
     ∙ ap (λ (x : List ℕ). octets ++ x) (sym (take-add n m piece))
 
 -- with the rest, all of a piece was taken
-pub taken_all : (octets piece rest : List ℕ) (n m : ℕ) → rest ≡ drop n piece → m ≡ length rest → n ≤ length piece → octets ++ take (n + m) piece ≡ octets ++ piece
+pub taken_all : (octets piece rest : List ℕ) (n m : ℕ) → rest ≡ drop n piece → m ≡ length rest → n ≤ length piece
+    → octets ++ take (n + m) piece ≡ octets ++ piece
 taken_all octets piece rest n m is all most =
-    ap (λ (k : ℕ). octets ++ take k piece) (omega (arith, all, ap length is, length-drop n piece, most)) ∙ ap (λ (x : List ℕ). octets ++ x) (take-length piece)
+    ap (λ (k : ℕ). octets ++ take k piece) (omega (arith, all, ap length is, length-drop n piece, most))
+    ∙ ap (λ (x : List ℕ). octets ++ x) (take-length piece)
 
 -- what is left of a rest is what is left of the piece
-pub rest_on : (piece rest : List ℕ) (n m : ℕ) → rest ≡ drop n piece → m ≤ length rest → take (length rest - m) (drop m rest) ≡ drop (n + m) piece
+pub rest_on : (piece rest : List ℕ) (n m : ℕ) → rest ≡ drop n piece → m ≤ length rest
+    → take (length rest - m) (drop m rest) ≡ drop (n + m) piece
 rest_on piece rest n m is most =
     ap (λ (k : ℕ). take k (drop m rest)) (omega (arith, length-drop m rest))
     ∙ take-length (drop m rest)
@@ -51,27 +55,36 @@ pub rest_is : (piece : List ℕ) (n : ℕ) → take (length piece - n) (drop n p
 rest_is piece n = ap (λ (k : ℕ). take k (drop n piece)) (sym (length-drop n piece)) ∙ take-length (drop n piece)
 
 -- the same with one entry more that waits
-pub entry_waits : (octets : List ℕ) (taken waiting : List Entry) (entry : Entry) (h : Held) → Fed octets ((taken ++ waiting) ++ entry ∷ []) h → Fed octets (taken ++ (waiting ++ entry ∷ [])) h
-entry_waits octets taken waiting entry h fed = subst (λ (entries : List Entry). Fed octets entries h) (append_assoc taken waiting (entry ∷ [])) fed
+pub entry_waits : (octets : List ℕ) (taken waiting : List Entry) (entry : Entry) (h : Held)
+    → Fed octets ((taken ++ waiting) ++ entry ∷ []) h → Fed octets (taken ++ (waiting ++ entry ∷ [])) h
+entry_waits octets taken waiting entry h fed =
+    subst (λ (entries : List Entry). Fed octets entries h) (append_assoc taken waiting (entry ∷ [])) fed
 
 -- what was taken of the rest of a piece was taken of the piece
-pub fed_behind : (P : List ℕ → Type 0) (octets piece rest : List ℕ) (n : ℕ) (kept : Result (Unit {0}) FeedFault) → rest ≡ drop n piece → n ≤ length piece
-    → MatchResult kept (λ _. P ((octets ++ take n piece) ++ rest)) (λ _. (m : ℕ) × (m ≤ length rest) × P ((octets ++ take n piece) ++ take m rest))
+pub fed_behind : (P : List ℕ → Type 0) (octets piece rest : List ℕ) (n : ℕ) (kept : Result (Unit {0}) FeedFault)
+    → rest ≡ drop n piece → n ≤ length piece
+    → MatchResult kept (λ _. P ((octets ++ take n piece) ++ rest))
+    (λ _. (m : ℕ) × (m ≤ length rest) × P ((octets ++ take n piece) ++ take m rest))
     → MatchResult kept (λ _. P (octets ++ piece)) (λ _. (m : ℕ) × (m ≤ length piece) × P (octets ++ take m piece))
 fed_behind P octets piece rest n (Ok done) is most fed =
-    subst P (ap (λ (x : List ℕ). (octets ++ take n piece) ++ x) (sym (take-length rest)) ∙ taken_on octets piece rest n (length rest) is ∙ taken_all octets piece rest n (length rest) is refl most) fed
+    subst P (ap (λ (x : List ℕ). (octets ++ take n piece) ++ x) (sym (take-length rest))
+    ∙ taken_on octets piece rest n (length rest) is ∙ taken_all octets piece rest n (length rest) is refl most) fed
 fed_behind P octets piece rest n (Err f) is most (m, few, fed) =
     (n + m, omega (arith, most, few, ap length is, length-drop n piece), subst P (taken_on octets piece rest n m is) fed)
 
 -- what came behind is off again
-pub cut_back : (h new : Held) (more : List ℕ) (len : ℕ) → h.fault ≡ None → len ≡ length h.octets → new ≡ grown h more None → cut_to len new ≡ h
+pub cut_back : (h new : Held) (more : List ℕ) (len : ℕ) → h.fault ≡ None → len ≡ length h.octets → new ≡ grown h more None
+    → cut_to len new ≡ h
 cut_back h new more len sound is grew =
     ap (cut_to len) grew
-    ∙ ap (λ (x : List ℕ). let c : Held = record { octets = x; place = h.place; count = h.count; fault = None } in c) (take_at h.octets more len (sym is))
-    ∙ ap (λ (x : Option FeedFault). let c : Held = record { octets = h.octets; place = h.place; count = h.count; fault = x } in c) (sym sound)
+    ∙ ap (λ (x : List ℕ). let c : Held = record { octets = x; place = h.place; count = h.count; fault = None } in c)
+    (take_at h.octets more len (sym is))
+    ∙ ap (λ (x : Option FeedFault). let c : Held = record { octets = h.octets; place = h.place; count = h.count; fault = x } in c)
+    (sym sound)
 
 -- where a part is held at most, the record may end exactly where nothing is
-pub may_end : (r : Result (Unit {0}) FeedFault) (h : Held) → (h.fault ≡ None → IsPart h.octets) → FinishesAs r h → IsOk r ↔ ((h.fault ≡ None) × (h.octets ≡ []))
+pub may_end : (r : Result (Unit {0}) FeedFault) (h : Held) → (h.fault ≡ None → IsPart h.octets) → FinishesAs r h
+    → IsOk r ↔ ((h.fault ≡ None) × (h.octets ≡ []))
 may_end (Ok done) h is_part (sound, inl none) = (λ _. (sound, none), λ _. refl)
 may_end (Ok done) h is_part (sound, inr whole) = absurd (part_not_whole h.octets (is_part sound) whole)
 may_end (Err f) h is_part (inl wrong) = (λ no. absurd cc, λ there. (let e = sym wrong ∙ there.0 in absurd cc))

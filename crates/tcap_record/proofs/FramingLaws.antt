@@ -38,18 +38,21 @@ message_fault_within octets f e = faulty_within octets f.reason f.place (message
 all_of_it : (octets : List ℕ) (x : Message × ℕ) → IsRaw octets → message_at octets ≡ Ok x → x.1 ≡ length octets
 unfolding message_at
 all_of_it octets x raw e =
-    let there : outer_at octets ≡ Ok (Whole (length octets)) = ap outer_at (sym (append-nil octets)) ∙ outer_of_element raw.0 raw.1 octets [] raw.2 in
+    let there : outer_at octets ≡ Ok (Whole (length octets)) =
+    ap outer_at (sym (append-nil octets)) ∙ outer_of_element raw.0 raw.1 octets [] raw.2 in
     let within : in_outer octets (Whole (length octets)) ≡ Ok x = sym (ap (λ r. r >>= in_outer octets) there) ∙ e in
     let a = bind_ok (message_in (whole octets)) (with_count (length octets)) x within in
     let same : (a.0.0, length octets) ≡ x = ok_is (a.0.0, length octets) x a.2 in
     sym (ap (λ (y : Message × ℕ). y.1) same)
 
-spelled_whole : (octets front rest : List ℕ) (m : Message) → octets ≡ front ++ rest → length octets ≡ length front → Spells m front → Spells m octets
+spelled_whole : (octets front rest : List ℕ) (m : Message) → octets ≡ front ++ rest → length octets ≡ length front → Spells m front
+    → Spells m octets
 spelled_whole octets front rest m joined len spelled =
     let nothing : rest ≡ [] = nil_from_length rest (omega (arith, ap length joined, length-append front rest, len)) in
     subst (Spells m) (sym (joined ∙ ap (λ (y : List ℕ). front ++ y) nothing ∙ append-nil front)) spelled
 
-body_is : (place : ℕ) (octets : List ℕ) (r : Result (Message × ℕ) Fault) → IsRaw octets → message_at octets ≡ r → IsBody (body_of place r) place octets
+body_is : (place : ℕ) (octets : List ℕ) (r : Result (Message × ℕ) Fault) → IsRaw octets → message_at octets ≡ r
+    → IsBody (body_of place r) place octets
 body_is place octets (Ok x) raw e =
     let a = message_sound octets x e in
     spelled_whole octets a.0 a.1 x.0 a.2 (sym (all_of_it octets x raw e) ∙ a.3) a.4
@@ -57,7 +60,8 @@ body_is place octets (Err f) raw e = (λ m spelled. never m spelled, (f.place, r
   where
     never : (m : Message) → Spells m octets → ⊥
     never m spelled =
-        let there : message_at octets ≡ Ok (m, length octets) = ap message_at (sym (append-nil octets)) ∙ message_complete m octets [] spelled in
+        let there : message_at octets ≡ Ok (m, length octets) =
+        ap message_at (sym (append-nil octets)) ∙ message_complete m octets [] spelled in
         cc
 
 pub element_is : (s : Span) → IsRaw s.octets → IsBody (body_at s) s.place s.octets
@@ -104,7 +108,8 @@ not_memory : (count : ℕ) (rest : List ℕ) (offset : ℕ) → IsRestFault coun
 not_memory count [] offset h = h
 not_memory count (first ∷ more) offset h = h
 
-pub ends_as : (count total : ℕ) (rest : List ℕ) (reason : FeedReason) (place offset : ℕ) → place ≡ total - length rest + offset → IsRestFault count rest reason offset → EndsAs count total rest reason place
+pub ends_as : (count total : ℕ) (rest : List ℕ) (reason : FeedReason) (place offset : ℕ) → place ≡ total - length rest + offset
+    → IsRestFault count rest reason offset → EndsAs count total rest reason place
 ends_as count total rest (feed.Element reason) place offset at h = (offset, at, h)
 ends_as count total rest feed.BadEnd place offset at h = (offset, at, h)
 ends_as count total rest feed.CutRecord place offset at h = (offset, at, h)
@@ -116,15 +121,22 @@ ends_as count total rest feed.Memory place offset at h = absurd (not_memory coun
 -- ---- entries, one after the other
 
 -- what stands behind an entry is shorter
-pub entry_shorter : (place : ℕ) (entry : Entry) (octets others : List ℕ) → IsEntry place entry octets others → length others < length octets
+pub entry_shorter : (place : ℕ) (entry : Entry) (octets others : List ℕ) → IsEntry place entry octets others
+    → length others < length octets
 entry_shorter place entry octets others (inl sent) = omega (arith, ap length sent.joined, length-append sent.element others)
 entry_shorter place entry octets others (inr mark) = omega (arith, ap length mark.joined)
 
-pub framed_more : (entries : List Entry) (place : ℕ) (octets : List ℕ) (s : Span) (entry : Entry) (rest : Span) → FramedFrom place entries octets s.octets → s.place + length s.octets ≡ place + length octets
+pub framed_more : (entries : List Entry) (place : ℕ) (octets : List ℕ) (s : Span) (entry : Entry) (rest : Span)
+    → FramedFrom place entries octets s.octets → s.place + length s.octets ≡ place + length octets
     → IsEntryAt s entry rest → FramedFrom place (entries ++ entry ∷ []) octets rest.octets
 framed_more [] place octets s entry rest so_far sum there =
-    let at : s.place ≡ place = omega (arith, sum, ap length so_far) in
-    (rest.octets, subst (λ (x : List ℕ). IsEntry place entry x rest.octets) (sym so_far) (subst (λ (n : ℕ). IsEntry n entry s.octets rest.octets) at there.is_entry), refl)
+    let at : s.place ≡ place = omega (arith, sum, ap length so_far) in (
+      rest.octets,
+      subst (λ (x : List ℕ). IsEntry place entry x rest.octets) (sym so_far)
+          (subst (λ (n : ℕ). IsEntry n entry s.octets rest.octets) at there.is_entry),
+      refl,
+    )
 framed_more (first ∷ entries) place octets s entry rest (others, is_entry, framed) sum there =
-    let left : s.place + length s.octets ≡ place + (length octets - length others) + length others = omega (arith, sum, entry_shorter place first octets others is_entry) in
+    let left : s.place + length s.octets ≡ place + (length octets - length others) + length others =
+    omega (arith, sum, entry_shorter place first octets others is_entry) in
     (others, is_entry, framed_more entries (place + (length octets - length others)) others s entry rest framed left there)

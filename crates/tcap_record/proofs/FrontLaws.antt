@@ -19,7 +19,7 @@ use Rattle.tcap_ber.proofs.Steps.{chosen}
 use Rattle.tcap_ber.proofs.OuterLaws.{outer_whole, outer_fault, is_unfinished}
 use Rattle.tcap_ber.proofs.RoomLaws.{need_within}
 use Rattle.tcap_record.proofs.FramingLaws.{end_is, is_end, no_end}
-use Rattle.std.proofs.lemmas.Bool.{eqb-true, eqb-false, ne_eqb, ltb-true, ltb-false}
+use Rattle.std.proofs.lemmas.Bool.{eqb-true, eqb-false, ltb-true, ltb-false}
 use Rattle.std.proofs.lemmas.List.{take_at, take-append-drop, take-append-le, length-append, append-nil}
 
 -- equal answers name equal counts
@@ -169,12 +169,6 @@ part_not_whole (first ∷ more) is_part (inl mark) = let same : first ≡ quiet_
 part_not_whole (first ∷ more) is_part (inr (side, element, joined, raw)) =
     let same : more ≡ element = cc in
     is_part.1.no_element raw.0 raw.1 element [] raw.2 (same ∙ sym (append-nil element))
-
--- with octets behind, a part that is there begins with its element
-pub front_of_part : (count : ℕ) (part more : List ℕ) → IsPart part → part ≢ [] → count < entry_limit → front_at count (part ++ more) ≡ front_by (outer_at (drop 1 part ++ more))
-front_of_part count [] more is_part some room = absurd (some refl)
-front_of_part count (first ∷ octets) more (inl is_end, unfinished) some room = rw (ne_eqb count entry_limit (λ e. omega (arith, e, room)), is_end) refl
-front_of_part count (first ∷ octets) more (inr is_end, unfinished) some room = rw (ne_eqb count entry_limit (λ e. omega (arith, e, room)), is_end) refl
 
 -- parts of entries are few octets
 pub part_within : (octets : List ℕ) → IsPart octets → length octets ≤ 65551

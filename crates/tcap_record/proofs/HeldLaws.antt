@@ -19,7 +19,8 @@ use Rattle.tcap_record.proofs.FramingLaws.{outer_fault_within, element_is}
 use Rattle.tcap_record.proofs.FrontLaws.{part_not_whole}
 
 -- what a walk over few octets answers is within them
-pub answer_within : (octets : List ℕ) (read r : Result Outer Fault) → length octets ≤ 65551 → read ≡ outer_at octets → Gives (λ (x : Outer). x) r read → IsAnswerWithin r
+pub answer_within : (octets : List ℕ) (read r : Result Outer Fault) → length octets ≤ 65551 → read ≡ outer_at octets
+    → Gives (λ (x : Outer). x) r read → IsAnswerWithin r
 answer_within octets read (Ok (Whole n)) few e gives =
     let there = outer_whole octets n (sym e ∙ gives) in
     omega (arith, there.len, ap length there.joined, length-append there.element there.rest)
@@ -32,8 +33,10 @@ end_there ends.A = refl
 end_there ends.B = refl
 
 -- octets that are an entry, which is no quiet mark, are what its end and its element are
-pub entry_whole : (place : ℕ) (octets : List ℕ) (side : Option End) (body : Body) → IsWhole octets → slice_index octets 0 ≢ quiet_octet → side ≡ end_in (slice_index octets 0)
-    → body ≡ body_at (record { octets = drop 1 octets; place = place + 1 }) → IsEntry place (record { side = side; place = place + 1; body = body }) octets []
+pub entry_whole : (place : ℕ) (octets : List ℕ) (side : Option End) (body : Body) → IsWhole octets
+    → slice_index octets 0 ≢ quiet_octet → side ≡ end_in (slice_index octets 0)
+    → body ≡ body_at (record { octets = drop 1 octets; place = place + 1 })
+    → IsEntry place (record { side = side; place = place + 1; body = body }) octets []
 entry_whole place octets side body (inl quiet) loud e b = absurd (loud (ap (λ (x : List ℕ). slice_index x 0) quiet))
 entry_whole place octets side body (inr (end, element, joined, raw)) loud e b =
     let first : slice_index octets 0 ≡ octet_of end = ap (λ (x : List ℕ). slice_index x 0) joined in

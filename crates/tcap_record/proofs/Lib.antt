@@ -5,6 +5,7 @@ pub mod FrontLaws
 pub mod FedLaws
 pub mod FeederLaws
 pub mod HeldLaws
+pub mod LendLaws
 pub mod TakenLaws
 pub mod ReadingLaws
 pub mod PackLaws

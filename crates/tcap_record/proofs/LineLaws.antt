@@ -6,14 +6,6 @@ use Rattle.std.specs.Io.KnownBytes.{Appends}
 use Rattle.tcap_record.specs.declared.entry.Entry.{Entry}
 use Rattle.tcap_record.specs.Lines.{entry_lines, lines_from, lines_of}
 
--- a text that grew twice
-pub then_more : (old mid new front rest : List ℕ) → mid ≡ old ++ front → new ≡ mid ++ rest → new ≡ old ++ (front ++ rest)
-then_more old mid new front rest first second = second ∙ ap (λ l. l ++ rest) first ∙ append_assoc old front rest
-
--- a text that then grew by nothing
-pub no_more : (old new front : List ℕ) → new ≡ old ++ front → new ≡ old ++ (front ++ [])
-no_more old new front first = first ∙ ap (λ l. old ++ l) (sym (append-nil front))
-
 -- the lines of one entry more
 pub lines_one_more : (number k : ℕ) (entries : List Entry) (entry : Entry) → k ≡ number + length entries
     → lines_from number (entries ++ entry ∷ []) ≡ lines_from number entries ++ entry_lines k entry
@@ -36,4 +28,5 @@ pub lines_written : (old mid new : Option (List ℕ)) (entries : List Entry) (i 
     → i < length entries → entry ≡ get_or entries i entry → text ≡ entry_lines i entry
     → Appends old mid (lines_of (take i entries)) → Appends mid new text → Appends old new (lines_of (take (i + 1) entries))
 lines_written old mid new entries i entry text within is text_is before more =
-    subst (Appends old new) (sym (lines_step entries i entry within (sym is))) (Appends-trans old mid new _ _ before (rw text_is at more))
+    subst (Appends old new) (sym (lines_step entries i entry within (sym is)))
+    (Appends-trans old mid new _ _ before (rw text_is at more))

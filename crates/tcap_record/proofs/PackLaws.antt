@@ -5,7 +5,7 @@ use Rattle.std.proofs.lemmas.List.{drop_more, length-append, take-append-drop, t
 use Rattle.std.proofs.lemmas.List.Folds.{concat-append}
 use Rattle.std.proofs.KnownBytes.{Appends-nil, Appends-trans, Consumes-trans}
 use Rattle.std.specs.List.{concat}
-use Rattle.std.specs.Io.KnownBytes.{Appends, Consumes, IsAtEnd}
+use Rattle.std.specs.Io.KnownBytes.{Appends, Consumes, IsAtEnd, Keeps}
 use Rattle.tcap_record.specs.declared.fault.FeedFault.{FeedFault}
 use Rattle.tcap_record.specs.declared.fault.FeedReason.{FeedReason}
 use Rattle.tcap_record.specs.declared.fault.FeedReason.TheVariants as feed
@@ -23,7 +23,8 @@ err_is : {A : Type 0} (x y : PackFault) → (let r : Result A PackFault = Err x 
 err_is x y e = cc
 
 -- a fault that `?` handed on
-pub handed_on : {A B : Type 0} (result : Result A PackFault) (made fault given : PackFault) → result ≡ Err made → made ≡ given → result ≡ Err fault → (let r : Result B PackFault = Err given in r) ≡ Err fault
+pub handed_on : {A B : Type 0} (result : Result A PackFault) (made fault given : PackFault) → result ≡ Err made → made ≡ given
+    → result ≡ Err fault → (let r : Result B PackFault = Err given in r) ≡ Err fault
 handed_on result made fault given a b e = ap Err (sym b ∙ err_is made fault (sym a ∙ e))
 
 -- ---- lines behind lines
@@ -33,16 +34,19 @@ entries_more [] others = refl
 entries_more (None ∷ lines) others = entries_more lines others
 entries_more (Some entry ∷ lines) others = ap (λ (l : List (List ℕ)). entry ∷ l) (entries_more lines others)
 
-count_more : (lines others : List (Option (List ℕ))) → length (entries_in (lines ++ others)) ≡ length (entries_in lines) + length (entries_in others)
+count_more : (lines others : List (Option (List ℕ)))
+    → length (entries_in (lines ++ others)) ≡ length (entries_in lines) + length (entries_in others)
 count_more lines others = ap length (entries_more lines others) ∙ length-append (entries_in lines) (entries_in others)
 
-written_more : (a b c : Option (List ℕ)) (lines others : List (Option (List ℕ))) → Appends a b (concat (entries_in lines)) → Appends b c (concat (entries_in others))
+written_more : (a b c : Option (List ℕ)) (lines others : List (Option (List ℕ))) → Appends a b (concat (entries_in lines))
+    → Appends b c (concat (entries_in others))
     → Appends a c (concat (entries_in (lines ++ others)))
 written_more a b c lines others before more =
     subst (Appends a c) (sym (ap concat (entries_more lines others) ∙ concat-append (entries_in lines) (entries_in others)))
     (Appends-trans a b c _ _ before more)
 
-lines_more : (lines others : List (Option (List ℕ))) (front more : List ℕ) → AreLines lines front → AreLines others more → AreLines (lines ++ others) (front ++ more)
+lines_more : (lines others : List (Option (List ℕ))) (front more : List ℕ) → AreLines lines front → AreLines others more
+    → AreLines (lines ++ others) (front ++ more)
 lines_more [] others front more none are = subst (AreLines others) (ap (λ (x : List ℕ). x ++ more) (sym none)) are
 lines_more (line ∷ lines) others front more (content, octets, rest, ended, stands, joined, are_lines) are = (
   content,
@@ -54,7 +58,8 @@ lines_more (line ∷ lines) others front more (content, octets, rest, ended, sta
   lines_more lines others rest more are_lines are,
 )
 
-one_line : (line : Option (List ℕ)) (content octets : List ℕ) → IsEndedLine content octets → StandsFor content line → AreLines (line ∷ []) octets
+one_line : (line : Option (List ℕ)) (content octets : List ℕ) → IsEndedLine content octets → StandsFor content line
+    → AreLines (line ∷ []) octets
 one_line line content octets ended stands = (content, octets, [], ended, stands, sym (append-nil octets), refl)
 
 -- ---- the line that has no end yet
@@ -64,8 +69,10 @@ plain_more [] more a b = b
 plain_more (octet ∷ front) more (first, a) b = (first, plain_more front more a b)
 
 -- the line that is held grew by the first octets of a piece
-pub plain_held : (line front held piece : List ℕ) (n : ℕ) → held ≡ line ++ front → front ≡ take n piece → HasNoNewline line → HasNoNewline (take n piece) → HasNoNewline held
-plain_held line front held piece n grown is plain more = subst HasNoNewline (sym grown) (plain_more line front plain (subst HasNoNewline (sym is) more))
+pub plain_held : (line front held piece : List ℕ) (n : ℕ) → held ≡ line ++ front → front ≡ take n piece → HasNoNewline line
+    → HasNoNewline (take n piece) → HasNoNewline held
+plain_held line front held piece n grown is plain more =
+    subst HasNoNewline (sym grown) (plain_more line front plain (subst HasNoNewline (sym is) more))
 
 plain_front : (front more : List ℕ) → HasNoNewline (front ++ more) → HasNoNewline front
 plain_front [] more plain = tt
@@ -83,24 +90,15 @@ ended_line line content plain (inr (no_return, is)) = (
 
 -- ---- steps
 
-pub packs_nothing : (p : Packing) (taken : Option (List ℕ)) → Packs p p [] taken taken
-packs_nothing p taken = record {
-  lines = [];
-  front = [];
-  are_lines = refl;
-  joined = append-nil p.line.items;
-  lines_are = omega arith;
-  entries_are = omega arith;
-  written = Appends-nil taken;
-}
-
 -- what comes then
-joined_then : (held octets more front mid front' rest : List ℕ) → held ++ octets ≡ front ++ mid → mid ++ more ≡ front' ++ rest → held ++ (octets ++ more) ≡ (front ++ front') ++ rest
+joined_then : (held octets more front mid front' rest : List ℕ) → held ++ octets ≡ front ++ mid → mid ++ more ≡ front' ++ rest
+    → held ++ (octets ++ more) ≡ (front ++ front') ++ rest
 joined_then held octets more front mid front' rest before then =
     sym (append_assoc held octets more) ∙ ap (λ (x : List ℕ). x ++ more) before ∙ append_assoc front mid more
     ∙ ap (λ (x : List ℕ). front ++ x) then ∙ sym (append_assoc front front' rest)
 
-pub packs_then : (old mid new : Packing) (octets more : List ℕ) (a b c : Option (List ℕ)) → Packs old mid octets a b → Packs mid new more b c → Packs old new (octets ++ more) a c
+pub packs_then : (old mid new : Packing) (octets more : List ℕ) (a b c : Option (List ℕ)) → Packs old mid octets a b
+    → Packs mid new more b c → Packs old new (octets ++ more) a c
 packs_then old mid new octets more a b c before then = record {
   lines = before.lines ++ then.lines;
   front = before.front ++ then.front;
@@ -111,7 +109,8 @@ packs_then old mid new octets more a b c before then = record {
   written = written_more a b c before.lines then.lines before.written then.written;
 }
 
-pub stops_then : (old mid : Packing) (octets more : List ℕ) (fault : FeedFault) (untold a b c : Option (List ℕ)) → Packs old mid octets a b → PacksUpTo mid more fault untold b c
+pub stops_then : (old mid : Packing) (octets more : List ℕ) (fault : FeedFault) (untold a b c : Option (List ℕ))
+    → Packs old mid octets a b → PacksUpTo mid more fault untold b c
     → PacksUpTo old (octets ++ more) fault untold a c
 stops_then old mid octets more fault untold a b c before then =
     let count : mid.lines + length then.lines ≡ old.lines + length (before.lines ++ then.lines) =
@@ -129,7 +128,8 @@ stops_then old mid octets more fault untold a b c before then =
 
 -- it stops at once
 pub stops_here : (p : Packing) (octets : List ℕ) (fault : FeedFault) (untold a b : Option (List ℕ)) → p.lines ≤ lines_limit → b ≡ a
-    → ((total : ℕ) → StopsAs p.lines total (p.line.items ++ octets) untold fault.reason fault.place) → PacksUpTo p octets fault untold a b
+    → ((total : ℕ) → StopsAs p.lines total (p.line.items ++ octets) untold fault.reason fault.place)
+    → PacksUpTo p octets fault untold a b
 stops_here p octets fault untold a b within same stops =
     let count : p.lines ≡ p.lines + 0 = omega arith in
     record {
@@ -139,11 +139,13 @@ stops_here p octets fault untold a b within same stops =
       are_lines = refl;
       joined = refl;
       within = omega (arith, within);
-      stops = λ total. subst (λ (n : ℕ). StopsAs n total (p.line.items ++ octets) untold fault.reason fault.place) count (stops total);
+      stops = λ total. subst (λ (n : ℕ). StopsAs n total (p.line.items ++ octets) untold fault.reason fault.place) count
+          (stops total);
       written = subst (λ (x : Option (List ℕ)). Appends a x []) (sym same) (Appends-nil a);
     }
 
-refused_stops : (count : ℕ) (content rest : List ℕ) (untold : Option (List ℕ)) (fault : FeedFault) → IsLineRefused content (count + 1) fault → (IsNoLine content → IsRefusedLine count rest untold)
+refused_stops : (count : ℕ) (content rest : List ℕ) (untold : Option (List ℕ)) (fault : FeedFault)
+    → IsLineRefused content (count + 1) fault → (IsNoLine content → IsRefusedLine count rest untold)
     → (total : ℕ) → StopsAs count total rest untold fault.reason fault.place
 refused_stops count content rest untold fault (inl (is, none)) line total =
     subst (λ (f : FeedFault). StopsAs count total rest untold f.reason f.place) (sym is) (refl, line none)
@@ -158,17 +160,28 @@ stops_full p octets untold a full some =
     (λ total. (refl, inl (full, λ none. absurd (omega (arith, some, ap length none, length-append p.line.items octets)))))
 
 -- The line is too long, or memory ran out.
-pub stops_long : (p : Packing) (front behind : List ℕ) (number : ℕ) (fault : LineFault) (untold a : Option (List ℕ)) → p.lines ≤ lines_limit → number ≡ p.lines + 1
+pub stops_long : (p : Packing) (front behind : List ℕ) (number : ℕ) (fault : LineFault) (untold a : Option (List ℕ))
+    → p.lines ≤ lines_limit → number ≡ p.lines + 1
     → HasNoNewline p.line.items → HasNoNewline front → (fault ≡ Bad → line_limit + 1 < length (p.line.items ++ front))
     → PacksUpTo p (front ++ behind) (line_fault number fault) untold a a
 stops_long p front behind number Memory untold a within is plain more long =
     stops_here p (front ++ behind) (feed_fault feed.Memory 0) untold a a within refl (λ total. refl)
 stops_long p front behind number Bad untold a within is plain more long =
     stops_here p (front ++ behind) (feed_fault feed.BadHexLine number) untold a a within refl
-    (λ total. (is, inr (inr (inl (p.line.items ++ front, behind, plain_more p.line.items front plain more, sym (append_assoc p.line.items front behind), long refl)))))
+    (λ total. (
+      is,
+      inr (inr (inl (
+        p.line.items ++ front,
+        behind,
+        plain_more p.line.items front plain more,
+        sym (append_assoc p.line.items front behind),
+        long refl,
+      ))),
+    ))
 
 -- The line ends and is none, or memory ran out.
-pub stops_line : (p : Packing) (front behind line content : List ℕ) (fault : FeedFault) (untold a b : Option (List ℕ)) → p.lines ≤ lines_limit → b ≡ a
+pub stops_line : (p : Packing) (front behind line content : List ℕ) (fault : FeedFault) (untold a b : Option (List ℕ))
+    → p.lines ≤ lines_limit → b ≡ a
     → line ≡ p.line.items ++ front → HasNoNewline line → IsContentOf line content → IsLineRefused content (p.lines + 1) fault
     → PacksUpTo p (front ++ newline ∷ behind) fault untold a b
 stops_line p front behind line content fault untold a b within same held plain is refused =
@@ -182,7 +195,8 @@ stops_line p front behind line content fault untold a b within same held plain i
         ∙ sym (append_assoc line (newline ∷ []) behind)
 
 -- The last line is none, or memory ran out.
-pub stops_last : (p : Packing) (fault : FeedFault) (untold a b : Option (List ℕ)) → p.lines ≤ lines_limit → b ≡ a → HasNoNewline p.line.items → p.line.items ≢ []
+pub stops_last : (p : Packing) (fault : FeedFault) (untold a b : Option (List ℕ)) → p.lines ≤ lines_limit → b ≡ a
+    → HasNoNewline p.line.items → p.line.items ≢ []
     → IsAtEnd untold → IsLineRefused p.line.items (p.lines + 1) fault → PacksUpTo p [] fault untold a b
 stops_last p fault untold a b within same plain some at_end refused =
     let all : p.line.items ≡ p.line.items ++ [] = sym (append-nil p.line.items) in
@@ -191,15 +205,18 @@ stops_last p fault untold a b within same plain some at_end refused =
     (λ none. subst (λ (x : List ℕ). IsRefusedLine p.lines x untold) all (inr (inr (inr (at_end, plain, some, none))))))
 
 -- A line was packed.
-pub packs_line : (old held new : Packing) (front content : List ℕ) (line : Option (List ℕ)) (a b : Option (List ℕ)) → held.line.items ≡ old.line.items ++ front → held.lines ≡ old.lines
-    → held.entries ≡ old.entries → HasNoNewline held.line.items → IsContentOf held.line.items content → StandsFor content line → IsBehind line held new
+pub packs_line : (old held new : Packing) (front content : List ℕ) (line : Option (List ℕ)) (a b : Option (List ℕ))
+    → held.line.items ≡ old.line.items ++ front → held.lines ≡ old.lines
+    → held.entries ≡ old.entries → HasNoNewline held.line.items → IsContentOf held.line.items content → StandsFor content line
+    → IsBehind line held new
     → Appends a b (concat (entries_in (line ∷ []))) → Packs old new (front ++ newline ∷ []) a b
 packs_line old held new front content line a b joined lines_are entries_are plain is stands behind written = record {
   lines = line ∷ [];
   front = held.line.items ++ newline ∷ [];
   are_lines = one_line line content (held.line.items ++ newline ∷ []) (ended_line held.line.items content plain is) stands;
   joined = sym (append_assoc old.line.items front (newline ∷ [])) ∙ ap (λ (x : List ℕ). x ++ newline ∷ []) (sym joined)
-      ∙ sym (append-nil (held.line.items ++ newline ∷ [])) ∙ ap (λ (x : List ℕ). (held.line.items ++ newline ∷ []) ++ x) (sym behind.nothing);
+      ∙ sym (append-nil (held.line.items ++ newline ∷ []))
+      ∙ ap (λ (x : List ℕ). (held.line.items ++ newline ∷ []) ++ x) (sym behind.nothing);
   lines_are = omega (arith, behind.lines_are, lines_are);
   entries_are = omega (arith, behind.entries_are, entries_are);
   written = written;
@@ -208,14 +225,18 @@ packs_line old held new front content line a b joined lines_are entries_are plai
 -- ---- pieces
 
 tail_is : (behind more : List ℕ) (octet : ℕ) → behind ≡ octet ∷ more → take (length behind - 1) (drop 1 behind) ≡ more
-tail_is behind more octet e = ap (λ (x : List ℕ). take (length x - 1) (drop 1 x)) e ∙ take_all (length (octet ∷ more) - 1) more (omega arith)
+tail_is behind more octet e =
+    ap (λ (x : List ℕ). take (length x - 1) (drop 1 x)) e ∙ take_all (length (octet ∷ more) - 1) more (omega arith)
 
 -- a piece with a newline is what stands before it, and the newline, and what is behind
-pub cut_there : (piece front behind : List ℕ) (n : ℕ) → n < length piece → front ≡ take n piece → behind ≡ drop n piece → slice_index piece n ≡ newline
+pub cut_there : (piece front behind : List ℕ) (n : ℕ) → n < length piece → front ≡ take n piece → behind ≡ drop n piece
+    → slice_index piece n ≡ newline
     → piece ≡ front ++ newline ∷ take (length behind - 1) (drop 1 behind)
 cut_there piece front behind n within front_is behind_is there =
-    let first : drop n piece ≡ newline ∷ drop (n + 1) piece = drop_more piece n 0 within ∙ ap (λ (x : ℕ). x ∷ drop (n + 1) piece) there in
-    sym (take-append-drop n piece) ∙ ap (λ (x : List ℕ). take n piece ++ x) first ∙ ap (λ (x : List ℕ). x ++ newline ∷ drop (n + 1) piece) (sym front_is)
+    let first : drop n piece ≡ newline ∷ drop (n + 1) piece =
+    drop_more piece n 0 within ∙ ap (λ (x : ℕ). x ∷ drop (n + 1) piece) there in
+    sym (take-append-drop n piece) ∙ ap (λ (x : List ℕ). take n piece ++ x) first
+    ∙ ap (λ (x : List ℕ). x ++ newline ∷ drop (n + 1) piece) (sym front_is)
     ∙ ap (λ (x : List ℕ). front ++ newline ∷ x) (sym (tail_is behind (drop (n + 1) piece) newline (behind_is ∙ first)))
 
 -- ---- the whole text
@@ -224,20 +245,30 @@ cut_there piece front behind n within front_is behind_is there =
 lines_within : (lines : List (Option (List ℕ))) (text : List ℕ) → AreLines lines text → length text ≤ length lines * 131094
 lines_within [] text none = omega (arith, ap length none)
 lines_within (line ∷ lines) text (content, octets, more, ended, stands, joined, are_lines) =
-    omega (arith, lines_within lines more are_lines, ended_within ended.1, content_within line stands, ap length joined, length-append octets more)
+    omega (
+      arith,
+      lines_within lines more are_lines,
+      ended_within ended.1,
+      content_within line stands,
+      ap length joined,
+      length-append octets more,
+    )
   where
     content_within : (l : Option (List ℕ)) → StandsFor content l → length content ≤ line_limit
     content_within None s = s.0
     content_within (Some entry) s = s.0
 
-    ended_within : (octets ≡ content ++ carriage_return ∷ newline ∷ []) ⊎ ((EndsInReturn content → ⊥) × (octets ≡ content ++ newline ∷ [])) → length octets ≤ length content + 2
+    ended_within : (octets ≡ content ++ carriage_return ∷ newline ∷ [])
+        ⊎ ((EndsInReturn content → ⊥) × (octets ≡ content ++ newline ∷ [])) → length octets ≤ length content + 2
     ended_within (inl is) = omega (arith, ap length is, length-append content (carriage_return ∷ newline ∷ []))
     ended_within (inr is) = omega (arith, ap length is.1, length-append content (newline ∷ []))
 
-all_told : (start p : Packing) (told : List ℕ) (a b : Option (List ℕ)) → IsFresh start → (packs : Packs start p told a b) → told ≡ packs.front ++ p.line.items
+all_told : (start p : Packing) (told : List ℕ) (a b : Option (List ℕ)) → IsFresh start → (packs : Packs start p told a b)
+    → told ≡ packs.front ++ p.line.items
 all_told start p told a b fresh packs = ap (λ (x : List ℕ). x ++ told) (sym fresh.0) ∙ packs.joined
 
-pub told_within : (start p : Packing) (told : List ℕ) (a b : Option (List ℕ)) → IsFresh start → Packs start p told a b → IsOpen p → length told ≤ 131094131093
+pub told_within : (start p : Packing) (told : List ℕ) (a b : Option (List ℕ)) → IsFresh start → Packs start p told a b → IsOpen p
+    → length told ≤ 131094131093
 told_within start p told a b fresh packs is_open =
     omega (
       arith,
@@ -250,24 +281,39 @@ told_within start p told a b fresh packs is_open =
       length-append packs.front p.line.items,
     )
 
-packed_all : (start p : Packing) (told : List ℕ) (count : ℕ) (a b c : Option (List ℕ)) → IsFresh start → Packs start p told a b → IsOpen p
+packed_all : (start p : Packing) (told : List ℕ) (count : ℕ) (a b c : Option (List ℕ)) → IsFresh start → Packs start p told a b
+    → IsOpen p
     → Finishes p count b c → IsPacked told count a c
 packed_all start p told count a b c fresh packs is_open (inl (none, count_is, nothing)) = record {
   lines = packs.lines;
-  is_text = inl (subst (AreLines packs.lines) (sym (all_told start p told a b fresh packs ∙ ap (λ (x : List ℕ). packs.front ++ x) none ∙ append-nil packs.front)) packs.are_lines);
+  is_text = inl (subst (AreLines packs.lines)
+      (sym (all_told start p told a b fresh packs ∙ ap (λ (x : List ℕ). packs.front ++ x) none ∙ append-nil packs.front))
+      packs.are_lines);
   within = omega (arith, fresh.1, packs.lines_are, is_open.within);
   count_is = omega (arith, fresh.2, packs.entries_are, count_is);
   written = subst (Appends a c) (append-nil (concat (entries_in packs.lines))) (Appends-trans a b c _ _ packs.written nothing);
 }
 packed_all start p told count a b c fresh packs is_open (inr (some, (line, stands, count_is, written))) = record {
   lines = packs.lines ++ line ∷ [];
-  is_text = inr (packs.lines, line, packs.front, p.line.items, refl, all_told start p told a b fresh packs, packs.are_lines, some, is_open.plain, stands);
+  is_text = inr (
+    packs.lines,
+    line,
+    packs.front,
+    p.line.items,
+    refl,
+    all_told start p told a b fresh packs,
+    packs.are_lines,
+    some,
+    is_open.plain,
+    stands,
+  );
   within = omega (arith, fresh.1, packs.lines_are, is_open.room some, length-append packs.lines (line ∷ []));
   count_is = omega (arith, fresh.2, packs.entries_are, count_is, count_more packs.lines (line ∷ []));
   written = written_more a b c packs.lines (line ∷ []) packs.written written;
 }
 
-pub packed_up_to : (start : Packing) (told : List ℕ) (fault : FeedFault) (untold a b : Option (List ℕ)) → IsFresh start → PacksUpTo start told fault untold a b → IsPackedUpTo told fault untold a b
+pub packed_up_to : (start : Packing) (told : List ℕ) (fault : FeedFault) (untold a b : Option (List ℕ)) → IsFresh start
+    → PacksUpTo start told fault untold a b → IsPackedUpTo told fault untold a b
 packed_up_to start told fault untold a b fresh packs =
     let count : start.lines + length packs.lines ≡ length packs.lines = omega (arith, fresh.1) in
     record {
@@ -277,29 +323,58 @@ packed_up_to start told fault untold a b fresh packs =
       are_lines = packs.are_lines;
       joined = ap (λ (x : List ℕ). x ++ told) (sym fresh.0) ∙ packs.joined;
       within = omega (arith, packs.within, count);
-      stops = subst (λ (n : ℕ). StopsAs n (length told) packs.rest untold fault.reason fault.place) count (packs.stops (length told));
+      stops = subst (λ (n : ℕ). StopsAs n (length told) packs.rest untold fault.reason fault.place) count
+          (packs.stops (length told));
       written = packs.written;
     }
 
-pub packed_then : (start p : Packing) (told more : List ℕ) (fault : FeedFault) (untold a b c : Option (List ℕ)) → IsFresh start → Packs start p told a b → PacksUpTo p more fault untold b c
+pub packed_then : (start p : Packing) (told more : List ℕ) (fault : FeedFault) (untold a b c : Option (List ℕ)) → IsFresh start
+    → Packs start p told a b → PacksUpTo p more fault untold b c
     → IsPackedUpTo (told ++ more) fault untold a c
 packed_then start p told more fault untold a b c fresh packs then =
     packed_up_to start (told ++ more) fault untold a c fresh (stops_then start p told more fault untold a b c packs then)
 
+-- The reader failed behind what was told.
+pub packed_unread : (start p : Packing) (told : List ℕ) (untold a b : Option (List ℕ)) → IsFresh start → Packs start p told a b
+    → IsOpen p
+    → IsPackedUpTo told (feed_fault feed.Read (length told)) untold a b
+packed_unread start p told untold a b fresh packs is_open = record {
+  lines = packs.lines;
+  front = packs.front;
+  rest = p.line.items;
+  are_lines = packs.are_lines;
+  joined = all_told start p told a b fresh packs;
+  within = omega (arith, fresh.1, packs.lines_are, is_open.within);
+  stops = (refl, is_open.plain, (λ some. omega (arith, fresh.1, packs.lines_are, is_open.room some)), is_open.short);
+  written = packs.written;
+}
+
 -- It stops for no failure of the reader.
-pub stops_unread : (p : Packing) (octets : List ℕ) (fault : FeedFault) (untold a b : Option (List ℕ)) → PacksUpTo p octets fault untold a b → fault.reason ≢ feed.Read
+pub stops_unread : (p : Packing) (octets : List ℕ) (fault : FeedFault) (untold a b : Option (List ℕ))
+    → PacksUpTo p octets fault untold a b → fault.reason ≢ feed.Read
 stops_unread p octets fault untold a b packs read =
     let at : (total : ℕ) → fault.place ≡ total = λ total.
-    (subst (λ (r : FeedReason). StopsAs (p.lines + length packs.lines) total packs.rest untold r fault.place) read (packs.stops total)).0 in
+    (subst (λ (r : FeedReason). StopsAs (p.lines + length packs.lines) total packs.rest untold r fault.place) read
+    (packs.stops total)).0 in
     absurd (omega (arith, at 0, at 1))
 
 -- A read told nothing more.
-pub told_no_more : (a b c : Option (List ℕ)) (told buffer : List ℕ) (n : ℕ) → n ≡ 0 → Consumes a b told → Consumes b c (take n buffer) → Consumes a c told
+pub told_no_more : (a b c : Option (List ℕ)) (told buffer : List ℕ) (n : ℕ) → n ≡ 0 → Consumes a b told
+    → Consumes b c (take n buffer) → Consumes a c told
 told_no_more a b c told buffer n none before more =
-    subst (Consumes a c) (append-nil told) (Consumes-trans a b c told [] before (subst (λ (k : ℕ). Consumes b c (take k buffer)) none more))
+    subst (Consumes a c) (append-nil told)
+    (Consumes-trans a b c told [] before (subst (λ (k : ℕ). Consumes b c (take k buffer)) none more))
+
+-- A read that failed told nothing.
+pub told_nothing : (a b c : Option (List ℕ)) (told : List ℕ) → Consumes a b told → Keeps b c → Consumes a c told
+told_nothing None b c told before keeps = tt
+told_nothing (Some xs) None c told before keeps = absurd before
+told_nothing (Some xs) (Some ys) None told before keeps = absurd keeps
+told_nothing (Some xs) (Some ys) (Some zs) told before keeps = before ∙ ap (λ (x : List ℕ). told ++ x) (sym keeps)
 
 -- what the end answers
-pub packed_ok : (result : Result ℕ PackFault) (start p : Packing) (told : List ℕ) (old new a b c : Option (List ℕ)) → IsFresh start → Packs start p told a b → IsOpen p
+pub packed_ok : (result : Result ℕ PackFault) (start p : Packing) (told : List ℕ) (old new a b c : Option (List ℕ)) → IsFresh start
+    → Packs start p told a b → IsOpen p
     → IsAtEnd new → Consumes old new told → IfOk result (λ count. Finishes p count b c)
     → IfOk result (λ count. IsAtEnd new × ((all : List ℕ) × Consumes old new all × IsPacked all count a c))
 packed_ok (Ok count) start p told old new a b c fresh packs is_open at_end consumed finishes =

@@ -17,7 +17,8 @@ use Rattle.tcap_record.proofs.FrontLaws.{part_not_whole}
 use Rattle.tcap_record.proofs.FedLaws.{framed_on}
 
 -- with more octets behind, what is wrong is wrong still
-fault_on : (count : ℕ) (rest more : List ℕ) (reason : FeedReason) (offset : ℕ) → IsRestFault count rest reason offset → reason ≢ feed.CutRecord → IsRestFault count (rest ++ more) reason offset
+fault_on : (count : ℕ) (rest more : List ℕ) (reason : FeedReason) (offset : ℕ) → IsRestFault count rest reason offset
+    → reason ≢ feed.CutRecord → IsRestFault count (rest ++ more) reason offset
 fault_on count [] more reason offset h other = absurd h
 fault_on count (first ∷ octets) more feed.TooManyEntries offset h other = h
 fault_on count (first ∷ octets) more feed.BadEnd offset h other = h
@@ -29,7 +30,8 @@ fault_on count (first ∷ octets) more feed.Read offset h other = absurd h
 fault_on count (first ∷ octets) more feed.Memory offset h other = absurd h
 
 -- a part of an entry is a cut one
-part_cut : (count : ℕ) (octets : List ℕ) → IsPart octets → octets ≢ [] → count < entry_limit → IsRestFault count octets feed.CutRecord (length octets)
+part_cut : (count : ℕ) (octets : List ℕ) → IsPart octets → octets ≢ [] → count < entry_limit
+    → IsRestFault count octets feed.CutRecord (length octets)
 part_cut count [] is_part some room = absurd (some refl)
 part_cut count (first ∷ more) is_part some room = (room, is_part.0, is_part.1, omega arith)
 
@@ -40,13 +42,16 @@ pub record IsFed (told : List ℕ) (entries : List Entry) (h : Held) : Type 0 wh
   pub sound : h.fault ≡ None
   pub is_part : IsPart h.octets
 
-cut_there : (told : List ℕ) (entries : List Entry) (h : Held) → IsFed told entries h → h.octets ≢ [] → IsRestFault (length entries) h.octets feed.CutRecord (length h.octets)
+cut_there : (told : List ℕ) (entries : List Entry) (h : Held) → IsFed told entries h → h.octets ≢ []
+    → IsRestFault (length entries) h.octets feed.CutRecord (length h.octets)
 cut_there told entries h f some =
     let with : IsHeldWith h None = subst (IsHeldWith h) f.sound f.held.1 in
-    subst (λ (n : ℕ). IsRestFault n h.octets feed.CutRecord (length h.octets)) f.fed.count_is (part_cut h.count h.octets f.is_part some (with.0 some))
+    subst (λ (n : ℕ). IsRestFault n h.octets feed.CutRecord (length h.octets)) f.fed.count_is
+    (part_cut h.count h.octets f.is_part some (with.0 some))
 
 -- at the end
-read_ended : (told : List ℕ) (entries : List Entry) (h : Held) → IsFed told entries h → h.octets ≡ [] → IsReadAs entries (Ok tt) told
+read_ended : (told : List ℕ) (entries : List Entry) (h : Held) → IsFed told entries h → h.octets ≡ []
+    → IsReadAs entries (Ok tt) told
 read_ended told entries h f none = record {
   rest = h.octets;
   framed = f.fed.framed;
@@ -55,7 +60,8 @@ read_ended told entries h f none = record {
 }
 
 -- within an entry
-read_cut : (told : List ℕ) (entries : List Entry) (h : Held) → IsFed told entries h → h.octets ≢ [] → IsReadAs entries (Err (feed_fault feed.CutRecord (h.place + length h.octets))) told
+read_cut : (told : List ℕ) (entries : List Entry) (h : Held) → IsFed told entries h → h.octets ≢ []
+    → IsReadAs entries (Err (feed_fault feed.CutRecord (h.place + length h.octets))) told
 read_cut told entries h f some = record {
   rest = h.octets;
   framed = f.fed.framed;
@@ -63,14 +69,16 @@ read_cut told entries h f some = record {
   ends = (length h.octets, omega (arith, f.fed.place_is), cut_there told entries h f some);
 }
 
-pub read_finished : (r : Result (Unit {0}) FeedFault) (told : List ℕ) (entries : List Entry) (h : Held) → IsFed told entries h → FinishesAs r h → IsReadAs entries r told
+pub read_finished : (r : Result (Unit {0}) FeedFault) (told : List ℕ) (entries : List Entry) (h : Held) → IsFed told entries h
+    → FinishesAs r h → IsReadAs entries r told
 read_finished (Ok done) told entries h f (sound, inl none) = read_ended told entries h f none
 read_finished (Ok done) told entries h f (sound, inr whole) = absurd (part_not_whole h.octets f.is_part whole)
 read_finished (Err fault) told entries h f (inl wrong) = let e = sym wrong ∙ f.sound in absurd cc
 read_finished (Err fault) told entries h f (inr (sound, some, part, is)) = rw is (read_cut told entries h f some)
 
 -- where memory ran out; more octets were read than were fed
-pub read_to_memory : (told more : List ℕ) (entries : List Entry) (h : Held) → Fed told entries h → IsHeld h → IsReadAs entries (Err (feed_fault feed.Memory 0)) (told ++ more)
+pub read_to_memory : (told more : List ℕ) (entries : List Entry) (h : Held) → Fed told entries h → IsHeld h
+    → IsReadAs entries (Err (feed_fault feed.Memory 0)) (told ++ more)
 read_to_memory told more entries h fed held = record {
   rest = h.octets ++ more;
   framed = framed_on 0 entries told h.octets more fed.framed;
@@ -79,11 +87,13 @@ read_to_memory told more entries h fed held = record {
 }
 
 -- where something is wrong with the octets
-pub read_to_fault : (told more : List ℕ) (entries : List Entry) (h : Held) (f : FeedFault) → Fed told entries h → IsHeld h → h.fault ≡ Some f → IsReadAs entries (Err f) (told ++ more)
+pub read_to_fault : (told more : List ℕ) (entries : List Entry) (h : Held) (f : FeedFault) → Fed told entries h → IsHeld h
+    → h.fault ≡ Some f → IsReadAs entries (Err f) (told ++ more)
 read_to_fault told more entries h f fed held wrong =
     let with : IsHeldWith h (Some f) = subst (IsHeldWith h) wrong held.1 in
     let there : IsRestFault (length entries) (h.octets ++ more) f.reason with.0 =
-    subst (λ (n : ℕ). IsRestFault n (h.octets ++ more) f.reason with.0) fed.count_is (fault_on h.count h.octets more f.reason with.0 with.2 with.3) in
+    subst (λ (n : ℕ). IsRestFault n (h.octets ++ more) f.reason with.0) fed.count_is
+    (fault_on h.count h.octets more f.reason with.0 with.2 with.3) in
     record {
       rest = h.octets ++ more;
       framed = framed_on 0 entries told h.octets more fed.framed;
@@ -93,10 +103,14 @@ read_to_fault told more entries h f fed held wrong =
     }
 
 -- where a piece is refused
-pub read_refused : (told piece : List ℕ) (old new : Kept) (f : FeedFault) → IsFed told old.waiting old.held → IsHeld new.held → FeedsNot f old new
+pub read_refused : (told piece : List ℕ) (old new : Kept) (f : FeedFault) → IsFed told old.waiting old.held → IsHeld new.held
+    → FeedsNot f old new piece
     → ((n : ℕ) × (n ≤ length piece) × FedTo (told ++ take n piece) [] new) → IsReadAs new.waiting (Err f) (told ++ piece)
 read_refused told piece old new f was held (inl (wrong, same)) fed = let e = sym wrong ∙ was.sound in absurd cc
-read_refused told piece old new f was held (inr (inl (sound, is, same))) fed = rw (is, same) (read_to_memory told piece old.waiting old.held was.fed was.held)
+read_refused told piece old new f was held (inr (inl (sound, is, same, some))) fed =
+    rw (is, same) (read_to_memory told piece old.waiting old.held was.fed was.held)
 read_refused told piece old new f was held (inr (inr (sound, wrong))) (n, most, fed) =
-    let all : (told ++ take n piece) ++ drop n piece ≡ told ++ piece = append_assoc told (take n piece) (drop n piece) ∙ ap (λ (x : List ℕ). told ++ x) (take-append-drop n piece) in
-    subst (IsReadAs new.waiting (Err f)) all (read_to_fault (told ++ take n piece) (drop n piece) new.waiting new.held f fed held wrong)
+    let all : (told ++ take n piece) ++ drop n piece ≡ told ++ piece =
+    append_assoc told (take n piece) (drop n piece) ∙ ap (λ (x : List ℕ). told ++ x) (take-append-drop n piece) in
+    subst (IsReadAs new.waiting (Err f)) all
+    (read_to_fault (told ++ take n piece) (drop n piece) new.waiting new.held f fed held wrong)

@@ -8,7 +8,7 @@ use Rattle.tcap_record.specs.declared.frames.Front.{Front}
 use Rattle.tcap_record.specs.declared.frames.Front.TheVariants.{Whole, Part, Refused}
 use Rattle.tcap_record.specs.Framed.{entry_limit, IsRestFault}
 use Rattle.tcap_record.specs.Held.{IsPart, IsWhole}
-use Rattle.tcap_record.specs.Front.{front_at, taken_of, IsLonger, BeginsAs, IsTaken}
+use Rattle.tcap_record.specs.Front.{entry_room, front_at, taken_of, IsLonger, BeginsAs, IsTaken}
 use Rattle.tcap_ber.proofs.OuterLaws.{walk_fault_within}
 use Rattle.tcap_record.proofs.FrontLaws.{front_whole, front_part, front_refused, part_longer, part_within}
 
@@ -18,9 +18,9 @@ pub record Comes (old piece window : List ℕ) : Type 0 where
   pub is_part : IsPart old
   pub some : 0 < length piece
   pub joined : piece ≡ window ++ rest
-  pub room : length window ≡ min (65552 - length old) (length piece)
+  pub room : length window ≡ min (entry_room - length old) (length piece)
 
-pub comes : (old piece window rest : List ℕ) (held count : ℕ) → IsPart old → 0 < length piece → held ≡ length old → count ≡ min (65552 - held) (length piece) → length window ≡ count → piece ≡ window ++ rest
+pub comes : (old piece window rest : List ℕ) (held count : ℕ) → IsPart old → 0 < length piece → held ≡ length old → count ≡ min (entry_room - held) (length piece) → length window ≡ count → piece ≡ window ++ rest
     → Comes old piece window
 comes old piece window rest held count is_part some len room is joined = record {
   rest = rest;
@@ -33,7 +33,7 @@ comes old piece window rest held count is_part some len room is joined = record 
 pub window_some : (old piece window : List ℕ) → Comes old piece window → 0 < length window
 window_some old piece window c = omega (arith, part_within old c.is_part, c.room, c.some)
 
-pub window_fits : (old piece window : List ℕ) → Comes old piece window → length old + length window ≤ 65552
+pub window_fits : (old piece window : List ℕ) → Comes old piece window → length old + length window ≤ entry_room
 window_fits old piece window c = omega (arith, part_within old c.is_part, c.room)
 
 pub is_longer : (count : ℕ) (old window : List ℕ) (front : Front) → IsPart old → front ≡ front_at count (old ++ window) → IsLonger (length old) front

@@ -74,7 +74,8 @@ IsEndOctet octet = (octet ≡ 0x41) ⊎ (octet ≡ 0x42)
 abbrev pub IsRestFault : ℕ → List ℕ → FeedReason → ℕ → Type 0
 IsRestFault count [] reason offset = ⊥
 IsRestFault count (first ∷ more) feed.TooManyEntries offset = (count ≡ entry_limit) × (offset ≡ 0)
-IsRestFault count (first ∷ more) feed.BadEnd offset = (count < entry_limit) × (IsEndOctet first → ⊥) × (first ≢ quiet_octet) × (offset ≡ 0)
+IsRestFault count (first ∷ more) feed.BadEnd offset =
+    (count < entry_limit) × (IsEndOctet first → ⊥) × (first ≢ quiet_octet) × (offset ≡ 0)
 IsRestFault count (first ∷ more) (feed.Element reason) offset =
     (count < entry_limit) × IsEndOctet first
     × ((place : ℕ) × (offset ≡ 1 + place) × IsWalkFault more reason place)

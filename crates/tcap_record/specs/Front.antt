@@ -12,11 +12,15 @@ use Rattle.tcap_record.specs.Framed.{quiet_octet, entry_limit, IsRestFault}
 use Rattle.tcap_record.specs.Framing.{end_in}
 use Rattle.tcap_record.specs.Held.{IsPart, IsWhole}
 
+-- more octets than an entry has that is not whole: one of its end, and those of an element
+abbrev pub entry_room : ℕ
+entry_room = 65552
+
 -- the count and the place are those of few octets
 abbrev pub IsAnswerWithin : Result Outer Fault → Type 0
-IsAnswerWithin (Ok (WholeElement n)) = n ≤ 65552
+IsAnswerWithin (Ok (WholeElement n)) = n ≤ entry_room
 IsAnswerWithin (Ok (Need n)) = Unit {0}
-IsAnswerWithin (Err f) = f.place ≤ 65552
+IsAnswerWithin (Err f) = f.place ≤ entry_room
 
 -- by its element
 abbrev pub front_by : Result Outer Fault → Front
@@ -35,6 +39,12 @@ front_at count [] = Part
 front_at count (first ∷ more) =
     if count == entry_limit then Refused feed.TooManyEntries 0
     else (if first == quiet_octet then Whole 1 else front_of (end_in first) more)
+
+-- how many octets a whole entry at the front has
+abbrev pub whole_in : Front → Option ℕ
+whole_in (Whole n) = Some n
+whole_in Part = None
+whole_in (Refused reason place) = None
 
 -- a whole entry is no shorter than the octets that are held
 abbrev pub IsLonger : ℕ → Front → Type 0
@@ -58,6 +68,6 @@ BeginsAs count octets (Refused reason offset) = IsRestFault count octets reason 
 pub record IsTaken (count : ℕ) (old piece new : List ℕ) (front : Front) (taken : ℕ) : Type 0 where
   pub most : taken ≤ length piece
   pub grown : new ≡ old ++ take taken piece
-  pub few : length new ≤ 65552
+  pub few : length new ≤ entry_room
   pub begins : BeginsAs count new front
   pub all : front ≡ Part → taken ≡ length piece

@@ -72,7 +72,8 @@ IsNoLine content = (line : Option (List ℕ)) → StandsFor content line → ⊥
 abbrev pub AreLines : List (Option (List ℕ)) → List ℕ → Type 0
 AreLines [] text = text ≡ []
 AreLines (line ∷ lines) text =
-    (content octets more : List ℕ) × IsEndedLine content octets × StandsFor content line × (text ≡ octets ++ more) × AreLines lines more
+    (content octets more : List ℕ) × IsEndedLine content octets × StandsFor content line × (text ≡ octets ++ more)
+    × AreLines lines more
 
 -- a whole text: its last line may lack its end
 abbrev pub IsText : List (Option (List ℕ)) → List ℕ → Type 0
@@ -98,10 +99,11 @@ IsRefusedLine count rest untold =
     ⊎ (IsAtEnd untold × HasNoNewline rest × (rest ≢ []) × IsNoLine rest)
 
 -- Why packing stopped behind so many lines: at a line that is none; or the reader failed, and what is left has no whole
--- line; or memory ran out.
+-- line and nothing that is refused already; or memory ran out.
 abbrev pub StopsAs : ℕ → ℕ → List ℕ → Option (List ℕ) → FeedReason → ℕ → Type 0
 StopsAs count total rest untold feed.BadHexLine place = (place ≡ count + 1) × IsRefusedLine count rest untold
-StopsAs count total rest untold feed.Read place = (place ≡ total) × HasNoNewline rest
+StopsAs count total rest untold feed.Read place =
+    (place ≡ total) × HasNoNewline rest × (rest ≢ [] → count < lines_limit) × (length rest ≤ line_limit + 1)
 StopsAs count total rest untold feed.Memory place = place ≡ 0
 StopsAs count total rest untold _ place = ⊥
 
@@ -114,7 +116,8 @@ pub record IsPacked (told : List ℕ) (count : ℕ) (taken taken' : Option (List
   pub written : Appends taken taken' (concat (entries_in lines))
 
 -- What was told begins with these lines, whose entries were written; and this is why it was packed no further.
-pub record IsPackedUpTo (told : List ℕ) (fault : FeedFault) (untold : Option (List ℕ)) (taken taken' : Option (List ℕ)) : Type 0 where
+pub record IsPackedUpTo (told : List ℕ) (fault : FeedFault) (untold : Option (List ℕ)) (taken taken' : Option (List ℕ))
+    : Type 0 where
   pub lines : List (Option (List ℕ))
   pub front : List ℕ
   pub rest : List ℕ

@@ -1,5 +1,5 @@
 -- What a feeder keeps of a record that comes in pieces.
-use Rattle.std.specs.Prelude.{◌≡◌, ℕ, ◌⊎◌, List, ◌++◌, Some, None}
+use Rattle.std.specs.Prelude.{◌≡◌, ◌≢◌, ℕ, ◌⊎◌, List, [], ◌++◌, Some, None}
 use Rattle.tcap_record.specs.declared.entry.Entry.{Entry}
 use Rattle.tcap_record.specs.declared.fault.FeedFault.{FeedFault}
 use Rattle.tcap_record.specs.declared.fault.FeedReason.TheVariants as feed
@@ -15,9 +15,10 @@ pub record Kept : Type 0 where
 abbrev pub FedTo : List ℕ → List Entry → Kept → Type 0
 FedTo octets taken kept = Fed octets (taken ++ kept.waiting) kept.held
 
--- Something was wrong before, and nothing changes; or memory ran out, and nothing changes; or it is with these octets.
-abbrev pub FeedsNot : FeedFault → Kept → Kept → Type 0
-FeedsNot f old new =
+-- Something was wrong before, and nothing changes; or memory ran out at some octets, and nothing changes; or it is with
+-- these octets.
+abbrev pub FeedsNot : FeedFault → Kept → Kept → List ℕ → Type 0
+FeedsNot f old new piece =
     ((old.held.fault ≡ Some f) × (new ≡ old))
-    ⊎ ((old.held.fault ≡ None) × (f ≡ feed_fault feed.Memory 0) × (new ≡ old))
+    ⊎ ((old.held.fault ≡ None) × (f ≡ feed_fault feed.Memory 0) × (new ≡ old) × (piece ≢ []))
     ⊎ ((old.held.fault ≡ None) × (new.held.fault ≡ Some f))

@@ -6,6 +6,7 @@ pub mod Framing
 pub mod Held
 pub mod Front
 pub mod Viewed
+pub mod Lent
 pub mod Feeding
 pub mod Kept
 pub mod HexLines

@@ -76,7 +76,8 @@ problem_text (problems.ReturnError n) = codes " error=" ++ decimal n
 
 -- a component
 abbrev pub component_text : Component → List ℕ
-component_text (Invoke id linked code parameter) = codes "Invoke id=" ++ signed_decimal id ++ linked_text linked ++ operation_text code parameter
+component_text (Invoke id linked code parameter) =
+    codes "Invoke id=" ++ signed_decimal id ++ linked_text linked ++ operation_text code parameter
 component_text (ReturnResult last id body) = result_name last ++ codes " id=" ++ signed_decimal id ++ result_body_text body
 component_text (ReturnError id code parameter) = codes "ReturnError id=" ++ signed_decimal id ++ error_code_text code parameter
 component_text (Reject id problem) = codes "Reject id=" ++ rejected_text id ++ problem_text problem

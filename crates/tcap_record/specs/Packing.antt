@@ -85,5 +85,6 @@ pub record PacksUpTo (old : Packing) (octets : List ℕ) (fault : FeedFault) (un
 abbrev pub Finishes : Packing → ℕ → Option (List ℕ) → Option (List ℕ) → Type 0
 Finishes old count taken taken' =
     ((old.line.items ≡ []) × (count ≡ old.entries) × Appends taken taken' [])
-    ⊎ ((old.line.items ≢ []) × ((line : Option (List ℕ)) × StandsFor old.line.items line × (count ≡ old.entries + length (entries_in (line ∷ [])))
+    ⊎ ((old.line.items ≢ []) × ((line : Option (List ℕ)) × StandsFor old.line.items line
+    × (count ≡ old.entries + length (entries_in (line ∷ [])))
     × Appends taken taken' (concat (entries_in (line ∷ [])))))

@@ -11,7 +11,8 @@ use Rattle.tcap_record.specs.Framed.{Framed, IsRestFault, entry_limit}
 -- How the octets that were read end behind the entries: in nothing; or in a rest that is no entry; or,
 -- where the reader failed, in nothing or an entry that is not whole; or memory ran out before.
 abbrev pub EndsAs : ℕ → ℕ → List ℕ → FeedReason → ℕ → Type 0
-EndsAs count total rest feed.Read place = (place ≡ total) × ((rest ≡ []) ⊎ ((offset : ℕ) × IsRestFault count rest feed.CutRecord offset))
+EndsAs count total rest feed.Read place =
+    (place ≡ total) × ((rest ≡ []) ⊎ ((offset : ℕ) × IsRestFault count rest feed.CutRecord offset))
 EndsAs count total rest feed.Memory place = place ≡ 0
 EndsAs count total rest reason place = (offset : ℕ) × (place ≡ total - length rest + offset) × IsRestFault count rest reason offset
 

@@ -9,6 +9,7 @@ ghost use Rattle.tcap_parts.specs.Meaning.{code_of, parameter_of, body_of, probl
 ghost use Rattle.tcap_record.specs.Lines.{code_text, parameter_text, coded_text, operation_text, error_code_text, result_name, problem_text, component_text, component_line};
 
 use crate::digits::push_hex;
+use crate::numbers::push_number;
 use std::alloc::AllocError;
 use tcap_ber::RawView;
 use tcap_parts::{CodeView, ComponentView, Components, ProblemView, ResultBodyView};
@@ -31,7 +32,7 @@ fn push_code(text: &mut String, code: CodeView) -> Result<(), AllocError>
     ensures { OnOk result (string_bytes text.new ≡ string_bytes text.old ++ code_text (code_of code.entry)) }
 {
     match code {
-        CodeView::Local(number) => write!(text, "{number}"),
+        CodeView::Local(number) => push_number(text, number),
         CodeView::Global(id) => {
             text.push_str("g:")?;
             push_hex(text, id.octets)
@@ -45,7 +46,8 @@ fn push_coded(
     code: CodeView,
     parameter: Option<RawView>,
 ) -> Result<(), AllocError>
-    ensures { OnOk result (string_bytes text.new ≡ string_bytes text.old ++ coded_text (code_of code.entry) (parameter_of parameter.entry)) }
+    ensures { OnOk result (string_bytes text.new ≡ string_bytes text.old
+        ++ coded_text (code_of code.entry) (parameter_of parameter.entry)) }
 {
     push_code(text, code)?;
     push_parameter(text, parameter)
@@ -57,7 +59,8 @@ fn push_operation(
     code: CodeView,
     parameter: Option<RawView>,
 ) -> Result<(), AllocError>
-    ensures { OnOk result (string_bytes text.new ≡ string_bytes text.old ++ operation_text (code_of code.entry) (parameter_of parameter.entry)) }
+    ensures { OnOk result (string_bytes text.new ≡ string_bytes text.old
+        ++ operation_text (code_of code.entry) (parameter_of parameter.entry)) }
 {
     text.push_str(" op=")?;
     push_coded(text, code, parameter)
@@ -69,7 +72,8 @@ fn push_error_code(
     code: CodeView,
     parameter: Option<RawView>,
 ) -> Result<(), AllocError>
-    ensures { OnOk result (string_bytes text.new ≡ string_bytes text.old ++ error_code_text (code_of code.entry) (parameter_of parameter.entry)) }
+    ensures { OnOk result (string_bytes text.new ≡ string_bytes text.old
+        ++ error_code_text (code_of code.entry) (parameter_of parameter.entry)) }
 {
     text.push_str(" error=")?;
     push_coded(text, code, parameter)
@@ -87,10 +91,10 @@ fn push_invoke(
         ++ component_text (Component.Invoke id linked (code_of code.entry) (parameter_of parameter.entry))) }
 {
     text.push_str("Invoke id=")?;
-    write!(text, "{id}")?;
+    push_number(text, id)?;
     if let Some(linked) = linked {
         text.push_str(" linked=")?;
-        write!(text, "{linked}")?;
+        push_number(text, linked)?;
     }
     push_operation(text, code, parameter)
 }
@@ -157,7 +161,8 @@ fn push_problem(text: &mut String, problem: ProblemView) -> Result<(), AllocErro
 
 /// Appends a Reject.
 fn push_reject(text: &mut String, id: Option<i8>, problem: ProblemView) -> Result<(), AllocError>
-    ensures { OnOk result (string_bytes text.new ≡ string_bytes text.old ++ component_text (Component.Reject id (problem_of problem))) }
+    ensures { OnOk result (string_bytes text.new ≡ string_bytes text.old
+        ++ component_text (Component.Reject id (problem_of problem))) }
 {
     text.push_str("Reject id=")?;
     match id {
@@ -194,7 +199,8 @@ fn push_component(text: &mut String, component: ComponentView) -> Result<(), All
 
 /// Appends the lines of components.
 pub(crate) fn push_components(text: &mut String, components: Components) -> Result<(), AllocError>
-    ensures { OnOk result (string_bytes text.new ≡ string_bytes text.old ++ flat_map component_line (components_left components.entry)) }
+    ensures { OnOk result (string_bytes text.new ≡ string_bytes text.old
+        ++ flat_map component_line (components_left components.entry)) }
 {
     for component in components {
         push_component(text, component)?;

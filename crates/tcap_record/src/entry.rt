@@ -38,7 +38,7 @@ pub struct Entry {
     pub body: Body,
 }
 
-/// What an entry is, lent from its octets.
+/// What an entry is, lent.
 #[derive(Clone, Copy, Debug)]
 pub enum BodyView<'a> {
     /// The message that the element spells.
@@ -49,7 +49,7 @@ pub enum BodyView<'a> {
     Quiet,
 }
 
-/// An entry, lent from its octets.
+/// An entry, lent.
 #[derive(Clone, Copy, Debug)]
 pub struct EntryView<'a> {
     /// The end that sent it; `None` exactly where it is a quiet mark.
@@ -58,6 +58,32 @@ pub struct EntryView<'a> {
     pub place: u64,
     /// What it is.
     pub body: BodyView<'a>,
+}
+
+impl Body {
+    /// The body, lent.
+    fn view(&self) -> BodyView<'_>
+        ensures { body_read result ≡ self.now }
+    {
+        match self {
+            Body::Good(message) => BodyView::Good(message.view()),
+            Body::Bad(fault) => BodyView::Bad(*fault),
+            Body::Quiet => BodyView::Quiet,
+        }
+    }
+}
+
+impl Entry {
+    /// The entry, lent.
+    pub fn view(&self) -> EntryView<'_>
+        ensures { entry_read result ≡ self.now }
+    {
+        EntryView {
+            side: self.side,
+            place: self.place,
+            body: self.body.view(),
+        }
+    }
 }
 
 impl BodyView<'_> {

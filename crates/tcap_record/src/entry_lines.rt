@@ -7,8 +7,9 @@ ghost use Rattle.tcap_record.specs.declared.entry.Body.TheVariants.{Bad, Quiet};
 ghost use Rattle.tcap_record.specs.Lines.{name_of_end, body_text, side_text, entry_lines};
 ghost use Rattle.tcap_record.specs.Viewed.{body_read, entry_read};
 
-use crate::entry::{Body, BodyView, End, Entry, EntryView};
+use crate::entry::{BodyView, End, EntryView};
 use crate::lines::push_message;
+use crate::numbers::push_number;
 use std::alloc::AllocError;
 use tcap_ber::Fault;
 
@@ -39,7 +40,7 @@ fn push_side(text: &mut String, side: Option<End>) -> Result<(), AllocError>
 fn push_front(text: &mut String, number: usize, side: Option<End>) -> Result<(), AllocError>
     ensures { OnOk result (string_bytes text.new ≡ string_bytes text.old ++ decimal number ++ codes " " ++ side_text side) }
 {
-    write!(text, "{number}")?;
+    push_number(text, number)?;
     text.push_str(" ")?;
     push_side(text, side)
 }
@@ -60,42 +61,22 @@ fn push_quiet(text: &mut String) -> Result<(), AllocError>
     text.push_str("Q\n")
 }
 
-/// Appends what stands behind an entry's number and end, and the lines of its components.
-fn push_body(text: &mut String, body: &Body) -> Result<(), AllocError>
-    ensures { OnOk result (string_bytes text.new ≡ string_bytes text.old ++ body_text body.now) }
-{
-    match body {
-        Body::Good(message) => push_message(text, &message.view()),
-        Body::Bad(fault) => push_bad(text, *fault),
-        Body::Quiet => push_quiet(text),
-    }
-}
-
 /// Appends what stands behind the number and the end of an entry that is lent, and the lines of its components.
-fn push_body_view(text: &mut String, body: BodyView) -> Result<(), AllocError>
-    ensures { OnOk result (string_bytes text.new ≡ string_bytes text.old ++ body_text (body_read body.entry)) }
+fn push_body_view(text: &mut String, body: &BodyView) -> Result<(), AllocError>
+    ensures { OnOk result (string_bytes text.new ≡ string_bytes text.old ++ body_text (body_read body.now)) }
 {
     match body {
-        BodyView::Good(message) => push_message(text, &message),
-        BodyView::Bad(fault) => push_bad(text, fault),
+        BodyView::Good(message) => push_message(text, message),
+        BodyView::Bad(fault) => push_bad(text, *fault),
         BodyView::Quiet => push_quiet(text),
     }
 }
 
-/// Appends the lines of the entry of that number. `Err` where memory ran out: then `text` holds some front of them
-/// behind what it held.
-pub(crate) fn push_entry(text: &mut String, number: usize, entry: &Entry) -> Result<(), AllocError>
-    ensures { OnOk result (string_bytes text.new ≡ string_bytes text.old ++ entry_lines number entry.now) }
-{
-    push_front(text, number, entry.side)?;
-    push_body(text, &entry.body)
-}
-
-/// Appends to `text` the lines of the entry of that number, as `show` writes them, of an entry that is lent. `Err`
-/// where memory ran out: then `text` holds some front of them behind what it held.
+/// Appends to `text` the lines of the entry of that number, as `show` writes them, of an entry that is lent. `Err` where
+/// memory ran out: what `text` holds then is not said.
 pub fn push_view(text: &mut String, number: usize, entry: EntryView) -> Result<(), AllocError>
     ensures { OnOk result (string_bytes text.new ≡ string_bytes text.old ++ entry_lines number (entry_read entry.entry)) }
 {
     push_front(text, number, entry.side)?;
-    push_body_view(text, entry.body)
+    push_body_view(text, &entry.body)
 }

@@ -16,7 +16,7 @@ pub enum FeedReason {
     CutRecord,
     /// There are over 100,000 entries, this profile's limit.
     TooManyEntries,
-    /// A line of hex digits is no line of a record.
+    /// A line of hex digits stands for no entry and is not skipped.
     BadHexLine,
     /// The reader failed.
     Read,

@@ -43,10 +43,12 @@ fn keep_front(
     frames: &Frames,
     waiting: &mut VecDeque<Entry>,
 ) -> Result<bool, AllocError>
-    ensures kept { result ≡ Ok true → (entry : Entry) × IsFront entry frames.now × (frames.now.fault ≡ None) × IsWhole frames.now.octets
+    ensures kept { result ≡ Ok true → (entry : Entry) × IsFront entry frames.now × (frames.now.fault ≡ None)
+        × IsWhole frames.now.octets
         × (waiting.new.items ≡ waiting.old.items ++ entry ∷ []) }
-    ensures none { result ≡ Ok false → ((frames.now.fault ≡ None) × IsWhole frames.now.octets → ⊥) × (waiting.new.items ≡ waiting.old.items) }
-    ensures failed { OnErr result (waiting.new.items ≡ waiting.old.items) }
+    ensures none { result ≡ Ok false → ((frames.now.fault ≡ None) × IsWhole frames.now.octets → ⊥)
+        × (waiting.new.items ≡ waiting.old.items) }
+    ensures failed { OnErr result (IsWhole frames.now.octets × (waiting.new.items ≡ waiting.old.items)) }
 {
     let Some(entry) = frames.front() else {
         return Ok(false);
@@ -103,11 +105,13 @@ fn keep_rest(
     requires sound { frames.now.fault ≡ None }
     requires held { IsHeld frames.now }
     ensures none { result ≡ Ok None → (IsWhole frames.now.octets → ⊥) × (waiting.new.items ≡ waiting.old.items) }
+    ensures memory { OnErr result (IsWhole frames.now.octets) }
     ensures kept { (more : List Entry) × (waiting.new.items ≡ waiting.old.items ++ more) }
     ensures sound { IfOk result (λ found. IfSome found (λ x. OnOk x.1 ((x.0.fault ≡ None) × IsPart x.0.octets))) }
     ensures failed { IfOk result (λ found. IfSome found (λ x. IfErr x.1 (λ f. x.0.fault ≡ Some f))) }
     ensures held { IfOk result (λ found. IfSome found (λ x. IsHeld x.0)) }
-    ensures fed { IfOk result (λ found. IfSome found (λ x. (octets : List ℕ) (taken : List Entry) → Fed octets (taken ++ waiting.old.items) frames.now
+    ensures fed { IfOk result (λ found. IfSome found (λ x. (octets : List ℕ) (taken : List Entry)
+        → Fed octets (taken ++ waiting.old.items) frames.now
         → MatchResult x.1 (λ _. Fed (octets ++ piece.now) (taken ++ waiting.new.items) x.0)
         (λ _. (n : ℕ) × (n ≤ length piece.now) × Fed (octets ++ take n piece.now) (taken ++ waiting.new.items) x.0))) }
 {
@@ -147,7 +151,7 @@ impl Feeder {
     pub fn feed(&mut self, piece: &[u8]) -> Result<(), FeedFault>
         // Nothing is wrong, and what is held is a part of an entry, or nothing.
         ensures sound { OnOk result ((self.old.held.fault ≡ None) × (self.new.held.fault ≡ None) × IsPart self.new.held.octets) }
-        ensures fails { (f : FeedFault) → result ≡ Err f → FeedsNot f self.old self.new }
+        ensures fails { (f : FeedFault) → result ≡ Err f → FeedsNot f self.old self.new piece.now }
         // What is held is as it has to be.
         ensures held { IsHeld self.new.held }
         // The entries that waited wait still, before the new ones.
@@ -176,7 +180,8 @@ impl Feeder {
 
     /// Takes the first entry that waits. `None` where none does.
     pub fn take(&mut self) -> Option<Entry>
-        ensures first { MatchOption result ((self.old.waiting ≡ []) × (self.new ≡ self.old)) (λ entry. self.old.waiting ≡ entry ∷ self.new.waiting) }
+        ensures first { MatchOption result ((self.old.waiting ≡ []) × (self.new ≡ self.old))
+            (λ entry. self.old.waiting ≡ entry ∷ self.new.waiting) }
         ensures held { self.new.held ≡ self.old.held }
         ensures fed { (octets : List ℕ) (taken : List Entry) → FedTo octets taken self.old
             → MatchOption result (FedTo octets taken self.new) (λ entry. FedTo octets (taken ++ entry ∷ []) self.new) }

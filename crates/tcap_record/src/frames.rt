@@ -1,23 +1,20 @@
 //! The entries of a record as its octets come, one at a time.
 
-ghost use Rattle.std.specs.Prelude.{◌≡◌, ◌≢◌, ◌+◌, ◌^◌, ◌<◌, ◌≤◌, ◌++◌, [], ℕ, List, length, drop, Result, IfOk, IfErr};
+ghost use Rattle.std.specs.Prelude.{◌≡◌, ◌≢◌, ◌+◌, ◌<◌, ◌≤◌, ◌++◌, [], ℕ, List, length, drop, Result, IfOk, IfErr};
 ghost use Rattle.tcap_ber.specs.Walking.{outer_at};
 ghost use Rattle.tcap_ber.specs.Resuming.{resumes};
-ghost use Rattle.tcap_ber.specs.Reading.{span};
 ghost use Rattle.tcap_record.specs.declared.frames.Front.{Front};
-ghost use Rattle.tcap_record.specs.Framed.{IsEntry, entry_limit};
-ghost use Rattle.tcap_record.specs.Framing.{body_at};
-ghost use Rattle.tcap_record.specs.Held.{IsPart, IsWhole};
-ghost use Rattle.tcap_record.specs.Front.{IsAnswerWithin, IsLonger, IsTaken, front_by, front_at, taken_of};
-ghost use Rattle.tcap_record.specs.Viewed.{body_read, entry_read};
+ghost use Rattle.tcap_record.specs.Framed.{entry_limit};
+ghost use Rattle.tcap_record.specs.Held.{IsPart};
+ghost use Rattle.tcap_record.specs.Front.{IsAnswerWithin, IsLonger, IsTaken, entry_room, front_by, front_at, taken_of};
 
-use crate::entry::{BodyView, EntryView};
+use crate::entry::EntryView;
 use crate::fault::{FeedFault, FeedReason};
 use crate::framing::{ENTRY_LIMIT, QUIET_OCTET, end_of};
+use crate::lending::{entry_view, front_view};
 use std::alloc::{AllocError, Global};
 use std::marker::Model;
-use tcap_ber::{Fault, Outer, Walk, Window};
-use tcap_msg::view;
+use tcap_ber::{Fault, Outer, Walk};
 
 /// More octets than an entry has that is not whole: one of its end, and those of an element.
 const ENTRY_ROOM: usize = 65_552;
@@ -56,6 +53,7 @@ impl Model for Frames {
     ghost use Rattle.tcap_ber.specs.Walking.{outer_at};
     ghost use Rattle.tcap_ber.specs.Resuming.{resumes};
     ghost use Rattle.tcap_record.specs.Framed.{entry_limit};
+    ghost use Rattle.tcap_record.specs.Front.{entry_room};
     ghost use Rattle.tcap_record.specs.Held.{Held, IsPart, IsWhole, IsHeld};
 
     ghost Value = { Held };
@@ -67,8 +65,8 @@ impl Model for Frames {
         × (a.whole ≡ true → (a.fault ≡ None) × IsWhole a.octets.items)
         × (a.whole ≡ false → a.fault ≡ None → IsPart a.octets.items
         × ((more : List ℕ) → resumes a.walk more ≡ outer_at (drop 1 a.octets.items ++ more)))
-        × (length a.octets.items ≤ 65552)
-        × (a.place ≤ a.count * 65552) };
+        × (length a.octets.items ≤ entry_room)
+        × (a.place ≤ a.count * entry_room) };
 }
 
 /// What octets begin with behind the octet of an end, by their element.
@@ -86,7 +84,7 @@ fn front_by(answer: Result<Outer, Fault>) -> Front
 /// What octets begin with behind so many entries, and the walk over their element.
 fn begin(count: usize, walk: Walk, octets: &[u8]) -> (Front, Walk)
     requires some { 0 < length octets.now }
-    requires fits { length octets.now ≤ 65552 }
+    requires fits { length octets.now ≤ entry_room }
     requires walk { (more : List ℕ) → resumes walk more ≡ outer_at more }
     ensures front { result.0 ≡ front_at count octets.now }
     ensures walk { (more : List ℕ) → result.0 ≡ Front.Part → resumes result.1 more ≡ outer_at (drop 1 octets.now ++ more) }
@@ -106,7 +104,7 @@ fn begin(count: usize, walk: Walk, octets: &[u8]) -> (Front, Walk)
 
 /// What a part of an entry and the octets behind it begin with, and the walk over their element.
 fn go_on(walk: Walk, part: &[u8], octets: &[u8]) -> (Front, Walk)
-    requires fits { length part.now + length octets.now ≤ 65552 }
+    requires fits { length part.now + length octets.now ≤ entry_room }
     requires some { 0 < length part.now }
     requires walk { (more : List ℕ) → resumes walk more ≡ outer_at (drop 1 part.now ++ more) }
     ensures front { result.0 ≡ front_by (outer_at (drop 1 part.now ++ octets.now)) }
@@ -122,7 +120,7 @@ fn front_with(part: &[u8], count: usize, walk: Walk, octets: &[u8]) -> (Front, W
     requires part { IsPart part.now }
     requires room { part.now ≢ [] → count < entry_limit }
     requires some { 0 < length octets.now }
-    requires fits { length part.now + length octets.now ≤ 65552 }
+    requires fits { length part.now + length octets.now ≤ entry_room }
     requires walk { (more : List ℕ) → resumes walk more ≡ outer_at (drop 1 part.now ++ more) }
     ensures front { result.0 ≡ front_at count (part.now ++ octets.now) }
     ensures walk { (more : List ℕ) → result.0 ≡ Front.Part → resumes result.1 more ≡ outer_at (drop 1 (part.now ++ octets.now) ++ more) }
@@ -170,54 +168,17 @@ fn extend(
     Ok((front, walk, taken))
 }
 
-/// What the octets of one element are, lent.
-#[tactic(auto, unfolding(crate::specs::Framing::body_at))]
-fn body_view(element: Window) -> BodyView
-    ensures { body_read result ≡ body_at (span element.entry) }
-{
-    match view(element.octets) {
-        Ok((message, _)) => BodyView::Good(message),
-        Err(fault) => BodyView::Bad(Fault {
-            reason: fault.reason,
-            place: element.place + fault.place,
-        }),
-    }
-}
-
-/// The entry that octets are, lent, with the place of their first octet.
-fn entry_view(octets: &[u8], place: u64) -> EntryView<'_>
-    requires whole { IsWhole octets.now }
-    requires fits { place + length octets.now < 2 ^ 64 }
-    ensures { IsEntry place (entry_read result) octets.now [] }
-{
-    if octets[0] == QUIET_OCTET {
-        return EntryView {
-            side: None,
-            place,
-            body: BodyView::Quiet,
-        };
-    }
-    let element = Window {
-        octets: &octets[1..],
-        place: place + 1,
-    };
-    EntryView {
-        side: end_of(octets[0]),
-        place: element.place,
-        body: body_view(element),
-    }
-}
-
 impl Frames {
     ghost use Rattle.std.specs.Prelude.{◌≡◌, ◌<◌, ◌≤◌, ◌↔◌, ◌++◌, ◌∷◌, [], ℕ, List, length, take, drop, Some, None, Ok, Err, IfOk, MatchResult, IfSome, IsSome, IsTrue};
     ghost use Rattle.tcap_ber.specs.Walking.{outer_at};
     ghost use Rattle.tcap_ber.specs.Resuming.{resumes};
     ghost use Rattle.tcap_record.specs.declared.entry.Entry.{Entry};
     ghost use Rattle.tcap_record.specs.declared.fault.FeedFault.{FeedFault};
-    ghost use Rattle.tcap_record.specs.Framed.{entry_limit};
+    ghost use Rattle.tcap_record.specs.Framed.{IsEntry, entry_limit};
     ghost use Rattle.tcap_record.specs.Held.{IsPart, IsWhole, IsHeld, IsFront, Fed, nothing_held, grown, dropped, cut_to};
     ghost use Rattle.tcap_record.specs.Feeding.{FailsFrom, FinishesAs};
     ghost use Rattle.tcap_record.specs.Viewed.{entry_read};
+    ghost use Rattle.tcap_record.specs.Lent.{IsLent};
 
     /// Frames of which nothing was taken.
     pub fn new(alloc: Global) -> Frames
@@ -327,6 +288,36 @@ impl Frames {
         self.walk = Walk::new();
         self.whole = false;
         true
+    }
+
+    /// The entry at the front of `piece`, lent from it, and the count of its octets, where nothing is held and nothing is
+    /// wrong, a whole one stands there, and there are fewer entries than may be. Nothing is taken: see [`pass`](Frames::pass).
+    pub fn lend<'a>(&self, piece: &'a [u8]) -> Option<(EntryView<'a>, usize)>
+        ensures exact { IsSome result ↔ ((self.now.fault ≡ None) × (self.now.octets ≡ []) × (self.now.count < entry_limit)
+            × ((n : ℕ) × IsWhole (take n piece.now))) }
+        ensures entry { IfSome result (λ x. IsLent self.now.place piece.now (entry_read x.0) x.1) }
+    {
+        if self.fault.is_none() && self.octets.is_empty() && self.count < ENTRY_LIMIT {
+            front_view(piece, self.place)
+        } else {
+            None
+        }
+    }
+
+    /// Takes and drops at once an entry that is all of `octets`, where nothing is held and nothing is wrong.
+    pub fn pass(&mut self, octets: &[u8])
+        requires sound { self.old.fault ≡ None }
+        requires nothing { self.old.octets ≡ [] }
+        requires room { self.old.count < entry_limit }
+        requires whole { IsWhole octets.now }
+        ensures dropped { self.new ≡ dropped (grown self.old octets.now None) }
+        ensures held { IsHeld self.new }
+        ensures fed { (told : List ℕ) (entries : List Entry) (entry : Entry) → IsEntry self.old.place entry octets.now []
+            → Fed told entries self.old → Fed (told ++ octets.now) (entries ++ entry ∷ []) self.new }
+    {
+        let count = self.count + 1;
+        self.place += octets.len() as u64;
+        self.count = count;
     }
 
     /// The walk over the element of an entry that is held in part.

@@ -2,6 +2,7 @@
 
 ghost use Rattle.std.specs.Prelude.{◌≡◌};
 ghost use Rattle.tcap_record.specs.declared.fault.FeedReason.{FeedReason};
+ghost use Rattle.tcap_record.specs.Framed.{octet_of};
 ghost use Rattle.tcap_record.specs.Framing.{end_in};
 
 use crate::entry::End;
@@ -36,6 +37,16 @@ impl<T: Drop> From<AllocFailed<T>> for FeedFault {
 
     fn from(_: AllocFailed<T>) -> FeedFault {
         OUT_OF_MEMORY
+    }
+}
+
+/// The octet of an end.
+pub(crate) fn octet_of(side: End) -> u8
+    ensures { result ≡ octet_of side }
+{
+    match side {
+        End::A => 0x41,
+        End::B => 0x42,
     }
 }
 

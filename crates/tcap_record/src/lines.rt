@@ -147,7 +147,8 @@ fn push_dialogue_portion(
     text: &mut String,
     dialogue: Option<DialogueView>,
 ) -> Result<(), AllocError>
-    ensures { OnOk result (string_bytes text.new ≡ string_bytes text.old ++ dialogue_portion_text (option_map dialogue_of dialogue.entry)) }
+    ensures { OnOk result (string_bytes text.new ≡ string_bytes text.old
+        ++ dialogue_portion_text (option_map dialogue_of dialogue.entry)) }
 {
     match dialogue {
         Some(dialogue) => push_dialogue(text, dialogue),

@@ -10,14 +10,14 @@ ghost use Rattle.tcap_record.specs.declared.fault.FeedFault.{FeedFault};
 ghost use Rattle.tcap_record.specs.declared.fault.FeedReason.{FeedReason};
 ghost use Rattle.tcap_record.specs.declared.packing.LineFault.{LineFault};
 ghost use Rattle.tcap_record.specs.declared.packing.PackFault.{PackFault};
-ghost use Rattle.tcap_record.specs.Framed.{octet_of};
 ghost use Rattle.tcap_record.specs.Framing.{feed_fault};
 ghost use Rattle.tcap_record.specs.HexLines.{HasNoNewline, IsNoLine, StandsFor, IsPacked, IsPackedUpTo, entries_in, line_limit, lines_limit, newline};
 ghost use Rattle.tcap_record.specs.Packing.{Finishes, IsBehind, IsContentOf, IsFresh, IsLineRefused, IsOpen, Packs, PacksFrom, PacksUpTo, line_fault, line_of};
 
 use crate::entry::End;
 use crate::fault::{FeedFault, FeedReason};
-use crate::framing::{OUT_OF_MEMORY, QUIET_OCTET, end_of};
+use crate::framing::{OUT_OF_MEMORY, QUIET_OCTET, end_of, octet_of};
+use crate::reading::PIECE_LEN;
 use hex::FromHexError;
 use std::alloc::{AllocError, Global};
 use tcap_ber::{Failed, RawView, Read, Write};
@@ -32,12 +32,10 @@ const NEWLINE: u8 = b'\n';
 
 const CARRIAGE_RETURN: u8 = b'\r';
 
-const PIECE_LEN: usize = 8192;
-
 /// Why lines could not be packed.
 #[derive(Clone, Copy, Debug, PartialEq, Eq)]
 pub enum PackFault {
-    /// A line is no line of a record, the reader failed, or memory ran out.
+    /// A line stands for no entry and is not skipped, the reader failed, or memory ran out.
     Fault(FeedFault),
     /// The writer failed.
     Write,
@@ -67,7 +65,8 @@ impl Line {
 
     /// Writes the entry that it stands for.
     fn write<W: Write>(&self, writer: &mut W) -> Result<(), Failed>
-        ensures taken { OnOk result (Appends (W.taken writer.old) (W.taken writer.new) (concat (entries_in (line_of self.now ∷ [])))) }
+        ensures taken { OnOk result (Appends (W.taken writer.old) (W.taken writer.new)
+            (concat (entries_in (line_of self.now ∷ [])))) }
         ensures counts { CountsFailure (W.failures writer.old) (W.failures writer.new) result }
     {
         match self {
@@ -138,16 +137,6 @@ fn read_line(alloc: Global, content: &[u8]) -> Result<Line, LineFault>
             None => Err(LineFault::Bad),
         },
         _ => Err(LineFault::Bad),
-    }
-}
-
-/// The octet of an end.
-fn octet_of(side: End) -> u8
-    ensures { result ≡ octet_of side }
-{
-    match side {
-        End::A => 0x41,
-        End::B => 0x42,
     }
 }
 
@@ -238,9 +227,11 @@ impl Packing {
         requires within { len ≤ length self.old.line.items }
         requires open { IsOpen self.old }
         requires room { self.old.lines < lines_limit }
-        ensures packed { OnOk result ((line : Option (List ℕ)) × StandsFor (take len self.old.line.items) line × IsBehind line self.old self.new
+        ensures packed { OnOk result ((line : Option (List ℕ)) × StandsFor (take len self.old.line.items) line
+            × IsBehind line self.old self.new
             × Appends (W.taken writer.old) (W.taken writer.new) (concat (entries_in (line ∷ [])))) }
-        ensures refused { (fault : FeedFault) → result ≡ Err (PackFault.Fault fault) → IsLineRefused (take len self.old.line.items) (self.old.lines + 1) fault
+        ensures refused { (fault : FeedFault) → result ≡ Err (PackFault.Fault fault)
+            → IsLineRefused (take len self.old.line.items) (self.old.lines + 1) fault
             × (W.taken writer.new ≡ W.taken writer.old) }
         ensures write { result ≡ Err PackFault.Write → W.failures writer.new ≡ one_more (W.failures writer.old) }
         ensures others { result ≢ Err PackFault.Write → W.failures writer.new ≡ W.failures writer.old }
@@ -280,7 +271,8 @@ impl Packing {
     ) -> Result<&'a [u8], PackFault>
         requires open { IsOpen self.old }
         requires some { 0 < length piece.now }
-        ensures packed { IfOk result (λ rest. PacksFrom self.old self.new piece.now rest.now (W.taken writer.old) (W.taken writer.new)) }
+        ensures packed { IfOk result (λ rest. PacksFrom self.old self.new piece.now rest.now
+            (W.taken writer.old) (W.taken writer.new)) }
         ensures open { OnOk result (IsOpen self.new) }
         ensures refused { (fault : FeedFault) → result ≡ Err (PackFault.Fault fault) → (untold : Option (List ℕ))
             → PacksUpTo self.old piece.now fault untold (W.taken writer.old) (W.taken writer.new) }
@@ -333,13 +325,17 @@ pub fn pack<R: Read, W: Write>(
     reader: &mut R,
     writer: &mut W,
 ) -> Result<u64, PackFault>
-    ensures packed { IfOk result (λ count. IsAtEnd (R.untold reader.new) × ((told : List ℕ) × Consumes (R.untold reader.old) (R.untold reader.new) told
+    ensures packed { IfOk result (λ count. IsAtEnd (R.untold reader.new)
+        × ((told : List ℕ) × Consumes (R.untold reader.old) (R.untold reader.new) told
         × IsPacked told count (W.taken writer.old) (W.taken writer.new))) }
-    ensures refused { (fault : FeedFault) → result ≡ Err (PackFault.Fault fault) → (told : List ℕ) × Consumes (R.untold reader.old) (R.untold reader.new) told
+    ensures refused { (fault : FeedFault) → result ≡ Err (PackFault.Fault fault) → (told : List ℕ)
+        × Consumes (R.untold reader.old) (R.untold reader.new) told
         × IsPackedUpTo told fault (R.untold reader.new) (W.taken writer.old) (W.taken writer.new) }
     // The reader's failures are counted: one more at `Read`, none else; and so are the writer's.
-    ensures read { (fault : FeedFault) → result ≡ Err (PackFault.Fault fault) → fault.reason ≡ FeedReason.Read → R.failures reader.new ≡ one_more (R.failures reader.old) }
-    ensures unread { ((fault : FeedFault) → result ≡ Err (PackFault.Fault fault) → fault.reason ≢ FeedReason.Read) → R.failures reader.new ≡ R.failures reader.old }
+    ensures read { (fault : FeedFault) → result ≡ Err (PackFault.Fault fault) → fault.reason ≡ FeedReason.Read
+        → R.failures reader.new ≡ one_more (R.failures reader.old) }
+    ensures unread { ((fault : FeedFault) → result ≡ Err (PackFault.Fault fault) → fault.reason ≢ FeedReason.Read)
+        → R.failures reader.new ≡ R.failures reader.old }
     ensures write { result ≡ Err PackFault.Write → W.failures writer.new ≡ one_more (W.failures writer.old) }
     ensures others { result ≢ Err PackFault.Write → W.failures writer.new ≡ W.failures writer.old }
 {

@@ -7,7 +7,7 @@ ghost use Rattle.tcap_record.specs.declared.printing.ShowFault.{ShowFault};
 ghost use Rattle.tcap_record.specs.Lines.{lines_of};
 
 use crate::entry::Record;
-use crate::entry_lines::push_entry;
+use crate::entry_lines::push_view;
 use std::alloc::{AllocError, Global};
 use tcap_ber::{Failed, Write};
 
@@ -42,7 +42,8 @@ pub fn show<W: Write>(alloc: Global, record: &Record, writer: &mut W) -> Result<
     // What was written is the lines of the entries and nothing else.
     ensures ok { OnOk result (Appends (W.taken writer.old) (W.taken writer.new) (lines_of «record».now.entries.items)) }
     // Where memory ran out, it is the lines of the first entries, whole ones.
-    ensures memory { result ≡ Err ShowFault.Memory → (n : ℕ) × Appends (W.taken writer.old) (W.taken writer.new) (lines_of (take n «record».now.entries.items)) }
+    ensures memory { result ≡ Err ShowFault.Memory → (n : ℕ)
+        × Appends (W.taken writer.old) (W.taken writer.new) (lines_of (take n «record».now.entries.items)) }
     // The writer's failures are counted: one more at `Write`, none else.
     ensures write { result ≡ Err ShowFault.Write → W.failures writer.new ≡ one_more (W.failures writer.old) }
     ensures others { result ≢ Err ShowFault.Write → W.failures writer.new ≡ W.failures writer.old }
@@ -50,7 +51,7 @@ pub fn show<W: Write>(alloc: Global, record: &Record, writer: &mut W) -> Result<
     let mut text = String::new(alloc);
     for (number, entry) in record.entries.iter().enumerate() {
         text.clear();
-        push_entry(&mut text, number, entry)?;
+        push_view(&mut text, number, entry.view())?;
         writer.write_all(text.as_bytes())?;
     }
     Ok(())

@@ -14,7 +14,8 @@ use crate::feeder::Feeder;
 use std::alloc::Global;
 use tcap_ber::{Failed, Read};
 
-const PIECE_LEN: usize = 8192;
+/// How many octets are asked of a reader at once.
+pub const PIECE_LEN: usize = 8192;
 
 /// Feeds what `reader` tells, up to its end or the first fault.
 fn feed_all<R: Read>(feeder: &mut Feeder, reader: &mut R) -> Result<(), FeedFault>

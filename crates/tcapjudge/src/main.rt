@@ -6,7 +6,7 @@ use std::io::BufWriter;
 use std::process::ExitCode;
 use std::{env, fs, io};
 use tcap_ber::{Counted, Failing, Read};
-use tcap_judge::{Request, Status, WordsFault, WriteFailed, request, run_pack, run_show};
+use tcap_judge::{Request, Status, WordsFault, request, run_pack, run_show};
 
 /// The exit status where a word of the command is not text, so that it is not for `clap` to say.
 const NO_TEXT: u8 = 4;
@@ -51,9 +51,21 @@ fn answer(rt: &HostRuntime, request: Request) -> io::Result<u8> {
     }
 }
 
+/// Says that there is no memory, where faults of what is asked for go.
+fn no_memory(rt: &HostRuntime, request: Request) -> io::Result<u8> {
+    match request {
+        Request::Show(_) => println!(rt; "FAULT 99 0")?,
+        Request::Pack(_) => eprintln!(rt; "FAULT 99 0")?,
+    }
+    Ok(Status::Fault.number())
+}
+
 /// Does what is asked for with what `reader` tells.
 fn over<R: Read>(rt: &HostRuntime, request: Request, reader: &mut R) -> io::Result<u8> {
-    let mut writer = Counted::new(BufWriter::new(rt.alloc(), io::writer(rt))?);
+    let Ok(buffer) = BufWriter::new(rt.alloc(), io::writer(rt)) else {
+        return no_memory(rt, request);
+    };
+    let mut writer = Counted::new(buffer);
     let ended = match request {
         Request::Show(_) => run_show(rt.alloc(), reader, &mut writer),
         Request::Pack(_) => run_pack(
@@ -63,9 +75,11 @@ fn over<R: Read>(rt: &HostRuntime, request: Request, reader: &mut R) -> io::Resu
             &mut Counted::new(rt.stderr()),
         ),
     };
+    // Where standard error takes nothing, what was packed goes out all the same.
+    let is_written = writer.failures() == 0 && writer.flush().is_ok();
     let status = match ended {
-        Ok(status) => writer.flush().map_or(Status::Fault, |()| status),
-        Err(WriteFailed) => Status::Fault,
+        Ok(status) if is_written => status,
+        _ => Status::Fault,
     };
     // Behind a failure nothing more is written: what the buffer still holds is dropped.
     let _ = writer.into_inner().into_parts();

@@ -1,4 +1,4 @@
-use Rattle.std.proofs.Common.{◌≡◌, ◌+◌, ◌-◌, ◌<◌, ◌≤◌, ℕ, List, ◌++◌, length, take, drop, ap, arith}
+use Rattle.std.proofs.Common.{◌<◌, ℕ, List, length, take, drop, ap, arith}
 use Rattle.std.proofs.lemmas.List.{length-append, length-drop, length-take}
 use Rattle.tcap_ber.proofs.ElementLaws.{element_len_at_least}
 use Rattle.tcap_msg.specs.declared.message.Message.{Message}
@@ -6,7 +6,8 @@ use Rattle.tcap_msg.specs.Message.{BeginsWithMessage}
 use Rattle.tcap_bench.proofs.count_messages.Goals as goal
 
 -- what is left behind a message is shorter
-shorter : (m : Message) (len count : ℕ) (octets : List ℕ) → BeginsWithMessage m len octets → length (take count (drop len octets)) < length octets
+shorter : (m : Message) (len count : ℕ) (octets : List ℕ) → BeginsWithMessage m len octets
+    → length (take count (drop len octets)) < length octets
 shorter m len count octets b =
     omega (
       arith,

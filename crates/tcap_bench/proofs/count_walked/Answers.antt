@@ -1,4 +1,4 @@
-use Rattle.std.proofs.Common.{◌≡◌, ℕ, ◌++◌, [], List, length, Result, Ok, Err, refl, sym, ap, ◌∙◌, arith}
+use Rattle.std.proofs.Common.{◌≡◌, [], length, Result, Ok, Err, refl, sym, ap, ◌∙◌, arith}
 use Rattle.std.proofs.lemmas.List.{length-append}
 use Rattle.tcap_ber.specs.declared.fault.Fault.{Fault}
 use Rattle.tcap_ber.specs.declared.element.Outer.{Outer}
@@ -13,7 +13,12 @@ use Rattle.tcap_bench.proofs.count_walked.Goals as goal
 nothing : (r : Result Outer Fault) → outer_at [] ≡ r → 0 ≡ whole_len r
 nothing (Ok (Whole n)) e =
     let b = outer_whole [] n e in
-    absurd (omega (arith, element_len_at_least b.tag b.content b.element b.is_element, ap length b.joined, length-append b.element b.rest))
+    absurd (omega (
+      arith,
+      element_len_at_least b.tag b.content b.element b.is_element,
+      ap length b.joined,
+      length-append b.element b.rest,
+    ))
 nothing (Ok (Need n)) e = refl
 nothing (Err f) e = refl
 

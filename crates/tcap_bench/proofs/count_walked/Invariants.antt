@@ -1,4 +1,4 @@
-use Rattle.std.proofs.Common.{◌≡◌, ◌++◌, [], ℕ, List, length}
+use Rattle.std.proofs.Common.{◌≡◌, [], length}
 use Rattle.tcap_ber.specs.Walking.{outer_at}
 use Rattle.tcap_ber.specs.Resuming.{resumes}
 use Rattle.tcap_bench.specs.Whole.{whole_len}

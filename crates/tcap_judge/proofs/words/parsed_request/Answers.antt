@@ -3,66 +3,76 @@ use Rattle.std.proofs.lemmas.Result.{err_from_is_err_and}
 use Rattle.clap.specs.Words.{App, app_of, fault_of, is_simple, is_simple_and_free, takes}
 use Rattle.clap.specs.Kinds.{HasKind}
 use Rattle.clap.specs.Walk.{Text, texts}
-use Rattle.clap.specs.Matches.{found_of}
+use Rattle.clap.specs.Matches.{found_of, subcommand_name_of}
 use Rattle.clap.specs.Simple.{HasMatchesOf, subcommand_of, subcommand_rows_of}
 use Rattle.clap.specs.declared.builder.command.Command.{Command}
 use Rattle.clap.specs.declared.parser.matches.ArgMatches.{ArgMatches}
 use Rattle.tcap_judge.specs.Words.{tool}
-use Rattle.tcap_judge.proofs.Requests.{asked_of, entered_as, has_name, no_name, other_name}
-use Rattle.tcap_judge.proofs.Tool.{as_fault, became_memory, tool_simple, tool_is_simple}
+use Rattle.tcap_judge.proofs.Requests.{asked_of, has_name, no_name, other_name}
+use Rattle.tcap_judge.proofs.Tool.{IsKnown, as_fault, became_memory, tool_simple, tool_is_simple}
 use Rattle.tcap_judge.proofs.words.parsed_request.Goals as goal
 
 pub returns-in_err-matches-clause-taken : goal.returns-in_err-matches-clause-taken
 returns-in_err-matches-clause-taken c taken =
     let p = err_from_is_err_and c.from_residual-in_err-matches.result c.from_residual-in_err-matches.ensures.1 in
-    rw p.1 (became_memory c.in_err-matches.field-0.0 p.0 (c.in_err-matches.ensures.passes (ap (λ (a : App). takes a (texts c.args.words.now)) c.in_ok-command.ensures ∙ taken)) p.2)
+    rw p.1 (became_memory c.in_err-matches.field-0.0 p.0
+    (c.in_err-matches.ensures.passes (ap (λ (a : App). takes a (texts c.args.words.now)) c.in_ok-command.ensures ∙ taken)) p.2)
 
 pub returns-in_err-matches-clause-faults : goal.returns-in_err-matches-clause-faults
 returns-in_err-matches-clause-faults c =
     let p = err_from_is_err_and c.from_residual-in_err-matches.result c.from_residual-in_err-matches.ensures.1 in
     let e = c.in_err-matches.field-0.0 in
     let has = c.in_err-matches.ensures.kinds (ap is_simple_and_free c.in_ok-command.ensures ∙ tool_simple) in
-    rw p.1 (as_fault (fault_of tool (texts c.args.words.now)) e p.0 (subst (λ (a : App). HasKind (fault_of a (texts c.args.words.now)) e) c.in_ok-command.ensures has) p.2)
+    rw p.1 (as_fault (fault_of tool (texts c.args.words.now)) e p.0
+    (subst (λ (a : App). HasKind (fault_of a (texts c.args.words.now)) e) c.in_ok-command.ensures has) p.2)
 
 -- a parse with no fault of the command, as one of the tool
-clear : (command : Command) (words : List Text) → app_of command ≡ tool → (is_simple_and_free (app_of command) ≡ true → fault_of (app_of command) words ≡ []) → fault_of tool words ≡ []
+clear : (command : Command) (words : List Text) → app_of command ≡ tool
+    → (is_simple_and_free (app_of command) ≡ true → fault_of (app_of command) words ≡ []) → fault_of tool words ≡ []
 clear command words is none = ap (λ (a : App). fault_of a words) (sym is) ∙ none (ap is_simple_and_free is ∙ tool_simple)
 
-rows : (command : Command) (words : List Text) (m : ArgMatches) → app_of command ≡ tool → HasMatchesOf (app_of command) words m → subcommand_rows_of m ≡ subcommand_of tool words
+rows : (command : Command) (words : List Text) (m : ArgMatches) → app_of command ≡ tool → HasMatchesOf (app_of command) words m
+    → subcommand_rows_of m ≡ subcommand_of tool words
 rows command words m is has = (has (ap is_simple is ∙ tool_is_simple)).1 ∙ ap (λ (a : App). subcommand_of a words) is
+
+known : (command : Command) (words : List Text) (m : ArgMatches) → app_of command ≡ tool → HasMatchesOf (app_of command) words m
+    → (is_simple_and_free (app_of command) ≡ true → fault_of (app_of command) words ≡ []) → IsKnown (subcommand_name_of m)
+known command words m is has none = has_name m words (rows command words m is has) (clear command words is none)
 
 pub unreachable-requires : goal.unreachable-requires
 unreachable-requires c =
-    let words = texts c.args.words.now in
-    let same = rows c.in_ok-command.command words c.in_ok-matches.matches c.in_ok-command.ensures c.in_ok-matches.ensures.matches in
-    let none = clear c.in_ok-command.command words c.in_ok-command.ensures c.in_ok-matches.ensures.kinds in
-    no_name _ (has_name c.in_ok-matches.matches words same none) c.in_default.ensures.name
+    let met = c.in_ok-matches.ensures in
+    no_name _ (known c.in_ok-command.command (texts c.args.words.now) c.in_ok-matches.matches c.in_ok-command.ensures met.matches
+    met.kinds)
+    c.in_default.ensures.name
 
 pub unreachable-requires-in_default-name : goal.unreachable-requires-in_default-name
 unreachable-requires-in_default-name c =
-    let words = texts c.args.words.now in
-    let same = rows c.in_ok-command.command words c.in_ok-matches.matches c.in_ok-command.ensures c.in_ok-matches.ensures.matches in
-    let none = clear c.in_ok-command.command words c.in_ok-command.ensures c.in_ok-matches.ensures.kinds in
-    other_name _ c.in-Some.name.now (has_name c.in_ok-matches.matches words same none) c.in-Some.ensures.name c.in_default-name.not-show c.in_default-name.not-pack
+    let met = c.in_ok-matches.ensures in
+    other_name _ c.in-Some.name.now
+    (known c.in_ok-command.command (texts c.args.words.now) c.in_ok-matches.matches c.in_ok-command.ensures met.matches met.kinds)
+    c.in-Some.ensures.name c.in_default-name.not-show c.in_default-name.not-pack
 
 pub returns-in-show-clause-asks : goal.returns-in-show-clause-asks
 returns-in-show-clause-asks c =
     let words = texts c.args.words.now in
-    let same = rows c.in_ok-command.command words c.in_ok-matches.matches c.in_ok-command.ensures c.in_ok-matches.ensures.matches in
-    let found = found_of c.in-Some.found.now in
-    let is = entered_as c.in_ok-matches.matches words c.in-Some.name.now found same c.in-Some.ensures.name c.in-Some.ensures.rows in
-    asked_of words (codes "RECORD") c.in-Some.name.now (codes "show") found c.get_str.result is c.in-show.is c.get_str.ensures
+    let m = c.in_ok-matches.matches in
+    asked_of m words (codes "RECORD") c.in-Some.name.now (codes "show") (found_of c.in-Some.found.now) c.get_str.result
+    (rows c.in_ok-command.command words m c.in_ok-command.ensures c.in_ok-matches.ensures.matches)
+    c.in-Some.ensures.name c.in-Some.ensures.rows c.in-show.is c.get_str.ensures
 
 pub returns-in-pack-clause-asks : goal.returns-in-pack-clause-asks
 returns-in-pack-clause-asks c =
     let words = texts c.args.words.now in
-    let same = rows c.in_ok-command.command words c.in_ok-matches.matches c.in_ok-command.ensures c.in_ok-matches.ensures.matches in
-    let found = found_of c.in-Some.found.now in
-    let is = entered_as c.in_ok-matches.matches words c.in-Some.name.now found same c.in-Some.ensures.name c.in-Some.ensures.rows in
-    asked_of words (codes "LINES") c.in-Some.name.now (codes "pack") found c.get_str-in-pack.result is c.in-pack.is c.get_str-in-pack.ensures
+    let m = c.in_ok-matches.matches in
+    asked_of m words (codes "LINES") c.in-Some.name.now (codes "pack") (found_of c.in-Some.found.now) c.get_str-in-pack.result
+    (rows c.in_ok-command.command words m c.in_ok-command.ensures c.in_ok-matches.ensures.matches)
+    c.in-Some.ensures.name c.in-Some.ensures.rows c.in-pack.is c.get_str-in-pack.ensures
 
 pub returns-in-show-clause-faults : goal.returns-in-show-clause-faults
-returns-in-show-clause-faults c = clear c.in_ok-command.command (texts c.args.words.now) c.in_ok-command.ensures c.in_ok-matches.ensures.kinds
+returns-in-show-clause-faults c =
+    clear c.in_ok-command.command (texts c.args.words.now) c.in_ok-command.ensures c.in_ok-matches.ensures.kinds
 
 pub returns-in-pack-clause-faults : goal.returns-in-pack-clause-faults
-returns-in-pack-clause-faults c = clear c.in_ok-command.command (texts c.args.words.now) c.in_ok-command.ensures c.in_ok-matches.ensures.kinds
+returns-in-pack-clause-faults c =
+    clear c.in_ok-command.command (texts c.args.words.now) c.in_ok-command.ensures c.in_ok-matches.ensures.kinds

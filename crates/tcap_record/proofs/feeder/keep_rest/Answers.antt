@@ -11,6 +11,8 @@ returns-then-not-branch-clause-kept c = ([], (c.in_ok-keep_front.ensures.none cc
 pub returns-clause-fed : goal.returns-clause-fed
 returns-clause-fed c octets taken fed =
     let there = c.in_ok-keep_front.ensures.kept cc in
-    let behind = entry_waits octets taken c.args.waiting.now.items there.0 (dropped c.args.frames.now) (fed_dropped octets (taken ++ c.args.waiting.now.items) c.args.frames.now there.0 there.1 fed) in
+    let behind = entry_waits octets taken c.args.waiting.now.items there.0 (dropped c.args.frames.now)
+    (fed_dropped octets (taken ++ c.args.waiting.now.items) c.args.frames.now there.0 there.1 fed) in
     let waits = subst (λ (x : List Entry). Fed octets (taken ++ x) (dropped c.args.frames.now)) (sym there.4) behind in
-    c.keep_all-kept.ensures.fed octets taken (subst (λ (h : Held). Fed octets (taken ++ c.keep_front.new.waiting.items) h) (sym c.behind_front-behind.ensures) waits)
+    c.keep_all-kept.ensures.fed octets taken
+    (subst (λ (h : Held). Fed octets (taken ++ c.keep_front.new.waiting.items) h) (sym c.behind_front-behind.ensures) waits)

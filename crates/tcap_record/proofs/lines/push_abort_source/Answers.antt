@@ -5,4 +5,5 @@ use Rattle.tcap_record.proofs.lines.push_abort_source.Goals as goal
 
 pub returns : goal.returns
 returns c =
-    rw (c.in_ok-push_str.ensures.bytes, append_assoc (string_bytes c.args.text.now) (codes " ABRT source=") _) at c.write.ensures.bytes
+    rw (c.in_ok-push_str.ensures.bytes, append_assoc (string_bytes c.args.text.now) (codes " ABRT source=") _) at
+    c.write.ensures.bytes

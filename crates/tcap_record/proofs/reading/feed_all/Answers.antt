@@ -10,8 +10,11 @@ use Rattle.tcap_record.proofs.reading.feed_all.Goals as goal
 pub returns-in-Ok-eq0-clause-told : goal.returns-in-Ok-eq0-clause-told
 returns-in-Ok-eq0-clause-told g c =
     let was = c.loop-feeder.invariant in
-    let all : was.told ++ take c.in-Ok-eq0.field-0 c.read.new.buffer ≡ was.told = ap (λ (n : ℕ). was.told ++ take n c.read.new.buffer) c.in-Ok-eq0.field-0-test ∙ append-nil was.told in
-    let consumed = Consumes-trans (g.R.Read.untold c.args.reader.now) (g.R.Read.untold c.loop-feeder.reader) (g.R.Read.untold c.read.new.self) was.told (take c.in-Ok-eq0.field-0 c.read.new.buffer) was.consumed c.in-Ok-eq0.ensures.tells in (
+    let all : was.told ++ take c.in-Ok-eq0.field-0 c.read.new.buffer ≡ was.told =
+    ap (λ (n : ℕ). was.told ++ take n c.read.new.buffer) c.in-Ok-eq0.field-0-test ∙ append-nil was.told in
+    let consumed = Consumes-trans (g.R.Read.untold c.args.reader.now) (g.R.Read.untold c.loop-feeder.reader)
+    (g.R.Read.untold c.read.new.self) was.told (take c.in-Ok-eq0.field-0 c.read.new.buffer) was.consumed
+    c.in-Ok-eq0.ensures.tells in (
       was.told,
       subst (Consumes (g.R.Read.untold c.args.reader.now) (g.R.Read.untold c.read.new.self)) all consumed,
       read_finished c.finish.result was.told c.loop-feeder.feeder.waiting c.loop-feeder.feeder.held was.fed c.finish.ensures.ends,
@@ -22,10 +25,20 @@ loop-feeder-smaller g c =
     let was = c.loop-feeder.invariant in
     let n = c.in-Ok.told in
     let told = take n c.read.new.buffer in
-    let fed : Fed (was.told ++ told) c.feed.new.self.waiting c.feed.new.self.held = c.in_ok-feed.ensures.fed was.told [] was.fed.fed in
+    let fed : Fed (was.told ++ told) c.feed.new.self.waiting c.feed.new.self.held =
+    c.in_ok-feed.ensures.fed was.told [] was.fed.fed in
     let some : n ≢ 0 = c.in-Ok.told-test.1 in
     let within : n ≤ length c.read.new.buffer = c.in-Ok.ensures.within in
-    omega (arith, c.fed-place.ensures, c.fed-place.type_inv, fed.place_is, was.fed.fed.place_is, some, length-append was.told told, length-take-le n c.read.new.buffer within)
+    omega (
+      arith,
+      c.fed-place.ensures,
+      c.fed-place.type_inv,
+      fed.place_is,
+      was.fed.fed.place_is,
+      some,
+      length-append was.told told,
+      length-take-le n c.read.new.buffer within,
+    )
 
 pub loop-feeder-preserved : goal.loop-feeder-preserved
 loop-feeder-preserved g c =
@@ -34,7 +47,8 @@ loop-feeder-preserved g c =
     let told = take n c.read.new.buffer in
     record {
       told = was.told ++ told;
-      consumed = Consumes-trans (g.R.Read.untold c.args.reader.now) (g.R.Read.untold c.loop-feeder.reader) (g.R.Read.untold c.read.new.self) was.told told was.consumed c.in-Ok.ensures.tells;
+      consumed = Consumes-trans (g.R.Read.untold c.args.reader.now) (g.R.Read.untold c.loop-feeder.reader)
+          (g.R.Read.untold c.read.new.self) was.told told was.consumed c.in-Ok.ensures.tells;
       fed = record {
         fed = c.in_ok-feed.ensures.fed was.told [] was.fed.fed;
         held = c.in_ok-feed.ensures.held;
@@ -53,6 +67,8 @@ returns-in_err-feed-clause-told g c =
     let f = c.in_err-feed.field-0.0 in
     rw (p.1, p.2) (
       was.told ++ told,
-      Consumes-trans (g.R.Read.untold c.args.reader.now) (g.R.Read.untold c.loop-feeder.reader) (g.R.Read.untold c.read.new.self) was.told told was.consumed c.in-Ok.ensures.tells,
-      read_refused was.told told c.loop-feeder.feeder c.feed.new.self f was.fed c.in_err-feed.ensures.held (c.in_err-feed.ensures.fails f refl) (c.in_err-feed.ensures.fed was.told [] was.fed.fed),
+      Consumes-trans (g.R.Read.untold c.args.reader.now) (g.R.Read.untold c.loop-feeder.reader) (g.R.Read.untold c.read.new.self)
+          was.told told was.consumed c.in-Ok.ensures.tells,
+      read_refused was.told told c.loop-feeder.feeder c.feed.new.self f was.fed c.in_err-feed.ensures.held
+          (c.in_err-feed.ensures.fails f refl) (c.in_err-feed.ensures.fed was.told [] was.fed.fed),
     )

@@ -1,7 +1,7 @@
 use Rattle.std.proofs.Common.{rules, ◌++◌, ap, ◌∙◌}
 use Rattle.std.specs.String.{string_bytes}
 use Rattle.tcap_record.proofs.DigitLaws.{piece_more, none_left}
-use Rattle.tcap_record.proofs.digits.push_hex.Goals as goal
+use Rattle.tcap_record.proofs.digits.push_many.Goals as goal
 
 pub loop-chunk-preserved : goal.loop-chunk-preserved
 loop-chunk-preserved c =

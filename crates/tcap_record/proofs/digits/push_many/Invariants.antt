@@ -3,7 +3,7 @@ use Rattle.std.proofs.Common.{◌≡◌, ◌++◌}
 use Rattle.std.specs.String.{string_bytes}
 use Rattle.std.specs.Slice.Iter.{chunks_rest, chunks_size}
 use Rattle.hex.specs.Hex.{encode_lower}
-use Rattle.tcap_record.proofs.digits.push_hex.Given as goal
+use Rattle.tcap_record.proofs.digits.push_many.Given as goal
 
 abbrev pub invariant-loop-chunk : goal.invariant-loop-chunk
 invariant-loop-chunk l = record {

@@ -1,7 +1,7 @@
 use Rattle.std.proofs.Common.{◌≡◌, Err, arith}
 use Rattle.tcap_msg.specs.Reading.{message_at}
 use Rattle.tcap_record.proofs.FramingLaws.{message_fault_within}
-use Rattle.tcap_record.proofs.frames.body_view.Goals as goal
+use Rattle.tcap_record.proofs.lending.body_view.Goals as goal
 
 pub overflow_add-result : goal.overflow_add-result
 overflow_add-result c =

@@ -1,0 +1,90 @@
+//! Entries that are lent from octets.
+
+ghost use Rattle.std.specs.Prelude.{◌≡◌, ◌+◌, ◌^◌, ◌<◌, [], ℕ, length, take, None, IfSome};
+ghost use Rattle.tcap_ber.specs.Reading.{span};
+ghost use Rattle.tcap_record.specs.Framed.{IsEntry};
+ghost use Rattle.tcap_record.specs.Framing.{body_at};
+ghost use Rattle.tcap_record.specs.Front.{front_at, whole_in};
+ghost use Rattle.tcap_record.specs.Held.{IsWhole};
+ghost use Rattle.tcap_record.specs.Lent.{IsLent};
+ghost use Rattle.tcap_record.specs.Viewed.{body_read, entry_read};
+
+use crate::entry::{BodyView, EntryView};
+use crate::framing::{QUIET_OCTET, end_of};
+use tcap_ber::{Fault, Outer, Window, outer};
+use tcap_msg::view;
+
+/// What the octets of one element are, lent.
+#[tactic(auto, unfolding(crate::specs::Framing::body_at))]
+fn body_view(element: Window) -> BodyView
+    ensures { body_read result ≡ body_at (span element.entry) }
+{
+    match view(element.octets) {
+        Ok((message, _)) => BodyView::Good(message),
+        Err(fault) => BodyView::Bad(Fault {
+            reason: fault.reason,
+            place: element.place + fault.place,
+        }),
+    }
+}
+
+/// The entry that octets are, lent, with the place of their first octet.
+pub(crate) fn entry_view(octets: &[u8], place: u64) -> EntryView<'_>
+    requires whole { IsWhole octets.now }
+    requires fits { place + length octets.now < 2 ^ 64 }
+    ensures { IsEntry place (entry_read result) octets.now [] }
+{
+    if octets[0] == QUIET_OCTET {
+        return EntryView {
+            side: None,
+            place,
+            body: BodyView::Quiet,
+        };
+    }
+    let element = Window {
+        octets: &octets[1..],
+        place: place + 1,
+    };
+    EntryView {
+        side: end_of(octets[0]),
+        place: element.place,
+        body: body_view(element),
+    }
+}
+
+/// How many octets the entry at the front has, where a whole one stands there.
+fn whole_len(octets: &[u8]) -> Option<usize>
+    ensures { result ≡ whole_in (front_at 0 octets.now) }
+{
+    let (first, element) = octets.split_first()?;
+    if *first == QUIET_OCTET {
+        return Some(1);
+    }
+    if end_of(*first).is_none() {
+        return None;
+    }
+    match outer(element) {
+        Ok(Outer::Whole(len)) => Some(len + 1),
+        _ => None,
+    }
+}
+
+/// The entry at the front, lent, and the count of its octets, where a whole one stands there; the place is that of the first
+/// octet.
+pub(crate) fn front_view(octets: &[u8], place: u64) -> Option<(EntryView<'_>, usize)>
+    requires fits { place + 65552 < 2 ^ 64 }
+    ensures found { IfSome result (λ x. IsLent place octets.now (entry_read x.0) x.1) }
+    ensures none { result ≡ None → (n : ℕ) → IsWhole (take n octets.now) → ⊥ }
+{
+    let (first, element) = octets.split_first()?;
+    if let (Some(side), Ok((message, len))) = (end_of(*first), view(element)) {
+        let entry = EntryView {
+            side: Some(side),
+            place: place + 1,
+            body: BodyView::Good(message),
+        };
+        return Some((entry, len + 1));
+    }
+    let len = whole_len(octets)?;
+    Some((entry_view(&octets[..len], place), len))
+}
