@@ -1,0 +1,155 @@
+-- What holds of every half holds behind a step that leaves its phase, and of halves that begin, are answered or close.
+use Rattle.std.proofs.Common.{◌≡◌, ◌≢◌, ℕ, ℤ, Bool, true, false, cond, List, [], Option, Some, None, refl, sym, subst, ◌∙◌}
+use Rattle.std.specs.List.Sorted.{IsStrictlySortedBy}
+use Rattle.std.specs.Map.{remove_entry}
+use Rattle.std.specs.BTreeMap.{is_at}
+use Rattle.std.specs.Ordering.{int_cmp}
+use Rattle.tcap_parts.specs.declared.dialogue.Dialogue.{Dialogue}
+use Rattle.tcap_end.specs.declared.half.Phase.{Phase}
+use Rattle.tcap_end.specs.declared.half.Phase.TheVariants as phases
+use Rattle.tcap_end.specs.declared.half.Standing.{Standing}
+use Rattle.tcap_end.specs.declared.half.Standing.TheVariants as standings
+use Rattle.tcap_end.specs.Half.{Answer, Half, Invocation, Invoked, closed_half, fresh}
+use Rattle.tcap_end.specs.Message.{answered, asked_by, confirmed, is_request, learned}
+use Rattle.tcap_end.specs.Sound.{FitsPhase, HasItems, IsHalf, Rises}
+use Rattle.tcap_end.proofs.MapLaws.{rises_removed}
+
+-- ---- a step from one half to another
+
+-- Each invoke ID stands once, with some items.
+abbrev pub IsListed : {A : Type 0} → List (ℤ × List A) → Type 0
+IsListed items = Rises int_cmp items × HasItems items
+
+-- It leaves the phase, the IDs and the dialogue, and lists by invoke ID stay such.
+pub record Follows (h g : Half) : Type 0 where
+  pub phase : g.phase ≡ h.phase
+  pub own : g.own ≡ h.own
+  pub peer : g.peer ≡ h.peer
+  pub standing : g.standing ≡ h.standing
+  pub out : Rises int_cmp h.out → Rises int_cmp g.out
+  pub inn : IsListed h.inn → IsListed g.inn
+  pub grants : IsListed h.grants → IsListed g.grants
+
+-- a step that changes the lists alone
+follows_lists : (h : Half) (out : List (ℤ × Invoked)) (inn : List (ℤ × List Invocation)) (grants : List (ℤ × List Answer))
+    → (Rises int_cmp h.out → Rises int_cmp out) → (IsListed h.inn → IsListed inn) → (IsListed h.grants → IsListed grants)
+    → Follows h (record h { out = out; inn = inn; grants = grants })
+follows_lists h out inn grants of_out of_inn of_grants =
+    record { phase = refl; own = refl; peer = refl; standing = refl; out = of_out; inn = of_inn; grants = of_grants }
+
+pub follows_self : (h : Half) → Follows h h
+follows_self h = follows_lists h h.out h.inn h.grants (λ is. is) (λ is. is) (λ is. is)
+
+pub follows_out : (h : Half) (out : List (ℤ × Invoked)) → (Rises int_cmp h.out → Rises int_cmp out)
+    → Follows h (record h { out = out })
+follows_out h out rises = follows_lists h out h.inn h.grants rises (λ is. is) (λ is. is)
+
+pub follows_inn : (h : Half) (inn : List (ℤ × List Invocation)) → (IsListed h.inn → IsListed inn)
+    → Follows h (record h { inn = inn })
+follows_inn h inn is = follows_lists h h.out inn h.grants (λ rises. rises) is (λ is. is)
+
+pub follows_grants : (h : Half) (grants : List (ℤ × List Answer)) → (IsListed h.grants → IsListed grants)
+    → Follows h (record h { grants = grants })
+follows_grants h grants is = follows_lists h h.out h.inn grants (λ rises. rises) (λ is. is) is
+
+pub follows_then : (h g k : Half) → Follows h g → Follows g k → Follows h k
+follows_then h g k first second = record {
+  phase = second.phase ∙ first.phase;
+  own = second.own ∙ first.own;
+  peer = second.peer ∙ first.peer;
+  standing = second.standing ∙ first.standing;
+  out = λ is. second.out (first.out is);
+  inn = λ is. second.inn (first.inn is);
+  grants = λ is. second.grants (first.grants is);
+}
+
+-- ---- what holds of every half
+
+-- A half has no own invocations in these phases, and the step leaves it so.
+abbrev pub StaysOut : Phase → Half → Half → Type 0
+StaysOut phases.Received h g = h.out ≡ [] → g.out ≡ []
+StaysOut phases.Closed h g = h.out ≡ [] → g.out ≡ []
+StaysOut _ h g = Unit {0}
+
+-- It has no others in these.
+abbrev pub StaysInn : Phase → Half → Half → Type 0
+StaysInn phases.Sent h g = (h.inn ≡ [] → g.inn ≡ []) × (h.grants ≡ [] → g.grants ≡ [])
+StaysInn phases.Closed h g = (h.inn ≡ [] → g.inn ≡ []) × (h.grants ≡ [] → g.grants ≡ [])
+StaysInn _ h g = Unit {0}
+
+fits_follows : (p : Phase) (h g : Half) → Follows h g → StaysOut p h g → StaysInn p h g → FitsPhase p h → FitsPhase p g
+fits_follows phases.Sent h g f out inn fits =
+    (rw (f.own) (fits.0), f.peer ∙ fits.1, rw (f.standing) (fits.2), inn.0 fits.3, inn.1 fits.4)
+fits_follows phases.Received h g f out inn fits = (f.own ∙ fits.0, rw (f.peer) (fits.1), rw (f.standing) (fits.2), out fits.3)
+fits_follows phases.Active h g f out inn fits = (rw (f.own) (fits.0), rw (f.peer) (fits.1), rw (f.standing) (fits.2))
+fits_follows phases.Closed h g f out inn fits = (f.standing ∙ fits.0, out fits.1, inn.0 fits.2, inn.1 fits.3)
+
+-- It holds behind a step of a half in that phase.
+pub half_follows : (p : Phase) (h g : Half) → h.phase ≡ p → IsHalf h → Follows h g → StaysOut p h g → StaysInn p h g → IsHalf g
+half_follows p h g is half f out inn =
+    let fits = subst (λ (q : Phase). FitsPhase q h) is half.phase in
+    record {
+      phase = subst (λ (q : Phase). FitsPhase q g) (sym (f.phase ∙ is)) (fits_follows p h g f out inn fits);
+      out = f.out half.out;
+      inn = f.inn half.inn;
+      grants = f.grants half.grants;
+    }
+
+-- ---- halves that begin, are answered, lose an invocation, close
+
+asked_not_confirmed : (b : Bool) → cond b standings.Asked standings.Without ≢ standings.Confirmed
+asked_not_confirmed true is = cc
+asked_not_confirmed false is = cc
+
+confirmed_not_asked : (standing : Standing) → confirmed standing ≢ standings.Asked
+confirmed_not_asked standings.Without is = cc
+confirmed_not_asked standings.Asked is = cc
+confirmed_not_asked standings.Confirmed is = cc
+
+fresh_half : (phase : Phase) (own peer : Option (List ℕ)) (standing : Standing)
+    → FitsPhase phase (fresh phase own peer standing) → IsHalf (fresh phase own peer standing)
+unfolding IsStrictlySortedBy
+fresh_half phase own peer standing fits = record { phase = fits; out = tt; inn = (tt, tt); grants = (tt, tt) }
+
+pub half_sent : (own : List ℕ) (dialogue : Option Dialogue)
+    → IsHalf (fresh phases.Sent (Some own) None (asked_by dialogue))
+half_sent own dialogue = fresh_half _ _ _ _ (refl, refl, asked_not_confirmed (is_request dialogue), refl, refl)
+
+pub half_received : (peer : List ℕ) (dialogue : Option Dialogue)
+    → IsHalf (fresh phases.Received None (Some peer) (asked_by dialogue))
+half_received peer dialogue = fresh_half _ _ _ _ (refl, refl, asked_not_confirmed (is_request dialogue), refl)
+
+pub half_closed : (h : Half) → IsHalf (closed_half h)
+half_closed h = fresh_half _ _ _ _ (refl, refl, refl, refl)
+
+-- Its Begin is answered by this end, or by its peer.
+pub half_answered : (own : List ℕ) (h : Half) → h.phase ≡ phases.Received → IsHalf h → IsHalf (answered own h)
+half_answered own h is half =
+    let fits = rw is at half.phase in
+    record { phase = (refl, fits.1, confirmed_not_asked h.standing); out = half.out; inn = half.inn; grants = half.grants }
+
+pub half_learned : (peer : List ℕ) (h : Half) → h.phase ≡ phases.Sent → IsHalf h → IsHalf (learned peer h)
+half_learned peer h is half =
+    let fits = rw is at half.phase in
+    record { phase = (fits.0, refl, confirmed_not_asked h.standing); out = half.out; inn = half.inn; grants = half.grants }
+
+stays_out : (p : Phase) (h g : Half) → (h.out ≡ [] → g.out ≡ []) → StaysOut p h g
+stays_out phases.Sent h g stays = tt
+stays_out phases.Received h g stays = stays
+stays_out phases.Active h g stays = tt
+stays_out phases.Closed h g stays = stays
+
+stays_inn : (p : Phase) (h g : Half) → (h.inn ≡ [] → g.inn ≡ []) → (h.grants ≡ [] → g.grants ≡ []) → StaysInn p h g
+stays_inn phases.Sent h g inn grants = (inn, grants)
+stays_inn phases.Received h g inn grants = tt
+stays_inn phases.Active h g inn grants = tt
+stays_inn phases.Closed h g inn grants = (inn, grants)
+
+-- the half without an own invocation
+pub half_without : (h : Half) (id : ℤ) → IsHalf h → IsHalf (record h { out = remove_entry (is_at (int_cmp id)) h.out })
+half_without h id half = half_follows h.phase h left refl half
+    (follows_out h left.out (rises_removed int_cmp (is_at (int_cmp id)) h.out))
+    (stays_out h.phase h left (λ none. rw none refl)) (stays_inn h.phase h left (λ none. none) (λ none. none))
+  where
+    left : Half
+    left = record h { out = remove_entry (is_at (int_cmp id)) h.out }

@@ -1,0 +1,11 @@
+pub mod Rows
+pub mod RefusalLaws
+pub mod MapLaws
+pub mod FoundLaws
+pub mod HalfLaws
+pub mod ComponentLaws
+pub mod EndLaws
+pub mod StepLaws
+pub mod CodeMapLaws
+pub mod TableLaws
+pub mod TableRows

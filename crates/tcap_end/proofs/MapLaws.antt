@@ -1,0 +1,173 @@
+-- Entries in the order of their keys: what a look-up finds behind a change, and that the keys still rise.
+use Rattle.std.proofs.Common.{◌≡◌, ◌≢◌, Bool, true, false, cond, List, [], ◌∷◌, Option, Some, ◌⊎◌, inl, inr, refl, sym, ap, ◌∙◌}
+use Rattle.std.specs.declared.cmp.Ordering.{Ordering}
+use Rattle.std.specs.declared.cmp.Ordering.TheVariants.{Less, Equal, Greater}
+use Rattle.std.specs.Cmp.{IsTotalOrder}
+use Rattle.std.specs.List.{AllByRecursion}
+use Rattle.std.specs.List.Sorted.{IsStrictlySortedBy}
+use Rattle.std.specs.Map.{keys_of, lookup, remove_entry}
+use Rattle.std.specs.BTreeMap.{insert_entry, is_at}
+use Rattle.std.specs.Ordering.{is_eq, match_ordering, ordering_reverse}
+use Rattle.std.proofs.lemmas.Cmp.{alike_right, eq_by_cmp_equiv}
+use Rattle.std.proofs.lemmas.Map.{lookup-none}
+use Rattle.std.proofs.lemmas.Map.Entries.{none_past_head}
+use Rattle.std.proofs.lemmas.Map.Keys.{IsDistinct-from_sorted}
+use Rattle.std.proofs.lemmas.Map.Lookups.{CmpEqualImpliesEq}
+use Rattle.tcap_end.specs.Sound.{Rises}
+
+-- what is kept at a key
+abbrev pub kept_at : {K A : Type 0} → (K → K → Ordering) → List (K × A) → K → Option A
+kept_at cmp es q = lookup (is_at (cmp q)) es
+
+-- ---- what holds of each
+
+-- entry, where one is removed
+pub all_removed : {K A : Type 0} (P : K × A → Type 0) (test : K → Bool) (es : List (K × A))
+    → AllByRecursion P es → AllByRecursion P (remove_entry test es)
+all_removed P test [] all = tt
+all_removed P test (e ∷ es) all = by (test e.0) (all_removed P test es all.1)
+  where
+    by : (b : Bool) → AllByRecursion P (remove_entry test es) → AllByRecursion P (cond b es (e ∷ remove_entry test es))
+    by true rest = all.1
+    by false rest = (all.0, rest)
+
+-- key, where one is removed
+keys_removed : {K A : Type 0} (P : K → Type 0) (test : K → Bool) (es : List (K × A))
+    → AllByRecursion P (keys_of es) → AllByRecursion P (keys_of (remove_entry test es))
+keys_removed P test [] all = tt
+keys_removed P test (e ∷ es) all = by (test e.0) (keys_removed P test es all.1)
+  where
+    by : (b : Bool) → AllByRecursion P (keys_of (remove_entry test es))
+        → AllByRecursion P (keys_of (cond b es (e ∷ remove_entry test es)))
+    by true rest = all.1
+    by false rest = (all.0, rest)
+
+-- value, where one is inserted of which it holds
+pub all_inserted : {K A : Type 0} (P : A → Type 0) (cmp : K → K → Ordering) (es : List (K × A)) (k : K) (v : A)
+    → P v → AllByRecursion (λ e. P e.1) es → AllByRecursion (λ e. P e.1) (insert_entry cmp es k v)
+all_inserted P cmp [] k v new all = (new, tt)
+all_inserted P cmp (e ∷ es) k v new all = by (cmp k e.0) (all_inserted P cmp es k v new all.1)
+  where
+    by : (r : Ordering) → AllByRecursion (λ e. P e.1) (insert_entry cmp es k v)
+        → AllByRecursion (λ e. P e.1) (match_ordering r ((k, v) ∷ e ∷ es) ((e.0, v) ∷ es) (e ∷ insert_entry cmp es k v))
+    by Less rest = (new, all)
+    by Equal rest = (new, all.1)
+    by Greater rest = (all.0, rest)
+
+-- key, where one is inserted of which it holds
+keys_inserted : {K A : Type 0} (P : K → Type 0) (cmp : K → K → Ordering) (es : List (K × A)) (k : K) (v : A)
+    → P k → AllByRecursion P (keys_of es) → AllByRecursion P (keys_of (insert_entry cmp es k v))
+keys_inserted P cmp [] k v new all = (new, tt)
+keys_inserted P cmp (e ∷ es) k v new all = by (cmp k e.0) (keys_inserted P cmp es k v new all.1)
+  where
+    by : (r : Ordering) → AllByRecursion P (keys_of (insert_entry cmp es k v))
+        → AllByRecursion P (keys_of (match_ordering r ((k, v) ∷ e ∷ es) ((e.0, v) ∷ es) (e ∷ insert_entry cmp es k v)))
+    by Less rest = (new, all)
+    by Equal rest = all
+    by Greater rest = (all.0, rest)
+
+-- ---- orders
+
+-- either answer of a test
+either : {P : Type 0} (b : Bool) → (b ≡ true → P) → (b ≡ false → P) → P
+either true if_so if_not = if_so refl
+either false if_so if_not = if_not refl
+
+-- Keys that an exact order does not tell apart are one.
+equal : {K : Type 0} {cmp : K → K → Ordering} → CmpEqualImpliesEq cmp → (x y : K) → is_at (cmp x) y ≡ true → x ≡ y
+equal {cmp = cmp} exact x y same = exact x y (by (cmp x y) same)
+  where
+    by : (r : Ordering) → is_eq r ≡ true → r ≡ Equal
+    by Less is = cc
+    by Equal is = refl
+    by Greater is = cc
+
+module _ {K : Type 0} {cmp : K → K → Ordering} (total : IsTotalOrder cmp) where
+  turned : (x y : K) → cmp x y ≡ Greater → cmp y x ≡ Less
+  turned x y is = total.antisymm y x ∙ ap ordering_reverse is
+
+  below_all : (k x : K) (ks : List K) → cmp k x ≡ Less
+      → AllByRecursion (λ y. cmp x y ≡ Less) ks → AllByRecursion (λ y. cmp k y ≡ Less) ks
+  below_all k x [] is all = tt
+  below_all k x (y ∷ ks) is all = (total.trans k x y is all.0, below_all k x ks is all.1)
+
+-- ---- keys that rise
+
+-- Those that are left rise.
+pub rises_removed : {K A : Type 0} (cmp : K → K → Ordering) (test : K → Bool) (es : List (K × A))
+    → Rises cmp es → Rises cmp (remove_entry test es)
+unfolding IsStrictlySortedBy
+rises_removed cmp test [] rises = tt
+rises_removed cmp test (e ∷ es) rises = by (test e.0) (rises_removed cmp test es rises.1)
+  where
+    by : (b : Bool) → Rises cmp (remove_entry test es) → Rises cmp (cond b es (e ∷ remove_entry test es))
+    by true rest = rises.1
+    by false rest = (keys_removed (λ y. cmp e.0 y ≡ Less) test es rises.0, rest)
+
+module _ {K A : Type 0} {cmp : K → K → Ordering} (total : IsTotalOrder cmp) where
+  -- Those behind an insertion rise.
+  pub rises_inserted : (es : List (K × A)) (k : K) (v : A) → Rises cmp es → Rises cmp (insert_entry cmp es k v)
+  unfolding IsStrictlySortedBy
+  rises_inserted [] k v rises = (tt, tt)
+  rises_inserted (e ∷ es) k v rises = by (cmp k e.0) refl (rises_inserted es k v rises.1)
+    where
+      by : (r : Ordering) → cmp k e.0 ≡ r → Rises cmp (insert_entry cmp es k v)
+          → Rises cmp (match_ordering r ((k, v) ∷ e ∷ es) ((e.0, v) ∷ es) (e ∷ insert_entry cmp es k v))
+      by Less is rest = ((is, below_all total k e.0 (keys_of es) is rises.0), rises)
+      by Equal is rest = rises
+      by Greater is rest = (keys_inserted (λ y. cmp e.0 y ≡ Less) cmp es k v (turned total k e.0 is) rises.0, rest)
+
+  -- A key that is found among later ones is not the first.
+  pub behind_first : (q : K) (e : K × A) (es : List (K × A)) (v : A) → Rises cmp (e ∷ es)
+      → kept_at cmp es q ≡ Some v → is_at (cmp q) e.0 ≡ false
+  behind_first q e es v rises found = either (is_at (cmp q) e.0) first (λ other. other)
+    where
+      first : is_at (cmp q) e.0 ≡ true → is_at (cmp q) e.0 ≡ false
+      first same =
+          let distinct = IsDistinct-from_sorted cmp (keys_of (e ∷ es)) rises in
+          let none = lookup-none (is_at (cmp q)) es (none_past_head (eq_by_cmp_equiv total) q e es distinct same) in cc
+
+  -- ---- look-ups behind an insertion
+
+  inserted : (q k : K) (v : A) (es : List (K × A))
+      → kept_at cmp (insert_entry cmp es k v) q ≡ cond (is_at (cmp q) k) (Some v) (kept_at cmp es q)
+  inserted q k v [] = refl
+  inserted q k v (e ∷ es) = by (cmp k e.0) refl (inserted q k v es)
+    where
+      alike : (b : Bool) → cond b (Some v) (kept_at cmp es q) ≡ cond b (Some v) (cond b (Some e.1) (kept_at cmp es q))
+      alike true = refl
+      alike false = refl
+
+      apart : cmp k e.0 ≡ Greater → (r : Ordering) → cmp q e.0 ≡ r
+          → cond (is_eq r) (Some e.1) (cond (is_eq (cmp q k)) (Some v) (kept_at cmp es q))
+          ≡ cond (is_eq (cmp q k)) (Some v) (cond (is_eq r) (Some e.1) (kept_at cmp es q))
+      apart is Less there = refl
+      apart is Equal there = let below : cmp q k ≡ Less = total.congr q e.0 k there ∙ turned total k e.0 is in rw below refl
+      apart is Greater there = refl
+
+      by : (r : Ordering) → cmp k e.0 ≡ r
+          → kept_at cmp (insert_entry cmp es k v) q ≡ cond (is_eq (cmp q k)) (Some v) (kept_at cmp es q)
+          → kept_at cmp (match_ordering r ((k, v) ∷ e ∷ es) ((e.0, v) ∷ es) (e ∷ insert_entry cmp es k v)) q
+          ≡ cond (is_eq (cmp q k)) (Some v) (cond (is_eq (cmp q e.0)) (Some e.1) (kept_at cmp es q))
+      by Less is rest = refl
+      by Equal is rest = rw (alike_right total k e.0 q is) (alike (is_eq (cmp q e.0)))
+      by Greater is rest = rw rest (apart is (cmp q e.0) refl)
+
+  module _ (exact : CmpEqualImpliesEq cmp) where
+    -- What is found is the new value, or was there.
+    pub found_inserted : (q k : K) (v w : A) (es : List (K × A)) → kept_at cmp (insert_entry cmp es k v) q ≡ Some w
+        → ((q ≡ k) × (w ≡ v)) ⊎ (kept_at cmp es q ≡ Some w)
+    found_inserted q k v w es found = by (is_at (cmp q) k) refl (sym (inserted q k v es) ∙ found)
+      where
+        by : (b : Bool) → is_at (cmp q) k ≡ b → cond b (Some v) (kept_at cmp es q) ≡ Some w
+            → ((q ≡ k) × (w ≡ v)) ⊎ (kept_at cmp es q ≡ Some w)
+        by true same is = inl (equal exact q k same, cc)
+        by false other is = inr is
+
+    -- What was there is found, at any other key.
+    pub found_other : (q k : K) (v w : A) (es : List (K × A)) → q ≢ k
+        → kept_at cmp es q ≡ Some w → kept_at cmp (insert_entry cmp es k v) q ≡ Some w
+    found_other q k v w es apart found = either (is_at (cmp q) k) (λ same. absurd (apart (equal exact q k same))) other
+      where
+        other : is_at (cmp q) k ≡ false → kept_at cmp (insert_entry cmp es k v) q ≡ Some w
+        other is = inserted q k v es ∙ ap (λ b. cond b (Some v) (kept_at cmp es q)) is ∙ found

@@ -1,0 +1,13 @@
+pub mod Table
+pub mod Half
+pub mod Component
+pub mod End
+pub mod Message
+pub mod Reply
+pub mod Hidden
+pub mod Fault
+pub mod Refusal
+pub mod Sound
+pub mod CodeMap
+pub mod TableText
+pub mod TableReading

@@ -1,0 +1,62 @@
+-- What holds of every end, whatever went over it.
+use Rattle.std.specs.Prelude.{◌≡◌, ◌≢◌, ℕ, ℤ, List, [], Some, None, IsSome}
+use Rattle.std.specs.declared.cmp.Ordering.{Ordering}
+use Rattle.std.specs.List.{AllByRecursion}
+use Rattle.std.specs.List.Sorted.{IsStrictlySortedBy}
+use Rattle.std.specs.Map.{keys_of, lookup}
+use Rattle.std.specs.BTreeMap.{is_at}
+use Rattle.std.specs.Ordering.{int_cmp}
+use Rattle.tcap_end.specs.declared.half.Phase.{Phase}
+use Rattle.tcap_end.specs.declared.half.Phase.TheVariants as phases
+use Rattle.tcap_end.specs.declared.half.Standing.TheVariants as standings
+use Rattle.tcap_end.specs.declared.half.Slot.{Slot}
+use Rattle.tcap_end.specs.declared.half.Slot.TheVariants.{Begun, Accepted}
+use Rattle.tcap_end.specs.Table.{octets_cmp}
+use Rattle.tcap_end.specs.Half.{Half}
+use Rattle.tcap_end.specs.End.{End, Found}
+
+-- The keys rise.
+abbrev pub Rises : {K A : Type 0} → (K → K → Ordering) → List (K × A) → Type 0
+Rises cmp entries = IsStrictlySortedBy cmp (keys_of entries)
+
+-- No invoke ID stands with an empty list.
+abbrev pub HasItems : {A : Type 0} → List (ℤ × List A) → Type 0
+HasItems items = AllByRecursion (λ e. e.1 ≢ []) items
+
+-- What a half has in each phase.
+abbrev pub FitsPhase : Phase → Half → Type 0
+FitsPhase phases.Sent h = IsSome h.own × (h.peer ≡ None) × (h.standing ≢ standings.Confirmed) × (h.inn ≡ []) × (h.grants ≡ [])
+FitsPhase phases.Received h = (h.own ≡ None) × IsSome h.peer × (h.standing ≢ standings.Confirmed) × (h.out ≡ [])
+FitsPhase phases.Active h = IsSome h.own × IsSome h.peer × (h.standing ≢ standings.Asked)
+FitsPhase phases.Closed h = (h.standing ≡ standings.Without) × (h.out ≡ []) × (h.inn ≡ []) × (h.grants ≡ [])
+
+pub record IsHalf (h : Half) : Type 0 where
+  pub phase : FitsPhase h.phase h
+  pub out : Rises int_cmp h.out
+  pub inn : Rises int_cmp h.inn × HasItems h.inn
+  pub grants : Rises int_cmp h.grants × HasItems h.grants
+
+abbrev pub halves_of : Slot → End → List (List ℕ × Half)
+halves_of Begun e = e.begun
+halves_of Accepted e = e.accepted
+
+-- The end has that half, kept there.
+abbrev pub Has : End → Found → Type 0
+Has e found = lookup (is_at (octets_cmp found.key)) (halves_of found.slot e) ≡ Some found.half
+
+-- A half is kept by its own transaction ID, or by its peer's.
+abbrev pub IsKept : Slot → List ℕ → Half → Type 0
+IsKept Begun key h = h.own ≡ Some key
+IsKept Accepted key h = h.peer ≡ Some key
+
+abbrev pub IsSame : Found → Found → Type 0
+IsSame f g = (f.slot ≡ g.slot) × (f.key ≡ g.key)
+
+pub record IsEnd (e : End) : Type 0 where
+  pub begun : Rises octets_cmp e.begun
+  pub accepted : Rises octets_cmp e.accepted
+  pub halves : (f : Found) → Has e f → IsHalf f.half
+  pub kept : (f : Found) → Has e f → IsKept f.slot f.key f.half
+  -- No two halves have one own transaction ID, nor one peer's.
+  pub one_own : (f g : Found) (id : List ℕ) → Has e f → Has e g → f.half.own ≡ Some id → g.half.own ≡ Some id → IsSame f g
+  pub one_peer : (f g : Found) (id : List ℕ) → Has e f → Has e g → f.half.peer ≡ Some id → g.half.peer ≡ Some id → IsSame f g

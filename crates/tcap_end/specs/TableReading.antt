@@ -1,0 +1,16 @@
+-- What a row and operations that were read stand for.
+use Rattle.std.specs.Prelude.{List, Result, Ok, Err}
+use Rattle.tcap_parts.specs.declared.code.Code.{Code}
+use Rattle.tcap_end.specs.declared.code_map.CodeMap.{CodeMap}
+use Rattle.tcap_end.specs.declared.table.TableFault.{TableFault}
+use Rattle.tcap_end.specs.declared.table_text.Row.{Row as Kept}
+use Rattle.tcap_end.specs.CodeMap.{coded, key_code}
+use Rattle.tcap_end.specs.Table.{Operation}
+use Rattle.tcap_end.specs.TableText.{Row}
+
+abbrev pub row_of : Kept → Row
+row_of r = record { code = key_code r.key; class = r.class; linked = coded r.linked; expires = r.expires }
+
+abbrev pub operations_of : Result (CodeMap Operation) TableFault → Result (List (Code × Operation)) TableFault
+operations_of (Ok m) = Ok (coded m)
+operations_of (Err fault) = Err fault
