@@ -29,7 +29,11 @@ mod parts;
 #[cfg(test)]
 mod showing;
 #[cfg(test)]
+mod tables;
+#[cfg(test)]
 mod tools;
+#[cfg(test)]
+mod untold;
 #[cfg(test)]
 mod values;
 #[cfg(test)]
