@@ -66,5 +66,11 @@ for words, given, status in FULL:
     if run.returncode != status:
         wrong += 1
         print(f"{words}, no standard output: {run.returncode}")
-print(f"{len(ROWS) + len(FULL) - wrong} passed, {wrong} failed")
+# What was packed goes out where standard error takes nothing.
+with open("/dev/full", "wb") as full:
+    run = subprocess.run([PROGRAM, "pack"], input=LINES + b"x\n", stdout=subprocess.PIPE, stderr=full, check=False)
+if run.stdout != BEGIN or run.returncode != 3:
+    wrong += 1
+    print(f"pack, no standard error: {run.returncode} {run.stdout}")
+print(f"{len(ROWS) + len(FULL) + 1 - wrong} passed, {wrong} failed")
 sys.exit(wrong != 0)

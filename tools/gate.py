@@ -1,4 +1,4 @@
-"""The gate, which `make test` runs: `rt ci`, and then tests/program.py on the program that `rt ci` built. What they print is
+"""The gate, which `make test` runs: `rt ci`, then tests/program.py on the program that `rt ci` built, and tests/borrows.py. What they print is
 passed on. Then it prints how many seconds each crate's proof, its tests' proof and its must-fail edits took, and closes with
 the line `N passed, M failed`, in which both are counted. The exit status is 0 where none failed.
 
@@ -93,9 +93,11 @@ def main():
     else:
         runs = 0, 1
         print("rt ci built no program, so it was not run")
+    lent = counts_of([sys.executable, "tests/borrows.py"])
+    print(f"feeding while an entry is lent: {'refused' if lent[0] else 'NOT refused'}")
     show_spans(spans, seconds)
-    print(f"{passed + runs[0]} passed, {failed + runs[1]} failed", flush=True)
-    return int(failed + runs[1] != 0)
+    print(f"{passed + runs[0] + lent[0]} passed, {failed + runs[1] + lent[1]} failed", flush=True)
+    return int(failed + runs[1] + lent[1] != 0)
 
 
 sys.exit(main())
