@@ -26,7 +26,7 @@ DIALOGUE = bytes.fromhex(
 # How often the program reads its input.
 ROUNDS = 200
 
-with open("crates/tcap_rows/src/vectors.rt") as file:
+with open("crates/tcap_msg_rows/src/vectors.rt") as file:
     # The digits of a row stand behind its name, and may go on in the next line behind a backslash.
     DIGITS = re.findall(r'\(\s*"\w+",\s*"([0-9a-f\\\s]+)",', file.read())
 VECTORS = b"".join(bytes.fromhex(re.sub(r"[\\\s]", "", digits)) for digits in DIGITS)

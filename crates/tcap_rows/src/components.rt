@@ -1,10 +1,11 @@
 //! Each kind of component: decoded, shown, lent, copied and encoded again.
 
-use crate::tools::{encoded_again, lens, lines_of, octets_of, written};
+use crate::tools::lines_of;
 use std::alloc::Global;
 use std::test::Fail;
 use tcap_ber::{ObjectId, Small};
 use tcap_msg::{Message, MessageParts, TransactionId, view};
+use tcap_msg_rows::{encoded_again, lens, octets_of, written};
 use tcap_parts::{Code, Component, ComponentView, Portion, Problem, ResultBody};
 
 /// Components with the shortest lengths, as hexadecimal digits, and their lines.

@@ -1,9 +1,10 @@
 //! Dialogue portions: read, shown, encoded again, and refused.
 
-use crate::tools::{edited, element, encoded_again, lines_of, octets_of, refusal, view_refusal};
+use crate::tools::lines_of;
 use std::alloc::Global;
 use std::test::Fail;
 use tcap_ber::{Counted, Window};
+use tcap_msg_rows::{edited, element, encoded_again, octets_of, refusal, view_refusal};
 use tcap_parts::{len_dialogue, view_dialogue, write_dialogue};
 
 /// dialogue-as-id, the name of the abstract syntax of structured dialogues (Q.773 4.2.3).

@@ -1,10 +1,11 @@
 //! Records that come in pieces: frames that hold one entry, and a feeder that keeps them.
 
-use crate::tools::{octets_of, shown};
+use crate::tools::shown;
 use std::alloc::Global;
 use std::test::Fail;
 use tcap_ber::{Counted, Failing};
 use tcap_judge::run_show;
+use tcap_msg_rows::octets_of;
 use tcap_record::{
     BodyView, End, Entry, FeedFault, FeedReason, Feeder, Frames, Record, push_view, read_record,
     show,

@@ -1,21 +1,11 @@
-//! The worked rows, over memory: tests that cross crates, each a table of inputs with the answers that are
-//! wanted of them.
+//! The worked rows of records, printing and tables, over memory: tests that cross crates, each a table of inputs with the
+//! answers that are wanted of them.
 #![tactic(auto)]
 
 #[cfg(test)]
-mod bad_dialogues;
-#[cfg(test)]
-mod by_hand;
-#[cfg(test)]
 mod components;
 #[cfg(test)]
-mod decoding;
-#[cfg(test)]
-mod devices;
-#[cfg(test)]
 mod dialogues;
-#[cfg(test)]
-mod encoding;
 #[cfg(test)]
 mod feeding;
 #[cfg(test)]
@@ -25,8 +15,6 @@ mod messages;
 #[cfg(test)]
 mod packing;
 #[cfg(test)]
-mod parts;
-#[cfg(test)]
 mod showing;
 #[cfg(test)]
 mod tables;
@@ -34,10 +22,6 @@ mod tables;
 mod tools;
 #[cfg(test)]
 mod untold;
-#[cfg(test)]
-mod values;
-#[cfg(test)]
-mod vectors;
 #[cfg(test)]
 mod walking;
 #[cfg(test)]

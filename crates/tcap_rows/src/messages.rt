@@ -1,13 +1,11 @@
 //! Messages of each kind: decoded, shown, encoded again, and cut.
 
-use crate::tools::{
-    edited, encoded_again, lens, lines_of, octets_of, refusal, shown, view_refusal, written,
-};
-use crate::vectors::VECTORS;
+use crate::tools::{lines_of, shown};
 use std::alloc::Global;
 use std::test::Fail;
 use tcap_ber::Failing;
 use tcap_msg::{EncodeFault, MessageParts, decode, encode, view};
+use tcap_msg_rows::{VECTORS, edited, encoded_again, lens, octets_of, refusal, view_refusal, written};
 
 /// The octets of the vector of that name.
 fn vector(alloc: Global, wanted: &str) -> Result<Vec<u8>, Fail> {

@@ -1,10 +1,10 @@
 //! Lines of hexadecimal digits, of which records are made.
 
-use crate::tools::octets_of;
 use std::alloc::Global;
 use std::test::Fail;
 use tcap_ber::{Counted, Failing};
 use tcap_judge::{Status, run_pack};
+use tcap_msg_rows::octets_of;
 use tcap_record::{FeedFault, FeedReason, PackFault, pack};
 
 /// Lines, the octets that are written, and the count of entries, or the number of the line that is none.

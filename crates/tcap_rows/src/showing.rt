@@ -1,9 +1,10 @@
 //! What `run_show` prints of a record, and its status.
 
-use crate::tools::{octets_of, shown};
+use crate::tools::shown;
 use std::test::Fail;
 use tcap_ber::{Counted, Failing};
 use tcap_judge::{Status, run_show};
+use tcap_msg_rows::octets_of;
 
 /// Octets as hexadecimal digits, what is printed of them, and the status.
 const ROWS: [(&str, &str, u8); 32] = [

@@ -1,11 +1,11 @@
 //! Operation tables, from texts of JSON: what is read, and the first fault where a text is none.
 
-use crate::tools::octets_of;
 use std::alloc::Global;
 use std::test::Fail;
 use tcap_ber::ObjectIdView;
 use tcap_end::TableReason::{BadClass, DoubleCode, Memory, NotJson, TableShape, TooManyRows};
 use tcap_end::{Table, TableFault, TableReason};
+use tcap_msg_rows::octets_of;
 use tcap_parts::CodeView;
 
 /// Texts, and the reason why they are no table, whose place is 0.

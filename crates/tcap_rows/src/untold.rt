@@ -1,10 +1,10 @@
 //! How far a reader is read: up to the piece where a fault stands, or for which the writer fails, and no further.
 
-use crate::tools::edited;
 use std::alloc::Global;
 use std::test::Fail;
 use tcap_ber::{Counted, Failing};
 use tcap_judge::{run_pack, run_show};
+use tcap_msg_rows::edited;
 use tcap_record::{PackFault, pack, read_record};
 
 /// So many quiet marks.

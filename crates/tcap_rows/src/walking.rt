@@ -1,12 +1,11 @@
 //! Elements of indefinite length: read, shown, written, refused, and walked octet by octet.
 
-use crate::tools::{
-    encoded_again, lens, lines_of, octets_of, refusal, shown, view_refusal, written,
-};
+use crate::tools::{lines_of, shown};
 use std::alloc::Global;
 use std::test::Fail;
 use tcap_ber::{Outer, Walk, outer};
 use tcap_msg::{MessageParts, view};
+use tcap_msg_rows::{encoded_again, lens, octets_of, refusal, view_refusal, written};
 
 /// Messages as hexadecimal digits, what is written of them, and their lines.
 const READ: [(&str, &str, &str); 13] = [

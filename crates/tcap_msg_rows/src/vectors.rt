@@ -2,7 +2,7 @@
 
 /// Messages with the shortest lengths, but for the padded one: the name of each, its octets as hexadecimal digits, and
 /// the lines that `show` prints of it where end A sent it.
-pub(crate) const VECTORS: [(&str, &str, &str); 25] = [
+pub const VECTORS: [(&str, &str, &str); 25] = [
     (
         "begin_with_invoke",
         "620d4801016c08a10602010102012d",

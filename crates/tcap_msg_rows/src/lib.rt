@@ -1,0 +1,25 @@
+//! The worked rows of elements, parts and messages, over memory: tests that cross crates, each a table of inputs with the
+//! answers that are wanted of them; and what these tests share with those of the crates above.
+#![tactic(auto)]
+
+#[cfg(test)]
+mod bad_dialogues;
+#[cfg(test)]
+mod by_hand;
+#[cfg(test)]
+mod decoding;
+#[cfg(test)]
+mod devices;
+#[cfg(test)]
+mod encoding;
+#[cfg(test)]
+mod parts;
+mod tools;
+#[cfg(test)]
+mod values;
+mod vectors;
+
+pub use tools::{
+    edited, element, encoded_again, lens, octets_of, refusal, view_refusal, written,
+};
+pub use vectors::VECTORS;
