@@ -3,13 +3,13 @@
 ghost use Rattle.std.specs.Prelude.{◌≡◌, ◌≢◌, ℕ, ◌++◌, List, length, IfOk, IfErr, IsOkAnd, ◌↔◌, Err};
 ghost use Rattle.tcap_ber.specs.declared.fault.Fault.{Fault};
 ghost use Rattle.std.specs.Option.{option_map};
-ghost use Rattle.tcap_ber.specs.Reading.{Gives, span};
+ghost use Rattle.tcap_ber.specs.Reading.{Gives, element, span};
 ghost use Rattle.tcap_parts.specs.Meaning.{components_of};
 ghost use Rattle.tcap_parts.specs.DialogueMeaning.{dialogue_of};
 ghost use Rattle.tcap_msg.specs.Meaning.{cause_of, reason_of, message_of};
 ghost use Rattle.tcap_msg.specs.declared.message.Message.{Message};
 ghost use Rattle.tcap_msg.specs.Message.{make_reason, Spells, BeginsWithMessage, BeginsNoMessage, IsNeverMessage, IsFaulty};
-ghost use Rattle.tcap_msg.specs.Reading.{otid_at, dtid_at, cause_at, dialogue_portion_at, component_portion_at, required_portion_at, unidirectional_at, begin_at, end_message_at, continue_at, unless_cause_at, abort_at, message_in, message_at};
+ghost use Rattle.tcap_msg.specs.Reading.{otid_at, dtid_at, cause_at, dialogue_portion_at, component_portion_at, required_portion_at, unidirectional_at, begin_at, end_message_at, continue_at, unless_cause_at, abort_at, message_of_element, message_in, message_at};
 
 use crate::tags::{
     ABORT, BEGIN, CAUSE, COMPONENT_PORTION, CONTINUE, DIALOGUE_PORTION, DTID, END, OTID,
@@ -17,7 +17,7 @@ use crate::tags::{
 };
 use crate::transaction_id::TransactionIdView;
 use tcap_ber::{
-    Fault, Outer, Reason, SmallView, Window, begins_with, ended, outer, required, required_any,
+    Fault, Outer, Reason, SmallView, Tlv, Window, begins_with, ended, outer, required, required_any,
     small_number,
 };
 use tcap_parts::{DialogueView, PortionView, view_dialogue};
@@ -234,26 +234,32 @@ fn view_abort(content: Window) -> Result<MessageView, Fault>
     Ok(MessageView::Abort { dtid, reason })
 }
 
+/// The message that an element is, by its tag.
+fn view_element(found: Tlv) -> Result<MessageView, Fault>
+    ensures exact { Gives message_of result (message_of_element (element found.entry)) }
+{
+    if found.tag.is(UNIDIRECTIONAL) {
+        view_unidirectional(found.content)
+    } else if found.tag.is(BEGIN) {
+        view_begin(found.content)
+    } else if found.tag.is(END) {
+        view_end(found.content)
+    } else if found.tag.is(CONTINUE) {
+        view_continue(found.content)
+    } else if found.tag.is(ABORT) {
+        view_abort(found.content)
+    } else {
+        Err(found.refused(Reason::UnexpectedTag))
+    }
+}
+
 /// The message at the front of a window, and the window behind it.
 #[tactic(auto, unfolding(crate::specs::Reading::message_in))]
 fn view_message(window: Window) -> Result<(MessageView, Window), Fault>
     ensures exact { Gives (λ x. (message_of x.0, span x.1)) result (message_in (span window.entry)) }
 {
     let (found, rest) = required_any(window)?;
-    let message = if found.tag.is(UNIDIRECTIONAL) {
-        view_unidirectional(found.content)?
-    } else if found.tag.is(BEGIN) {
-        view_begin(found.content)?
-    } else if found.tag.is(END) {
-        view_end(found.content)?
-    } else if found.tag.is(CONTINUE) {
-        view_continue(found.content)?
-    } else if found.tag.is(ABORT) {
-        view_abort(found.content)?
-    } else {
-        return Err(found.refused(Reason::UnexpectedTag));
-    };
-    Ok((message, rest))
+    Ok((view_element(found)?, rest))
 }
 
 #[tactic(auto, unfolding(crate::specs::Reading::message_at))]

@@ -1,8 +1,8 @@
-use Rattle.std.proofs.Common.{◌≡◌, ℕ, ◌+◌, ◌-◌, ◌≤◌, Bool, length, take, Option, None, Result, Ok, Err, refl, sym, ap, subst, ◌∙◌, arith}
+use Rattle.std.proofs.Common.{◌≡◌, ℕ, ◌+◌, ◌-◌, ◌≤◌, Bool, length, take, Option, None, Result, Ok, Err, sym, ap, subst, ◌∙◌, arith}
 use Rattle.std.specs.Prelude.{◌||◌}
 use Rattle.std.proofs.lemmas.Result.{err_from_is_err_and}
 use Rattle.std.proofs.lemmas.List.{length-drop}
-use Rattle.tcap_record.specs.Held.{Held, IsHeld, dropped}
+use Rattle.tcap_record.specs.Held.{IsHeld, dropped}
 use Rattle.tcap_record.proofs.FeederLaws.{rest_on, held_dropped, no_less}
 use Rattle.tcap_judge.specs.declared.showing.Stop.{Stop}
 use Rattle.tcap_judge.specs.Shown.{is_bad}
