@@ -9,7 +9,8 @@ use Rattle.tcap_end.specs.declared.half.Phase.{Phase}
 use Rattle.tcap_end.specs.declared.half.Phase.TheVariants as phases
 use Rattle.tcap_end.specs.declared.half.Standing.{Standing}
 use Rattle.tcap_end.specs.declared.half.Standing.TheVariants as standings
-use Rattle.tcap_end.specs.Half.{Answer, Half, Invocation, Invoked, closed_half, fresh}
+use Rattle.tcap_end.specs.declared.outs.Invoked.{Invoked}
+use Rattle.tcap_end.specs.Half.{Answer, Half, Invocation, closed_half, fresh}
 use Rattle.tcap_end.specs.Message.{answered, asked_by, confirmed, is_request, learned}
 use Rattle.tcap_end.specs.Sound.{FitsPhase, HasItems, IsHalf, Rises}
 use Rattle.tcap_end.proofs.MapLaws.{rises_removed}

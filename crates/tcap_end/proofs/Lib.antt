@@ -9,3 +9,12 @@ pub mod StepLaws
 pub mod CodeMapLaws
 pub mod TableLaws
 pub mod TableRows
+pub mod KeepLaws
+pub mod OutLaws
+pub mod PlaceLaws
+pub mod UndoLaws
+pub mod RoundLaws
+pub mod BackLaws
+pub mod NoteLaws
+pub mod ReceivingLaws
+pub mod SendLaws

@@ -1,5 +1,5 @@
 -- What values by operation codes are: local codes stand before global ones.
-use Rattle.std.specs.Prelude.{ℕ, ℤ, List, map, ◌++◌}
+use Rattle.std.specs.Prelude.{List, map, ◌++◌}
 use Rattle.tcap_parts.specs.declared.code.Code.{Code}
 use Rattle.tcap_parts.specs.declared.code.Code.TheVariants.{Local, Global}
 use Rattle.tcap_end.specs.declared.code_map.CodeKey.{CodeKey}

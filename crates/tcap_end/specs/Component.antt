@@ -13,7 +13,8 @@ use Rattle.tcap_parts.specs.declared.component.Component.TheVariants.{Invoke, Re
 use Rattle.tcap_end.specs.declared.half.Mark.{Mark}
 use Rattle.tcap_end.specs.declared.half.Mark.TheVariants as marks
 use Rattle.tcap_end.specs.Table.{Table, class_of, code_cmp, linked_of, operation_of}
-use Rattle.tcap_end.specs.Half.{Half, Invoked, Invocation, Answer, listed, added, taken, is_one_of}
+use Rattle.tcap_end.specs.declared.outs.Invoked.{Invoked}
+use Rattle.tcap_end.specs.Half.{Half, Invocation, Answer, listed, added, taken, is_one_of}
 
 -- ---- classes (Q.771): 1 reports success and failure, 2 failure alone, 3 success alone, 4 neither
 

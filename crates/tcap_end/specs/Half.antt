@@ -9,12 +9,7 @@ use Rattle.tcap_end.specs.declared.half.Phase.{Phase}
 use Rattle.tcap_end.specs.declared.half.Phase.TheVariants as phases
 use Rattle.tcap_end.specs.declared.half.Standing.{Standing}
 use Rattle.tcap_end.specs.declared.half.Standing.TheVariants as standings
-use Rattle.tcap_end.specs.declared.half.Mark.{Mark}
-
--- an own invocation: its operation, and what it waits for
-pub record Invoked : Type 0 where
-  pub code : Code
-  pub mark : Mark
+use Rattle.tcap_end.specs.declared.outs.Invoked.{Invoked}
 
 -- an invocation that was received: its operation, and the invoke problems by which it may be rejected
 pub record Invocation : Type 0 where

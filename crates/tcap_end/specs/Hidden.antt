@@ -9,7 +9,8 @@ use Rattle.tcap_end.specs.declared.half.Phase.TheVariants as phases
 use Rattle.tcap_end.specs.declared.half.Mark.{Mark}
 use Rattle.tcap_end.specs.declared.half.Mark.TheVariants as marks
 use Rattle.tcap_end.specs.Table.{Table, expires_of}
-use Rattle.tcap_end.specs.Half.{Invoked, closed_half, is_closed}
+use Rattle.tcap_end.specs.declared.outs.Invoked.{Invoked}
+use Rattle.tcap_end.specs.Half.{closed_half, is_closed}
 use Rattle.tcap_end.specs.Component.{invoked}
 use Rattle.tcap_end.specs.End.{End, Found, named, put}
 use Rattle.tcap_end.specs.Message.{where_so}

@@ -11,3 +11,8 @@ pub mod Sound
 pub mod CodeMap
 pub mod TableText
 pub mod TableReading
+pub mod Lists
+pub mod Outs
+pub mod Received
+pub mod Places
+pub mod HalfState

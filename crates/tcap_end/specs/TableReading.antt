@@ -1,5 +1,5 @@
 -- What a row and operations that were read stand for.
-use Rattle.std.specs.Prelude.{List, Result, Ok, Err}
+use Rattle.std.specs.Prelude.{Bool, true, false, List, [], ◌∷◌, Result, Ok, Err}
 use Rattle.tcap_parts.specs.declared.code.Code.{Code}
 use Rattle.tcap_end.specs.declared.code_map.CodeMap.{CodeMap}
 use Rattle.tcap_end.specs.declared.table.TableFault.{TableFault}
@@ -14,3 +14,8 @@ row_of r = record { code = key_code r.key; class = r.class; linked = coded r.lin
 abbrev pub operations_of : Result (CodeMap Operation) TableFault → Result (List (Code × Operation)) TableFault
 operations_of (Ok m) = Ok (coded m)
 operations_of (Err fault) = Err fault
+
+-- whether a set of codes has one
+abbrev pub is_linked : List (Code × Unit {0}) → Bool
+is_linked [] = false
+is_linked (first ∷ more) = true

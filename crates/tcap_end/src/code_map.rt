@@ -1,6 +1,6 @@
 //! Values by operation codes.
 
-ghost use Rattle.std.specs.Prelude.{◌≡◌, [], option_copied, is_some, IfOk};
+ghost use Rattle.std.specs.Prelude.{◌≡◌, [], option_copied, is_some, IfOk, IsTrue, ◌↔◌};
 ghost use Rattle.std.specs.Map.{lookup};
 ghost use Rattle.std.specs.BTreeMap.{insert_entry, is_at};
 ghost use Rattle.tcap_parts.specs.Meaning.{code_of};
@@ -35,6 +35,13 @@ impl<V> CodeMap<V> {
             locals: BTreeMap::new(alloc),
             globals: BTreeMap::new(alloc),
         }
+    }
+
+    /// Whether it has no value.
+    pub(crate) fn is_empty(&self) -> bool
+        ensures { IsTrue result ↔ (coded self.now ≡ []) }
+    {
+        self.locals.is_empty() && self.globals.is_empty()
     }
 
     /// The value of that code.

@@ -1,5 +1,11 @@
 //! Why an end refuses.
 
+ghost use Rattle.std.specs.Prelude.{◌≡◌};
+ghost use Rattle.tcap_end.specs.declared.fault.EndFault.TheVariants as EndFault;
+ghost use Rattle.tcap_end.specs.Fault.{fault_number};
+
+use std::alloc::AllocError;
+
 /// Why an end does not take a step.
 #[derive(Clone, Copy, Debug, PartialEq, Eq)]
 pub enum EndFault {
@@ -37,9 +43,6 @@ pub enum EndFault {
     Memory,
 }
 
-ghost use Rattle.std.specs.Prelude.{◌≡◌};
-ghost use Rattle.tcap_end.specs.Fault.{fault_number};
-
 impl EndFault {
     /// The number that a line of output gives for this reason.
     pub fn number(self) -> u8
@@ -63,5 +66,13 @@ impl EndFault {
             EndFault::StillOpen => 54,
             EndFault::Memory => 99,
         }
+    }
+}
+
+impl From<AllocError> for EndFault {
+    ghost from_gives = { λ _ fault. fault ≡ EndFault.Memory };
+
+    fn from(_: AllocError) -> EndFault {
+        EndFault::Memory
     }
 }

@@ -4,7 +4,15 @@
 mod code_map;
 mod fault;
 mod half;
+mod half_state;
 pub mod laws;
+mod lists;
+mod outs;
+mod places;
+mod received;
+mod receiving;
+mod sending;
+mod stepping;
 mod table;
 mod table_text;
 

@@ -1,9 +1,11 @@
 //! The operation table: what a test bench knows of the operations (Q.771, operation classes).
 
-ghost use Rattle.std.specs.Prelude.{◌≡◌, ◌≢◌, ◌<◌, ◌≤◌, Err, IfSome};
+ghost use Rattle.std.specs.Prelude.{◌≡◌, ◌≢◌, ◌<◌, ◌≤◌, Err, IfSome, is_some, option_copied};
 ghost use Rattle.tcap_parts.specs.Meaning.{code_of};
 ghost use Rattle.tcap_end.specs.Fault.{table_number_of};
-ghost use Rattle.tcap_end.specs.Table.{class_of};
+ghost use Rattle.tcap_end.specs.Table.{class_of, expires_of, linked_of, operation_of};
+ghost use Rattle.tcap_end.specs.Component.{reports_success, reports_failure, links};
+ghost use Rattle.tcap_end.specs.TableReading.{is_linked};
 ghost use Rattle.tcap_end.specs.declared.table.TableReason.{TableReason};
 ghost use Rattle.tcap_end.specs.TableText.{IsTableOf, table_fault};
 
@@ -121,5 +123,63 @@ impl Table {
         ensures range { IfSome result (λ class. (0 < class) × (class ≤ 4)) }
     {
         Some(self.operations.get(code)?.class)
+    }
+
+    /// An operation.
+    fn operation(&self, code: CodeView) -> Option<&Operation>
+        ensures { option_copied result ≡ operation_of self.now (code_of code.entry) }
+    {
+        self.operations.get(code)
+    }
+
+    /// Whether the table has the operation.
+    pub(crate) fn has(&self, code: CodeView) -> bool
+        ensures { result ≡ is_some (operation_of self.now (code_of code.entry)) }
+    {
+        self.operation(code).is_some()
+    }
+
+    /// Whether success is reported of an operation (Q.771, classes 1 and 3).
+    pub(crate) fn reports_success(&self, code: CodeView) -> bool
+        ensures { result ≡ reports_success self.now (code_of code.entry) }
+    {
+        matches!(self.class_of(code), Some(1 | 3))
+    }
+
+    /// Whether failure is reported of an operation (Q.771, classes 1 and 2).
+    pub(crate) fn reports_failure(&self, code: CodeView) -> bool
+        ensures { result ≡ reports_failure self.now (code_of code.entry) }
+    {
+        matches!(self.class_of(code), Some(1 | 2))
+    }
+
+    /// Whether the second operation may be linked to the first.
+    pub(crate) fn links(&self, code: CodeView, linked: CodeView) -> bool
+        ensures { result ≡ links self.now (code_of code.entry) (code_of linked.entry) }
+    {
+        match self.operation(code) {
+            Some(operation) => operation.linked.get(linked).is_some(),
+            None => false,
+        }
+    }
+
+    /// Whether any operation may be linked to this one.
+    pub(crate) fn links_some(&self, code: CodeView) -> bool
+        ensures { result ≡ is_linked (linked_of self.now (code_of code.entry)) }
+    {
+        match self.operation(code) {
+            Some(operation) => !operation.linked.is_empty(),
+            None => false,
+        }
+    }
+
+    /// Whether an invocation of the operation may end unseen.
+    pub(crate) fn expires(&self, code: CodeView) -> bool
+        ensures { result ≡ expires_of self.now (code_of code.entry) }
+    {
+        match self.operation(code) {
+            Some(operation) => operation.expires,
+            None => false,
+        }
     }
 }

@@ -17,8 +17,8 @@ use crate::tags::{
 };
 use crate::transaction_id::TransactionIdView;
 use tcap_ber::{
-    Fault, Outer, Reason, SmallView, Tlv, Window, begins_with, ended, outer, required, required_any,
-    small_number,
+    Fault, Outer, Reason, SmallView, Tlv, Window, begins_with, ended, outer, required,
+    required_any, small_number,
 };
 use tcap_parts::{DialogueView, PortionView, view_dialogue};
 

@@ -19,7 +19,5 @@ mod tools;
 mod values;
 mod vectors;
 
-pub use tools::{
-    edited, element, encoded_again, lens, octets_of, refusal, view_refusal, written,
-};
+pub use tools::{edited, element, encoded_again, lens, octets_of, refusal, view_refusal, written};
 pub use vectors::VECTORS;

@@ -23,12 +23,7 @@ pub fn element(alloc: Global, tag: u8, content: &[u8]) -> Result<Vec<u8>, Fail> 
 }
 
 /// The octets with another one at this place.
-pub fn edited(
-    alloc: Global,
-    octets: &[u8],
-    place: usize,
-    value: u8,
-) -> Result<Vec<u8>, Fail> {
+pub fn edited(alloc: Global, octets: &[u8], place: usize, value: u8) -> Result<Vec<u8>, Fail> {
     let mut copy = octets.to_vec(alloc)?;
     if let Some(octet) = copy.get_mut(place) {
         *octet = value;

@@ -5,7 +5,9 @@ use std::alloc::Global;
 use std::test::Fail;
 use tcap_ber::Failing;
 use tcap_msg::{EncodeFault, MessageParts, decode, encode, view};
-use tcap_msg_rows::{VECTORS, edited, encoded_again, lens, octets_of, refusal, view_refusal, written};
+use tcap_msg_rows::{
+    VECTORS, edited, encoded_again, lens, octets_of, refusal, view_refusal, written,
+};
 
 /// The octets of the vector of that name.
 fn vector(alloc: Global, wanted: &str) -> Result<Vec<u8>, Fail> {

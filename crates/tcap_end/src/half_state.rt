@@ -1,0 +1,130 @@
+//! The state of a half, and taking back what changed in it.
+
+ghost use Rattle.std.specs.Prelude.{◌≡◌, ◌∷◌, OnErr, OnOk};
+ghost use Rattle.tcap_end.specs.Half.{Half, fresh};
+ghost use Rattle.tcap_end.specs.HalfState.{CanUndo, IsUndone, Undoes, half_of};
+
+use crate::half::{Mark, Phase, Slot, Standing};
+use crate::lists::Lists;
+use crate::outs::{Invoked, Outs};
+use crate::received::{Answer, Invocation};
+use std::alloc::{AllocError, Global};
+use std::collections::LinkedList;
+use tcap_msg::TransactionId;
+
+/// What is kept of an open half.
+#[derive(Debug, Drop)]
+pub(crate) struct HalfState {
+    pub(crate) slot: Slot,
+    pub(crate) phase: Phase,
+    pub(crate) own: Option<TransactionId>,
+    pub(crate) peer: Option<TransactionId>,
+    pub(crate) standing: Standing,
+    pub(crate) out: Outs,
+    pub(crate) inn: Lists<Invocation>,
+    pub(crate) grants: Lists<Answer>,
+}
+
+/// What a component changed in a half, so that it can be taken back.
+#[derive(Debug, Drop)]
+pub(crate) enum Change {
+    /// Another own invocation, or none, stood under an ID.
+    Out {
+        id: i8,
+        was: Option<Invoked>,
+    },
+    /// An invocation that was received was taken from a place of an ID's list.
+    InnTaken {
+        id: i8,
+        at: usize,
+        item: LinkedList<Invocation>,
+    },
+    /// An answer was taken from a place of an ID's list.
+    GrantTaken {
+        id: i8,
+        at: usize,
+        item: LinkedList<Answer>,
+    },
+    /// The last answer to an own invocation came: it waits for a Reject.
+    Waits(i8),
+    /// An invocation joined an ID's list.
+    InnJoined(i8),
+    /// An answer joined an ID's list.
+    GrantJoined(i8),
+}
+
+impl HalfState {
+    /// A half over which nothing went yet.
+    pub(crate) fn new(
+        alloc: Global,
+        slot: Slot,
+        phase: Phase,
+        own: Option<TransactionId>,
+        peer: Option<TransactionId>,
+        standing: Standing,
+    ) -> HalfState
+        ensures half { half_of result ≡ fresh phase own peer standing }
+        ensures slot { result.slot ≡ slot }
+    {
+        HalfState {
+            slot,
+            phase,
+            own,
+            peer,
+            standing,
+            out: Outs::new(alloc),
+            inn: Lists::new(alloc),
+            grants: Lists::new(alloc),
+        }
+    }
+
+    /// Takes back a change, the last one.
+    fn undo(&mut self, change: Change)
+        requires can { CanUndo change self.old }
+        ensures { IsUndone change self.old self.new }
+    {
+        match change {
+            Change::Out { id, was } => {
+                self.out.put(id, was);
+            }
+            Change::Waits(id) => self.out.mark(id, Mark::Sent),
+            Change::InnTaken { id, at, item } => self.inn.put_back(id, at, item),
+            Change::GrantTaken { id, at, item } => self.grants.put_back(id, at, item),
+            Change::InnJoined(id) => self.inn.pop(id),
+            Change::GrantJoined(id) => self.grants.pop(id),
+        }
+    }
+
+    /// Takes back all changes, the last one first.
+    pub(crate) fn undo_all(&mut self, changes: LinkedList<Change>)
+        requires can { (start : Half) × Undoes changes self.old start }
+        ensures undone { (start : Half) → Undoes changes self.old start → half_of self.new ≡ start }
+        ensures slot { self.new.slot ≡ self.old.slot }
+    {
+        let mut changes = changes;
+        for _ in 0..changes.len() {
+            if let Some(change) = changes.pop_front() {
+                self.undo(change);
+            }
+        }
+    }
+
+    /// Notes a change that was made, or takes it back where there is no memory to note it.
+    pub(crate) fn note(
+        &mut self,
+        changes: &mut LinkedList<Change>,
+        change: Change,
+    ) -> Result<(), AllocError>
+        requires can { CanUndo change self.old }
+        ensures noted { OnOk result ((self.new ≡ self.old) × (changes.new ≡ change ∷ changes.old)) }
+        ensures undone { OnErr result (IsUndone change self.old self.new × (changes.new ≡ changes.old)) }
+    {
+        match changes.push_front(change) {
+            Ok(()) => Ok(()),
+            Err(failed) => {
+                self.undo(failed.value);
+                Err(AllocError)
+            }
+        }
+    }
+}
