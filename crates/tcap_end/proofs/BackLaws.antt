@@ -17,8 +17,8 @@ use Rattle.tcap_end.specs.declared.half.Mark.TheVariants as marks
 use Rattle.tcap_end.specs.declared.outs.Invoked.{Invoked}
 use Rattle.tcap_end.specs.declared.outs.Outs.{Outs}
 use Rattle.tcap_end.specs.Outs.{HasPlace, kept_outs, marked, with_mark, with_out}
-use Rattle.tcap_end.proofs.KeepLaws.{given_back, given_twice, insert_present, insert_twice, listed_keep, listed_with, lookup_inserted, remove_absent}
-use Rattle.tcap_end.proofs.MapLaws.{rises_inserted}
+use Rattle.tcap_end.proofs.KeepLaws.{given_back, given_twice, listed_keep, listed_with, remove_absent}
+use Rattle.tcap_end.proofs.MapLaws.{found_new, insert_again, insert_twice, rises_inserted}
 use Rattle.tcap_end.proofs.OutLaws.{puts, stands}
 
 -- ---- where the oldest item stands that fits
@@ -41,7 +41,8 @@ place_some fits [] at e = absurd (none-some at e)
 place_some {A} fits (item ∷ items) at e = by (fits item) (place_of fits items) e (place_some fits items)
   where
     by : (fit : Bool) (place : Option ℕ) → cond fit (Some 0) (option_map suc place) ≡ Some at
-        → ((n : ℕ) → place ≡ Some n → (list_any fits items ≡ true) × (n < length items) × (without_oldest fits items ≡ take n items ++ drop (suc n) items))
+        → ((n : ℕ) → place ≡ Some n → (list_any fits items ≡ true) × (n < length items)
+        × (without_oldest fits items ≡ take n items ++ drop (suc n) items))
         → ((fit || list_any fits items) ≡ true) × (at < suc (length items))
         × (cond fit items (item ∷ without_oldest fits items) ≡ take at (item ∷ items) ++ drop (suc at) (item ∷ items))
     by true place e rest = rw (sym (ap (λ o. unwrap_or o 0) e)) (refl, omega arith, refl)
@@ -55,7 +56,8 @@ pub taken_some : {A : Type 0} (id : ℤ) (fits : A → Bool) (m : List (ℤ × L
 taken_some id fits m at e = let there = place_some fits (listed id m) at e in rw (there.0, there.2) refl
 
 -- Nothing is taken of it.
-pub taken_none : {A : Type 0} (id : ℤ) (fits : A → Bool) (m : List (ℤ × List A)) → place_of fits (listed id m) ≡ None → taken id fits m ≡ None
+pub taken_none : {A : Type 0} (id : ℤ) (fits : A → Bool) (m : List (ℤ × List A)) → place_of fits (listed id m) ≡ None
+    → taken id fits m ≡ None
 taken_none id fits m e = rw (place_none fits (listed id m) e) refl
 
 -- ---- lists and places that are there
@@ -70,9 +72,12 @@ has_list {A} id l at within = by (lookup (is_at (int_cmp id)) l.lists.entries) (
 
 -- An ID of an invocation has a place.
 pub has_place : (id : ℤ) (o : Outs) (i : Invoked) → lookup (is_at (int_cmp id)) (kept_outs o) ≡ Some i → HasPlace id o
-has_place id o i there = by (lookup (is_at (int_cmp id)) o.places.entries) (stands id o.places.entries (lookup (is_at (int_cmp id)) o.places.entries) o.ordered refl)
+has_place id o i there =
+    by (lookup (is_at (int_cmp id)) o.places.entries)
+    (stands id o.places.entries (lookup (is_at (int_cmp id)) o.places.entries) o.ordered refl)
   where
-    by : (found : Option (Option Invoked)) → lookup (is_at (int_cmp id)) (kept_outs o) ≡ option_and_then (λ place. place) found → IsSome found
+    by : (found : Option (Option Invoked)) → lookup (is_at (int_cmp id)) (kept_outs o) ≡ option_and_then (λ place. place) found
+        → IsSome found
     by None e = absurd (none-some i (sym e ∙ there))
     by (Some place) e = refl
 
@@ -91,7 +96,8 @@ pub put_again : {A : Type 0} (id : ℤ) (at : ℕ) (l : Lists A) → at < length
 put_again {A} id at l within =
     let items : List A = listed id (kept_lists l) in
     let left : List A = take at items ++ drop (suc at) items in
-    ap (λ now. with_listed id (take at now ++ take 1 (drop at items) ++ drop at now) (with_listed id left (kept_lists l))) (listed_with id left l)
+    ap (λ now. with_listed id (take at now ++ take 1 (drop at items) ++ drop at now) (with_listed id left (kept_lists l)))
+    (listed_with id left l)
     ∙ given_twice id left (take at left ++ take 1 (drop at items) ++ drop at left) l
     ∙ ap (λ now. with_listed id now (kept_lists l)) (restored at items within)
     ∙ given_back id l
@@ -118,7 +124,7 @@ out_twice id a b o =
     let es : List (ℤ × Option Invoked) = o.places.entries in
     ap (with_out id b) (sym (puts id a es o.ordered))
     ∙ sym (puts id b (insert_entry int_cmp es id a) (rises_inserted int_cmp_total es id a o.ordered))
-    ∙ ap (keep (λ place. place)) (insert_twice id a b es)
+    ∙ ap (keep (λ place. place)) (insert_twice int_cmp_total id a b es)
     ∙ puts id b es o.ordered
 
 -- what stands under an ID that was changed
@@ -126,7 +132,7 @@ pub out_there : (id : ℤ) (x : Option Invoked) (o : Outs) → lookup (is_at (in
 out_there id x o =
     let es : List (ℤ × Option Invoked) = o.places.entries in
     ap (lookup (is_at (int_cmp id))) (sym (puts id x es o.ordered))
-    ∙ stands id (insert_entry int_cmp es id x) (Some x) (rises_inserted int_cmp_total es id x o.ordered) (lookup_inserted id x es)
+    ∙ stands id (insert_entry int_cmp es id x) (Some x) (rises_inserted int_cmp_total es id x o.ordered) (found_new int_cmp_total id x es)
 
 -- What stood there is put there again.
 pub out_again : (id : ℤ) (x : Option Invoked) (o : Outs)
@@ -143,10 +149,11 @@ out_again id x o =
     by (Some None) is e = rw e (remove_absent id (kept_outs o) e)
     by (Some (Some invoked)) is e =
         rw e (sym (puts id (Some invoked) o.places.entries o.ordered)
-        ∙ ap (keep (λ place. place)) (insert_present id (Some invoked) o.places.entries o.ordered is))
+        ∙ ap (keep (λ place. place)) (insert_again int_cmp_total id (Some invoked) o.places.entries o.ordered is))
 
 -- An invocation that was sent waits, and is as one that was sent again.
-pub mark_again : (id : ℤ) (code : Code) (o : Outs) → lookup (is_at (int_cmp id)) (kept_outs o) ≡ Some (record { code = code; mark = marks.Sent })
+pub mark_again : (id : ℤ) (code : Code) (o : Outs)
+    → lookup (is_at (int_cmp id)) (kept_outs o) ≡ Some (record { code = code; mark = marks.Sent })
     → with_mark id marks.Sent (with_mark id marks.Wait (kept_outs o)) ≡ kept_outs o
 mark_again id code o there =
     let waits : Option Invoked = marked marks.Wait (lookup (is_at (int_cmp id)) (kept_outs o)) in

@@ -61,6 +61,7 @@ module _ {V : Type 0} where
   global_insert k v [] (e ∷ gs) = global_step (vec_cmp k e.0) k v e gs _ _ (global_insert k v [] gs)
   global_insert k v (e ∷ ls) gs = ap (λ r. (Local e.0, e.1) ∷ r) (global_insert k v ls gs)
 
-  pub something_left : (b : Bool) (ls : List (ℤ × V)) (gs : List (Vec ℕ Alloc × V)) → (IsTrue b ↔ (length ls ≡ 0)) → b ≡ false → IsTrue b ↔ (locals ls ++ globals gs ≡ [])
+  pub something_left : (b : Bool) (ls : List (ℤ × V)) (gs : List (Vec ℕ Alloc × V)) → (IsTrue b ↔ (length ls ≡ 0)) → b ≡ false
+      → IsTrue b ↔ (locals ls ++ globals gs ≡ [])
   something_left b [] gs some e = absurd (true≢false (sym (some.1 refl) ∙ e))
   something_left b (l ∷ ls) gs some e = (λ is. absurd (suc-ne-zero _ (some.0 is)), λ is. absurd (suc-ne-zero _ (ap length is)))

@@ -1,5 +1,5 @@
 -- What a component that is sent or received leaves as it is in a half.
-use Rattle.std.proofs.Common.{◌≡◌, ◌≢◌, ℕ, ℤ, Bool, true, false, cond, List, [], ◌∷◌, Option, Some, None, refl}
+use Rattle.std.proofs.Common.{◌≡◌, ◌≢◌, ℕ, ℤ, Bool, true, false, cond, List, [], ◌∷◌, Option, Some, None, option_map, refl}
 use Rattle.std.specs.List.{list_any}
 use Rattle.std.specs.BTreeMap.{insert_entry, is_at}
 use Rattle.std.specs.Ordering.{int_cmp}
@@ -57,31 +57,25 @@ pub record Sends (h g : Half) : Type 0 where
 sends_self : (h : Half) → Sends h h
 sends_self h = record { follows = follows_self h; inn = λ none. none; grants = λ none. none }
 
+-- A half that some items are taken from, where what is left of them makes such a half.
+takes : {A : Type 0} (h g : Half) (without : List (ℤ × List A) → Half) (o : Option (List (ℤ × List A)))
+    → ((left : List (ℤ × List A)) → o ≡ Some left → Sends h (without left)) → option_map without o ≡ Some g → Sends h g
+takes h g without None sends is = cc
+takes h g without (Some left) sends is = let same : without left ≡ g = cc in rw (← same) (sends left refl)
+
 takes_inn : (h g : Half) (id : ℤ) (fits : Invocation → Bool) → with_inn h (taken id fits h.inn) ≡ Some g → Sends h g
-takes_inn h g id fits is = by (taken id fits h.inn) refl is
-  where
-    by : (o : Option (List (ℤ × List Invocation))) → taken id fits h.inn ≡ o → with_inn h o ≡ Some g → Sends h g
-    by None took is = cc
-    by (Some inn) took is =
-        let same : record h { inn = inn } ≡ g = cc in
-        rw (← same) (record {
-          follows = follows_inn h inn (taken_kept id fits h.inn inn took);
-          inn = λ none. taken_none id fits h.inn inn took none;
-          grants = λ none. none;
-        })
+takes_inn h g id fits is = takes h g (λ inn. record h { inn = inn }) (taken id fits h.inn) (λ inn took. record {
+  follows = follows_inn h inn (taken_kept id fits h.inn inn took);
+  inn = λ none. taken_none id fits h.inn inn took none;
+  grants = λ none. none;
+}) is
 
 takes_grants : (h g : Half) (id : ℤ) (fits : Answer → Bool) → with_grants h (taken id fits h.grants) ≡ Some g → Sends h g
-takes_grants h g id fits is = by (taken id fits h.grants) refl is
-  where
-    by : (o : Option (List (ℤ × List Answer))) → taken id fits h.grants ≡ o → with_grants h o ≡ Some g → Sends h g
-    by None took is = cc
-    by (Some grants) took is =
-        let same : record h { grants = grants } ≡ g = cc in
-        rw (← same) (record {
-          follows = follows_grants h grants (taken_kept id fits h.grants grants took);
-          inn = λ none. none;
-          grants = λ none. taken_none id fits h.grants grants took none;
-        })
+takes_grants h g id fits is = takes h g (λ grants. record h { grants = grants }) (taken id fits h.grants) (λ grants took. record {
+  follows = follows_grants h grants (taken_kept id fits h.grants grants took);
+  inn = λ none. none;
+  grants = λ none. taken_none id fits h.grants grants took none;
+}) is
 
 where_sends : (h x g : Half) (b : Bool) → Sends h x → cond b (Some x) None ≡ Some g → Sends h g
 where_sends h x g true sends is = let same : x ≡ g = cc in rw (← same) sends

@@ -14,7 +14,7 @@ use Rattle.tcap_end.proofs.FoundLaws.{half_at, none_own, none_peer, octets_total
 
 -- ---- where nothing went
 
-no_half : {P : Type 0} (slot : Slot) (key : List ℕ) (h : Half) → half_at (halves_of slot nothing) key ≡ Some h → P
+pub no_half : {P : Type 0} (slot : Slot) (key : List ℕ) (h : Half) → half_at (halves_of slot nothing) key ≡ Some h → P
 no_half Begun key h had = let bad : None ≡ Some h = had in cc
 no_half Accepted key h had = let bad : None ≡ Some h = had in cc
 
@@ -41,11 +41,11 @@ quiet_sound e next is = by (all_closed e.begun && all_closed e.accepted) is
 -- ---- which halves a put leaves
 
 -- the half is that one, kept there
-abbrev IsThere : Slot → List ℕ → Half → Found → Type 0
+abbrev pub IsThere : Slot → List ℕ → Half → Found → Type 0
 IsThere slot key h f = (f.slot ≡ slot) × (f.key ≡ key) × (f.half ≡ h)
 
 -- A half behind a put is the new one, or was had.
-put_has : (e : End) (slot : Slot) (key : List ℕ) (h : Half) (f : Found)
+pub put_has : (e : End) (slot : Slot) (key : List ℕ) (h : Half) (f : Found)
     → Has (put e slot key h) f → IsThere slot key h f ⊎ Has e f
 put_has e slot key h f had = at slot f.slot f.key f.half had
   where
@@ -62,7 +62,7 @@ put_has e slot key h f had = at slot f.slot f.key f.half had
     at Accepted Accepted q w found = by Accepted e.accepted q w (found_inserted octets_total exact_bytes q key h w e.accepted found)
 
 -- A half that was had elsewhere still is.
-put_other : (e : End) (slot : Slot) (key : List ℕ) (h : Half) (f : Found)
+pub put_other : (e : End) (slot : Slot) (key : List ℕ) (h : Half) (f : Found)
     → (f.slot ≡ slot → f.key ≢ key) → Has e f → Has (put e slot key h) f
 put_other e slot key h f apart had = at slot f.slot apart had
   where
@@ -150,6 +150,15 @@ pub record Goes (e next : End) : Type 0 where
 pub goes_nowhere : (e : End) → IsEnd e → Goes e e
 goes_nowhere e sound = record { sound = sound; stays = λ f had is. had }
 
+-- A half is put where no closed one is.
+put_goes : (e : End) (slot : Slot) (key : List ℕ) (h : Half) → IsEnd e → IsHalf h → IsKept slot key h
+    → IsAlone (λ h. h.own) e slot key h → IsAlone (λ h. h.peer) e slot key h
+    → ((g : Found) → Has e g → g.half.phase ≡ phases.Closed → g.slot ≡ slot → g.key ≢ key) → Goes e (put e slot key h)
+put_goes e slot key h sound half kept own peer apart = record {
+  sound = put_sound e slot key h sound half kept own peer;
+  stays = λ g in_g closed. put_other e slot key h g (apart g in_g closed) in_g;
+}
+
 -- ---- an open half is put back
 
 -- Where an open half is kept no closed one is.
@@ -162,10 +171,8 @@ open_apart e f g in_f is_open in_g closed slots keys =
 
 put_back : (e : End) (f : Found) (h : Half) → IsEnd e → Has e f → is_closed f.half.phase ≡ false → IsHalf h → IsKept f.slot f.key h
     → IsAlone (λ h. h.own) e f.slot f.key h → IsAlone (λ h. h.peer) e f.slot f.key h → Goes e (put e f.slot f.key h)
-put_back e f h sound had is_open half kept own peer = record {
-  sound = put_sound e f.slot f.key h sound half kept own peer;
-  stays = λ g in_g closed. put_other e f.slot f.key h g (open_apart e f g had is_open in_g closed) in_g;
-}
+put_back e f h sound had is_open half kept own peer =
+    put_goes e f.slot f.key h sound half kept own peer (λ g in_g closed. open_apart e f g had is_open in_g closed)
 
 -- with the IDs that it had
 pub put_open : (e : End) (f : Found) (h : Half) → IsEnd e → Has e f → is_closed f.half.phase ≡ false → IsHalf h
@@ -205,27 +212,13 @@ put_learned e f id h sound had is_open half none was peer own = put_back e f h s
 -- by sending, with an own ID that no half had
 pub put_sent : (e : End) (id : List ℕ) (h : Half) → IsEnd e → IsHalf h
     → with_own e id ≡ None → h.own ≡ Some id → h.peer ≡ None → Goes e (put e Begun id h)
-put_sent e id h sound half none own peer = record {
-  sound = put_sound e Begun id h sound half own alone (alone_without (λ h. h.peer) e Begun id h peer);
-  stays = λ g in_g closed. put_other e Begun id h g (apart g in_g) in_g;
-}
-  where
-    alone : IsAlone (λ h. h.own) e Begun id h
-    alone = alone_own e Begun id id h none own
-
-    apart : (g : Found) → Has e g → g.slot ≡ Begun → g.key ≢ id
-    apart g in_g slots keys = none_own e id g none in_g (rw (slots, keys) at (sound.kept g in_g))
+put_sent e id h sound half none own peer = put_goes e Begun id h sound half own
+    (alone_own e Begun id id h none own) (alone_without (λ h. h.peer) e Begun id h peer)
+    (λ g in_g closed slots keys. none_own e id g none in_g (rw (slots, keys) at (sound.kept g in_g)))
 
 -- by receiving, with a peer's ID that no half had
 pub put_received : (e : End) (id : List ℕ) (h : Half) → IsEnd e → IsHalf h
     → with_peer e id ≡ None → h.peer ≡ Some id → h.own ≡ None → Goes e (put e Accepted id h)
-put_received e id h sound half none peer own = record {
-  sound = put_sound e Accepted id h sound half peer (alone_without (λ h. h.own) e Accepted id h own) alone;
-  stays = λ g in_g closed. put_other e Accepted id h g (apart g in_g) in_g;
-}
-  where
-    alone : IsAlone (λ h. h.peer) e Accepted id h
-    alone = alone_peer e Accepted id id h none peer
-
-    apart : (g : Found) → Has e g → g.slot ≡ Accepted → g.key ≢ id
-    apart g in_g slots keys = none_peer e id g none in_g (rw (slots, keys) at (sound.kept g in_g))
+put_received e id h sound half none peer own = put_goes e Accepted id h sound half peer
+    (alone_without (λ h. h.own) e Accepted id h own) (alone_peer e Accepted id id h none peer)
+    (λ g in_g closed slots keys. none_peer e id g none in_g (rw (slots, keys) at (sound.kept g in_g)))

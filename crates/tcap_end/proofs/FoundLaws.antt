@@ -70,8 +70,8 @@ first_none passes slot ((key, half) ∷ es) test h none found =
 -- ---- in an end
 
 -- A half that is found is had, and passes.
-found_has : (passes : Half → Bool) (e : End) (f : Found) → IsEnd e → found_half passes e ≡ Some f → Has e f
-found_has passes e f sound is = by (first_half passes Begun e.begun) refl
+found_has : (passes : Half → Bool) (e : End) → IsEnd e → (f : Found) → found_half passes e ≡ Some f → Has e f
+found_has passes e sound f is = by (first_half passes Begun e.begun) refl
   where
     had : (slot : Slot) → IsIn passes slot (halves_of slot e) f → Has e f
     had slot there = rw (there.0) (there.1)
@@ -96,15 +96,15 @@ found_none passes e g is had = by (first_half passes Begun e.begun) refl
 -- ---- by their IDs
 
 -- A half that is found by its own transaction ID, by its peer's or by its name is had.
-pub own_has : (e : End) (id : List ℕ) (f : Found) → IsEnd e → with_own e id ≡ Some f → Has e f
-own_has e id f sound is = found_has (λ h. is_id id h.own) e f sound is
+pub own_has : (e : End) (id : List ℕ) → IsEnd e → (f : Found) → with_own e id ≡ Some f → Has e f
+own_has e id = found_has (λ h. is_id id h.own) e
 
-pub peer_has : (e : End) (id : List ℕ) (f : Found) → IsEnd e → with_peer e id ≡ Some f → Has e f
-peer_has e id f sound is = found_has (λ h. is_id id h.peer) e f sound is
+pub peer_has : (e : End) (id : List ℕ) → IsEnd e → (f : Found) → with_peer e id ≡ Some f → Has e f
+peer_has e id = found_has (λ h. is_id id h.peer) e
 
-pub named_has : (e : End) (name : HalfName) (f : Found) → IsEnd e → named e name ≡ Some f → Has e f
-named_has e (names.Own id) f sound is = own_has e id f sound is
-named_has e (names.Peer id) f sound is = peer_has e id f sound is
+pub named_has : (e : End) (name : HalfName) → IsEnd e → (f : Found) → named e name ≡ Some f → Has e f
+named_has e (names.Own id) = own_has e id
+named_has e (names.Peer id) = peer_has e id
 
 is_same_id : (id : List ℕ) (o : Option (List ℕ)) → o ≡ Some id → is_id id o ≡ true
 is_same_id id o is = rw is ((bytes_eq-Decides id id).1 refl)

@@ -11,7 +11,7 @@ use Rattle.tcap_end.specs.declared.half.Standing.{Standing}
 use Rattle.tcap_end.specs.declared.half.Standing.TheVariants as standings
 use Rattle.tcap_end.specs.declared.outs.Invoked.{Invoked}
 use Rattle.tcap_end.specs.Half.{Answer, Half, Invocation, closed_half, fresh}
-use Rattle.tcap_end.specs.Message.{answered, asked_by, confirmed, is_request, learned}
+use Rattle.tcap_end.specs.Message.{answered, asked_by, confirmed, is_active, is_received, is_request, learned}
 use Rattle.tcap_end.specs.Sound.{FitsPhase, HasItems, IsHalf, Rises}
 use Rattle.tcap_end.proofs.MapLaws.{rises_removed}
 
@@ -154,3 +154,17 @@ half_without h id half = half_follows h.phase h left refl half
   where
     left : Half
     left = record h { out = remove_entry (is_at (int_cmp id)) h.out }
+
+-- ---- phases
+
+pub active_is : (p : Phase) → is_active p ≡ true → p ≡ phases.Active
+active_is phases.Sent is = cc
+active_is phases.Received is = cc
+active_is phases.Active is = refl
+active_is phases.Closed is = cc
+
+pub received_is : (p : Phase) → is_received p ≡ true → p ≡ phases.Received
+received_is phases.Sent is = cc
+received_is phases.Received is = refl
+received_is phases.Active is = cc
+received_is phases.Closed is = cc

@@ -1,12 +1,11 @@
 -- Entries that stand for nothing are left out: looking up and inserting.
 use Rattle.std.proofs.Common.{◌≡◌, ℤ, List, [], ◌∷◌, Option, Some, None, refl, sym, ap, ◌∙◌}
-use Rattle.std.specs.Prelude.{cond, option_and_then, unwrap_or}
-use Rattle.std.specs.Ordering.{int_cmp, is_eq, match_ordering, ordering_reverse}
+use Rattle.std.specs.Prelude.{cond, option_and_then}
+use Rattle.std.specs.Ordering.{int_cmp, is_eq, match_ordering}
 use Rattle.std.specs.declared.cmp.Ordering.{Ordering}
 use Rattle.std.specs.declared.cmp.Ordering.TheVariants.{Less, Equal, Greater}
 use Rattle.std.proofs.lemmas.Cmp.{int_cmp_total}
 use Rattle.std.proofs.lemmas.Option.{none-some}
-use Rattle.std.specs.Cmp.{int_cmp_is}
 use Rattle.std.specs.FinMap.{int_cmp-IsAntisymmetric}
 use Rattle.std.specs.List.{AllByRecursion}
 use Rattle.std.specs.List.Sorted.{IsStrictlySortedBy}
@@ -15,14 +14,13 @@ use Rattle.std.specs.Option.{MatchOption, option_copied}
 use Rattle.std.specs.Map.{keys_of, lookup, remove_entry}
 use Rattle.std.specs.BTreeMap.{insert_entry, is_at}
 use Rattle.tcap_end.specs.Half.{listed, listed_by, with_listed}
+use Rattle.tcap_end.specs.Sound.{Rises}
 use Rattle.tcap_end.specs.declared.lists.Lists.{Lists}
 use Rattle.tcap_end.specs.Lists.{keep, kept_entry, some_items, kept_lists}
+use Rattle.tcap_end.proofs.MapLaws.{below_all, found_new, insert_again, insert_twice, rises_inserted}
 
 abbrev Above : {B : Type 0} → ℤ → List (ℤ × B) → Type 0
 Above id entries = AllByRecursion (λ key. int_cmp id key ≡ Less) (keys_of entries)
-
-abbrev pub Ascends : {B : Type 0} → List (ℤ × B) → Type 0
-Ascends entries = IsStrictlySortedBy int_cmp (keys_of entries)
 
 -- ---- entries above an ID
 
@@ -34,17 +32,12 @@ keep_above {A} {B} f id (e ∷ es) above = by (f e.1) (keep_above f id es above.
     by None rest = rest
     by (Some b) rest = (above.0, rest)
 
--- what is below an ID is below what is above it
-above_from : {B : Type 0} (low id : ℤ) (es : List (ℤ × B)) → int_cmp low id ≡ Less → Above id es → Above low es
-above_from low id [] less above = tt
-above_from low id (e ∷ es) less above = (int_cmp_total.trans low id e.0 less above.0, above_from low id es less above.1)
-
-keep_rises : {A B : Type 0} (f : A → Option B) (es : List (ℤ × A)) → Ascends es → Ascends (keep f es)
+keep_rises : {A B : Type 0} (f : A → Option B) (es : List (ℤ × A)) → Rises int_cmp es → Rises int_cmp (keep f es)
 unfolding IsStrictlySortedBy
 keep_rises f [] rises = tt
 keep_rises {A} {B} f (e ∷ es) rises = by (f e.1) (keep_above f e.0 es rises.0) (keep_rises f es rises.1)
   where
-    by : (o : Option B) → Above e.0 (keep f es) → Ascends (keep f es) → Ascends (kept_entry e.0 o (keep f es))
+    by : (o : Option B) → Above e.0 (keep f es) → Rises int_cmp (keep f es) → Rises int_cmp (kept_entry e.0 o (keep f es))
     by None above rest = rest
     by (Some b) above rest = (above, rest)
 
@@ -62,7 +55,7 @@ remove_above id (e ∷ es) above = rw above.0 (ap (λ more. e ∷ more) (remove_
 
 -- ---- the entries that are kept
 
-pub lookup_keep : {A B : Type 0} (f : A → Option B) (id : ℤ) (es : List (ℤ × A)) → Ascends es
+pub lookup_keep : {A B : Type 0} (f : A → Option B) (id : ℤ) (es : List (ℤ × A)) → Rises int_cmp es
     → lookup (is_at (int_cmp id)) (keep f es) ≡ option_and_then f (lookup (is_at (int_cmp id)) es)
 unfolding IsStrictlySortedBy
 lookup_keep f id [] rises = refl
@@ -80,7 +73,7 @@ lookup_keep {A} {B} f id (e ∷ es) rises = by (int_cmp id e.0) refl (f e.1) ref
     by Greater is None kept rest = rest
     by Greater is (Some b) kept rest = rw is rest
 
-pub insert_keep : {A B : Type 0} (f : A → Option B) (id : ℤ) (a : A) (b : B) (es : List (ℤ × A)) → Ascends es → f a ≡ Some b
+pub insert_keep : {A B : Type 0} (f : A → Option B) (id : ℤ) (a : A) (b : B) (es : List (ℤ × A)) → Rises int_cmp es → f a ≡ Some b
     → keep f (insert_entry int_cmp es id a) ≡ insert_entry int_cmp (keep f es) id b
 unfolding IsStrictlySortedBy
 insert_keep f id a b [] rises is_b = rw is_b refl
@@ -91,7 +84,7 @@ insert_keep {A} {B} f id a b (e ∷ es) rises is_b = by (int_cmp id e.0) refl (f
         → keep f (match_ordering r ((id, a) ∷ e ∷ es) ((e.0, a) ∷ es) (e ∷ insert_entry int_cmp es id a))
         ≡ insert_entry int_cmp (kept_entry e.0 o (keep f es)) id b
     by Less is None kept rest =
-        rw (is_b, kept) (sym (insert_above id b (keep f es) (keep_above f id es (above_from id e.0 es is rises.0))))
+        rw (is_b, kept) (sym (insert_above id b (keep f es) (keep_above f id es (below_all int_cmp_total id e.0 (keys_of es) is rises.0))))
     by Less is (Some x) kept rest = rw (is_b, kept, is) refl
     by Equal is None kept rest = let same : id ≡ e.0 = int_cmp-IsAntisymmetric id e.0 is in
         rw (is_b, same) (sym (insert_above e.0 b (keep f es) (keep_above f e.0 es rises.0)))
@@ -99,7 +92,7 @@ insert_keep {A} {B} f id a b (e ∷ es) rises is_b = by (int_cmp id e.0) refl (f
     by Greater is None kept rest = rw kept rest
     by Greater is (Some x) kept rest = rw (kept, is) (ap (λ more. (e.0, x) ∷ more) rest)
 
-pub insert_dropped : {A B : Type 0} (f : A → Option B) (id : ℤ) (a : A) (es : List (ℤ × A)) → Ascends es → f a ≡ None
+pub insert_dropped : {A B : Type 0} (f : A → Option B) (id : ℤ) (a : A) (es : List (ℤ × A)) → Rises int_cmp es → f a ≡ None
     → keep f (insert_entry int_cmp es id a) ≡ remove_entry (is_at (int_cmp id)) (keep f es)
 unfolding IsStrictlySortedBy
 insert_dropped f id a [] rises is_none = rw is_none refl
@@ -111,10 +104,11 @@ insert_dropped {A} {B} f id a (e ∷ es) rises is_none =
         → keep f (match_ordering r ((id, a) ∷ e ∷ es) ((e.0, a) ∷ es) (e ∷ insert_entry int_cmp es id a))
         ≡ remove_entry (is_at (int_cmp id)) (kept_entry e.0 o (keep f es))
     by Less is None kept rest =
-        rw (is_none, kept) (sym (remove_above id (keep f es) (keep_above f id es (above_from id e.0 es is rises.0))))
+        rw (is_none, kept) (sym (remove_above id (keep f es) (keep_above f id es (below_all int_cmp_total id e.0 (keys_of es) is rises.0))))
     by Less is (Some x) kept rest =
         rw (is_none, kept, is)
-        (ap (λ more. (e.0, x) ∷ more) (sym (remove_above id (keep f es) (keep_above f id es (above_from id e.0 es is rises.0)))))
+        (ap (λ more. (e.0, x) ∷ more)
+        (sym (remove_above id (keep f es) (keep_above f id es (below_all int_cmp_total id e.0 (keys_of es) is rises.0)))))
     by Equal is None kept rest = let same : id ≡ e.0 = int_cmp-IsAntisymmetric id e.0 is in
         rw (is_none, same) (sym (remove_above e.0 (keep f es) (keep_above f e.0 es rises.0)))
     by Equal is (Some x) kept rest = rw (is_none, is) refl
@@ -124,7 +118,7 @@ insert_dropped {A} {B} f id a (e ∷ es) rises is_none =
 -- ---- lists by invoke IDs
 
 -- what is kept of an ID
-pub listed_keep : {A : Type 0} (id : ℤ) (es : List (ℤ × List A)) → Ascends es
+pub listed_keep : {A : Type 0} (id : ℤ) (es : List (ℤ × List A)) → Rises int_cmp es
     → listed id (keep some_items es) ≡ listed_by (lookup (is_at (int_cmp id)) es)
 listed_keep {A} id es rises = ap listed_by (lookup_keep some_items id es rises) ∙ by (lookup (is_at (int_cmp id)) es)
   where
@@ -134,77 +128,27 @@ listed_keep {A} id es rises = ap listed_by (lookup_keep some_items id es rises) 
     by (Some (x ∷ xs)) = refl
 
 -- an ID is given a list
-pub insert_listed : {A : Type 0} (id : ℤ) (items : List A) (es : List (ℤ × List A)) → Ascends es
+pub insert_listed : {A : Type 0} (id : ℤ) (items : List A) (es : List (ℤ × List A)) → Rises int_cmp es
     → keep some_items (insert_entry int_cmp es id items) ≡ with_listed id items (keep some_items es)
 insert_listed id [] es rises = insert_dropped some_items id [] es rises refl
 insert_listed id (x ∷ xs) es rises = insert_keep some_items id (x ∷ xs) (x ∷ xs) es rises refl
 
 -- ---- an ID that is given lists in turn
 
-stays_above : {B : Type 0} (low id : ℤ) (b : B) (es : List (ℤ × B)) → int_cmp low id ≡ Less → Above low es
-    → Above low (insert_entry int_cmp es id b)
-stays_above low id b [] less above = (less, tt)
-stays_above {B} low id b (e ∷ es) less above = by (int_cmp id e.0) (stays_above low id b es less above.1)
-  where
-    by : (r : Ordering) → Above low (insert_entry int_cmp es id b)
-        → Above low (match_ordering r ((id, b) ∷ e ∷ es) ((e.0, b) ∷ es) (e ∷ insert_entry int_cmp es id b))
-    by Less rest = (less, above)
-    by Equal rest = above
-    by Greater rest = (above.0, rest)
-
-insert_rises : {B : Type 0} (id : ℤ) (b : B) (es : List (ℤ × B)) → Ascends es → Ascends (insert_entry int_cmp es id b)
-unfolding IsStrictlySortedBy
-insert_rises id b [] rises = (tt, tt)
-insert_rises {B} id b (e ∷ es) rises = by (int_cmp id e.0) refl (insert_rises id b es rises.1)
-  where
-    by : (r : Ordering) → int_cmp id e.0 ≡ r → Ascends (insert_entry int_cmp es id b)
-        → Ascends (match_ordering r ((id, b) ∷ e ∷ es) ((e.0, b) ∷ es) (e ∷ insert_entry int_cmp es id b))
-    by Less is rest = ((is, above_from id e.0 es is rises.0), rises)
-    by Equal is rest = rises
-    by Greater is rest = (stays_above e.0 id b es (int_cmp_total.antisymm e.0 id ∙ ap ordering_reverse is) rises.0, rest)
-
-int_cmp_same : (id : ℤ) → int_cmp id id ≡ Equal
-int_cmp_same id = sym (int_cmp_is id id Equal refl)
-
-pub insert_twice : {B : Type 0} (id : ℤ) (a b : B) (es : List (ℤ × B))
-    → insert_entry int_cmp (insert_entry int_cmp es id a) id b ≡ insert_entry int_cmp es id b
-insert_twice id a b [] = rw (int_cmp_same id) refl
-insert_twice {B} id a b (e ∷ es) = by (int_cmp id e.0) refl (insert_twice id a b es)
-  where
-    by : (r : Ordering) → int_cmp id e.0 ≡ r
-        → insert_entry int_cmp (insert_entry int_cmp es id a) id b ≡ insert_entry int_cmp es id b
-        → insert_entry int_cmp (match_ordering r ((id, a) ∷ e ∷ es) ((e.0, a) ∷ es) (e ∷ insert_entry int_cmp es id a)) id b
-        ≡ match_ordering r ((id, b) ∷ e ∷ es) ((e.0, b) ∷ es) (e ∷ insert_entry int_cmp es id b)
-    by Less is rest = rw (int_cmp_same id) refl
-    by Equal is rest = rw is refl
-    by Greater is rest = rw is (ap (λ more. e ∷ more) rest)
-
-pub lookup_inserted : {B : Type 0} (id : ℤ) (b : B) (es : List (ℤ × B))
-    → lookup (is_at (int_cmp id)) (insert_entry int_cmp es id b) ≡ Some b
-lookup_inserted id b [] = rw (int_cmp_same id) refl
-lookup_inserted {B} id b (e ∷ es) = by (int_cmp id e.0) refl (lookup_inserted id b es)
-  where
-    by : (r : Ordering) → int_cmp id e.0 ≡ r → lookup (is_at (int_cmp id)) (insert_entry int_cmp es id b) ≡ Some b
-        → lookup (is_at (int_cmp id)) (match_ordering r ((id, b) ∷ e ∷ es) ((e.0, b) ∷ es) (e ∷ insert_entry int_cmp es id b))
-        ≡ Some b
-    by Less is rest = rw (int_cmp_same id) refl
-    by Equal is rest = rw is refl
-    by Greater is rest = rw is rest
-
 -- what is kept of an ID that was given a list
 pub listed_with : {A : Type 0} (id : ℤ) (items : List A) (l : Lists A) → listed id (with_listed id items (kept_lists l)) ≡ items
 listed_with id items l = let es = l.lists.entries in
     ap (listed id) (sym (insert_listed id items es l.ordered))
-    ∙ listed_keep id (insert_entry int_cmp es id items) (insert_rises id items es l.ordered)
-    ∙ ap listed_by (lookup_inserted id items es)
+    ∙ listed_keep id (insert_entry int_cmp es id items) (rises_inserted int_cmp_total es id items l.ordered)
+    ∙ ap listed_by (found_new int_cmp_total id items es)
 
 -- Of two lists the second counts.
 pub given_twice : {A : Type 0} (id : ℤ) (first second : List A) (l : Lists A)
     → with_listed id second (with_listed id first (kept_lists l)) ≡ with_listed id second (kept_lists l)
 given_twice id first second l = let es = l.lists.entries in
     ap (with_listed id second) (sym (insert_listed id first es l.ordered))
-    ∙ sym (insert_listed id second (insert_entry int_cmp es id first) (insert_rises id first es l.ordered))
-    ∙ ap (keep some_items) (insert_twice id first second es)
+    ∙ sym (insert_listed id second (insert_entry int_cmp es id first) (rises_inserted int_cmp_total es id first l.ordered))
+    ∙ ap (keep some_items) (insert_twice int_cmp_total id first second es)
     ∙ insert_listed id second es l.ordered
 
 pub remove_absent : {B : Type 0} (id : ℤ) (m : List (ℤ × B))
@@ -219,19 +163,6 @@ remove_absent {B} id (e ∷ m) absent = by (int_cmp id e.0) absent (remove_absen
     by Less none rest = ap (λ more. e ∷ more) (rest none)
     by Greater none rest = ap (λ more. e ∷ more) (rest none)
 
-pub insert_present : {B : Type 0} (id : ℤ) (b : B) (m : List (ℤ × B)) → Ascends m → lookup (is_at (int_cmp id)) m ≡ Some b
-    → insert_entry int_cmp m id b ≡ m
-unfolding IsStrictlySortedBy
-insert_present id b [] rises none = absurd (none-some b none)
-insert_present {B} id b (e ∷ m) rises present = by (int_cmp id e.0) refl present (insert_present id b m rises.1)
-  where
-    by : (r : Ordering) → int_cmp id e.0 ≡ r → cond (is_eq r) (Some e.1) (lookup (is_at (int_cmp id)) m) ≡ Some b
-        → (lookup (is_at (int_cmp id)) m ≡ Some b → insert_entry int_cmp m id b ≡ m)
-        → match_ordering r ((id, b) ∷ e ∷ m) ((e.0, b) ∷ m) (e ∷ insert_entry int_cmp m id b) ≡ e ∷ m
-    by Equal is here rest = ap (λ o. (e.0, unwrap_or o e.1) ∷ m) (sym here)
-    by Less is there rest = absurd (none-some b (sym (lookup_above id m (above_from id e.0 m is rises.0)) ∙ there))
-    by Greater is there rest = ap (λ more. e ∷ more) (rest there)
-
 -- An ID that is given what is kept of it
 pub given_back : {A : Type 0} (id : ℤ) (l : Lists A) → with_listed id (listed id (kept_lists l)) (kept_lists l) ≡ kept_lists l
 given_back {A} id l = by (lookup (is_at (int_cmp id)) l.lists.entries) (lookup_keep some_items id l.lists.entries l.ordered)
@@ -241,7 +172,7 @@ given_back {A} id l = by (lookup (is_at (int_cmp id)) l.lists.entries) (lookup_k
     by None e = rw e (remove_absent id (kept_lists l) e)
     by (Some []) e = rw e (remove_absent id (kept_lists l) e)
     by (Some (x ∷ xs)) e =
-        rw e (insert_present id (x ∷ xs) (kept_lists l) (keep_rises some_items l.lists.entries l.ordered) e)
+        rw e (insert_again int_cmp_total id (x ∷ xs) (kept_lists l) (keep_rises some_items l.lists.entries l.ordered) e)
 
 -- A list is lent, which leaves an empty one, and what is then made of it is given.
 module _ {A : Type 0} (id key : ℤ) (same : key ≡ id) (was lent given : Lists A)
@@ -260,7 +191,7 @@ module _ {A : Type 0} (id key : ℤ) (same : key ≡ id) (was lent given : Lists
 
 -- ---- what was got of a map
 
-pub got : {A : Type 0} (found : Option (Bor (List A))) (id : ℤ) (es : List (ℤ × List A)) → Ascends es
+pub got : {A : Type 0} (found : Option (Bor (List A))) (id : ℤ) (es : List (ℤ × List A)) → Rises int_cmp es
     → option_copied found ≡ lookup (is_at (int_cmp id)) es
     → MatchOption found (listed id (keep some_items es) ≡ []) (λ list. listed id (keep some_items es) ≡ list.now)
 got None id es rises e = listed_keep id es rises ∙ ap listed_by (sym e)

@@ -18,3 +18,17 @@ pub mod BackLaws
 pub mod NoteLaws
 pub mod ReceivingLaws
 pub mod SendLaws
+pub mod FindLaws
+pub mod PlacedLaws
+pub mod ChangeLaws
+pub mod UniLaws
+pub mod AddLaws
+pub mod AnswerLaws
+pub mod KindLaws
+pub mod AllPlacedLaws
+pub mod OverLaws
+pub mod ContinueLaws
+pub mod HiddenLaws
+pub mod SendStepLaws
+pub mod ReplyLaws
+pub mod EndStateLaws

@@ -8,7 +8,7 @@ use Rattle.std.specs.List.Sorted.{IsStrictlySortedBy}
 use Rattle.std.specs.Map.{keys_of, lookup, remove_entry}
 use Rattle.std.specs.BTreeMap.{insert_entry, is_at}
 use Rattle.std.specs.Ordering.{is_eq, match_ordering, ordering_reverse}
-use Rattle.std.proofs.lemmas.Cmp.{alike_right, eq_by_cmp_equiv}
+use Rattle.std.proofs.lemmas.Cmp.{alike_right, eq_by_cmp_equiv, tied_itself}
 use Rattle.std.proofs.lemmas.Map.{lookup-none}
 use Rattle.std.proofs.lemmas.Map.Entries.{none_past_head}
 use Rattle.std.proofs.lemmas.Map.Keys.{IsDistinct-from_sorted}
@@ -86,10 +86,27 @@ module _ {K : Type 0} {cmp : K → K → Ordering} (total : IsTotalOrder cmp) wh
   turned : (x y : K) → cmp x y ≡ Greater → cmp y x ≡ Less
   turned x y is = total.antisymm y x ∙ ap ordering_reverse is
 
-  below_all : (k x : K) (ks : List K) → cmp k x ≡ Less
+  -- What is below a key is below all that are above it.
+  pub below_all : (k x : K) (ks : List K) → cmp k x ≡ Less
       → AllByRecursion (λ y. cmp x y ≡ Less) ks → AllByRecursion (λ y. cmp k y ≡ Less) ks
   below_all k x [] is all = tt
   below_all k x (y ∷ ks) is all = (total.trans k x y is all.0, below_all k x ks is all.1)
+
+  -- Keys that are one are not told apart.
+  pub tied : (q k : K) → q ≡ k → is_at (cmp q) k ≡ true
+  tied q k same = ap (λ x. is_eq (cmp x k)) same ∙ ap is_eq (tied_itself total k)
+
+  -- Two keys are one or are not.
+  pub keys_eq : CmpEqualImpliesEq cmp → (q k : K) → (q ≡ k) ⊎ (q ≢ k)
+  keys_eq exact q k = by (cmp q k) refl
+    where
+      apart : (r : Ordering) → cmp q k ≡ r → is_eq r ≡ false → q ≢ k
+      apart r is not same = let yes = sym (ap is_eq is) ∙ tied q k same in cc
+
+      by : (r : Ordering) → cmp q k ≡ r → (q ≡ k) ⊎ (q ≢ k)
+      by Less is = inr (apart Less is refl)
+      by Equal is = inl (exact q k is)
+      by Greater is = inr (apart Greater is refl)
 
 -- ---- keys that rise
 
@@ -171,3 +188,58 @@ module _ {K A : Type 0} {cmp : K → K → Ordering} (total : IsTotalOrder cmp) 
       where
         other : is_at (cmp q) k ≡ false → kept_at cmp (insert_entry cmp es k v) q ≡ Some w
         other is = inserted q k v es ∙ ap (λ b. cond b (Some v) (kept_at cmp es q)) is ∙ found
+
+-- ---- what is found and inserted at one key
+
+module _ {K A : Type 0} {cmp : K → K → Ordering} (total : IsTotalOrder cmp) where
+  -- A key below the first is not found.
+  pub below_first : {P : Type 0} (q : K) (e : K × A) (es : List (K × A)) (v : A) → Rises cmp (e ∷ es)
+      → cmp q e.0 ≡ Less → kept_at cmp es q ≡ Some v → P
+  unfolding IsStrictlySortedBy
+  below_first q e [] v rises less found = cc
+  below_first q e (f ∷ es) v rises less found =
+      let next = total.trans q e.0 f.0 less rises.0.0 in below_first q f es v rises.1 next (rw next at found)
+
+  -- What is inserted again changes nothing.
+  pub insert_again : (k : K) (v : A) (es : List (K × A)) → Rises cmp es → kept_at cmp es k ≡ Some v → insert_entry cmp es k v ≡ es
+  unfolding IsStrictlySortedBy
+  insert_again k v [] rises found = cc
+  insert_again k v (e ∷ es) rises found = by (cmp k e.0) refl found (insert_again k v es rises.1)
+    where
+      by : (r : Ordering) → cmp k e.0 ≡ r → cond (is_eq r) (Some e.1) (kept_at cmp es k) ≡ Some v
+          → (kept_at cmp es k ≡ Some v → insert_entry cmp es k v ≡ es)
+          → match_ordering r ((k, v) ∷ e ∷ es) ((e.0, v) ∷ es) (e ∷ insert_entry cmp es k v) ≡ e ∷ es
+      by Less is found rest = below_first k e es v rises is found
+      by Equal is found rest = let same : v ≡ e.1 = cc in ap (λ w. (e.0, w) ∷ es) same
+      by Greater is found rest = ap (λ more. e ∷ more) (rest found)
+
+  -- The key finds what was inserted.
+  pub found_new : (k : K) (v : A) (es : List (K × A)) → kept_at cmp (insert_entry cmp es k v) k ≡ Some v
+  found_new k v es = inserted total k k v es ∙ ap (λ r. cond (is_eq r) (Some v) (kept_at cmp es k)) (tied_itself total k)
+
+  -- The first key finds its value.
+  pub found_first : (e : K × A) (es : List (K × A)) → kept_at cmp (e ∷ es) e.0 ≡ Some e.1
+  found_first e es = ap (λ r. cond (is_eq r) (Some e.1) (kept_at cmp es e.0)) (tied_itself total e.0)
+
+  -- What is found among later ones is found.
+  pub found_later : (e : K × A) (es : List (K × A)) (q : K) (v : A) → Rises cmp (e ∷ es)
+      → kept_at cmp es q ≡ Some v → kept_at cmp (e ∷ es) q ≡ Some v
+  found_later e es q v rises found = ap (λ b. cond b (Some e.1) (kept_at cmp es q)) (behind_first total q e es v rises found) ∙ found
+
+  -- Of two values that are inserted at one key the later one stays.
+  pub insert_twice : (k : K) (v w : A) (es : List (K × A))
+      → insert_entry cmp (insert_entry cmp es k v) k w ≡ insert_entry cmp es k w
+  insert_twice k v w [] = ap (λ r. match_ordering r ((k, w) ∷ (k, v) ∷ []) ((k, w) ∷ []) ((k, v) ∷ (k, w) ∷ [])) (tied_itself total k)
+  insert_twice k v w (e ∷ es) = by (cmp k e.0) refl (insert_twice k v w es)
+    where
+      by : (r : Ordering) → cmp k e.0 ≡ r → insert_entry cmp (insert_entry cmp es k v) k w ≡ insert_entry cmp es k w
+          → insert_entry cmp (match_ordering r ((k, v) ∷ e ∷ es) ((e.0, v) ∷ es) (e ∷ insert_entry cmp es k v)) k w
+          ≡ match_ordering r ((k, w) ∷ e ∷ es) ((e.0, w) ∷ es) (e ∷ insert_entry cmp es k w)
+      by Less is rest =
+          ap (λ r. match_ordering r ((k, w) ∷ (k, v) ∷ e ∷ es) ((k, w) ∷ e ∷ es) ((k, v) ∷ insert_entry cmp (e ∷ es) k w))
+          (tied_itself total k)
+      by Equal is rest = ap (λ r. match_ordering r ((k, w) ∷ (e.0, v) ∷ es) ((e.0, w) ∷ es) ((e.0, v) ∷ insert_entry cmp es k w)) is
+      by Greater is rest =
+          ap (λ r. match_ordering r ((k, w) ∷ e ∷ insert_entry cmp es k v) ((e.0, w) ∷ insert_entry cmp es k v)
+          (e ∷ insert_entry cmp (insert_entry cmp es k v) k w)) is
+          ∙ ap (λ more. e ∷ more) rest

@@ -69,5 +69,6 @@ module _ {A E : Type 0} (r : Result A E) (changes more : List Change) (h next : 
       → OnErr r (IsUndone (GrantJoined id) (record h { grants = grants }) next × (more ≡ changes)) → StillUndoes changes h more next
   grant_noted id item grants joined has can ok err =
       still_noted r (GrantJoined id) changes more h (record h { grants = grants }) next
-      (ap (λ grants. record (half_of h) { grants = grants }) (ap (one_less id) joined ∙ less_again id item h.grants)) (keeps_grants h grants has)
+      (ap (λ grants. record (half_of h) { grants = grants }) (ap (one_less id) joined ∙ less_again id item h.grants))
+      (keeps_grants h grants has)
       can ok err

@@ -26,5 +26,6 @@ pub none_left : {A : Type 0} (fits : A → Bool) (at : ℕ) (left : List A) → 
 none_left fits at left is = rw is refl
 
 -- the places of a list that fits
-pub room_left : {A : Type 0} (at : ℕ) (left : List A) (item : A) (items : List A) → left ≡ item ∷ items → at + length left < 2 ^ 63 → at + 1 + length items < 2 ^ 63
+pub room_left : {A : Type 0} (at : ℕ) (left : List A) (item : A) (items : List A) → left ≡ item ∷ items
+    → at + length left < 2 ^ 63 → at + 1 + length items < 2 ^ 63
 room_left at left item items is room = omega (arith, add-one (length items), rw is at room)

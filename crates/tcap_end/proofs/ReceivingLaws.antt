@@ -103,7 +103,8 @@ module _ (table : Table) (h : Half) (id : ℤ) (code : Code) where
       by [] e none = rw e refl
       by (first ∷ more) e none = cc
 
-  pub link_many : (to : Code) (fits : Bool) → outstanding h id ≡ Some to → true ≡ is_linked (linked_of table to) → fits ≡ links table to code
+  pub link_many : (to : Code) (fits : Bool) → outstanding h id ≡ Some to → true ≡ is_linked (linked_of table to)
+      → fits ≡ links table to code
       → cond fits [] (7 ∷ []) ≡ link_problems table h (Some id) code
   link_many to fits is some e_fits = rw is (by (linked_of table to) refl some)
     where
@@ -140,7 +141,8 @@ last_answer : (h : Half) (is_result : Bool) (id : ℤ) (code : Code) (class : �
 last_answer h true id code class is = chosen_first (is_one_of class (1 ∷ 3 ∷ [])) _ _ is
 last_answer h false id code class is = chosen_first (is_one_of class (1 ∷ 2 ∷ [])) _ _ is
 
-pub answered_last : (table : Table) (h : Half) (is_result : Bool) (id : ℤ) → found_by is_result (outstanding_class table h id) ≡ finds.Invocation
+pub answered_last : (table : Table) (h : Half) (is_result : Bool) (id : ℤ)
+    → found_by is_result (outstanding_class table h id) ≡ finds.Invocation
     → (code : Code) × (outstanding h id ≡ Some code)
     × (received_answer h is_result true id (outstanding_class table h id)
     ≡ with_grant (wait_for_reject h id code) id is_result (answer_problems is_result finds.Invocation))
@@ -203,7 +205,8 @@ module _ (table : Table) (h now : Half) (is_result last : Bool) (id : ℤ) (foun
       ∙ rw is_last (sym received)
 
   -- It is not the last one.
-  pub then_more : last ≡ false → (is_result ≡ false → last ≡ true) → now ≡ received_answer h is_result last id (outstanding_class table h id)
+  pub then_more : last ≡ false → (is_result ≡ false → last ≡ true)
+      → now ≡ received_answer h is_result last id (outstanding_class table h id)
   then_more more ends = joined ∙ ap (λ found. with_grant h id is_result (answer_problems is_result found)) is_found ∙ by is_result ends
     where
       by : (b : Bool) → (b ≡ false → last ≡ true)

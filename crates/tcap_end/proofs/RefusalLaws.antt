@@ -2,6 +2,8 @@
 use Rattle.std.proofs.Common.{◌≡◌, ℕ, ℤ, Bool, true, false, List, [], ◌∷◌, Option, Some, None, is_some, is_none, refl, sym, ◌∙◌}
 use Rattle.std.specs.Prelude.{◌&&◌, ◌||◌, not, cond, option_map}
 use Rattle.std.specs.List.{list_any}
+use Rattle.std.proofs.Math.Bool.{and-true, or-true}
+use Rattle.std.proofs.lemmas.Bool.{and_parts}
 use Rattle.tcap_parts.specs.declared.component.ResultBody.{ResultBody}
 use Rattle.tcap_parts.specs.declared.component.Component.{Component}
 use Rattle.tcap_parts.specs.declared.component.Component.TheVariants.{Invoke, ReturnResult, ReturnError, Reject}
@@ -31,31 +33,29 @@ three true true false x f g k = refl
 three true false c x f g k = refl
 three false b c x f g k = refl
 
-any_weaker : {A : Type 0} (p q : A → Bool) (items : List A) → ((x : A) → p x ≡ true → q x ≡ true) → list_any p items ≡ true → list_any q items ≡ true
+any_weaker : {A : Type 0} (p q : A → Bool) (items : List A) → ((x : A) → p x ≡ true → q x ≡ true) → list_any p items ≡ true
+    → list_any q items ≡ true
 any_weaker p q [] weaker e = e
 any_weaker p q (item ∷ items) weaker e = by (p item) refl e (any_weaker p q items weaker)
   where
-    or_true : (b : Bool) → (b || true) ≡ true
-    or_true true = refl
-    or_true false = refl
-
-    by : (b : Bool) → p item ≡ b → (b || list_any p items) ≡ true → (list_any p items ≡ true → list_any q items ≡ true) → (q item || list_any q items) ≡ true
+    by : (b : Bool) → p item ≡ b → (b || list_any p items) ≡ true → (list_any p items ≡ true → list_any q items ≡ true)
+        → (q item || list_any q items) ≡ true
     by true is e rest = rw (weaker item is) refl
-    by false is e rest = rw (rest e) (or_true (q item))
-
-and_left : (a b : Bool) → (a && b) ≡ true → a ≡ true
-and_left true b e = refl
-and_left false b e = e
+    by false is e rest = rw (rest e) (or-true (q item))
 
 -- the answer that fits, or why there is none
 answers : (reports : Code → Bool) (body : Option ResultBody) (items : List Invocation)
     → list_any (λ item. reports item.code && of_operation body item.code) items ≡ is_none (answer_fault reports body items)
-answers reports body items = by (list_any (λ item. true) items) (list_any (λ item. reports item.code) items) (list_any (λ item. reports item.code && of_operation body item.code) items)
+answers reports body items =
+    by (list_any (λ item. true) items) (list_any (λ item. reports item.code) items)
+    (list_any (λ item. reports item.code && of_operation body item.code) items)
     (any_weaker (λ item. reports item.code) (λ item. true) items (λ x e. refl))
-    (any_weaker (λ item. reports item.code && of_operation body item.code) (λ item. reports item.code) items (λ x e. and_left (reports x.code) (of_operation body x.code) e))
+    (any_weaker (λ item. reports item.code && of_operation body item.code) (λ item. reports item.code) items
+    (λ x e. (and_parts (reports x.code) (of_operation body x.code) e).0))
   where
     by : (a b c : Bool) → (b ≡ true → a ≡ true) → (c ≡ true → b ≡ true)
-        → c ≡ is_none (or_else (unless_so a faults.NothingToAnswer) (or_else (unless_so b faults.ClassForbids) (unless_so c faults.WrongOperation)))
+        → c ≡ is_none (or_else (unless_so a faults.NothingToAnswer)
+        (or_else (unless_so b faults.ClassForbids) (unless_so c faults.WrongOperation)))
     by true true true first second = refl
     by true true false first second = refl
     by true false true first second = let bad : false ≡ true = second refl in cc
@@ -76,17 +76,14 @@ unless_is : (b : Bool) (f : EndFault) → b ≡ is_none (unless_so b f)
 unless_is true f = refl
 unless_is false f = refl
 
-and_true : (b : Bool) → (b && true) ≡ b
-and_true true = refl
-and_true false = refl
-
 any_same : {A : Type 0} (p q : A → Bool) (items : List A) → ((x : A) → p x ≡ q x) → list_any p items ≡ list_any q items
 any_same p q [] same = refl
 any_same p q (item ∷ items) same = rw (same item, any_same p q items same) refl
 
 pub component_step : (table : Table) (h : Half) (c : Component) → is_some (sent_component table h c) ≡ is_none (component_fault table h c)
 component_step table h (Invoke id linked code parameter) =
-    three (is_some (operation_of table code)) (is_none (invoked h id)) (may_link table h linked code) _ faults.UnknownOperation faults.InvokeIdBusy faults.BadLink
+    three (is_some (operation_of table code)) (is_none (invoked h id)) (may_link table h linked code) _
+    faults.UnknownOperation faults.InvokeIdBusy faults.BadLink
 component_step table h (ReturnResult true id body) =
     map_some _ (list_any (answered_by_result table body) (listed id h.inn)) _
     ∙ answers (reports_success table) body (listed id h.inn)
@@ -95,16 +92,22 @@ component_step table h (ReturnResult false id body) =
     ∙ answers (reports_success table) body (listed id h.inn)
 component_step table h (ReturnError id code parameter) =
     map_some _ (list_any (answered_by_error table) (listed id h.inn)) _
-    ∙ any_same (answered_by_error table) (λ item. reports_failure table item.code && true) (listed id h.inn) (λ x. sym (and_true (reports_failure table x.code)))
+    ∙ any_same (answered_by_error table) (λ item. reports_failure table item.code && true) (listed id h.inn)
+    (λ x. sym (and-true (reports_failure table x.code)))
     ∙ answers (reports_failure table) None (listed id h.inn)
 component_step table h (Reject id problem) = unless_is (is_some (sent_reject h id problem)) faults.RejectNotAllowed
 
-pub components_step : (table : Table) (components : List Component) (h : Half) → is_some (sent_components table h components) ≡ is_none (components_fault table components h)
+pub components_step : (table : Table) (components : List Component) (h : Half)
+    → is_some (sent_components table h components) ≡ is_none (components_fault table components h)
 components_step table [] h = refl
-components_step table (component ∷ more) h = by (sent_component table h component) (component_fault table h component) (component_step table h component) (λ next. components_step table more next)
+components_step table (component ∷ more) h =
+    by (sent_component table h component) (component_fault table h component) (component_step table h component)
+    (λ next. components_step table more next)
   where
-    by : (step : Option Half) (fault : Option EndFault) → is_some step ≡ is_none fault → ((next : Half) → is_some (sent_components table next more) ≡ is_none (components_fault table more next))
-        → is_some (then_so step (λ next. sent_components table next more)) ≡ is_none (or_else fault (behind (components_fault table more) step))
+    by : (step : Option Half) (fault : Option EndFault) → is_some step ≡ is_none fault
+        → ((next : Half) → is_some (sent_components table next more) ≡ is_none (components_fault table more next))
+        → is_some (then_so step (λ next. sent_components table next more))
+        ≡ is_none (or_else fault (behind (components_fault table more) step))
     by None None e rest = let bad : false ≡ true = e in cc
     by None (Some f) e rest = refl
     by (Some next) None e rest = rest next
@@ -112,11 +115,7 @@ components_step table (component ∷ more) h = by (sent_component table h compon
 
 -- ---- messages
 
--- a step behind one test, and behind two
-one_then : {A : Type 0} (a : Bool) (step : Option A) (f : EndFault) (fault : Option EndFault) → is_some step ≡ is_none fault → is_some (where_so a step) ≡ is_none (or_else (unless_so a f) fault)
-one_then true step f fault e = e
-one_then false step f fault e = refl
-
+-- a step behind two tests
 two_then : {A : Type 0} (a b : Bool) (step : Option A) (f g : EndFault) (fault : Option EndFault) → is_some step ≡ is_none fault
     → is_some (where_so (a && b) step) ≡ is_none (or_else (unless_so a f) (or_else (unless_so b g) fault))
 two_then true true step f g fault e = e
@@ -138,14 +137,19 @@ class_known : (o : Option Operation) → is_class_4 (option_map (λ operation. o
 class_known None e = e
 class_known (Some operation) e = refl
 
-uni_step : (table : Table) (components : List Component) (ids : List ℤ) → invokes_class_4 table ids components ≡ is_none (uni_fault table ids components)
+uni_step : (table : Table) (components : List Component) (ids : List ℤ)
+    → invokes_class_4 table ids components ≡ is_none (uni_fault table ids components)
 uni_step table [] ids = refl
 uni_step table (Invoke id linked code parameter ∷ more) ids =
-    by (is_some (operation_of table code)) (is_class_4 (class_of table code)) (not (has_id id ids)) (is_none linked) (class_known (operation_of table code)) (uni_step table more (id ∷ ids))
+    by (is_some (operation_of table code)) (is_class_4 (class_of table code)) (not (has_id id ids)) (is_none linked)
+    (class_known (operation_of table code)) (uni_step table more (id ∷ ids))
   where
     by : (a b c d : Bool) → (b ≡ true → a ≡ true) → invokes_class_4 table (id ∷ ids) more ≡ is_none (uni_fault table (id ∷ ids) more)
         → (b && c && d && invokes_class_4 table (id ∷ ids) more)
-        ≡ is_none (or_else (unless_so a faults.UnknownOperation) (or_else (unless_so b faults.UniNotClass4) (or_else (unless_so c faults.InvokeIdBusy) (or_else (unless_so d faults.BadLink) (uni_fault table (id ∷ ids) more)))))
+        ≡ is_none (or_else (unless_so a faults.UnknownOperation)
+        (or_else (unless_so b faults.UniNotClass4)
+        (or_else (unless_so c faults.InvokeIdBusy)
+        (or_else (unless_so d faults.BadLink) (uni_fault table (id ∷ ids) more)))))
     by true true true true known rest = rest
     by true true true false known rest = refl
     by true true false d known rest = refl
@@ -164,31 +168,38 @@ answer_step : (table : Table) (e : End) (otid : List ℕ) (dialogue : Option Dia
     → is_some (sent_answer table e otid dialogue components found) ≡ is_none (answer_begin_fault table otid dialogue components found)
 answer_step table e otid dialogue components None = refl
 answer_step table e otid dialogue components (Some found) =
-    two_then (is_received found.half.phase) (may_go_on found.half.phase found.half.standing dialogue) _ faults.WrongPhase faults.WrongDialogue _
+    two_then (is_received found.half.phase) (may_go_on found.half.phase found.half.standing dialogue) _
+    faults.WrongPhase faults.WrongDialogue _
     (put_step table e found (λ h. h) (answered otid found.half) components)
 
-continue_step : (table : Table) (e : End) (otid dtid : List ℕ) (dialogue : Option Dialogue) (components : List Component) (found : Option Found)
-    → is_some (sent_continue table e otid dtid dialogue components found) ≡ is_none (continue_fault table e otid dtid dialogue components found)
+continue_step : (table : Table) (e : End) (otid dtid : List ℕ) (dialogue : Option Dialogue) (components : List Component)
+    (found : Option Found)
+    → is_some (sent_continue table e otid dtid dialogue components found)
+    ≡ is_none (continue_fault table e otid dtid dialogue components found)
 continue_step table e otid dtid dialogue components None = answer_step table e otid dialogue components (with_peer e dtid)
 continue_step table e otid dtid dialogue components (Some found) =
-    three_then (is_active found.half.phase) (is_id dtid found.half.peer) (may_go_on found.half.phase found.half.standing dialogue) _ faults.WrongPhase faults.NoTransaction faults.WrongDialogue _
+    three_then (is_active found.half.phase) (is_id dtid found.half.peer) (may_go_on found.half.phase found.half.standing dialogue) _
+    faults.WrongPhase faults.NoTransaction faults.WrongDialogue _
     (put_step table e found (λ h. h) found.half components)
 
 end_step : (table : Table) (e : End) (dialogue : Option Dialogue) (components : List Component) (found : Option Found)
     → is_some (sent_end table e dialogue components found) ≡ is_none (end_fault table dialogue components found)
 end_step table e dialogue components None = refl
 end_step table e dialogue components (Some found) =
-    two_then (not (is_closed found.half.phase)) (may_go_on found.half.phase found.half.standing dialogue) _ faults.WrongPhase faults.WrongDialogue _
+    two_then (not (is_closed found.half.phase)) (may_go_on found.half.phase found.half.standing dialogue) _
+    faults.WrongPhase faults.WrongDialogue _
     (put_step table e found closed_half found.half components)
 
-abort_step : (e : End) (reason : Option AbortReason) (found : Option Found) → is_some (sent_abort e reason found) ≡ is_none (abort_fault reason found)
+abort_step : (e : End) (reason : Option AbortReason) (found : Option Found)
+    → is_some (sent_abort e reason found) ≡ is_none (abort_fault reason found)
 abort_step e reason None = by (is_none (reason_cause reason))
   where
     by : (a : Bool) → false ≡ is_none (or_else (unless_so a faults.WrongPhase) (Some faults.NoTransaction))
     by true = refl
     by false = refl
 abort_step e reason (Some found) =
-    by (is_none (reason_cause reason)) (not (is_closed found.half.phase)) (may_abort found.half.phase found.half.standing (reason_dialogue reason))
+    by (is_none (reason_cause reason)) (not (is_closed found.half.phase))
+    (may_abort found.half.phase found.half.standing (reason_dialogue reason))
   where
     by : (a b c : Bool) → is_some (where_so (a && b && c) (Some (put e found.slot found.key (closed_half found.half))))
         ≡ is_none (or_else (unless_so a faults.WrongPhase) (or_else (unless_so b faults.WrongPhase) (unless_so c faults.WrongDialogue)))
@@ -202,7 +213,8 @@ pub sends : (table : Table) (e : End) (m : Message) → is_some (sent_message ta
 sends table e (Unidirectional dialogue components) =
     both (may_be_uni dialogue) (invokes_class_4 table [] components) (uni_fault table [] components) (uni_step table components [])
   where
-    both : (a b : Bool) (fault : Option EndFault) → b ≡ is_none fault → is_some (where_so (a && b) (Some e)) ≡ is_none (or_else (unless_so a faults.WrongDialogue) fault)
+    both : (a b : Bool) (fault : Option EndFault) → b ≡ is_none fault
+        → is_some (where_so (a && b) (Some e)) ≡ is_none (or_else (unless_so a faults.WrongDialogue) fault)
     both true true None is = refl
     both true true (Some f) is = is
     both true false None is = is
@@ -220,12 +232,14 @@ receive_step : (table : Table) (e : End) (otid : List ℕ) (dialogue : Option Di
 receive_step table e otid dialogue components None = refl
 receive_step table e otid dialogue components (Some found) = by_phase found.half.phase
   where
-    two : (a b : Bool) (x : End) → is_some (where_so (a && b) (Some x)) ≡ is_none (or_else (unless_so a faults.IdUsed) (unless_so b faults.WrongDialogue))
+    two : (a b : Bool) (x : End) → is_some (where_so (a && b) (Some x))
+        ≡ is_none (or_else (unless_so a faults.IdUsed) (unless_so b faults.WrongDialogue))
     two true true x = refl
     two true false x = refl
     two false b x = refl
 
-    by_phase : (phase : Phase) → is_some (received_by_phase table e otid dialogue components found phase) ≡ is_none (received_phase_fault e otid dialogue found phase)
+    by_phase : (phase : Phase) → is_some (received_by_phase table e otid dialogue components found phase)
+        ≡ is_none (received_phase_fault e otid dialogue found phase)
     by_phase phases.Sent = two (is_none (with_peer e otid)) (is_answered found.half.standing dialogue) _
     by_phase phases.Active = some_if (is_id otid found.half.peer) _ ∙ unless_is (is_id otid found.half.peer) faults.NoTransaction
     by_phase phases.Received = refl
@@ -234,7 +248,8 @@ receive_step table e otid dialogue components (Some found) = by_phase found.half
 -- a message can be received exactly where nothing refuses it
 pub receives : (table : Table) (e : End) (m : Message) → is_some (received_message table e m) ≡ is_none (receive_fault e m)
 receives table e (Unidirectional dialogue components) = refl
-receives table e (Begin otid dialogue components) = some_if (is_none (with_peer e otid)) _ ∙ unless_is (is_none (with_peer e otid)) faults.IdUsed
+receives table e (Begin otid dialogue components) =
+    some_if (is_none (with_peer e otid)) _ ∙ unless_is (is_none (with_peer e otid)) faults.IdUsed
 receives table e (Continue otid dtid dialogue components) = receive_step table e otid dialogue (items_of components) (with_own e dtid)
 receives table e (EndMessage dtid dialogue components) = refl
 receives table e (Abort dtid reason) = refl

@@ -20,7 +20,8 @@ pub record Keeps (first : HalfState) (at_first : List Change) (h : HalfState) (c
 pub keeps_self : (h : HalfState) (changes : List Change) → Keeps h changes h changes
 keeps_self h changes = record { undoes = λ start u. u; slot = refl }
 
-pub keeps_more : (first : HalfState) (at_first : List Change) (h : HalfState) (changes : List Change) (next : HalfState) (more : List Change)
+pub keeps_more : (first : HalfState) (at_first : List Change) (h : HalfState) (changes : List Change) (next : HalfState)
+    (more : List Change)
     → Keeps first at_first h changes → StillUndoes changes h more next → next.slot ≡ h.slot → Keeps first at_first next more
 keeps_more first at_first h changes next more k u slot = record { undoes = λ start v. u start (k.undoes start v); slot = slot ∙ k.slot }
 
@@ -41,7 +42,8 @@ no_fault table h next c is = by (component_fault table h c) (sym (component_step
     by (Some f) e = cc
 
 -- one more was sent
-pub sent_more : (table : Table) (first : Half) (all : List Component) (h : Half) (left : List Component) (c : Component) (more : List Component) (next : Half)
+pub sent_more : (table : Table) (first : Half) (all : List Component) (h : Half) (left : List Component) (c : Component)
+    (more : List Component) (next : Half)
     → Sending table first all h left → left ≡ c ∷ more → sent_component table h c ≡ Some next → Sending table first all next more
 sent_more table first all h left c more next s is step = record {
   sent = s.sent ∙ (ap (sent_components table h) is ∙ ap (λ o. then_so o (λ n. sent_components table n more)) step);
@@ -51,8 +53,10 @@ sent_more table first all h left c more next s is step = record {
 }
 
 -- one may not be
-pub refused_more : (table : Table) (first : Half) (all : List Component) (h : Half) (left : List Component) (c : Component) (more : List Component) (fault : EndFault)
-    → Sending table first all h left → left ≡ c ∷ more → component_fault table h c ≡ Some fault → components_fault table all first ≡ Some fault
+pub refused_more : (table : Table) (first : Half) (all : List Component) (h : Half) (left : List Component) (c : Component)
+    (more : List Component) (fault : EndFault)
+    → Sending table first all h left → left ≡ c ∷ more → component_fault table h c ≡ Some fault
+    → components_fault table all first ≡ Some fault
 refused_more table first all h left c more fault s is step =
     s.refused ∙ (ap (λ l. components_fault table l h) is
     ∙ ap (λ o. or_else o (behind (components_fault table more) (sent_component table h c))) step)
@@ -64,7 +68,8 @@ sent_all table first all h left s is = s.sent ∙ ap (sent_components table h) i
 
 -- ---- receiving
 
-pub received_more : (table : Table) (first : Half) (all : List Component) (h : Half) (left : List Component) (c : Component) (more : List Component) (next : Half)
+pub received_more : (table : Table) (first : Half) (all : List Component) (h : Half) (left : List Component) (c : Component)
+    (more : List Component) (next : Half)
     → received_components table first all ≡ received_components table h left → left ≡ c ∷ more → next ≡ received_component table h c
     → received_components table first all ≡ received_components table next more
 received_more table first all h left c more next s is step =

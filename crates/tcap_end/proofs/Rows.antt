@@ -27,7 +27,8 @@ operation class expires = record { class = class; linked = []; expires = expires
 -- 45 to 48 of class 1 to 4, and 50 of class 1, to which 48 may be linked
 abbrev table_with : Bool → Bool → Table
 table_with expires prearranged = record {
-  operations = (Local (pos 45), operation 1 expires) ∷ (Local (pos 46), operation 2 true) ∷ (Local (pos 47), operation 3 true) ∷ (Local (pos 48), operation 4 true)
+  operations = (Local (pos 45), operation 1 expires) ∷ (Local (pos 46), operation 2 true) ∷ (Local (pos 47), operation 3 true)
+      ∷ (Local (pos 48), operation 4 true)
       ∷ (Local (pos 50), record { class = 1; linked = (Local (pos 48), tt) ∷ []; expires = true }) ∷ [];
   prearranged = prearranged;
 }
@@ -53,7 +54,8 @@ abbrev close_with : Table → HalfName → Call
 close_with t name = record { fault = λ e. close_fault t e name; step = λ e. closed t e name }
 
 abbrev refuse_begin : Message → Message → Call
-refuse_begin begin abort = record { fault = λ e. refuse_begin_fault e begin abort; step = λ e. where_so (refuses_begin e begin abort) (Some e) }
+refuse_begin begin abort =
+    record { fault = λ e. refuse_begin_fault e begin abort; step = λ e. where_so (refuses_begin e begin abort) (Some e) }
 
 abbrev refuse_continue : Message → Message → Call
 refuse_continue continue abort =
@@ -159,7 +161,10 @@ abort_to id cause = Abort (id ∷ []) (Some (Cause cause))
 pub rejects_once : play nothing (send v1 ∷ send v1 ∷ send v24 ∷ receive v10 ∷ send v13 ∷ send v11 ∷ []) ≡ 0 ∷ 41 ∷ 42 ∷ 0 ∷ 50 ∷ 50 ∷ []
 rejects_once = refl
 
-pub link_is_rejected_once : play nothing (send v1 ∷ send v1 ∷ send v24 ∷ receive v10 ∷ send v13 ∷ send v11 ∷ receive v18 ∷ send link_reject ∷ send link_reject ∷ send v6 ∷ send v6 ∷ send v12 ∷ []) ≡ 0 ∷ 41 ∷ 42 ∷ 0 ∷ 50 ∷ 50 ∷ 0 ∷ 0 ∷ 50 ∷ 0 ∷ 42 ∷ 42 ∷ []
+pub link_is_rejected_once :
+    play nothing (send v1 ∷ send v1 ∷ send v24 ∷ receive v10 ∷ send v13 ∷ send v11 ∷ receive v18
+    ∷ send link_reject ∷ send link_reject ∷ send v6 ∷ send v6 ∷ send v12 ∷ [])
+    ≡ 0 ∷ 41 ∷ 42 ∷ 0 ∷ 50 ∷ 50 ∷ 0 ∷ 0 ∷ 50 ∷ 0 ∷ 42 ∷ 42 ∷ []
 link_is_rejected_once = refl
 
 pub answers_begin : play nothing (receive v1 ∷ receive v1 ∷ send v18 ∷ send v5 ∷ send v3 ∷ []) ≡ 0 ∷ 41 ∷ 49 ∷ 43 ∷ 0 ∷ []
@@ -183,19 +188,25 @@ response_comes = refl
 pub unidirectional : play nothing (send uni48 ∷ send uni45 ∷ send uni99 ∷ []) ≡ 0 ∷ 53 ∷ 44 ∷ []
 unidirectional = refl
 
-pub expires_once : play nothing (send v1 ∷ receive v10 ∷ expire_with table (own 1) (pos 1) ∷ expire_with table (own 1) (pos 1) ∷ send v12 ∷ []) ≡ 0 ∷ 0 ∷ 0 ∷ 51 ∷ 0 ∷ []
+pub expires_once :
+    play nothing (send v1 ∷ receive v10 ∷ expire_with table (own 1) (pos 1) ∷ expire_with table (own 1) (pos 1) ∷ send v12 ∷ [])
+    ≡ 0 ∷ 0 ∷ 0 ∷ 51 ∷ 0 ∷ []
 expires_once = refl
 
 pub may_not_expire : play nothing (send v1 ∷ expire_with (table_with false false) (own 1) (pos 1) ∷ []) ≡ 0 ∷ 51 ∷ []
 may_not_expire = refl
 
-pub closes_once : play nothing (send v7 ∷ close_with table (own 1) ∷ close_with table (own 1) ∷ receive v8 ∷ send v24 ∷ []) ≡ 0 ∷ 0 ∷ 52 ∷ 40 ∷ 42 ∷ []
+pub closes_once : play nothing (send v7 ∷ close_with table (own 1) ∷ close_with table (own 1) ∷ receive v8 ∷ send v24 ∷ [])
+    ≡ 0 ∷ 0 ∷ 52 ∷ 40 ∷ 42 ∷ []
 closes_once = refl
 
-pub not_prearranged : play nothing (receive v7 ∷ close_with table (peer 1) ∷ close_with (table_with true true) (peer 1) ∷ []) ≡ 0 ∷ 52 ∷ 0 ∷ []
+pub not_prearranged : play nothing (receive v7 ∷ close_with table (peer 1) ∷ close_with (table_with true true) (peer 1) ∷ [])
+    ≡ 0 ∷ 52 ∷ 0 ∷ []
 not_prearranged = refl
 
-pub refuses_continue_of_closed : play nothing (send v7 ∷ refuse_continue v8 (abort_to 2 1) ∷ close_with table (own 1) ∷ refuse_continue v8 (abort_to 2 1) ∷ []) ≡ 0 ∷ 40 ∷ 0 ∷ 0 ∷ []
+pub refuses_continue_of_closed :
+    play nothing (send v7 ∷ refuse_continue v8 (abort_to 2 1) ∷ close_with table (own 1) ∷ refuse_continue v8 (abort_to 2 1) ∷ [])
+    ≡ 0 ∷ 40 ∷ 0 ∷ 0 ∷ []
 refuses_continue_of_closed = refl
 
 pub refuses_no_begin_that_came : play nothing (receive v1 ∷ refuse_begin v1 (abort_to 1 4) ∷ []) ≡ 0 ∷ 40 ∷ []
@@ -226,7 +237,8 @@ abbrev error : ℤ → Component
 error id = ReturnError id (Local (pos 1)) None
 
 -- The second Invoke of one ID may be rejected as a duplicate; the first, which is older, may not.
-pub rejects_the_duplicate : play nothing (receive v1 ∷ send v8 ∷ receive (from_1 (invoke (pos 1) (pos 45))) ∷ send v10 ∷ send (from_2 (rejects (pos 1) 0)) ∷ [])
+pub rejects_the_duplicate : play nothing (receive v1 ∷ send v8 ∷ receive (from_1 (invoke (pos 1) (pos 45))) ∷ send v10
+    ∷ send (from_2 (rejects (pos 1) 0)) ∷ [])
     ≡ 0 ∷ 0 ∷ 0 ∷ 0 ∷ 0 ∷ []
 rejects_the_duplicate = refl
 
@@ -236,11 +248,13 @@ answers_in_wait = refl
 
 pub class_3_reports_success_alone :
     play nothing (send v14 ∷ receive (from_2 (error (pos 1))) ∷ send (from_1 (Reject (Some (pos 1)) (problems.ReturnError 4)))
-    ∷ send (from_1 (Reject (Some (pos 1)) (problems.ReturnError 1))) ∷ send (from_1 (Reject (Some (pos 1)) (problems.ReturnError 1))) ∷ receive v10
+    ∷ send (from_1 (Reject (Some (pos 1)) (problems.ReturnError 1)))
+    ∷ send (from_1 (Reject (Some (pos 1)) (problems.ReturnError 1))) ∷ receive v10
     ∷ send (from_1 (Reject (Some (pos 1)) (problems.ReturnResult 2))) ∷ []) ≡ 0 ∷ 0 ∷ 50 ∷ 0 ∷ 50 ∷ 0 ∷ 0 ∷ []
 class_3_reports_success_alone = refl
 
-pub last_result_once : play nothing (receive v1 ∷ send (from_2 (ReturnResult false (pos 1) None)) ∷ send v10 ∷ send v10 ∷ []) ≡ 0 ∷ 0 ∷ 0 ∷ 46 ∷ []
+pub last_result_once : play nothing (receive v1 ∷ send (from_2 (ReturnResult false (pos 1) None)) ∷ send v10 ∷ send v10 ∷ [])
+    ≡ 0 ∷ 0 ∷ 0 ∷ 46 ∷ []
 last_result_once = refl
 
 abbrev linked_47 : Component
@@ -250,10 +264,13 @@ abbrev v17 : Message
 v17 = Begin (1 ∷ []) None (Some (invoke (pos 1) (pos 50) ∷ []))
 
 pub other_link_is_rejected :
-    play nothing (send v17 ∷ receive (from_2 linked_47) ∷ send (from_1 (rejects (pos 5) 6)) ∷ send (from_1 (rejects (pos 5) 7)) ∷ []) ≡ 0 ∷ 0 ∷ 50 ∷ 0 ∷ []
+    play nothing (send v17 ∷ receive (from_2 linked_47) ∷ send (from_1 (rejects (pos 5) 6)) ∷ send (from_1 (rejects (pos 5) 7)) ∷ [])
+    ≡ 0 ∷ 0 ∷ 50 ∷ 0 ∷ []
 other_link_is_rejected = refl
 
-pub no_link_is_rejected : play nothing (send v1 ∷ receive v18 ∷ send (from_1 (rejects (pos 5) 7)) ∷ send (from_1 (rejects (pos 5) 6)) ∷ []) ≡ 0 ∷ 0 ∷ 50 ∷ 0 ∷ []
+pub no_link_is_rejected :
+    play nothing (send v1 ∷ receive v18 ∷ send (from_1 (rejects (pos 5) 7)) ∷ send (from_1 (rejects (pos 5) 6)) ∷ [])
+    ≡ 0 ∷ 0 ∷ 50 ∷ 0 ∷ []
 no_link_is_rejected = refl
 
 -- ---- dialogue portions of an Abort
@@ -262,16 +279,19 @@ abbrev aborts_by : ℕ → Dialogue → Message
 aborts_by id dialogue = Abort (id ∷ []) (Some (ByDialogue dialogue))
 
 pub aborts_from_received :
-    play nothing (receive v4 ∷ send (aborts_by 1 (Response context 1 (Provider 2) None)) ∷ send (aborts_by 1 (AbortPdu 1 None)) ∷ send (abort_to 1 1)
-    ∷ send (aborts_by 1 (Response context 1 (User 2) None)) ∷ send (Abort (1 ∷ []) None) ∷ []) ≡ 0 ∷ 43 ∷ 43 ∷ 42 ∷ 0 ∷ 42 ∷ []
+    play nothing (receive v4 ∷ send (aborts_by 1 (Response context 1 (Provider 2) None)) ∷ send (aborts_by 1 (AbortPdu 1 None))
+    ∷ send (abort_to 1 1) ∷ send (aborts_by 1 (Response context 1 (User 2) None)) ∷ send (Abort (1 ∷ []) None) ∷ [])
+    ≡ 0 ∷ 43 ∷ 43 ∷ 42 ∷ 0 ∷ 42 ∷ []
 aborts_from_received = refl
 
 pub aborts_from_active :
-    play nothing (send v4 ∷ receive v5 ∷ send (aborts_by 2 (Response context 1 (User 1) None)) ∷ send (aborts_by 2 (AbortPdu 0 None)) ∷ []) ≡ 0 ∷ 0 ∷ 43 ∷ 0 ∷ []
+    play nothing (send v4 ∷ receive v5 ∷ send (aborts_by 2 (Response context 1 (User 1) None)) ∷ send (aborts_by 2 (AbortPdu 0 None)) ∷ [])
+    ≡ 0 ∷ 0 ∷ 43 ∷ 0 ∷ []
 aborts_from_active = refl
 
 pub closes_by_prearrangement :
-    play nothing (send v7 ∷ receive v8 ∷ close_with table (own 1) ∷ close_with (table_with true true) (own 1) ∷ refuse_continue v8 (abort_to 2 1) ∷ [])
+    play nothing (send v7 ∷ receive v8 ∷ close_with table (own 1) ∷ close_with (table_with true true) (own 1)
+    ∷ refuse_continue v8 (abort_to 2 1) ∷ [])
     ≡ 0 ∷ 0 ∷ 52 ∷ 0 ∷ 0 ∷ []
 closes_by_prearrangement = refl
 
@@ -281,7 +301,8 @@ abbrev uni : List Component → Message
 uni components = Unidirectional None components
 
 pub unidirectional_components :
-    play nothing (send (uni (invoke (pos 1) (pos 48) ∷ invoke (pos 1) (pos 48) ∷ [])) ∷ send (uni (invoke (pos 1) (pos 48) ∷ invoke (pos 1) (pos 45) ∷ []))
+    play nothing (send (uni (invoke (pos 1) (pos 48) ∷ invoke (pos 1) (pos 48) ∷ []))
+    ∷ send (uni (invoke (pos 1) (pos 48) ∷ invoke (pos 1) (pos 45) ∷ []))
     ∷ send (uni (Invoke (pos 1) (Some (pos 1)) (Local (pos 48)) None ∷ [])) ∷ send (uni (result (pos 1) ∷ []))
     ∷ send (Unidirectional aarq (invoke (pos 1) (pos 99) ∷ [])) ∷ []) ≡ 45 ∷ 53 ∷ 49 ∷ 46 ∷ 43 ∷ []
 unidirectional_components = refl

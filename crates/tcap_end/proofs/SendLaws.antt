@@ -73,7 +73,8 @@ none_any (item ∷ items) e = let bad : suc (length items) ≡ 0 = eqb-true (suc
 module _ (table : Table) (h : Half) (is_result : Bool) (id : ℤ) (named : Option Code) where
   -- Another operation would be answered.
   pub is_wrong : is_some (place_of (may_answer table is_result None) (listed id h.inn)) ≡ true
-      → place_of (may_answer table is_result named) (listed id h.inn) ≡ None → sent_answer_fault table h is_result id named ≡ Some faults.WrongOperation
+      → place_of (may_answer table is_result named) (listed id h.inn) ≡ None
+      → sent_answer_fault table h is_result id named ≡ Some faults.WrongOperation
   is_wrong is none = by (place_of (may_answer table is_result None) (listed id h.inn)) refl is
     where
       by : (place : Option ℕ) → place_of (may_answer table is_result None) (listed id h.inn) ≡ place → is_some place ≡ true
@@ -81,10 +82,15 @@ module _ (table : Table) (h : Half) (is_result : Bool) (id : ℤ) (named : Optio
       by None e bad = let wrong : false ≡ true = bad in cc
       by (Some at) e _ =
           let some = (place_some (may_answer table is_result None) (listed id h.inn) at e).0 in
-          rw (any_of (may_answer table is_result None) (listed id h.inn) some, some, place_none (may_answer table is_result named) (listed id h.inn) none) refl
+          rw (
+            any_of (may_answer table is_result None) (listed id h.inn) some,
+            some,
+            place_none (may_answer table is_result named) (listed id h.inn) none,
+          ) refl
 
   -- The classes of all invocations forbid it.
-  pub is_forbidden : is_some (place_of (may_answer table is_result None) (listed id h.inn)) ≡ false → (length (listed id h.inn) == 0) ≡ false
+  pub is_forbidden : is_some (place_of (may_answer table is_result None) (listed id h.inn)) ≡ false
+      → (length (listed id h.inn) == 0) ≡ false
       → sent_answer_fault table h is_result id named ≡ Some faults.ClassForbids
   is_forbidden none some = by (place_of (may_answer table is_result None) (listed id h.inn)) refl none
     where
@@ -127,20 +133,26 @@ pub rejects_grant : (h : Half) (id : ℤ) (problem : ProblemView) (at : ℕ) →
     → (at < length (listed id h.grants)) × (sent_reject h (Some id) (problem_of problem) ≡ Some (without_grant id at h))
 rejects_grant h id (views.General n) at other is = let bad : None ≡ Some at = is in cc
 rejects_grant h id (views.Invoke n) at other is = absurd (other n refl)
-rejects_grant h id (views.ReturnResult n) at other is =
-    ((place_some (refused_by true n.number) (listed id h.grants) at is).1, ap (with_grants h) (taken_some id (refused_by true n.number) h.grants at is))
-rejects_grant h id (views.ReturnError n) at other is =
-    ((place_some (refused_by false n.number) (listed id h.grants) at is).1, ap (with_grants h) (taken_some id (refused_by false n.number) h.grants at is))
+rejects_grant h id (views.ReturnResult n) at other is = (
+  (place_some (refused_by true n.number) (listed id h.grants) at is).1,
+  ap (with_grants h) (taken_some id (refused_by true n.number) h.grants at is),
+)
+rejects_grant h id (views.ReturnError n) at other is = (
+  (place_some (refused_by false n.number) (listed id h.grants) at is).1,
+  ap (with_grants h) (taken_some id (refused_by false n.number) h.grants at is),
+)
 
 -- ---- an own invocation
 
 -- What stood in its place is put back.
 pub out_back : (id : ℤ) (was x : Option Invoked) (o made put : Outs) → kept_outs made ≡ kept_outs o
-    → was ≡ lookup (is_at (int_cmp id)) (kept_outs made) → kept_outs put ≡ with_out id x (kept_outs made) → with_out id was (kept_outs put) ≡ kept_outs o
+    → was ≡ lookup (is_at (int_cmp id)) (kept_outs made) → kept_outs put ≡ with_out id x (kept_outs made)
+    → with_out id was (kept_outs put) ≡ kept_outs o
 out_back id was x o made put same stood is = rw (is, stood) (out_again id x made) ∙ same
 
 -- Whether there is none, from what was got
-pub none_there : {A : Type 0} (found : Option (Bor A)) (o : Option A) (some : Bool) → option_copied found ≡ o → is_some found ≡ some → is_none o ≡ not some
+pub none_there : {A : Type 0} (found : Option (Bor A)) (o : Option A) (some : Bool) → option_copied found ≡ o
+    → is_some found ≡ some → is_none o ≡ not some
 none_there None o some e s = ap is_none (sym e) ∙ ap not s
 none_there (Some x) o some e s = ap is_none (sym e) ∙ ap not s
 
@@ -152,16 +164,19 @@ named_by body = option_map (λ body. body.code) body
 -- where no operation is named
 any_operation : (table : Table) (is_result : Bool)
     → may_answer table is_result None ≡ (λ item. cond is_result (reports_success table item.code) (reports_failure table item.code))
-any_operation table is_result = fun_ext (λ item. and-true (cond is_result (reports_success table item.code) (reports_failure table item.code)))
+any_operation table is_result =
+    fun_ext (λ item. and-true (cond is_result (reports_success table item.code) (reports_failure table item.code)))
 
 module _ (table : Table) (h : Half) (id : ℤ) where
   -- A fault, by what answers an invocation and what answers it where it names an operation
   abbrev fault_of : (Invocation → Bool) → (Invocation → Bool) → Option EndFault
   fault_of fits named =
       or_else (unless_so (list_any (λ item. true) (listed id h.inn)) faults.NothingToAnswer)
-      (or_else (unless_so (list_any fits (listed id h.inn)) faults.ClassForbids) (unless_so (list_any named (listed id h.inn)) faults.WrongOperation))
+      (or_else (unless_so (list_any fits (listed id h.inn)) faults.ClassForbids)
+      (unless_so (list_any named (listed id h.inn)) faults.WrongOperation))
 
-  pub sent_result : (last : Bool) (body : Option ResultBody) → sent_answer table h true last id (named_by body) ≡ sent_component table h (ReturnResult last id body)
+  pub sent_result : (last : Bool) (body : Option ResultBody)
+      → sent_answer table h true last id (named_by body) ≡ sent_component table h (ReturnResult last id body)
   sent_result true None = refl
   sent_result true (Some body) = refl
   sent_result false None = refl
@@ -172,8 +187,10 @@ module _ (table : Table) (h : Half) (id : ℤ) where
   result_fault last None = ap (λ fits. fault_of fits (may_answer table true None)) (any_operation table true)
   result_fault last (Some body) = ap (λ fits. fault_of fits (may_answer table true (Some body.code))) (any_operation table true)
 
-  pub sent_error : (code : Code) (parameter : Option Raw) → sent_answer table h false true id None ≡ sent_component table h (ReturnError id code parameter)
+  pub sent_error : (code : Code) (parameter : Option Raw)
+      → sent_answer table h false true id None ≡ sent_component table h (ReturnError id code parameter)
   sent_error code parameter = ap (λ fits. with_inn h (taken id fits h.inn)) (any_operation table false)
 
-  pub error_fault : (code : Code) (parameter : Option Raw) → sent_answer_fault table h false id None ≡ component_fault table h (ReturnError id code parameter)
+  pub error_fault : (code : Code) (parameter : Option Raw)
+      → sent_answer_fault table h false id None ≡ component_fault table h (ReturnError id code parameter)
   error_fault code parameter = ap (λ fits. fault_of fits (may_answer table false None)) (any_operation table false)

@@ -37,14 +37,19 @@ refused reason place = Err (table_fault reason place)
 pub no_rows : table [] ≡ Ok (record { operations = []; prearranged = false })
 no_rows = refl
 
-pub in_order : table (row 2 46 ∷ row_with (whole 1) (whole 45) (member (codes "expires") (boolean false) (member (codes "linked") (array (rows (whole 46 ∷ number (negative (negsuc 0)) ∷ whole 46 ∷ []))) no_members)) ∷ [])
+pub in_order : table (row 2 46 ∷ row_with (whole 1) (whole 45)
+    (member (codes "expires") (boolean false)
+    (member (codes "linked") (array (rows (whole 46 ∷ number (negative (negsuc 0)) ∷ whole 46 ∷ []))) no_members)) ∷ [])
     ≡ Ok (record {
-      operations = (Local (pos 45), operation 1 ((Local (negsuc 0), tt) ∷ (Local (pos 46), tt) ∷ []) false) ∷ (Local (pos 46), operation 2 [] true) ∷ [];
+      operations = (Local (pos 45), operation 1 ((Local (negsuc 0), tt) ∷ (Local (pos 46), tt) ∷ []) false)
+          ∷ (Local (pos 46), operation 2 [] true) ∷ [];
       prearranged = false;
     })
 in_order = refl
 
-pub prearranged : table_in (object (member (codes "operations") (array no_items) (member (codes "prearranged") (boolean true) no_members))) ≡ Ok (record { operations = []; prearranged = true })
+pub prearranged :
+    table_in (object (member (codes "operations") (array no_items) (member (codes "prearranged") (boolean true) no_members)))
+    ≡ Ok (record { operations = []; prearranged = true })
 prearranged = refl
 
 pub no_object : table_in (array no_items) ≡ refused TableShape 0
@@ -76,7 +81,9 @@ pub other_key : table (row_with (whole 1) (whole 1) (member (codes "name") (whol
 other_key = refl
 
 -- a global code, in digits of either case
-pub double_global : table (row_with (whole 1) (string (codes "2A0304")) no_members ∷ row_with (whole 1) (string (codes "2a0304")) no_members ∷ []) ≡ refused DoubleCode 1
+pub double_global :
+    table (row_with (whole 1) (string (codes "2A0304")) no_members ∷ row_with (whole 1) (string (codes "2a0304")) no_members ∷ [])
+    ≡ refused DoubleCode 1
 unfolding hex_on_literals
 double_global = refl
 

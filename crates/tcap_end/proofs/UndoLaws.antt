@@ -1,13 +1,10 @@
 -- Changes that were noted can be taken back.
-use Rattle.std.proofs.Common.{◌≡◌, List, [], ◌∷◌, refl, ap, ◌∙◌}
+use Rattle.std.proofs.Common.{◌≡◌, List, [], ◌∷◌, ap, ◌∙◌}
 use Rattle.tcap_end.specs.declared.half_state.HalfState.{HalfState}
 use Rattle.tcap_end.specs.declared.half_state.Change.{Change}
 use Rattle.tcap_end.specs.declared.half_state.Change.TheVariants.{Out, Waits, InnTaken, GrantTaken, InnJoined, GrantJoined}
 use Rattle.tcap_end.specs.Half.{Half}
 use Rattle.tcap_end.specs.HalfState.{CanUndo, Keeps, Undoes, half_of, undone}
-
-pub keeps_all : (h : HalfState) → Keeps h h
-keeps_all h = record { slot = refl; out = λ id has. has; inn = λ id has. has; grants = λ id has. has }
 
 pub keeps_then : (a b c : HalfState) → Keeps a b → Keeps b c → Keeps a c
 keeps_then a b c k l = record {
@@ -27,7 +24,8 @@ can_too (InnJoined id) h next same keeps can = keeps.inn id can
 can_too (GrantJoined id) h next same keeps can = keeps.grants id can
 
 -- all changes can
-pub undoes_too : (changes : List Change) (h next : HalfState) (start : Half) → half_of next ≡ half_of h → Keeps h next → Undoes changes h start → Undoes changes next start
+pub undoes_too : (changes : List Change) (h next : HalfState) (start : Half) → half_of next ≡ half_of h → Keeps h next
+    → Undoes changes h start → Undoes changes next start
 undoes_too [] h next start same keeps e = same ∙ e
 undoes_too (change ∷ changes) h next start same keeps u = (
   can_too change h next same keeps u.0,
@@ -35,7 +33,8 @@ undoes_too (change ∷ changes) h next start same keeps u = (
 )
 
 -- one change more
-pub undoes_more : (change : Change) (changes : List Change) (h next : HalfState) (start : Half) → undone change (half_of next) ≡ half_of h → Keeps h next
+pub undoes_more : (change : Change) (changes : List Change) (h next : HalfState) (start : Half)
+    → undone change (half_of next) ≡ half_of h → Keeps h next
     → CanUndo change next → Undoes changes h start → Undoes (change ∷ changes) next start
 undoes_more change changes h next start back keeps can u =
     (can, λ last is. undoes_too changes h last start (is.0 ∙ back) (keeps_then h next last keeps is.1) u)

@@ -38,7 +38,7 @@ is_code code other = is_at (code_cmp code) other
 abbrev pub links : Table → Code → Code → Bool
 links table code linked = is_some (lookup (is_at (code_cmp linked)) (linked_of table code))
 
--- ---- sending
+-- ---- sending (Q.774 3.2; problems: Q.773 4.2.2)
 
 -- an own invocation of that ID
 abbrev pub invoked : Half → ℤ → Option Invoked
@@ -90,7 +90,7 @@ sent_component table h (ReturnResult false id body) = cond (list_any (answered_b
 sent_component table h (ReturnError id code parameter) = with_inn h (taken id (answered_by_error table) h.inn)
 sent_component table h (Reject id problem) = sent_reject h id problem
 
--- ---- receiving
+-- ---- receiving (Q.774 3.2; problems: Q.773 4.2.2)
 
 -- the operation of an own invocation whose last answer did not come: it is in Operation Sent, not in Wait for Reject
 abbrev pub sent_of : Option Invoked → Option Code
@@ -165,7 +165,12 @@ received_reject h _ _ = h
 -- ID that is not in Operation Sent, is this profile's choice.
 abbrev pub received_component : Table → Half → Component → Half
 received_component table h (Invoke id linked code parameter) =
-    record h { inn = added id (record { code = code; problems = id_problems (listed id h.inn) ++ 1 ∷ 2 ∷ 3 ∷ 4 ∷ [] ++ link_problems table h linked code }) h.inn }
+    record h {
+      inn = added id (record {
+        code = code;
+        problems = id_problems (listed id h.inn) ++ 1 ∷ 2 ∷ 3 ∷ 4 ∷ [] ++ link_problems table h linked code;
+      }) h.inn;
+    }
 received_component table h (ReturnResult last id body) = received_result h last id (outstanding_class table h id)
 received_component table h (ReturnError id code parameter) = received_error h id (outstanding_class table h id)
 received_component table h (Reject id problem) = received_reject h id problem

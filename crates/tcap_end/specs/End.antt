@@ -33,7 +33,8 @@ is_id id (Some other) = bytes_eq id other
 -- the first half that passes, with its key
 abbrev pub first_half : (Half → Bool) → Slot → List (List ℕ × Half) → Option Found
 first_half passes slot [] = None
-first_half passes slot ((key, half) ∷ more) = cond (passes half) (Some (record { slot = slot; key = key; half = half })) (first_half passes slot more)
+first_half passes slot ((key, half) ∷ more) =
+    cond (passes half) (Some (record { slot = slot; key = key; half = half })) (first_half passes slot more)
 
 abbrev pub found_half : (Half → Bool) → End → Option Found
 found_half passes e = by_begun (first_half passes Begun e.begun)

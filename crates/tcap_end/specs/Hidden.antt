@@ -29,7 +29,7 @@ expired_in table e id (Some found) =
     where_so (not (is_closed found.half.phase) && may_expire table (invoked found.half id))
     (Some (put e found.slot found.key (record found.half { out = remove_entry (is_at (int_cmp id)) found.half.out })))
 
--- An own invocation ends unseen: its timer runs out or the user cancels it, where the table says that this may be in the record;
+-- An own invocation ends unseen (Q.774 3.2): its timer runs out or the user cancels it, where the table says that this may be in the record;
 -- or, where its last answer came, its ID is free again.
 abbrev pub expired : Table → End → HalfName → ℤ → Option End
 expired table e name id = expired_in table e id (named e name)
@@ -44,6 +44,6 @@ closed_in table e None = None
 closed_in table e (Some found) =
     where_so (may_close table found.half.phase) (Some (put e found.slot found.key (closed_half found.half)))
 
--- A half closes unseen: its Begin is given up, or this end closes it by prearrangement.
+-- A half closes unseen (Q.774 3.3): its Begin is given up, or this end closes it by prearrangement.
 abbrev pub closed : Table → End → HalfName → Option End
 closed table e name = closed_in table e (named e name)

@@ -16,3 +16,5 @@ pub mod Outs
 pub mod Received
 pub mod Places
 pub mod HalfState
+pub mod Halves
+pub mod Kinds

@@ -30,7 +30,7 @@ abbrev pub then_so : {A B : Type 0} → Option A → (A → Option B) → Option
 then_so None f = None
 then_so (Some x) f = f x
 
--- ---- dialogue portions
+-- ---- dialogue portions (Q.774 3.2, dialogues)
 
 abbrev pub is_request : Option Dialogue → Bool
 is_request (Some (Request context info)) = true
@@ -87,7 +87,7 @@ may_abort phases.Received standings.Asked dialogue = is_none dialogue || rejects
 may_abort phase standings.Confirmed dialogue = is_none dialogue || user_aborts dialogue
 may_abort phase standing dialogue = is_none dialogue
 
--- ---- components, one after the other
+-- ---- components, one after the other (Q.774 3.2)
 
 abbrev pub sent_components : Table → Half → List Component → Option Half
 sent_components table h [] = Some h
@@ -104,7 +104,7 @@ is_class_4 (Some class) = class == 4
 abbrev pub has_id : ℤ → List ℤ → Bool
 has_id id ids = list_any (λ other. is_eq (int_cmp id other)) ids
 
--- A Unidirectional carries Invokes of class 4, of the table, without linked IDs, and each with an ID that none before
+-- A Unidirectional (Q.774 3.2; Q.771, class 4) carries Invokes of class 4, of the table, without linked IDs, and each with an ID that none before
 -- it has.
 abbrev pub invokes_class_4 : Table → List ℤ → List Component → Bool
 invokes_class_4 table ids [] = true
@@ -112,7 +112,7 @@ invokes_class_4 table ids (Invoke id linked code parameter ∷ more) =
     is_class_4 (class_of table code) && not (has_id id ids) && is_none linked && invokes_class_4 table (id ∷ ids) more
 invokes_class_4 table ids (_ ∷ more) = false
 
--- ---- sending
+-- ---- sending (Q.774 3.3)
 
 -- an own transaction ID that was used
 abbrev pub is_used : End → List ℕ → Bool
@@ -163,18 +163,20 @@ sent_end table e dialogue components (Some found) =
 abbrev pub sent_abort : End → Option AbortReason → Option Found → Option End
 sent_abort e reason None = None
 sent_abort e reason (Some found) =
-    where_so (is_none (reason_cause reason) && not (is_closed found.half.phase) && may_abort found.half.phase found.half.standing (reason_dialogue reason))
+    where_so (is_none (reason_cause reason) && not (is_closed found.half.phase)
+    && may_abort found.half.phase found.half.standing (reason_dialogue reason))
     (Some (put e found.slot found.key (closed_half found.half)))
 
 -- the end after a message was sent, where it may be
 abbrev pub sent_message : Table → End → Message → Option End
 sent_message table e (Unidirectional dialogue components) = where_so (may_be_uni dialogue && invokes_class_4 table [] components) (Some e)
 sent_message table e (Begin otid dialogue components) = sent_begin table e otid dialogue (items_of components)
-sent_message table e (Continue otid dtid dialogue components) = sent_continue table e otid dtid dialogue (items_of components) (with_own e otid)
+sent_message table e (Continue otid dtid dialogue components) =
+    sent_continue table e otid dtid dialogue (items_of components) (with_own e otid)
 sent_message table e (EndMessage dtid dialogue components) = sent_end table e dialogue (items_of components) (with_peer e dtid)
 sent_message table e (Abort dtid reason) = sent_abort e reason (with_peer e dtid)
 
--- ---- receiving
+-- ---- receiving (Q.774 3.3)
 
 abbrev pub received_begin : Table → End → List ℕ → Option Dialogue → List Component → Option End
 received_begin table e otid dialogue components =
@@ -213,6 +215,7 @@ received_end e (Some found) = cond (is_closed found.half.phase) e (put e found.s
 abbrev pub received_message : Table → End → Message → Option End
 received_message table e (Unidirectional dialogue components) = Some e
 received_message table e (Begin otid dialogue components) = received_begin table e otid dialogue (items_of components)
-received_message table e (Continue otid dtid dialogue components) = received_continue table e otid dialogue (items_of components) (with_own e dtid)
+received_message table e (Continue otid dtid dialogue components) =
+    received_continue table e otid dialogue (items_of components) (with_own e dtid)
 received_message table e (EndMessage dtid dialogue components) = Some (received_end e (with_own e dtid))
 received_message table e (Abort dtid reason) = Some (received_end e (with_own e dtid))

@@ -23,7 +23,8 @@ names (Some named) code = is_code named code
 
 -- whether a Return Result, or a Return Error, that names this operation may answer an invocation
 abbrev pub may_answer : Table → Bool → Option Code → Invocation → Bool
-may_answer table is_result named item = cond is_result (reports_success table item.code) (reports_failure table item.code) && names named item.code
+may_answer table is_result named item =
+    cond is_result (reports_success table item.code) (reports_failure table item.code) && names named item.code
 
 abbrev pub allows : ℕ → Invocation → Bool
 allows problem item = is_one_of problem item.problems

@@ -33,7 +33,7 @@ or_else (Some fault) second = Some fault
 abbrev pub unless_so : Bool → EndFault → Option EndFault
 unless_so so fault = cond so None (Some fault)
 
--- ---- a component that is sent
+-- ---- a component that is sent (Q.774 3.2; Q.771)
 
 abbrev pub answer_fault : (Code → Bool) → Option ResultBody → List Invocation → Option EndFault
 answer_fault reports body items =
@@ -71,7 +71,7 @@ uni_fault table ids (Invoke id linked code parameter ∷ more) =
     (uni_fault table (id ∷ ids) more))))
 uni_fault table ids (_ ∷ more) = Some faults.NothingToAnswer
 
--- ---- sending
+-- ---- sending (Q.774 3.2 and 3.3)
 
 abbrev pub goes_on_fault : Table → Half → Option Dialogue → List Component → Option EndFault
 goes_on_fault table h dialogue components =
@@ -108,20 +108,23 @@ abort_fault reason found = or_else (unless_so (is_none (reason_cause reason)) fa
 
 -- why a message may not be sent
 abbrev pub send_fault : Table → End → Message → Option EndFault
-send_fault table e (Unidirectional dialogue components) = or_else (unless_so (may_be_uni dialogue) faults.WrongDialogue) (uni_fault table [] components)
+send_fault table e (Unidirectional dialogue components) =
+    or_else (unless_so (may_be_uni dialogue) faults.WrongDialogue) (uni_fault table [] components)
 send_fault table e (Begin otid dialogue components) =
     or_else (unless_so (not (is_used e otid)) faults.IdUsed)
     (or_else (unless_so (may_begin dialogue) faults.WrongDialogue)
     (components_fault table (items_of components) (fresh phases.Sent (Some otid) None (asked_by dialogue))))
-send_fault table e (Continue otid dtid dialogue components) = continue_fault table e otid dtid dialogue (items_of components) (with_own e otid)
+send_fault table e (Continue otid dtid dialogue components) =
+    continue_fault table e otid dtid dialogue (items_of components) (with_own e otid)
 send_fault table e (EndMessage dtid dialogue components) = end_fault table dialogue (items_of components) (with_peer e dtid)
 send_fault table e (Abort dtid reason) = abort_fault reason (with_peer e dtid)
 
--- ---- receiving
+-- ---- receiving (Q.774 3.3)
 
 abbrev pub received_phase_fault : End → List ℕ → Option Dialogue → Found → Phase → Option EndFault
 received_phase_fault e otid dialogue found phases.Sent =
-    or_else (unless_so (is_none (with_peer e otid)) faults.IdUsed) (unless_so (is_answered found.half.standing dialogue) faults.WrongDialogue)
+    or_else (unless_so (is_none (with_peer e otid)) faults.IdUsed)
+    (unless_so (is_answered found.half.standing dialogue) faults.WrongDialogue)
 received_phase_fault e otid dialogue found phases.Active = unless_so (is_id otid found.half.peer) faults.NoTransaction
 received_phase_fault e otid dialogue found _ = Some faults.NoTransaction
 

@@ -88,7 +88,8 @@ abbrev pub row_keys : List (List ℕ)
 row_keys = codes "class" ∷ codes "code" ∷ codes "expires" ∷ codes "linked" ∷ []
 
 abbrev pub row_from : Option Code → Option ℤ → Option (List (Code × Unit {0})) → Option Bool → Option Row
-row_from (Some code) (Some class) (Some linked) (Some expires) = Some (record { code = code; class = class; linked = linked; expires = expires })
+row_from (Some code) (Some class) (Some linked) (Some expires) =
+    Some (record { code = code; class = class; linked = linked; expires = expires })
 row_from _ _ _ _ = None
 
 abbrev pub row_in_members : Members → Option Row
@@ -136,7 +137,9 @@ table_keys = codes "operations" ∷ codes "prearranged" ∷ []
 
 abbrev pub table_by : Option Data → Option Bool → Result Table TableFault
 table_by (Some (array rows)) (Some prearranged) =
-    cond (nat_le (count_items rows) rows_limit) (then_ok (operations_in 0 [] rows) (λ operations. Ok (record { operations = operations; prearranged = prearranged }))) (Err (table_fault reasons.TooManyRows 0))
+    cond (nat_le (count_items rows) rows_limit)
+    (then_ok (operations_in 0 [] rows) (λ operations. Ok (record { operations = operations; prearranged = prearranged })))
+    (Err (table_fault reasons.TooManyRows 0))
 table_by _ _ = Err (table_fault reasons.TableShape 0)
 
 -- the table that the data is, or the first fault: of the object, of the count of rows, then row by row

@@ -35,7 +35,7 @@ pub enum Mark {
     Wait,
 }
 
-/// By what a half began.
+/// By what a half began; it is kept with those that began so.
 #[derive(Clone, Copy, Debug, PartialEq, Eq)]
 pub enum Slot {
     /// By sending a Begin: it is kept by its own transaction ID.
@@ -49,6 +49,6 @@ pub enum Slot {
 pub enum HalfName {
     /// The half with that own transaction ID.
     Own(TransactionId),
-    /// The half with that peer's.
+    /// The half with that peer's transaction ID.
     Peer(TransactionId),
 }

@@ -11,6 +11,8 @@ ghost use Rattle.tcap_end.specs.Hidden.{expired, closed};
 ghost use Rattle.tcap_end.specs.Refusal.{send_fault, receive_fault};
 ghost use Rattle.tcap_end.specs.Sound.{IsEnd, Has};
 
+use crate::end_state::EndState;
+
 /// A message may be sent exactly where nothing refuses it.
 pub fn sent_or_refused()
     ensures { (table : Table) (e : End) (m : Message) → is_some (sent_message table e m) ≡ is_none (send_fault table e m) }
@@ -21,32 +23,39 @@ pub fn received_or_refused()
     ensures { (table : Table) (e : End) (m : Message) → is_some (received_message table e m) ≡ is_none (receive_fault e m) }
 {}
 
+/// What an `EndState` stands for is such an end: the laws below speak of it.
+pub fn is_end(end: &EndState)
+    ensures { IsEnd end.now }
+{
+    end.is_end();
+}
+
 /// What holds of every end holds of one over which nothing went.
 pub fn nothing_is_sound()
     ensures { IsEnd nothing }
 {}
 
-/// It holds behind a message that was sent: no two halves have one own transaction ID, nor one peer's.
+/// What holds of every end holds behind a message that was sent: no two halves have one own transaction ID, nor one peer's.
 pub fn sent_is_sound()
     ensures { (table : Table) (e next : End) (m : Message) → IsEnd e → sent_message table e m ≡ Some next → IsEnd next }
 {}
 
-/// It holds behind a message that was received.
+/// What holds of every end holds behind a message that was received.
 pub fn received_is_sound()
     ensures { (table : Table) (e next : End) (m : Message) → IsEnd e → received_message table e m ≡ Some next → IsEnd next }
 {}
 
-/// It holds where an invocation ended unseen.
+/// What holds of every end holds where an invocation ended unseen.
 pub fn expired_is_sound()
     ensures { (table : Table) (e next : End) (name : HalfName) (id : ℤ) → IsEnd e → expired table e name id ≡ Some next → IsEnd next }
 {}
 
-/// It holds where a half closed unseen.
+/// What holds of every end holds where a half closed unseen.
 pub fn closed_is_sound()
     ensures { (table : Table) (e next : End) (name : HalfName) → IsEnd e → closed table e name ≡ Some next → IsEnd next }
 {}
 
-/// It holds behind a quiet mark.
+/// What holds of every end holds behind a quiet mark.
 pub fn quieted_is_sound()
     ensures { (e next : End) → quieted e ≡ Some next → IsEnd next }
 {}
@@ -57,19 +66,19 @@ pub fn closed_while_sending()
         → sent_message table e m ≡ Some next → Has next f }
 {}
 
-/// It stays whatever the end receives.
+/// A closed half stays as it is, whatever the end receives.
 pub fn closed_while_receiving()
     ensures { (table : Table) (e next : End) (m : Message) (f : Found) → IsEnd e → Has e f → f.half.phase ≡ Phase.Closed
         → received_message table e m ≡ Some next → Has next f }
 {}
 
-/// It stays whatever happens unseen.
+/// A closed half stays as it is where an invocation ends unseen.
 pub fn closed_while_expiring()
     ensures { (table : Table) (e next : End) (name : HalfName) (id : ℤ) (f : Found) → IsEnd e → Has e f → f.half.phase ≡ Phase.Closed
         → expired table e name id ≡ Some next → Has next f }
 {}
 
-/// It stays where another half closes.
+/// A closed half stays as it is where another closes unseen.
 pub fn closed_while_closing()
     ensures { (table : Table) (e next : End) (name : HalfName) (f : Found) → IsEnd e → Has e f → f.half.phase ≡ Phase.Closed
         → closed table e name ≡ Some next → Has next f }

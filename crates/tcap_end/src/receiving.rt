@@ -5,7 +5,16 @@ ghost use Rattle.tcap_parts.specs.declared.code.Code.{Code};
 ghost use Rattle.tcap_parts.specs.declared.component.Component.TheVariants as Component;
 ghost use Rattle.tcap_parts.specs.Meaning.{code_of, component_of, problem_of};
 ghost use Rattle.tcap_end.specs.Half.{is_one_of, listed};
-ghost use Rattle.tcap_end.specs.Component.{id_problems, link_problems, outstanding, outstanding_class, received_component, received_reject, wait_for_reject, with_grant};
+ghost use Rattle.tcap_end.specs.Component.{
+  id_problems,
+  link_problems,
+  outstanding,
+  outstanding_class,
+  received_component,
+  received_reject,
+  wait_for_reject,
+  with_grant,
+};
 ghost use Rattle.tcap_end.specs.HalfState.{StillUndoes, half_of};
 ghost use Rattle.tcap_end.specs.Received.{answer_problems, found_by, link_numbers, received_answer};
 
@@ -94,7 +103,8 @@ impl HalfState {
         linked: Option<i8>,
         code: CodeView,
     ) -> Result<(), AllocError>
-        ensures received { OnOk result (half_of self.new ≡ received_component table.now (half_of self.old) (Component.Invoke id linked (code_of code.entry) None)) }
+        ensures received { OnOk result (half_of self.new
+            ≡ received_component table.now (half_of self.old) (Component.Invoke id linked (code_of code.entry) None)) }
         ensures undoes { StillUndoes changes.old self.old changes.new self.new }
         ensures slot { self.new.slot ≡ self.old.slot }
     {
@@ -133,7 +143,8 @@ impl HalfState {
         id: i8,
     ) -> Result<(), AllocError>
         requires last { is_result ≡ false → last ≡ true }
-        ensures received { OnOk result (half_of self.new ≡ received_answer (half_of self.old) is_result last id (outstanding_class table.now (half_of self.old) id)) }
+        ensures received { OnOk result (half_of self.new
+            ≡ received_answer (half_of self.old) is_result last id (outstanding_class table.now (half_of self.old) id)) }
         ensures undoes { StillUndoes changes.old self.old changes.new self.new }
         ensures slot { self.new.slot ≡ self.old.slot }
     {
@@ -148,7 +159,8 @@ impl HalfState {
     /// The last answer to an own invocation, which is there, came.
     fn wait(&mut self, changes: &mut LinkedList<Change>, id: i8) -> Result<(), AllocError>
         requires there { IsSome (outstanding (half_of self.old) id) }
-        ensures waits { (code : Code) → outstanding (half_of self.old) id ≡ Some code → OnOk result (half_of self.new ≡ wait_for_reject (half_of self.old) id code) }
+        ensures waits { (code : Code) → outstanding (half_of self.old) id ≡ Some code
+            → OnOk result (half_of self.new ≡ wait_for_reject (half_of self.old) id code) }
         ensures undoes { StillUndoes changes.old self.old changes.new self.new }
         ensures slot { self.new.slot ≡ self.old.slot }
     {

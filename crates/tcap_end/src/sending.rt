@@ -45,7 +45,8 @@ impl HalfState {
         linked: Option<i8>,
         code: CodeView,
     ) -> Result<(), EndFault>
-        ensures sent { OnOk result (sent_component table.now (half_of self.old) (Component.Invoke id linked (code_of code.entry) None) ≡ Some (half_of self.new)) }
+        ensures sent { OnOk result (sent_component table.now (half_of self.old)
+            (Component.Invoke id linked (code_of code.entry) None) ≡ Some (half_of self.new)) }
         ensures refused { IfErr result (λ fault. fault ≢ EndFault.Memory
             → component_fault table.now (half_of self.old) (Component.Invoke id linked (code_of code.entry) None) ≡ Some fault) }
         ensures undoes { StillUndoes changes.old self.old changes.new self.new }
@@ -105,7 +106,8 @@ impl HalfState {
         id: i8,
         named: Option<CodeView>,
     ) -> Result<(), EndFault>
-        ensures sent { OnOk result (sent_answer table.now (half_of self.old) is_result last id (option_map code_of named.entry) ≡ Some (half_of self.new)) }
+        ensures sent { OnOk result (sent_answer table.now (half_of self.old) is_result last id (option_map code_of named.entry)
+            ≡ Some (half_of self.new)) }
         ensures refused { IfErr result (λ fault. fault ≢ EndFault.Memory
             → sent_answer_fault table.now (half_of self.old) is_result id (option_map code_of named.entry) ≡ Some fault) }
         ensures undoes { StillUndoes changes.old self.old changes.new self.new }

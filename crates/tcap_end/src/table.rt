@@ -69,7 +69,8 @@ impl TableReason {
     }
 }
 
-/// An operation: its class, the operations that may be linked to it, and whether its timer may run out in the record.
+/// An operation: its class, the operations that may be linked to it, and whether an invocation of it may end in the record by
+/// its timer or by the user's cancelling.
 #[derive(Debug, Drop)]
 pub(crate) struct Operation {
     pub(crate) class: u8,
@@ -90,8 +91,8 @@ impl Model for Operation {
 }
 
 /// The operations that a test bench knows, each with its class (Q.771), the operations that may be linked to it, and
-/// whether its timer may run out in the record; and whether an end may be closed by prearrangement (Q.774 3.2). A
-/// lookup takes the logarithm of their count.
+/// whether an invocation of it may end in the record by its timer or by the user's cancelling; and whether transactions may
+/// end by prearrangement (Q.774 3.3). A lookup takes the logarithm of their count.
 #[derive(Debug, Drop)]
 pub struct Table {
     pub(crate) operations: CodeMap<Operation>,

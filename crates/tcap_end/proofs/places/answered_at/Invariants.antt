@@ -9,6 +9,7 @@ use Rattle.tcap_end.proofs.places.answered_at.Given as goal
 -- No item before this place fits.
 abbrev pub invariant-loop-at : goal.invariant-loop-at
 invariant-loop-at l = record {
-  left : shifted l.at (place_of (may_answer l.table l.is_result (option_map code_of l.named)) l.item-iterator) ≡ place_of (may_answer l.table l.is_result (option_map code_of l.named)) l.list;
+  left : shifted l.at (place_of (may_answer l.table l.is_result (option_map code_of l.named)) l.item-iterator)
+      ≡ place_of (may_answer l.table l.is_result (option_map code_of l.named)) l.list;
   room : l.at + length l.item-iterator < 2 ^ 63;
 }

@@ -10,7 +10,8 @@ returns-then-allows c =
 
 pub overflow_step-at : goal.overflow_step-at
 overflow_step-at c =
-    let room : c.loop-at.at + 1 + length c.next.new.self < 2 ^ 63 = room_left c.loop-at.at c.loop-at.item-iterator c.in-Some.item.now c.next.new.self c.in-Some.ensures.steps c.loop-at.invariant.room in
+    let room : c.loop-at.at + 1 + length c.next.new.self < 2 ^ 63 =
+    room_left c.loop-at.at c.loop-at.item-iterator c.in-Some.item.now c.next.new.self c.in-Some.ensures.steps c.loop-at.invariant.room in
     omega (arith, room)
 
 pub loop-at-preserved : goal.loop-at-preserved

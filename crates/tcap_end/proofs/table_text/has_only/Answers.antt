@@ -5,4 +5,9 @@ use Rattle.tcap_end.proofs.table_text.has_only.Goals as goal
 pub loop-key-init : goal.loop-key-init
 loop-key-init c =
     let keys = map (λ k. k.now) c.args.keys.now in
-    record { can = tt; finite = tt; left = are_keys_of keys c.args.members.now.entries ∙ ap (are_keys keys) (sym c.keys-key-items.ensures.rest ∙ sym c.into_iter-key-iterator.ensures.into_iter_gives) }
+    record {
+      can = tt;
+      finite = tt;
+      left = are_keys_of keys c.args.members.now.entries
+          ∙ ap (are_keys keys) (sym c.keys-key-items.ensures.rest ∙ sym c.into_iter-key-iterator.ensures.into_iter_gives);
+    }

@@ -7,7 +7,8 @@ use Rattle.tcap_end.proofs.half_state.HalfState.join_answer.Goals as goal
 
 pub returns-in_err-push-clause-undoes : goal.returns-in_err-push-clause-undoes
 returns-in_err-push-clause-undoes c =
-    still_same c.args.changes.now c.args.self.now _ (ap (λ grants. record (half_of c.args.self.now) { grants = grants }) c.in_err-push.ensures.kept)
+    still_same c.args.changes.now c.args.self.now _
+    (ap (λ grants. record (half_of c.args.self.now) { grants = grants }) c.in_err-push.ensures.kept)
     (keeps_grants c.args.self.now c.push.new.self c.push.ensures.others)
 
 pub returns-clause-joined : goal.returns-clause-joined

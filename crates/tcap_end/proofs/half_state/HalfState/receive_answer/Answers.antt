@@ -23,7 +23,8 @@ other_found finds.Invocation other is = cc
 pub returns-in_ok-wait-clause-received : goal.returns-in_ok-wait-clause-received
 returns-in_ok-wait-clause-received c =
     let id = c.args.id in
-    then_waits c.args.table.now (half_of c.args.self.now) (half_of c.join_answer.new.self) c.args.is_result c.args.last id c.found-found.result
+    then_waits c.args.table.now (half_of c.args.self.now) (half_of c.join_answer.new.self) c.args.is_result c.args.last id
+    c.found-found.result
     (rw (to_z-of_z w8 id c.ranges.id) at c.found-found.ensures) (rw (to_z-of_z w8 id c.ranges.id) at c.in_ok-join_answer.ensures.joined)
     (half_of c.wait.new.self) c.if-last.true (same_found c.found-found.result c.if-eq.ensures)
     (rw (to_z-of_z w8 id c.ranges.id) at c.in_ok-wait.ensures.waits)

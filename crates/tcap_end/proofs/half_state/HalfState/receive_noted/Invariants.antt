@@ -8,5 +8,6 @@ use Rattle.tcap_end.proofs.half_state.HalfState.receive_noted.Given as goal
 
 abbrev pub invariant-loop-component : goal.invariant-loop-component
 invariant-loop-component l =
-    (received_components l.table (half_of l.fn.self) (components_left l.fn.components) ≡ received_components l.table (half_of l.self) (components_left l.component-iterator))
+    (received_components l.table (half_of l.fn.self) (components_left l.fn.components)
+    ≡ received_components l.table (half_of l.self) (components_left l.component-iterator))
     × Keeps l.fn.self l.fn.changes l.self l.changes

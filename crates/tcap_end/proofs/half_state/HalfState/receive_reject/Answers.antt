@@ -36,7 +36,8 @@ returns-clause-undoes c =
     let out = c.args.self.now.out in
     let fits : SFits w8 id = search rules in
     let there = got_place id out c.get.result (rw (to_z-of_z w8 id fits) at c.get.ensures) c.if-is_none.ensures in
-    out_noted c.note.result c.args.changes.now c.note.new.changes c.args.self.now c.note.new.self (Out id c.put-was.result) c.put-was.new.self
+    out_noted c.note.result c.args.changes.now c.note.new.changes c.args.self.now c.note.new.self (Out id c.put-was.result)
+    c.put-was.new.self
     (ap (λ outs. record (half_of c.args.self.now) { out = outs })
     (rw (rw (to_z-of_z w8 id fits) at c.put-was.ensures.was, rw (to_z-of_z w8 id fits) at c.put-was.ensures.put) (out_again id None out)))
     c.put-was.ensures.others (c.put-was.ensures.others id there)

@@ -35,4 +35,8 @@ returns-in_ok-get-in-ReturnResult c =
 
 pub returns-in_ok-get-in-ReturnError : goal.returns-in_ok-get-in-ReturnError
 returns-in_ok-get-in-ReturnError c =
-    rw (c.refused_at-in-ReturnError.ensures, c.in-ReturnError.is, rw (to_z-of_z w8 c.args.id c.ranges.id) at c.in_ok-get-in-ReturnError.ensures) refl
+    rw (
+      c.refused_at-in-ReturnError.ensures,
+      c.in-ReturnError.is,
+      rw (to_z-of_z w8 c.args.id c.ranges.id) at c.in_ok-get-in-ReturnError.ensures,
+    ) refl

@@ -11,11 +11,13 @@ use Rattle.tcap_end.proofs.half_state.HalfState.send_component.Goals.{After-send
 
 pub returns-in-Invoke-clause-sent : goal.returns-in-Invoke-clause-sent
 returns-in-Invoke-clause-sent c =
-    let fits : SFits w8 c.in-Invoke.id = search rules in rw c.in-Invoke.is (rw (to_z-of_z w8 c.in-Invoke.id fits) at c.send_invoke.ensures.sent)
+    let fits : SFits w8 c.in-Invoke.id = search rules in
+    rw c.in-Invoke.is (rw (to_z-of_z w8 c.in-Invoke.id fits) at c.send_invoke.ensures.sent)
 
 pub returns-in-Invoke-clause-refused : goal.returns-in-Invoke-clause-refused
 returns-in-Invoke-clause-refused c =
-    let fits : SFits w8 c.in-Invoke.id = search rules in rw c.in-Invoke.is (rw (to_z-of_z w8 c.in-Invoke.id fits) at c.send_invoke.ensures.refused)
+    let fits : SFits w8 c.in-Invoke.id = search rules in
+    rw c.in-Invoke.is (rw (to_z-of_z w8 c.in-Invoke.id fits) at c.send_invoke.ensures.refused)
 
 -- the operation that the body names
 named_is : (c : After-send_answer) → option_map code_of c.match-body.named ≡ named_by (option_map body_of c.in-ReturnResult.body)
@@ -28,7 +30,8 @@ returns-after-body-clause-sent c =
     (rw (
       to_z-of_z w8 c.in-ReturnResult.id fits,
       named_is c,
-      sent_result c.args.table.now (half_of c.args.self.now) c.in-ReturnResult.id c.in-ReturnResult.last (option_map body_of c.in-ReturnResult.body),
+      sent_result c.args.table.now (half_of c.args.self.now) c.in-ReturnResult.id c.in-ReturnResult.last
+          (option_map body_of c.in-ReturnResult.body),
     ) at c.send_answer.ensures.sent)
 
 pub returns-after-body-clause-refused : goal.returns-after-body-clause-refused
@@ -38,7 +41,8 @@ returns-after-body-clause-refused c =
     (rw (
       to_z-of_z w8 c.in-ReturnResult.id fits,
       named_is c,
-      result_fault c.args.table.now (half_of c.args.self.now) c.in-ReturnResult.id c.in-ReturnResult.last (option_map body_of c.in-ReturnResult.body),
+      result_fault c.args.table.now (half_of c.args.self.now) c.in-ReturnResult.id c.in-ReturnResult.last
+          (option_map body_of c.in-ReturnResult.body),
     ) at c.send_answer.ensures.refused)
 
 pub returns-in-ReturnError-clause-sent : goal.returns-in-ReturnError-clause-sent

@@ -24,7 +24,8 @@ pub returns-then-not-may_link-clause-refused : goal.returns-then-not-may_link-cl
 returns-then-not-may_link-clause-refused c = λ _.
     rw (
       sym c.has.ensures ∙ c.if-not-has.false,
-      none_there c.get.result _ false (rw (to_z-of_z w8 c.args.id c.ranges.id) at c.get.ensures) (sym c.is_some.ensures ∙ c.if-is_some.false),
+      none_there c.get.result _ false (rw (to_z-of_z w8 c.args.id c.ranges.id) at c.get.ensures)
+          (sym c.is_some.ensures ∙ c.if-is_some.false),
       sym c.may_link.ensures ∙ c.if-not-may_link.true,
     )
     refl
@@ -41,7 +42,8 @@ undoes c =
     let h : HalfState = c.args.self.now in let put = c.put-was in let made = c.make.ensures in
     let invoked : Option Invoked = Some (record { code = c.in_ok-code.code; mark = marks.Sent }) in
     still_noted c.note.result (Out _ put.result) c.args.changes.now c.note.new.changes h (record h { out = put.new.self }) c.note.new.self
-    (ap (λ out. record (half_of h) { out = out }) (out_back _ put.result invoked h.out c.make.new.self put.new.self made.kept put.ensures.was put.ensures.put))
+    (ap (λ out. record (half_of h) { out = out })
+    (out_back _ put.result invoked h.out c.make.new.self put.new.self made.kept put.ensures.was put.ensures.put))
     (record { slot = refl; out = λ id has. put.ensures.others id (made.others id has); inn = λ id has. has; grants = λ id has. has })
     (put.ensures.others _ c.in_ok-make.ensures.made)
     c.note.ensures.noted c.note.ensures.undone

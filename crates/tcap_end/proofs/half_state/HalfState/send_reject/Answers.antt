@@ -18,7 +18,8 @@ returns-in_default-rejected-clause-refused c = λ _.
 
 pub take_inn-requires : goal.take_inn-requires
 take_inn-requires c = record {
-  within = (rejects_inn (half_of c.args.self.now) _ _ c.in-Some-rejected.at (rw c.in-Invoke.is at (sym c.rejected.ensures ∙ c.in-Some-rejected.is))).0;
+  within = (rejects_inn (half_of c.args.self.now) _ _ c.in-Some-rejected.at
+      (rw c.in-Invoke.is at (sym c.rejected.ensures ∙ c.in-Some-rejected.is))).0;
 }
 
 pub take_grant-requires : goal.take_grant-requires

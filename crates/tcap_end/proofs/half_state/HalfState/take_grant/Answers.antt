@@ -18,15 +18,22 @@ take-item-requires-clause-made c =
 pub note-requires : goal.note-requires
 note-requires c =
     let list = c.take-item in
-    let within : c.args.at < length (listed (to_z w8 (of_z w8 c.args.id)) (kept_lists c.args.self.now.grants)) = rw (to_z-of_z w8 c.args.id c.ranges.id) c.requires.within in
-    record { can = goes_back _ c.args.at list.result c.args.self.now.grants list.new.self within list.ensures.taken list.ensures.fits list.ensures.others }
+    let within : c.args.at < length (listed (to_z w8 (of_z w8 c.args.id)) (kept_lists c.args.self.now.grants)) =
+    rw (to_z-of_z w8 c.args.id c.ranges.id) c.requires.within in
+    record {
+      can = goes_back _ c.args.at list.result c.args.self.now.grants list.new.self within
+          list.ensures.taken list.ensures.fits list.ensures.others;
+    }
 
 pub returns-clause-undoes : goal.returns-clause-undoes
 returns-clause-undoes c =
     let h : HalfState = c.args.self.now in let list = c.take-item in
-    let within : c.args.at < length (listed (to_z w8 (of_z w8 c.args.id)) (kept_lists h.grants)) = rw (to_z-of_z w8 c.args.id c.ranges.id) c.requires.within in
-    still_noted c.note.result (GrantTaken _ c.args.at list.result) c.args.changes.now c.note.new.changes h (record h { grants = list.new.self }) c.note.new.self
-    (ap (λ grants. record (half_of h) { grants = grants }) (is_back _ c.args.at list.result h.grants list.new.self within list.ensures.taken list.ensures.item))
+    let within : c.args.at < length (listed (to_z w8 (of_z w8 c.args.id)) (kept_lists h.grants)) =
+    rw (to_z-of_z w8 c.args.id c.ranges.id) c.requires.within in
+    still_noted c.note.result (GrantTaken _ c.args.at list.result) c.args.changes.now c.note.new.changes h
+    (record h { grants = list.new.self }) c.note.new.self
+    (ap (λ grants. record (half_of h) { grants = grants })
+    (is_back _ c.args.at list.result h.grants list.new.self within list.ensures.taken list.ensures.item))
     (record { slot = refl; out = λ id has. has; inn = λ id has. has; grants = list.ensures.others })
     (goes_back _ c.args.at list.result h.grants list.new.self within list.ensures.taken list.ensures.fits list.ensures.others)
     c.note.ensures.noted c.note.ensures.undone

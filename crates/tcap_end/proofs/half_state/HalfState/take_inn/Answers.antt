@@ -18,15 +18,22 @@ take-item-requires-clause-made c =
 pub note-requires : goal.note-requires
 note-requires c =
     let list = c.take-item in
-    let within : c.args.at < length (listed (to_z w8 (of_z w8 c.args.id)) (kept_lists c.args.self.now.inn)) = rw (to_z-of_z w8 c.args.id c.ranges.id) c.requires.within in
-    record { can = goes_back _ c.args.at list.result c.args.self.now.inn list.new.self within list.ensures.taken list.ensures.fits list.ensures.others }
+    let within : c.args.at < length (listed (to_z w8 (of_z w8 c.args.id)) (kept_lists c.args.self.now.inn)) =
+    rw (to_z-of_z w8 c.args.id c.ranges.id) c.requires.within in
+    record {
+      can = goes_back _ c.args.at list.result c.args.self.now.inn list.new.self within
+          list.ensures.taken list.ensures.fits list.ensures.others;
+    }
 
 pub returns-clause-undoes : goal.returns-clause-undoes
 returns-clause-undoes c =
     let h : HalfState = c.args.self.now in let list = c.take-item in
-    let within : c.args.at < length (listed (to_z w8 (of_z w8 c.args.id)) (kept_lists h.inn)) = rw (to_z-of_z w8 c.args.id c.ranges.id) c.requires.within in
-    still_noted c.note.result (InnTaken _ c.args.at list.result) c.args.changes.now c.note.new.changes h (record h { inn = list.new.self }) c.note.new.self
-    (ap (λ inn. record (half_of h) { inn = inn }) (is_back _ c.args.at list.result h.inn list.new.self within list.ensures.taken list.ensures.item))
+    let within : c.args.at < length (listed (to_z w8 (of_z w8 c.args.id)) (kept_lists h.inn)) =
+    rw (to_z-of_z w8 c.args.id c.ranges.id) c.requires.within in
+    still_noted c.note.result (InnTaken _ c.args.at list.result) c.args.changes.now c.note.new.changes h
+    (record h { inn = list.new.self }) c.note.new.self
+    (ap (λ inn. record (half_of h) { inn = inn })
+    (is_back _ c.args.at list.result h.inn list.new.self within list.ensures.taken list.ensures.item))
     (record { slot = refl; out = λ id has. has; inn = list.ensures.others; grants = λ id has. has })
     (goes_back _ c.args.at list.result h.inn list.new.self within list.ensures.taken list.ensures.fits list.ensures.others)
     c.note.ensures.noted c.note.ensures.undone

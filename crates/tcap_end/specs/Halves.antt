@@ -1,0 +1,93 @@
+-- What an end is, as it is kept: open halves under numbers, closed ones by their IDs alone.
+use Rattle.std.specs.Prelude.{◌≡◌, ◌↔◌, ℕ, false, List, [], ◌∷◌, Option, Some, None}
+use Rattle.std.specs.Map.{lookup}
+use Rattle.std.specs.BTreeMap.{is_at}
+use Rattle.slab.specs.Slab.{Slab, get}
+use Rattle.tcap_end.specs.declared.half.Phase.TheVariants as phases
+use Rattle.tcap_end.specs.declared.half.Standing.TheVariants as standings
+use Rattle.tcap_end.specs.declared.half.Slot.{Slot}
+use Rattle.tcap_end.specs.declared.half.Slot.TheVariants.{Begun, Accepted}
+use Rattle.tcap_end.specs.declared.half_state.HalfState.{HalfState}
+use Rattle.tcap_end.specs.declared.halves.Halves.{Halves}
+use Rattle.tcap_end.specs.declared.halves.Place.{Place}
+use Rattle.tcap_end.specs.declared.halves.Place.TheVariants.{Open, Closed}
+use Rattle.tcap_end.specs.Table.{octets_cmp}
+use Rattle.tcap_end.specs.Half.{Half, fresh, is_closed}
+use Rattle.tcap_end.specs.HalfState.{half_of}
+use Rattle.tcap_end.specs.End.{End, Found, put}
+use Rattle.tcap_end.specs.Sound.{Has, IsKept, Rises}
+
+-- the half under a number; where none is, a closed one without IDs stands for it
+abbrev pub half_in : Option HalfState → Half
+half_in None = fresh phases.Closed None None standings.Without
+half_in (Some h) = half_of h
+
+-- a closed half that is kept by this ID, with its other one
+abbrev pub closed_at : Slot → List ℕ → Option (List ℕ) → Half
+closed_at Begun key other = fresh phases.Closed (Some key) other standings.Without
+closed_at Accepted key other = fresh phases.Closed other (Some key) standings.Without
+
+abbrev pub half_at : Slab HalfState → Slot → List ℕ → Place → Half
+half_at slab slot key (Open k) = half_in (get slab k)
+half_at slab slot key (Closed other) = closed_at slot key other
+
+abbrev pub halves_at : Slab HalfState → Slot → List (List ℕ × Place) → List (List ℕ × Half)
+halves_at slab slot [] = []
+halves_at slab slot (e ∷ more) = (e.0, half_at slab slot e.0 e.1) ∷ halves_at slab slot more
+
+abbrev pub end_of : Halves → End
+end_of s = record { begun = halves_at s.slab Begun s.begun.entries; accepted = halves_at s.slab Accepted s.accepted.entries }
+
+abbrev pub places_of : Slot → Halves → List (List ℕ × Place)
+places_of Begun s = s.begun.entries
+places_of Accepted s = s.accepted.entries
+
+-- the half that is kept by this ID is at that place
+abbrev pub IsAt : Slot → List ℕ → Place → Halves → Type 0
+IsAt slot key place s = lookup (is_at (octets_cmp key)) (places_of slot s) ≡ Some place
+
+-- There is an open half under that number, which is kept there.
+abbrev pub IsOpen : Slot → List ℕ → ℕ → Halves → Type 0
+IsOpen slot key k s =
+    (h : HalfState) × (get s.slab k ≡ Some h) × (h.slot ≡ slot) × (is_closed h.phase ≡ false) × IsKept slot key (half_of h)
+
+abbrev pub spot : Slot → List ℕ → Half → Found
+spot slot key h = record { slot = slot; key = key; half = h }
+
+-- An index leads from an ID to where a half with that ID is kept, from each such ID, and from no other.
+abbrev pub Indexes : List (List ℕ × List ℕ) → Slot → (Half → Option (List ℕ)) → End → Type 0
+Indexes index slot id_in e = (id key : List ℕ)
+    → (lookup (is_at (octets_cmp id)) index ≡ Some key) ↔ ((h : Half) × Has e (spot slot key h) × (id_in h ≡ Some id))
+
+-- What holds of an end as it is kept.
+pub record IsHeld (s : Halves) : Type 0 where
+  pub begun : Rises octets_cmp s.begun.entries
+  pub accepted : Rises octets_cmp s.accepted.entries
+  pub places : (slot : Slot) (key : List ℕ) (k : ℕ) → IsAt slot key (Open k) s → IsOpen slot key k s
+  pub chosen : Indexes s.chosen.entries Accepted (λ h. h.own) (end_of s)
+  pub learned : Indexes s.learned.entries Begun (λ h. h.peer) (end_of s)
+
+-- An open half is kept there.
+abbrev pub HasOpen : Slot → List ℕ → Halves → Type 0
+HasOpen slot key s = (k : ℕ) × IsAt slot key (Open k) s
+
+-- The half that was kept there was made into another, where this makes one of it; nothing else changed.
+abbrev pub Becomes : Slot → List ℕ → (Half → Option Half) → Halves → Halves → Type 0
+Becomes slot key step s next = (h : Half) → Has (end_of s) (spot slot key h)
+    → (g : Half) × (step h ≡ Some g) × (end_of next ≡ put (end_of s) slot key g)
+
+-- the transaction ID that a half in that slot is not kept by
+abbrev pub other_id : Slot → Half → Option (List ℕ)
+other_id Begun h = h.peer
+other_id Accepted h = h.own
+
+-- A half that is not kept yet: it is open, knows the ID alone by which it is to be kept, and none is kept by it there.
+pub record IsNew (key : List ℕ) (h : HalfState) (s : Halves) : Type 0 where
+  pub free : lookup (is_at (octets_cmp key)) (places_of h.slot s) ≡ None
+  pub open_half : is_closed h.phase ≡ false
+  pub kept : IsKept h.slot key (half_of h)
+  pub alone : other_id h.slot (half_of h) ≡ None
+
+-- Every number that is taken leads from a place.
+abbrev pub AllPlaced : Halves → Type 0
+AllPlaced s = (k : ℕ) (h : HalfState) → get s.slab k ≡ Some h → (key : List ℕ) × IsAt h.slot key (Open k) s

@@ -1,0 +1,159 @@
+//! One end, as it runs.
+
+ghost use Rattle.std.specs.Prelude.{◌≡◌, ◌≢◌, Some, Err, IsSome, OnOk, OnErr, IfErr};
+ghost use Rattle.tcap_msg.specs.declared.kind.Kind.TheVariants as Kind;
+ghost use Rattle.tcap_msg.specs.Parts.{kind_in, otid_in};
+ghost use Rattle.tcap_end.specs.declared.fault.EndFault.TheVariants as EndFault;
+ghost use Rattle.tcap_end.specs.End.{nothing, quieted};
+ghost use Rattle.tcap_end.specs.Kinds.{result_of};
+ghost use Rattle.tcap_end.specs.Sound.{IsEnd};
+ghost use Rattle.tcap_end.specs.Hidden.{closed, expired};
+ghost use Rattle.tcap_end.specs.Message.{received_message, sent_message};
+ghost use Rattle.tcap_end.specs.Refusal.{
+  close_fault,
+  expire_fault,
+  quiet_fault,
+  receive_fault,
+  refuse_begin_fault,
+  refuse_continue_fault,
+  send_fault,
+};
+
+use crate::fault::EndFault;
+use crate::half::HalfName;
+use crate::halves::Halves;
+use crate::table::Table;
+use std::alloc::Global;
+use std::marker::Model;
+use tcap_msg::MessageParts;
+
+/// One end of TCAP dialogues: the halves of its transactions (Q.774 3.3) with their invocations (Q.774 3.2). It says of each
+/// message whether a lawful end may send it there, and takes what the peer sent. What it stands for is an end of which the
+/// laws speak (`laws::is_end`).
+#[derive(Debug, Drop)]
+pub struct EndState {
+    alloc: Global,
+    halves: Halves,
+}
+
+impl Model for EndState {
+    ghost use Rattle.tcap_end.specs.End.{End};
+    ghost use Rattle.tcap_end.specs.Sound.{IsEnd};
+    ghost use Rattle.tcap_end.specs.Halves.{AllPlaced, IsHeld, end_of};
+
+    ghost Value = { End };
+
+    ghost view = { λ a. end_of a.halves };
+
+    ghost invariant = { λ a. IsHeld a.halves × AllPlaced a.halves × IsEnd (end_of a.halves) };
+}
+
+impl EndState {
+    /// An end over which nothing went yet.
+    pub fn new(alloc: Global) -> EndState
+        ensures { result ≡ nothing }
+    {
+        EndState {
+            alloc,
+            halves: Halves::new(alloc),
+        }
+    }
+
+    /// Sends a message (Q.774 3.2 and 3.3), by the table of operations. On Ok the end is as it is once the message was sent. Else
+    /// it is as it was, and the answer is the first fault in the order of the half (`IdUsed`, `NoTransaction`, `WrongPhase`), the
+    /// dialogue portion (`WrongDialogue`), and the components one after the other (`UnknownOperation` to `RejectNotAllowed`, and
+    /// `UniNotClass4`); or `Memory`, which an Abort never meets. An Abort with a cause is the provider's: `WrongPhase`.
+    pub fn send<M: MessageParts>(&mut self, table: &Table, message: &M) -> Result<(), EndFault>
+        ensures sent { OnOk result (sent_message table.now self.old (M.meaning message.now) ≡ Some self.new) }
+        ensures refused { IfErr result (λ fault. fault ≢ EndFault.Memory
+            → send_fault table.now self.old (M.meaning message.now) ≡ Some fault) }
+        ensures kept { OnErr result (self.new ≡ self.old) }
+        ensures aborts { kind_in (M.meaning message.now) ≡ Kind.Abort → result ≢ Err EndFault.Memory }
+    {
+        self.halves.send(self.alloc, table, message)
+    }
+
+    /// Receives a message (Q.774 3.2 and 3.3), by the table of operations. On Ok the end is as it is once the message was received.
+    /// Else it is as it was, and the answer is `NoTransaction`, `IdUsed` or `WrongDialogue`, where the message cannot be received; or
+    /// `Memory`. What has no originating ID, an End, an Abort or a Unidirectional, is never refused and takes no memory.
+    pub fn receive<M: MessageParts>(&mut self, table: &Table, message: &M) -> Result<(), EndFault>
+        ensures received { OnOk result (received_message table.now self.old (M.meaning message.now) ≡ Some self.new) }
+        ensures refused { IfErr result (λ fault. fault ≢ EndFault.Memory → receive_fault self.old (M.meaning message.now) ≡ Some fault) }
+        ensures kept { OnErr result (self.new ≡ self.old) }
+        ensures only { OnErr result (IsSome (otid_in (M.meaning message.now))) }
+    {
+        self.halves.receive(self.alloc, table, message)
+    }
+
+    /// Whether the provider may answer a Begin, which then never reaches the end, by this Abort (Q.774 3.3): cause 4, to its
+    /// originating ID, where no half has that ID as its peer's. `NoTransaction` where it may not.
+    pub fn refuse_begin<B: MessageParts, A: MessageParts>(
+        &self,
+        begin: &B,
+        abort: &A,
+    ) -> Result<(), EndFault>
+        ensures { result ≡ result_of (refuse_begin_fault self.now (B.meaning begin.now) (A.meaning abort.now)) }
+    {
+        if self.halves.refuses_begin(begin, abort) {
+            Ok(())
+        } else {
+            Err(EndFault::NoTransaction)
+        }
+    }
+
+    /// Whether the provider may answer a Continue by this Abort (Q.774 3.3): cause 1, to its originating ID, where no open half has
+    /// its destination ID. `NoTransaction` where it may not.
+    pub fn refuse_continue<C: MessageParts, A: MessageParts>(
+        &self,
+        continued: &C,
+        abort: &A,
+    ) -> Result<(), EndFault>
+        ensures { result ≡ result_of (refuse_continue_fault self.now (C.meaning continued.now) (A.meaning abort.now)) }
+    {
+        if self.halves.refuses_continue(continued, abort) {
+            Ok(())
+        } else {
+            Err(EndFault::NoTransaction)
+        }
+    }
+
+    /// Ends an own invocation unseen (Q.774 3.2): its timer ran out or the user cancelled it, where the table says that this may be;
+    /// or its last answer came, and its ID is free again. `CannotExpire` where none of this may be. It takes no memory.
+    pub fn expire(&mut self, table: &Table, name: HalfName, invoke: i8) -> Result<(), EndFault>
+        ensures expired { OnOk result (expired table.now self.old name invoke ≡ Some self.new) }
+        ensures refused { IfErr result (λ fault. expire_fault table.now self.old name invoke ≡ Some fault) }
+        ensures kept { OnErr result (self.new ≡ self.old) }
+    {
+        self.halves.expire(table, name, invoke)
+    }
+
+    /// Closes a half unseen (Q.774 3.3): its Begin is given up, or it ends by prearrangement, where the table says that this may be.
+    /// `CannotClose` where it may not. It takes no memory.
+    pub fn close(&mut self, table: &Table, name: HalfName) -> Result<(), EndFault>
+        ensures closed { OnOk result (closed table.now self.old name ≡ Some self.new) }
+        ensures refused { IfErr result (λ fault. close_fault table.now self.old name ≡ Some fault) }
+        ensures kept { OnErr result (self.new ≡ self.old) }
+    {
+        self.halves.close_named(table, name)
+    }
+
+    /// Shows that what it stands for is an end of which the laws speak.
+    pub(crate) fn is_end(&self)
+        ensures { IsEnd self.now }
+    {
+        let _ = self.halves.all_closed();
+    }
+
+    /// A quiet mark: where all halves are closed, no half and no used ID is left. `StillOpen` where one is open. It takes no memory.
+    pub fn quiet(&mut self) -> Result<(), EndFault>
+        ensures quieted { OnOk result (quieted self.old ≡ Some self.new) }
+        ensures refused { IfErr result (λ fault. quiet_fault self.old ≡ Some fault) }
+        ensures kept { OnErr result (self.new ≡ self.old) }
+    {
+        if !self.halves.all_closed() {
+            return Err(EndFault::StillOpen);
+        }
+        self.halves = Halves::new(self.alloc);
+        Ok(())
+    }
+}

@@ -1,0 +1,104 @@
+//! What happens to an end unseen (Q.774 3.2 and 3.3): an invocation ends, a half closes.
+
+ghost use Rattle.std.specs.Prelude.{◌≡◌, Some, None, MatchOption, OnOk, OnErr, IfErr};
+ghost use Rattle.tcap_end.specs.Hidden.{closed, expired, may_close, may_expire};
+ghost use Rattle.tcap_end.specs.Half.{Half};
+ghost use Rattle.tcap_end.specs.HalfState.{half_of};
+ghost use Rattle.tcap_end.specs.Component.{invoked};
+ghost use Rattle.tcap_end.specs.End.{named};
+ghost use Rattle.tcap_end.specs.Refusal.{close_fault, expire_fault};
+ghost use Rattle.tcap_end.specs.Sound.{IsEnd};
+ghost use Rattle.tcap_end.specs.Halves.{AllPlaced, IsHeld, end_of, spot};
+
+use crate::fault::EndFault;
+use crate::half::{HalfName, Mark, Phase};
+use crate::half_state::HalfState;
+use crate::halves::{Halves, Spot};
+use crate::table::Table;
+
+impl HalfState {
+    /// Whether the own invocation of that ID may end unseen.
+    fn may_expire(&self, table: &Table, id: i8) -> bool
+        ensures { result ≡ may_expire table.now (invoked (half_of self.now) id) }
+    {
+        match self.out.get(id) {
+            Some(invoked) => match invoked.mark {
+                Mark::Wait => true,
+                Mark::Sent => table.expires(invoked.code.view()),
+            },
+            None => false,
+        }
+    }
+}
+
+/// Whether a half in that phase may close unseen.
+fn may_close(table: &Table, phase: Phase) -> bool
+    ensures { result ≡ may_close table.now phase }
+{
+    match phase {
+        Phase::Sent => true,
+        Phase::Closed => false,
+        _ => table.prearranged,
+    }
+}
+
+impl Halves {
+    /// The half of that name.
+    fn named(&self, name: HalfName) -> Option<Spot>
+        requires held { IsHeld self.now }
+        requires sound { IsEnd (end_of self.now) }
+        ensures { MatchOption result (named (end_of self.now) name ≡ None)
+            (λ found. (h : Half) × (named (end_of self.now) name ≡ Some (spot found.slot found.key h))) }
+    {
+        match name {
+            HalfName::Own(id) => self.with_own(id.view()),
+            HalfName::Peer(id) => self.with_peer(id.view()),
+        }
+    }
+
+    /// Ends the own invocation of that ID unseen.
+    pub(crate) fn expire(&mut self, table: &Table, name: HalfName, id: i8) -> Result<(), EndFault>
+        requires held { IsHeld self.old }
+        requires sound { IsEnd (end_of self.old) }
+        ensures expired { OnOk result (expired table.now (end_of self.old) name id ≡ Some (end_of self.new)) }
+        ensures refused { IfErr result (λ fault. expire_fault table.now (end_of self.old) name id ≡ Some fault) }
+        ensures kept { OnErr result (end_of self.new ≡ end_of self.old) }
+        ensures held { IsHeld self.new }
+        ensures placed { AllPlaced self.old → AllPlaced self.new }
+    {
+        let Some(found) = self.named(name) else {
+            return Err(EndFault::CannotExpire);
+        };
+        let Some(half) = self.half(&found) else {
+            return Err(EndFault::CannotExpire);
+        };
+        if !half.may_expire(table, id) {
+            return Err(EndFault::CannotExpire);
+        }
+        self.forget_over(&found, id);
+        Ok(())
+    }
+
+    /// Closes a half unseen.
+    pub(crate) fn close_named(&mut self, table: &Table, name: HalfName) -> Result<(), EndFault>
+        requires held { IsHeld self.old }
+        requires sound { IsEnd (end_of self.old) }
+        ensures closed { OnOk result (closed table.now (end_of self.old) name ≡ Some (end_of self.new)) }
+        ensures refused { IfErr result (λ fault. close_fault table.now (end_of self.old) name ≡ Some fault) }
+        ensures kept { OnErr result (end_of self.new ≡ end_of self.old) }
+        ensures held { IsHeld self.new }
+        ensures placed { AllPlaced self.old → AllPlaced self.new }
+    {
+        let Some(found) = self.named(name) else {
+            return Err(EndFault::CannotClose);
+        };
+        let Some(half) = self.half(&found) else {
+            return Err(EndFault::CannotClose);
+        };
+        if !may_close(table, half.phase) {
+            return Err(EndFault::CannotClose);
+        }
+        self.close(found);
+        Ok(())
+    }
+}
