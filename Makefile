@@ -1,10 +1,10 @@
 # make demo      shows the records of examples/ by the program, run unproved
 # make program   proves and builds the program, and prints where it lies
 # make test      the gate: all proofs, the must-fail edits, the tests and runs of the program, with the seconds of each part
-# make bench     prints how the time grows with the record, with the messages that are read as views, and with an element
-#                that is walked
+# make bench     prints how the time grows with the record, with the messages that are read as views, with an element that is
+#                walked, and with the messages of a transaction that an end takes
 # make memory    lets each allocation of a run fail in turn
-.PHONY: demo program test bench memory needs
+.PHONY: demo program test bench memory measured needs
 
 PROGRAM = crates/tcapjudge/out/tcapjudge
 
@@ -20,13 +20,15 @@ program: needs
 test: needs
 	@python3 tools/gate.py
 
-bench: program
-	@log=$$(mktemp) && { (cd crates/tcap_bench && rt run <stdin) >"$$log" 2>&1 || { cat "$$log" >&2; rm -f "$$log"; exit 1; }; \
-		rm -f "$$log"; }
+bench: measured
 	@python3 bench/linear.py
 
-memory: needs
+memory: measured
 	@python3 bench/memory.py
+
+measured: program
+	@log=$$(mktemp) && { (cd crates/tcap_bench && rt run <stdin) >"$$log" 2>&1 || { cat "$$log" >&2; rm -f "$$log"; exit 1; }; \
+		rm -f "$$log"; }
 
 needs:
 	@for tool in rt python3; do command -v $$tool >/dev/null || { echo "missing: $$tool" >&2; exit 2; }; done

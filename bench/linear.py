@@ -3,7 +3,8 @@ memory for a longer record: prints the ratio of the times, and the peak of memor
 four times as many entries or messages. The records are of entries of few octets,
 of many, of as many components as an entry can hold, and of dialogue portions; the messages that are viewed are those of
 the worked rows, one after the other. So it does for walks over an element of indefinite length that is made of elements
-of two octets, and for framing a record, in one go and one octet at a time. Where a C compiler is there, it prints how much
+of two octets, for framing a record, in one go and one octet at a time, and for an end that sends and one that receives a
+transaction of many Continues, each with an Invoke that is never answered. Where a C compiler is there, it prints how much
 longer `show` takes than a plain C program that prints the same lines. `make bench` builds both programs first."""
 
 import re
@@ -99,6 +100,15 @@ for way, name in (("walk", "in one go"), ("octets", "one octet at a time")):
     )
 PIECES, OCTETS = (seconds(VIEW + [way], SMALL * 50_000) for way in ("frames", "frames-octets"))
 print(f"framing 50000 small entries: in pieces {PIECES:.3f} s; one octet at a time {OCTETS / PIECES:.2f} times that")
+# A Begin from end B, and a Continue that answers it with an Invoke of class 4; then from end A, and from end B.
+SENT = bytes.fromhex("426203480101"), bytes.fromhex("4165104801024901016c08a106020101020130")
+RECEIVED = bytes.fromhex("416203480101"), bytes.fromhex("4265104801024901016c08a106020101020130")
+for name, (begin, going_on) in (("sent", SENT), ("received", RECEIVED)):
+    once, twice, again = (seconds(VIEW + ["end"], begin + going_on * (25_000 * times - 1)) for times in (1, 2, 4))
+    print(
+        f"99999 Continues {name} by one end, each with an Invoke of class 4: {again:.3f} s;"
+        f" a quarter of them {once:.3f} s, half {twice / once:.2f} times that, all {again / once:.2f}"
+    )
 COMPILER = shutil.which("cc") or shutil.which("gcc")
 if COMPILER:
     with tempfile.TemporaryDirectory() as folder:

@@ -1,12 +1,20 @@
-"""Lets each allocation of a run of `tcapjudge show` fail in turn. What is printed then has to be the lines of the first
-entries and `FAULT 99 0`, with status 3, or all lines, with status 0, where the program did without that memory. Then it does
-so with a feeder that is fed the record one octet at a time, and each octet once more where memory ran out: all entries have
-to be taken. The last allocation is taken to be behind where ten in a row change nothing."""
+"""Lets each allocation of a proved program fail in turn, by a library that is preloaded before it (bench/fail_alloc.c; it takes a C
+compiler).
 
-import re
+What `tcapjudge show` prints then has to be the lines of the first entries and `FAULT 99 0`, with status 3, or all lines, with status 0,
+where the program did without that memory. A feeder that is fed a record one octet at a time, and each octet once more where memory ran
+out, has to give all entries. The worked lists of calls of one end, each call made once more where memory ran out, have to answer what they
+answer without it."""
+
+import os
+import shutil
 import subprocess
 import sys
+import tempfile
+from collections import Counter
 
+SHOW = ["crates/tcapjudge/out/tcapjudge", "show"]
+BENCH = "crates/tcap_bench/out/tcap_bench"
 RECORD = "examples/components.hex"
 ENTRIES = [
     "0 A Begin otid=01\n  Invoke id=5 linked=1 op=g:2a864801\n  ReturnResultNotLast id=2 op=45\n"
@@ -14,45 +22,60 @@ ENTRIES = [
     "1 B Begin otid=02\n  ReturnResultLast id=1\n  Reject id=null general=0\n  Reject id=2 result=1\n"
     "  Reject id=3 error=2\n",
 ]
-WHOLE = ("".join(ENTRIES), "0")
-CUT = [("".join(ENTRIES[:count]) + "FAULT 99 0\n", "3") for count in range(len(ENTRIES) + 1)]
+WHOLE = ("".join(ENTRIES), 0)
+CUT = [("".join(ENTRIES[:count]) + "FAULT 99 0\n", 3) for count in range(len(ENTRIES) + 1)]
 
 with open(RECORD) as file:
     LINES = [line.split() for line in file if not line.startswith("#")]
 OCTETS = b"".join(end.encode() + bytes.fromhex(digits) for end, digits in LINES)
 
 
-def shown(failing):
-    """What is printed, and the status, where the allocation of that number fails."""
-    command = ["rt", "try", "--fail-alloc", str(failing), "--", "show"]
-    run = subprocess.run(command, cwd="crates/tcapjudge", input=OCTETS, capture_output=True, check=False)
-    return run.stdout.decode(), re.search(r"run=ended status=(\d+)", run.stderr.decode())[1]
+def answers(library, command, given):
+    """What the command prints over that input, and its status: where no allocation fails, and where each fails in turn."""
+
+    def run(failing):
+        environment = {**os.environ, "LD_PRELOAD": library, "FAIL_ALLOC": str(failing)}
+        ended = subprocess.run(command, env=environment, input=given, capture_output=True, check=False)
+        # The library's line is the last one of standard error.
+        return (ended.stdout.decode(), ended.returncode), int(ended.stderr.split()[-1])
+
+    whole, count = run(0)
+    return whole, [run(number)[0] for number in range(1, count + 1)]
 
 
-cut, number = [], 0
-while number < 10 or number - max(cut, default=0) < 10:
-    number += 1
-    answer = shown(number)
-    if answer in CUT:
-        cut.append(number)
-    elif answer != WHOLE:
-        sys.exit(f"allocation {number}: {answer}")
-print(f"{max(cut, default=0)} allocations: {len(cut)} end in FAULT 99 0, and all lines are printed without the others")
+def look(name, library, command, given, wanted, others):
+    """Stops where the command answers anything else than what is wanted without a failure, or that or one of the others with one. Counts
+    its answers."""
+    whole, failed = answers(library, command, given)
+    if whole != wanted:
+        sys.exit(f"{name}: {whole}")
+    for number, answer in enumerate(failed, 1):
+        if answer != wanted and answer not in others:
+            sys.exit(f"{name}, allocation {number}: {answer}")
+    return len(failed), Counter(failed)
 
 
-def fed(failing):
-    """What the feeder's program prints where the allocation of that number fails."""
-    command = ["rt", "try", "--fail-alloc", str(failing), "--", "feed"]
-    run = subprocess.run(command, cwd="crates/tcap_bench", input=OCTETS, capture_output=True, check=False)
-    return run.stdout.decode()
+def main():
+    compiler = shutil.which("cc") or shutil.which("gcc")
+    if compiler is None:
+        sys.exit("missing: a C compiler")
+    with tempfile.TemporaryDirectory() as folder:
+        library = f"{folder}/fail_alloc.so"
+        subprocess.run([compiler, "-O2", "-shared", "-fPIC", "-o", library, "bench/fail_alloc.c", "-ldl"], check=True)
+        count, given = look("show", library, SHOW, OCTETS, WHOLE, CUT)
+        print(f"show: of {count} allocations {count - given[WHOLE]} end in FAULT 99 0, and it does without {given[WHOLE]}")
+        fed, again, neither = ("2 0 true\n", 0), ("2 1 true\n", 0), ("", 1)
+        count, given = look("feeding", library, [BENCH, "feed"], OCTETS, fed, [again, neither])
+        print(
+            f"feeding: of {count} allocations {given[again]} fail in a feed, and the same octet fed again goes on;"
+            f" {given[neither]} are the program's, and it does without {given[fed]}"
+        )
+        made, again = ("0 0\n", 0), ("1 0\n", 0)
+        count, given = look("calls of an end", library, [BENCH, "calls"], b"", made, [again, neither])
+        print(
+            f"calls of an end: of {count} allocations {given[again]} fail in a call, and the same call made again goes on;"
+            f" {given[neither]} are of messages and tables, and it does without {given[made]}"
+        )
 
 
-again, number = [], 0
-while number < 10 or number - max(again, default=0) < 10:
-    number += 1
-    answer = fed(number)
-    if answer == "2 1 true\n":
-        again.append(number)
-    elif answer not in ("2 0 true\n", ""):
-        sys.exit(f"feeding, allocation {number}: {answer}")
-print(f"feeding: {len(again)} allocations fail, and the same octet fed again goes on")
+main()

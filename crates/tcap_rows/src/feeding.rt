@@ -35,7 +35,7 @@ const FAULTY: [(&str, u8, u64, usize); 7] = [
 ];
 
 /// The lines of the entries.
-fn lines(alloc: Global, entries: Vec<Entry>) -> Result<Vec<u8>, Fail> {
+pub(crate) fn lines(alloc: Global, entries: Vec<Entry>) -> Result<Vec<u8>, Fail> {
     let mut writer = Counted::new(Vec::new(alloc));
     match show(alloc, &Record { entries }, &mut writer) {
         Ok(()) => Ok(writer.into_inner()),
@@ -45,7 +45,11 @@ fn lines(alloc: Global, entries: Vec<Entry>) -> Result<Vec<u8>, Fail> {
 
 /// Feeds the octets in pieces of so many, and takes what can be taken after each. Answers the lines of the entries, and
 /// what `finish` answers, or the fault.
-fn fed(alloc: Global, octets: &[u8], len: usize) -> Result<(Vec<u8>, Result<(), FeedFault>), Fail> {
+pub(crate) fn fed(
+    alloc: Global,
+    octets: &[u8],
+    len: usize,
+) -> Result<(Vec<u8>, Result<(), FeedFault>), Fail> {
     let mut feeder = Feeder::new(alloc);
     let mut entries = Vec::new(alloc);
     let mut end = Ok(());
@@ -68,19 +72,34 @@ fn fed(alloc: Global, octets: &[u8], len: usize) -> Result<(Vec<u8>, Result<(), 
 }
 
 /// The same by frames, whose lines are those of views.
-fn framed(
+pub(crate) fn framed(
     alloc: Global,
     octets: &[u8],
     len: usize,
 ) -> Result<(String, Result<(), FeedFault>), Fail> {
     let mut frames = Frames::new(alloc);
+    let (text, fault) = framed_by(alloc, &mut frames, octets, len)?;
+    let end = match fault {
+        Some(fault) => Err(fault),
+        None => frames.finish(),
+    };
+    Ok((text, end))
+}
+
+/// Feeds frames the octets in pieces of so many, and drops each entry. Answers the lines of the entries, and the fault.
+pub(crate) fn framed_by(
+    alloc: Global,
+    frames: &mut Frames,
+    octets: &[u8],
+    len: usize,
+) -> Result<(String, Option<FeedFault>), Fail> {
     let mut text = String::new(alloc);
     for piece in octets.chunks(len.max(1)) {
         let mut rest = piece;
         for _ in 0..piece.len() + 1 {
             match frames.feed_some(rest) {
                 Ok(taken) => rest = &rest[taken.min(rest.len())..],
-                Err(fault) => return Ok((text, Err(fault))),
+                Err(fault) => return Ok((text, Some(fault))),
             }
             let Some(entry) = frames.front() else {
                 break;
@@ -89,8 +108,7 @@ fn framed(
             frames.drop_front();
         }
     }
-    let end = frames.finish();
-    Ok((text, end))
+    Ok((text, None))
 }
 
 #[test]

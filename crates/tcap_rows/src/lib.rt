@@ -1,9 +1,11 @@
-//! The worked rows of records, printing and tables, over memory: tests that cross crates, each a table of inputs with the
+//! The worked rows of records and printing, over memory: tests that cross crates, each a table of inputs with the
 //! answers that are wanted of them.
 #![tactic(auto)]
 
 #[cfg(test)]
 mod components;
+#[cfg(test)]
+mod deep;
 #[cfg(test)]
 mod dialogues;
 #[cfg(test)]
@@ -16,8 +18,6 @@ mod messages;
 mod packing;
 #[cfg(test)]
 mod showing;
-#[cfg(test)]
-mod tables;
 #[cfg(test)]
 mod tools;
 #[cfg(test)]

@@ -1,6 +1,6 @@
 //! Elements of indefinite length: read, shown, written, refused, and walked octet by octet.
 
-use crate::tools::{lines_of, shown};
+use crate::tools::{lines_of, nested, shown};
 use std::alloc::Global;
 use std::test::Fail;
 use tcap_ber::{Outer, Walk, outer};
@@ -176,18 +176,6 @@ fn refused(rt: HostRuntime) -> Result<(), Fail> {
         assert_eq!(rt; view_refusal(&octets), wanted, "{digits}");
     }
     Ok(())
-}
-
-/// The octets, behind them so many times the front of an element of indefinite length, and so many times its ending.
-fn nested(alloc: Global, front: &str, opened: u32, closed: u32) -> Result<Vec<u8>, Fail> {
-    let mut octets = octets_of(alloc, front)?;
-    for _ in 0..opened {
-        octets.extend_from_slice(&[0x30, 0x80])?;
-    }
-    for _ in 0..closed {
-        octets.extend_from_slice(&[0, 0])?;
-    }
-    Ok(octets)
 }
 
 /// The count of octets of the message at the front of the octets, or the number and the place of its fault.
