@@ -1,0 +1,15 @@
+pub mod WorkedRuns
+pub mod WorkedRefusals
+pub mod ListLaws
+pub mod Moves
+pub mod TurnLaws
+pub mod SentMoves
+pub mod ReceivedMoves
+pub mod RunLaws
+pub mod SinceLaws
+pub mod ChannelLaws
+pub mod PromptLaws
+pub mod WorldMoves
+pub mod PeerLaws
+pub mod UsedLaws
+pub mod NotDescribed

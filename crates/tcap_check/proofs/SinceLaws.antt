@@ -1,0 +1,83 @@
+-- What was sent since the last quiet mark stays so until the next.
+use Rattle.std.proofs.Common.{◌≡◌, ◌⊎◌, inl, inr, Bool, true, false, List, [], ◌∷◌, ◌++◌, refl, ap, ◌∙◌, append_assoc}
+use Rattle.std.specs.Prelude.{cond}
+use Rattle.tcap_msg.specs.declared.message.Message.{Message}
+use Rattle.tcap_record.specs.declared.entry.End.{End as Side}
+use Rattle.tcap_check.specs.World.{Item, Mark, Sent}
+use Rattle.tcap_check.specs.Follows.{has_mark, is_mark}
+use Rattle.tcap_check.specs.Since.{SentSince}
+
+-- A message more is no mark more,
+no_mark : (other : Side) (n : Message) (items : List Item) → has_mark items ≡ false → has_mark (items ++ Sent other n ∷ []) ≡ false
+no_mark other n [] is = refl
+no_mark other n (item ∷ more) is = by (is_mark item) (no_mark other n more) is
+  where
+    by : (b : Bool) → (has_mark more ≡ false → has_mark (more ++ Sent other n ∷ []) ≡ false) → cond b true (has_mark more) ≡ false
+        → cond b true (has_mark (more ++ Sent other n ∷ [])) ≡ false
+    by true on is = cc
+    by false on is = on is
+
+-- and none fewer.
+no_mark_before : (item : Item) (items : List Item) → has_mark (items ++ item ∷ []) ≡ false
+    → (has_mark items ≡ false) × (is_mark item ≡ false)
+no_mark_before item [] is = (refl, by (is_mark item) is)
+  where
+    by : (b : Bool) → cond b true false ≡ false → b ≡ false
+    by true is = cc
+    by false is = refl
+no_mark_before item (first ∷ more) is = by (is_mark first) (no_mark_before item more) is
+  where
+    by : (b : Bool) → (has_mark (more ++ item ∷ []) ≡ false → (has_mark more ≡ false) × (is_mark item ≡ false))
+        → cond b true (has_mark (more ++ item ∷ [])) ≡ false → (cond b true (has_mark more) ≡ false) × (is_mark item ≡ false)
+    by true on is = cc
+    by false on is = on is
+
+-- A place in a list of one item more is the last, or was there before.
+place_back : (item at : Item) (items front behind : List Item) → items ++ item ∷ [] ≡ front ++ at ∷ behind
+    → (item ≡ at) ⊎ ((before : List Item) × (items ≡ front ++ at ∷ before) × (behind ≡ before ++ item ∷ []))
+place_back item at [] [] behind is = inl cc
+place_back item at [] (f ∷ front) behind is = too_long front cc
+  where
+    too_long : {P : Type 0} (front : List Item) → [] ≡ front ++ at ∷ behind → P
+    too_long [] is = cc
+    too_long (g ∷ front) is = cc
+place_back item at (i ∷ items) [] behind is = inr (items, cc, cc)
+place_back item at (i ∷ items) (f ∷ front) behind is = by (place_back item at items front behind cc)
+  where
+    by : (item ≡ at) ⊎ ((before : List Item) × (items ≡ front ++ at ∷ before) × (behind ≡ before ++ item ∷ []))
+        → (item ≡ at) ⊎ ((before : List Item) × (i ∷ items ≡ (f ∷ front) ++ at ∷ before) × (behind ≡ before ++ item ∷ []))
+    by (inl last) = inl last
+    by (inr old) = inr (old.0, cc, old.2)
+
+-- the newest item
+pub since_sent : (side : Side) (m : Message) (items : List Item) → SentSince side m (items ++ Sent side m ∷ [])
+since_sent side m items = (items, [], refl, refl)
+
+-- one item more
+pub since_more : (side other : Side) (m n : Message) (items : List Item) → SentSince side m items
+    → SentSince side m (items ++ Sent other n ∷ [])
+since_more side other m n items is = (
+  is.0,
+  is.1 ++ Sent other n ∷ [],
+  ap (λ l. l ++ Sent other n ∷ []) is.2 ∙ append_assoc is.0 (Sent side m ∷ is.1) (Sent other n ∷ []),
+  no_mark other n is.1 is.3,
+)
+
+-- What was sent behind one item more is that item, or was sent before.
+pub since_back : (side other : Side) (m n : Message) (items : List Item) → SentSince side m (items ++ Sent other n ∷ [])
+    → ((side ≡ other) × (m ≡ n)) ⊎ SentSince side m items
+since_back side other m n items is = by (place_back (Sent other n) (Sent side m) items is.0 is.1 is.2)
+  where
+    by : (Sent other n ≡ Sent side m)
+        ⊎ ((before : List Item) × (items ≡ is.0 ++ Sent side m ∷ before) × (is.1 ≡ before ++ Sent other n ∷ []))
+        → ((side ≡ other) × (m ≡ n)) ⊎ SentSince side m items
+    by (inl last) = inl (cc, cc)
+    by (inr old) = inr (is.0, old.0, old.1, (no_mark_before (Sent other n) old.0 (rw (old.2) at is.3)).0)
+
+-- Behind a mark nothing was.
+pub since_mark : (side : Side) (m : Message) (items : List Item) → SentSince side m (items ++ Mark ∷ []) → ⊥
+since_mark side m items is = by (place_back Mark (Sent side m) items is.0 is.1 is.2)
+  where
+    by : (Mark ≡ Sent side m) ⊎ ((before : List Item) × (items ≡ is.0 ++ Sent side m ∷ before) × (is.1 ≡ before ++ Mark ∷ [])) → ⊥
+    by (inl last) = cc
+    by (inr old) = let none = (no_mark_before Mark old.0 (rw (old.2) at is.3)).1 in cc

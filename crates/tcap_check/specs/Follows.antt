@@ -1,0 +1,178 @@
+-- The runs that a certificate describes for the items of a record.
+use Rattle.std.specs.Prelude.{◌≡◌, ℕ, ℤ, ◌+◌, ◌≤◌, ◌<◌, Bool, true, false, List, [], ◌∷◌, ◌++◌, map, take, drop, length, filter, filter_map, slice_get, Contains, Option, Some, None, ◌==◌, nat_lt, cond}
+use Rattle.std.specs.List.{AllByRecursion}
+use Rattle.tcap_parts.specs.declared.component.Component.{Component}
+use Rattle.tcap_parts.specs.declared.component.Component.TheVariants.{Invoke}
+use Rattle.tcap_msg.specs.declared.message.AbortReason.TheVariants.{Cause}
+use Rattle.tcap_msg.specs.declared.message.Message.{Message}
+use Rattle.tcap_msg.specs.declared.message.Message.TheVariants.{Begin, Continue, End as EndMessage, Abort}
+use Rattle.tcap_msg.specs.Parts.{components_in}
+use Rattle.tcap_record.specs.declared.entry.End.{End as Side}
+use Rattle.tcap_end.specs.declared.half.HalfName.{HalfName}
+use Rattle.tcap_end.specs.declared.half.HalfName.TheVariants as names
+use Rattle.tcap_end.specs.Message.{then_so, where_so}
+use Rattle.tcap_check.specs.World.{Item, Sent, Mark, is_side}
+use Rattle.tcap_check.specs.Run.{Event, Sends, Delivers, Replies, Loses, Expires, Closes, Quiet}
+use Rattle.tcap_check.specs.Certificate.{Certificate, Closing, Expiry, Fate, Gap, Lost, By}
+
+-- ---- what is listed
+
+abbrev pub is_mark : Item → Bool
+is_mark (Sent side message) = false
+is_mark Mark = true
+
+abbrev pub has_mark : List Item → Bool
+has_mark [] = false
+has_mark (item ∷ more) = cond (is_mark item) true (has_mark more)
+
+-- the entry that a listed event of a gap names: it stands before the gap, and no quiet mark stands between
+abbrev pub named_entry : List Item → ℕ → ℕ → Option Item
+named_entry items gap entry = cond (has_mark (drop entry (take gap items))) None (where_so (nat_lt entry gap) (slice_get items entry))
+
+-- An end's half of the transaction that a Begin with this originating ID began: by its own ID for who sent the Begin, else by its peer's.
+-- A half may have two names; what a certificate describes uses this one.
+abbrev pub half_begun : Side → Side → List ℕ → HalfName
+half_begun side sender otid = cond (is_side side sender) (names.Own otid) (names.Peer otid)
+
+-- the closing that is listed, where its entry is a Begin
+abbrev pub closing_event : List Item → Closing → Option Event
+closing_event items c = then_so (named_entry items c.gap c.entry) by
+  where
+    by : Item → Option Event
+    by (Sent sender (Begin otid dialogue components)) = Some (Closes c.side (half_begun c.side sender otid))
+    by _ = None
+
+abbrev pub invoke_id : Component → Option ℤ
+invoke_id (Invoke id linked code parameter) = Some id
+invoke_id _ = None
+
+-- the originating ID of a Begin or a Continue
+abbrev pub originating : Message → Option (List ℕ)
+originating (Begin otid dialogue components) = Some otid
+originating (Continue otid dtid dialogue components) = Some otid
+originating _ = None
+
+-- the expiry that is listed, where its entry is a Begin or a Continue of that end, and its component an Invoke
+abbrev pub expiry_event : List Item → Expiry → Option Event
+expiry_event items x = then_so (named_entry items x.gap x.entry) by
+  where
+    by : Item → Option Event
+    by (Sent sender message) =
+        where_so (is_side x.side sender)
+        (then_so (originating message)
+        (λ otid. then_so (then_so (slice_get (components_in message) x.component) invoke_id) (λ id. Some (Expires x.side (names.Own otid) id))))
+    by Mark = None
+
+-- ---- gaps
+
+-- the deliveries of a gap, by the numbers of the messages; the first of these items has number n
+abbrev pub deliveries : ℕ → ℕ → List Fate → List Item → List Event
+deliveries gap n (fate ∷ fates) (item ∷ items) = by item fate (deliveries gap (n + 1) fates items)
+  where
+    by : Item → Fate → List Event → List Event
+    by (Sent side message) (Gap g) others = cond (g == gap) (Delivers side n ∷ others) others
+    by _ _ others = others
+deliveries gap n _ _ = []
+
+-- What happens in a gap: the closings that are listed for it, the expiries that are, then the deliveries by number.
+abbrev pub gap_events : Certificate → List Item → ℕ → List (Option Event)
+gap_events certificate items gap =
+    map (closing_event items) (filter (λ c. c.gap == gap) certificate.close)
+    ++ map (expiry_event items) (filter (λ x. x.gap == gap) certificate.expire)
+    ++ map Some (deliveries gap 0 certificate.fates items)
+
+-- ---- sending
+
+-- the numbers of the messages that are taken by the reply of that number; the first of these fates has number n
+abbrev pub taken_by : ℕ → ℕ → List Fate → List ℕ
+taken_by reply n [] = []
+taken_by reply n (By k ∷ fates) = cond (k == reply) (n ∷ taken_by reply (n + 1) fates) (taken_by reply (n + 1) fates)
+taken_by reply n (_ ∷ fates) = taken_by reply (n + 1) fates
+
+-- The event that adds the item of that number to the sent list: an Abort with a cause is the provider's reply to the one message that is
+-- taken by it; nothing is taken by another item. A quiet mark has the next gap as its fate.
+abbrev pub sending : Certificate → ℕ → Item → Option Event
+sending certificate number item = by item (taken_by number 0 certificate.fates)
+  where
+    by_fate : Option Fate → Option Event
+    by_fate (Some (Gap g)) = where_so (g == number + 1) (Some Quiet)
+    by_fate _ = None
+
+    by : Item → List ℕ → Option Event
+    by (Sent side (Abort dtid (Some (Cause cause)))) (taken ∷ []) = Some (Replies side taken)
+    by (Sent side (Abort dtid (Some (Cause cause)))) _ = None
+    by (Sent side message) [] = Some (Sends side message)
+    by (Sent side message) (taken ∷ more) = None
+    by Mark [] = by_fate (slice_get certificate.fates number)
+    by Mark (taken ∷ more) = None
+
+-- the half over which a message is sent, if it is one that carries Invokes over a half
+abbrev pub half_over : Message → Option HalfName
+half_over (Begin otid dialogue components) = Some (names.Own otid)
+half_over (Continue otid dtid dialogue components) = Some (names.Own otid)
+half_over (EndMessage dtid dialogue components) = Some (names.Peer dtid)
+half_over _ = None
+
+-- An expiry right before an item is sent, of an ID that this item invokes, on its half.
+abbrev pub IsImplied : Item → Event → Type 0
+IsImplied (Sent sender message) (Expires side name id) =
+    (side ≡ sender) × (half_over message ≡ Some name) × Contains (filter_map invoke_id (components_in message)) id
+IsImplied _ _ = ⊥
+
+-- ---- runs
+
+abbrev pub is_loss : Event → Bool
+is_loss (Loses side number) = true
+is_loss _ = false
+
+abbrev pub without_losses : List Event → List Event
+without_losses [] = []
+without_losses (event ∷ events) = cond (is_loss event) (without_losses events) (event ∷ without_losses events)
+
+-- the messages of an end that are lost, in order
+abbrev pub losses_from : Side → List Event → List ℕ
+losses_from side [] = []
+losses_from side (Loses sender number ∷ events) = cond (is_side side sender) (number ∷ losses_from side events) (losses_from side events)
+losses_from side (_ ∷ events) = losses_from side events
+
+-- those whose fate says so; the first of these items has number n
+abbrev pub lost_from : Side → ℕ → List Fate → List Item → List ℕ
+lost_from side n (Lost ∷ fates) (Sent sender message ∷ items) =
+    cond (is_side side sender) (n ∷ lost_from side (n + 1) fates items) (lost_from side (n + 1) fates items)
+lost_from side n (_ ∷ fates) (_ ∷ items) = lost_from side (n + 1) fates items
+lost_from side n _ _ = []
+
+-- a send, a delivery, an expiry or a quiet mark
+abbrev pub IsPlain : Event → Type 0
+IsPlain (Replies side number) = ⊥
+IsPlain (Loses side number) = ⊥
+IsPlain (Closes side name) = ⊥
+IsPlain _ = Unit {0}
+
+-- From a gap on, the events are gap by gap what the certificate says, with the items that are still to be sent between.
+abbrev pub FollowsFrom : Certificate → List Item → ℕ → List Item → List Event → Type 0
+FollowsFrom certificate items gap [] events = map Some events ≡ gap_events certificate items gap
+FollowsFrom certificate items gap (item ∷ more) events =
+    (here implied rest : List Event) × (sends : Event)
+    × (map Some here ≡ gap_events certificate items gap)
+    × AllByRecursion (IsImplied item) implied
+    × (sending certificate gap item ≡ Some sends)
+    × (events ≡ here ++ implied ++ sends ∷ rest)
+    × FollowsFrom certificate items (gap + 1) more rest
+
+-- A message is delivered or taken behind its entry, and before the end.
+abbrev pub FatesFit : ℕ → ℕ → List Fate → Type 0
+FatesFit count n [] = Unit {0}
+FatesFit count n (Gap g ∷ fates) = (n < g) × (g ≤ count) × FatesFit count (n + 1) fates
+FatesFit count n (By k ∷ fates) = (n < k) × (k < count) × FatesFit count (n + 1) fates
+FatesFit count n (Lost ∷ fates) = FatesFit count (n + 1) fates
+
+-- The events are what the certificate describes for these items. Losses stand anywhere. Whether they are a run, and one that sends these
+-- items, `IsRunOf` says.
+pub record Follows (certificate : Certificate) (items : List Item) (events : List Event) : Type 0 where
+  pub counted : length certificate.fates ≡ length items
+  pub fates : FatesFit (length items) 0 certificate.fates
+  pub closings : AllByRecursion (λ c. c.gap ≤ length items) certificate.close
+  pub expiries : AllByRecursion (λ x. x.gap ≤ length items) certificate.expire
+  pub gaps : FollowsFrom certificate items 0 items (without_losses events)
+  pub losses : (side : Side) → losses_from side events ≡ lost_from side 0 certificate.fates items

@@ -1,0 +1,117 @@
+-- Runs of two ends over two channels (Q.774 3.2 and 3.3): one step after the other. A message is received by the other end, answered by
+-- its provider, or lost.
+use Rattle.std.specs.Prelude.{◌≡◌, ℕ, ℤ, List, [], ◌∷◌, ◌++◌, map, length, Option, Some, None, ◌==◌, ◌||◌, cond, option_map}
+use Rattle.tcap_msg.specs.declared.message.AbortReason.TheVariants.{Cause}
+use Rattle.tcap_msg.specs.declared.message.Message.{Message}
+use Rattle.tcap_msg.specs.declared.message.Message.TheVariants.{Begin, Continue, Abort}
+use Rattle.tcap_record.specs.declared.entry.End.{End as Side}
+use Rattle.tcap_end.specs.declared.half.HalfName.{HalfName}
+use Rattle.tcap_end.specs.Table.{Table}
+use Rattle.tcap_end.specs.End.{End, quieted}
+use Rattle.tcap_end.specs.Message.{received_message, sent_message, then_so, where_so}
+use Rattle.tcap_end.specs.Reply.{refuses_begin, refuses_continue}
+use Rattle.tcap_end.specs.Hidden.{closed, expired}
+use Rattle.tcap_check.specs.World.{Item, OnItsWay, World, channel_from, empty, end_at, is_side, other, with_channel, with_end}
+use Rattle.tcap_check.specs.World.{Sent, Mark}
+
+-- What may happen. Where a message is taken from a channel, its number in the sent list is named, and the end that sent it; of a reply the
+-- end whose provider answers.
+pub data Event : Type 0 where
+  -- an end sends a message
+  Sends : Side → Message → Event
+  -- the message of that number, which an end sent, is received by the other
+  Delivers : Side → ℕ → Event
+  -- the provider of an end answers the message of that number, which the other sent, by an Abort
+  Replies : Side → ℕ → Event
+  -- the message of that number, which an end sent, is lost
+  Loses : Side → ℕ → Event
+  -- an own invocation of an end ends unseen, in the half of that name: by its timer, or the user cancels it (Q.774 3.2)
+  Expires : Side → HalfName → ℤ → Event
+  -- a half of an end closes unseen: by prearrangement, or its Begin is given up (Q.774 3.3)
+  Closes : Side → HalfName → Event
+  -- a quiet mark: nothing is on its way, all halves are closed, and all IDs are free again (this profile's choice)
+  Quiet : Event
+
+-- A message joins the end of its channel, and of the sent list.
+abbrev pub joined : Side → Message → World → World
+joined side message w = record (with_channel side (channel_from side w ++ on_its_way ∷ []) w) { sent = w.sent ++ Sent side message ∷ [] }
+  where
+    on_its_way : OnItsWay
+    on_its_way = record { number = length w.sent; message = message }
+
+-- Only the head of a channel is taken from it.
+abbrev pub head_taken : {A : Type 0} → ℕ → (Message → List OnItsWay → Option A) → List OnItsWay → Option A
+head_taken number step [] = None
+head_taken number step (head ∷ more) = where_so (head.number == number) (step head.message more)
+
+-- the Abort by which a provider answers a message that it does not deliver (Q.774 3.3, abnormal procedures)
+abbrev pub provider_abort : Message → Option Message
+provider_abort (Begin otid dialogue components) = Some (Abort otid (Some (Cause 4)))
+provider_abort (Continue otid dtid dialogue components) = Some (Abort otid (Some (Cause 1)))
+provider_abort _ = None
+
+-- the same, where the provider of this end may answer so
+abbrev pub reply_to : End → Message → Option Message
+reply_to e message =
+    then_so (provider_abort message) (λ abort. where_so (refuses_begin e message abort || refuses_continue e message abort) (Some abort))
+
+-- Both ends are quiet, and nothing is on its way: no half and no used ID is left.
+abbrev pub after_quiet : World → Option World
+after_quiet w = by w.from_a w.from_b
+  where
+    by : List OnItsWay → List OnItsWay → Option World
+    by [] [] = then_so (quieted w.a) (λ a. option_map (λ b. record { a = a; b = b; from_a = []; from_b = []; sent = w.sent ++ Mark ∷ [] }) (quieted w.b))
+    by _ _ = None
+
+-- the world behind an event, where it may happen
+abbrev pub after : Table → Event → World → Option World
+after table (Event.Sends side message) w = option_map (λ e. joined side message (with_end side e w)) (sent_message table (end_at side w) message)
+after table (Event.Delivers side number) w =
+    head_taken number (λ message more. option_map (λ e. with_end (other side) e (with_channel side more w)) (received_message table (end_at (other side) w) message))
+    (channel_from side w)
+after table (Event.Replies side number) w =
+    head_taken number (λ message more. option_map (λ abort. joined side abort (with_channel (other side) more w)) (reply_to (end_at side w) message))
+    (channel_from (other side) w)
+after table (Event.Loses side number) w = head_taken number (λ message more. Some (with_channel side more w)) (channel_from side w)
+after table (Event.Expires side name id) w = option_map (λ e. with_end side e w) (expired table (end_at side w) name id)
+after table (Event.Closes side name) w = option_map (λ e. with_end side e w) (closed table (end_at side w) name)
+after table Event.Quiet w = after_quiet w
+
+-- the world behind a run
+abbrev pub played : Table → List Event → World → Option World
+played table [] w = Some w
+played table (event ∷ events) w = then_so (after table event w) (played table events)
+
+-- A run from the empty world to this one.
+abbrev pub Runs : Table → List Event → World → Type 0
+Runs table events w = played table events empty ≡ Some w
+
+-- What an event adds to the sent list.
+abbrev pub Adds : Event → List Item → Type 0
+Adds (Sends side message) items = items ≡ Sent side message ∷ []
+Adds (Replies side number) items = (otid : List ℕ) × (cause : ℕ) × (items ≡ Sent side (Abort otid (Some (Cause cause))) ∷ [])
+Adds Quiet items = items ≡ Mark ∷ []
+Adds _ items = items ≡ []
+
+-- the number of the message that an event takes from an end's channel, if it takes one
+abbrev pub taken : Side → Event → List ℕ
+taken side (Delivers sender number) = cond (is_side side sender) (number ∷ []) []
+taken side (Replies replier number) = cond (is_side side (other replier)) (number ∷ []) []
+taken side (Loses sender number) = cond (is_side side sender) (number ∷ []) []
+taken side _ = []
+
+-- the numbers of the messages that were taken from it, one after the other
+abbrev pub taken_from : Side → List Event → List ℕ
+taken_from side [] = []
+taken_from side (event ∷ events) = taken side event ++ taken_from side events
+
+abbrev pub numbers_of : List OnItsWay → List ℕ
+numbers_of messages = map (λ m. m.number) messages
+
+-- A run that sends these items, in this order, and nothing else.
+abbrev pub IsRunOf : List Item → Table → List Event → Type 0
+IsRunOf items table events = (w : World) × Runs table events w × (w.sent ≡ items)
+
+-- Two lawful ends may have sent these items, in this order, by a run of so many steps.
+abbrev pub IsLawful : List Item → Table → ℕ → Type 0
+IsLawful items table moves = (events : List Event) × IsRunOf items table events × (length events ≡ moves)

@@ -1,0 +1,223 @@
+-- Worked runs, each with the certificate that describes it.
+use Rattle.std.specs.Prelude.{◌≡◌, ℕ, pos, Bool, true, false, List, [], ◌∷◌, length, Option, Some, None}
+use Rattle.tcap_parts.specs.declared.code.Code.TheVariants.{Local}
+use Rattle.tcap_parts.specs.declared.problem.Problem.TheVariants as problems
+use Rattle.tcap_parts.specs.declared.component.Component.{Component}
+use Rattle.tcap_parts.specs.declared.component.Component.TheVariants.{Invoke, ReturnResult, Reject}
+use Rattle.tcap_parts.specs.declared.dialogue.Dialogue.{Dialogue}
+use Rattle.tcap_parts.specs.declared.dialogue.Dialogue.TheVariants.{Request, Response}
+use Rattle.tcap_parts.specs.declared.dialogue.Source.TheVariants.{User}
+use Rattle.tcap_msg.specs.declared.message.AbortReason.TheVariants.{Cause}
+use Rattle.tcap_msg.specs.declared.message.Message.{Message}
+use Rattle.tcap_msg.specs.declared.message.Message.TheVariants.{Unidirectional, Begin, Continue, End as EndMessage, Abort}
+use Rattle.tcap_record.specs.declared.entry.End.TheVariants.{A, B}
+use Rattle.tcap_end.specs.declared.half.HalfName.TheVariants.{Own, Peer}
+use Rattle.tcap_end.specs.Table.{Table, Operation}
+use Rattle.tcap_check.specs.World.{Item, Sent, Mark}
+use Rattle.tcap_check.specs.Run.{Event, Sends, Delivers, Replies, Loses, Expires, Closes, Quiet, IsRunOf}
+use Rattle.tcap_check.specs.Certificate.{Certificate, Fate, Gap, Lost, By}
+use Rattle.tcap_check.specs.Follows.{Follows}
+
+-- ---- the table, and messages
+
+abbrev operation : ℕ → Bool → Operation
+operation class expires = record { class = class; linked = []; expires = expires }
+
+-- 45 of class 1, 46 of class 2, 47 of class 3, 48 of class 4; an invocation of 45 may end by its timer, or not
+abbrev table_with : Bool → Table
+table_with expires = record {
+  operations = (Local (pos 45), operation 1 expires) ∷ (Local (pos 46), operation 2 true) ∷ (Local (pos 47), operation 3 true)
+      ∷ (Local (pos 48), operation 4 true) ∷ [];
+  prearranged = false;
+}
+
+abbrev pub table : Table
+table = table_with true
+
+-- the same, where an invocation of 45 outlasts the record
+abbrev pub lasting : Table
+lasting = table_with false
+
+-- the same as the first, where transactions may end by prearrangement
+abbrev pub prearranged : Table
+prearranged = record table { prearranged = true }
+
+abbrev pub id : ℕ → List ℕ
+id octet = octet ∷ []
+
+abbrev pub invoke : ℕ → Component
+invoke code = Invoke (pos 1) None (Local (pos code)) None
+
+abbrev pub result : Component
+result = ReturnResult true (pos 1) None
+
+abbrev rejects_result : ℕ → Component
+rejects_result problem = Reject (Some (pos 1)) (problems.ReturnResult problem)
+
+abbrev context : List ℕ
+context = 4 ∷ 0 ∷ 0 ∷ 1 ∷ 0 ∷ 19 ∷ 2 ∷ []
+
+-- A's Begin from 01
+abbrev pub begin : Option Dialogue → Option (List Component) → Message
+begin dialogue components = Begin (id 1) dialogue components
+
+-- B's Continue from 02 to 01
+abbrev pub answer : Option Dialogue → Option (List Component) → Message
+answer dialogue components = Continue (id 2) (id 1) dialogue components
+
+-- A's Continue from 01 to 02
+abbrev further : Component → Message
+further component = Continue (id 1) (id 2) None (Some (component ∷ []))
+
+abbrev pub end_to : ℕ → Option (List Component) → Message
+end_to octet components = EndMessage (id octet) None components
+
+abbrev provider_abort : ℕ → ℕ → Message
+provider_abort octet cause = Abort (id octet) (Some (Cause cause))
+
+-- ---- runs
+
+-- A run of two ends, and a certificate for the items that it sends.
+pub record Worked : Type 0 where
+  pub items : List Item
+  pub certificate : Certificate
+  pub events : List Event
+
+-- It is a run of so many steps that sends the items, and the certificate describes it.
+abbrev pub IsWorkedBy : Table → Worked → ℕ → Type 0
+IsWorkedBy table w moves = IsRunOf w.items table w.events × (length w.events ≡ moves) × Follows w.certificate w.items w.events
+
+abbrev pub IsWorked : Worked → ℕ → Type 0
+IsWorked = IsWorkedBy table
+
+abbrev pub by_fates : List Fate → Certificate
+by_fates fates = record { fates = fates; expire = []; close = [] }
+
+-- nothing was sent
+abbrev pub empty_record : Worked
+empty_record = record { items = []; certificate = by_fates []; events = [] }
+
+-- a Begin, and an End with a result
+abbrev pub two_entries : Worked
+two_entries = record {
+  items = Sent A (begin None (Some (invoke 45 ∷ []))) ∷ Sent B (end_to 1 (Some (result ∷ []))) ∷ [];
+  certificate = by_fates (Gap 1 ∷ Gap 2 ∷ []);
+  events = Sends A (begin None (Some (invoke 45 ∷ []))) ∷ Delivers A 0 ∷ Sends B (end_to 1 (Some (result ∷ []))) ∷ Delivers B 1 ∷ [];
+}
+
+abbrev request : Option Dialogue
+request = Some (Request context None)
+
+abbrev accepting : Option Dialogue
+accepting = Some (Response context 0 (User 0) None)
+
+-- a dialogue: asked for by a Begin, accepted by a Continue, ended by an End
+abbrev pub three_entries : Worked
+three_entries = record {
+  items = Sent A (begin request (Some (invoke 45 ∷ []))) ∷ Sent B (answer accepting (Some (result ∷ []))) ∷ Sent A (end_to 2 None) ∷ [];
+  certificate = by_fates (Gap 1 ∷ Gap 2 ∷ Gap 3 ∷ []);
+  events = Sends A (begin request (Some (invoke 45 ∷ []))) ∷ Delivers A 0 ∷ Sends B (answer accepting (Some (result ∷ []))) ∷ Delivers B 1
+      ∷ Sends A (end_to 2 None) ∷ Delivers A 2 ∷ [];
+}
+
+-- A's End and B's Continue cross: A's provider answers the Continue by an Abort with cause 1.
+abbrev pub crossing : Worked
+crossing = record {
+  items = Sent A (begin None None) ∷ Sent B (answer None None) ∷ Sent A (end_to 2 None) ∷ Sent B (answer None None) ∷ Sent A (provider_abort 2 1) ∷ [];
+  certificate = by_fates (Gap 1 ∷ Gap 2 ∷ Gap 4 ∷ By 4 ∷ Gap 5 ∷ []);
+  events = Sends A (begin None None) ∷ Delivers A 0 ∷ Sends B (answer None None) ∷ Delivers B 1 ∷ Sends A (end_to 2 None)
+      ∷ Sends B (answer None None) ∷ Delivers A 2 ∷ Replies A 3 ∷ Delivers A 4 ∷ [];
+}
+
+-- A's invocation ends by its timer before the result comes, so A rejects the result.
+abbrev pub late_reject : Worked
+late_reject = record {
+  items = Sent A (begin None (Some (invoke 45 ∷ []))) ∷ Sent B (answer None (Some (result ∷ [])))
+      ∷ Sent A (end_to 2 (Some (rejects_result 0 ∷ []))) ∷ [];
+  certificate = record (by_fates (Gap 1 ∷ Gap 2 ∷ Gap 3 ∷ [])) { expire = record { gap = 2; side = A; entry = 0; component = 0 } ∷ [] };
+  events = Sends A (begin None (Some (invoke 45 ∷ []))) ∷ Delivers A 0 ∷ Sends B (answer None (Some (result ∷ [])))
+      ∷ Expires A (Own (id 1)) (pos 1) ∷ Delivers B 1 ∷ Sends A (end_to 2 (Some (rejects_result 0 ∷ []))) ∷ Delivers A 2 ∷ [];
+}
+
+-- B's result comes late: A's invocation has ended, its ID was used again, for an operation that reports no success, and A rejects the result.
+abbrev pub delayed : Worked
+delayed = record {
+  items = Sent A (begin None (Some (invoke 45 ∷ []))) ∷ Sent B (answer None None) ∷ Sent B (answer None (Some (result ∷ [])))
+      ∷ Sent A (further (invoke 46)) ∷ Sent A (further (rejects_result 1)) ∷ [];
+  certificate = by_fates (Gap 1 ∷ Gap 2 ∷ Gap 4 ∷ Gap 4 ∷ Gap 5 ∷ []);
+  events = Sends A (begin None (Some (invoke 45 ∷ []))) ∷ Delivers A 0 ∷ Sends B (answer None None) ∷ Delivers B 1
+      ∷ Sends B (answer None (Some (result ∷ []))) ∷ Expires A (Own (id 1)) (pos 1) ∷ Sends A (further (invoke 46)) ∷ Delivers B 2
+      ∷ Delivers A 3 ∷ Sends A (further (rejects_result 1)) ∷ Delivers A 4 ∷ [];
+}
+
+-- A's half closes unseen: its provider answers B's Continue by an Abort with cause 1.
+abbrev pub closed_half : Worked
+closed_half = record {
+  items = Sent A (begin None None) ∷ Sent B (answer None None) ∷ Sent A (provider_abort 2 1) ∷ [];
+  certificate = record (by_fates (Gap 1 ∷ By 2 ∷ Gap 3 ∷ [])) { close = record { gap = 2; side = A; entry = 0 } ∷ [] };
+  events = Sends A (begin None None) ∷ Delivers A 0 ∷ Sends B (answer None None) ∷ Closes A (Own (id 1)) ∷ Replies A 1 ∷ Delivers A 2 ∷ [];
+}
+
+-- B's provider answers A's Begin by an Abort with cause 4.
+abbrev pub refused_begin : Worked
+refused_begin = record {
+  items = Sent A (begin None (Some (invoke 45 ∷ []))) ∷ Sent B (provider_abort 1 4) ∷ [];
+  certificate = by_fates (By 1 ∷ Gap 2 ∷ []);
+  events = Sends A (begin None (Some (invoke 45 ∷ []))) ∷ Replies B 0 ∷ Delivers B 1 ∷ [];
+}
+
+abbrev pub lost_begin : Worked
+lost_begin = record {
+  items = Sent A (begin None (Some (invoke 45 ∷ []))) ∷ [];
+  certificate = by_fates (Lost ∷ []);
+  events = Sends A (begin None (Some (invoke 45 ∷ []))) ∷ Loses A 0 ∷ [];
+}
+
+-- Behind a quiet mark a transaction ID is used again, as A's own and as B's peer's.
+abbrev pub over_a_mark : Worked
+over_a_mark = record {
+  items = Sent A (begin None (Some (invoke 45 ∷ []))) ∷ Sent B (end_to 1 (Some (result ∷ []))) ∷ Mark
+      ∷ Sent A (begin None (Some (invoke 45 ∷ []))) ∷ Sent B (end_to 1 (Some (result ∷ []))) ∷ [];
+  certificate = by_fates (Gap 1 ∷ Gap 2 ∷ Gap 3 ∷ Gap 4 ∷ Gap 5 ∷ []);
+  events = Sends A (begin None (Some (invoke 45 ∷ []))) ∷ Delivers A 0 ∷ Sends B (end_to 1 (Some (result ∷ []))) ∷ Delivers B 1 ∷ Quiet
+      ∷ Sends A (begin None (Some (invoke 45 ∷ []))) ∷ Delivers A 3 ∷ Sends B (end_to 1 (Some (result ∷ []))) ∷ Delivers B 4 ∷ [];
+}
+
+-- Behind it both are, A's own and B's.
+abbrev pub both_again : Worked
+both_again = record {
+  items = Sent A (begin None None) ∷ Sent B (answer None None) ∷ Sent A (end_to 2 None) ∷ Mark
+      ∷ Sent A (begin None None) ∷ Sent B (answer None None) ∷ Sent A (end_to 2 None) ∷ [];
+  certificate = by_fates (Gap 1 ∷ Gap 2 ∷ Gap 3 ∷ Gap 4 ∷ Gap 5 ∷ Gap 6 ∷ Gap 7 ∷ []);
+  events = Sends A (begin None None) ∷ Delivers A 0 ∷ Sends B (answer None None) ∷ Delivers B 1 ∷ Sends A (end_to 2 None) ∷ Delivers A 2
+      ∷ Quiet ∷ Sends A (begin None None) ∷ Delivers A 4 ∷ Sends B (answer None None) ∷ Delivers B 5 ∷ Sends A (end_to 2 None)
+      ∷ Delivers A 6 ∷ [];
+}
+
+-- Two messages are on their way, and both come.
+abbrev pub in_a_row : Worked
+in_a_row = record {
+  items = Sent A (begin None None) ∷ Sent A (Begin (id 3) None None) ∷ [];
+  certificate = by_fates (Gap 2 ∷ Gap 2 ∷ []);
+  events = Sends A (begin None None) ∷ Sends A (Begin (id 3) None None) ∷ Delivers A 0 ∷ Delivers A 1 ∷ [];
+}
+
+-- B's End invokes an ID again: an expiry in the half with that peer is implied.
+abbrev pub end_implies : Worked
+end_implies = record {
+  items = Sent A (begin None None) ∷ Sent B (answer None (Some (invoke 45 ∷ []))) ∷ Sent B (end_to 1 (Some (invoke 45 ∷ []))) ∷ [];
+  certificate = by_fates (Gap 1 ∷ Gap 2 ∷ Gap 3 ∷ []);
+  events = Sends A (begin None None) ∷ Delivers A 0 ∷ Sends B (answer None (Some (invoke 45 ∷ []))) ∷ Delivers B 1
+      ∷ Expires B (Peer (id 1)) (pos 1) ∷ Sends B (end_to 1 (Some (invoke 45 ∷ []))) ∷ Delivers B 2 ∷ [];
+}
+
+-- Both ends close by prearrangement, A's half by its own ID, B's by its peer's. A Unidirectional is sent between.
+abbrev pub both_close : Worked
+both_close = record {
+  items = Sent A (begin None None) ∷ Sent B (answer None None) ∷ Sent B (Unidirectional None (invoke 48 ∷ [])) ∷ Mark ∷ [];
+  certificate = record (by_fates (Gap 1 ∷ Gap 2 ∷ Gap 3 ∷ Gap 4 ∷ [])) {
+    close = record { gap = 3; side = A; entry = 0 } ∷ record { gap = 3; side = B; entry = 0 } ∷ [];
+  };
+  events = Sends A (begin None None) ∷ Delivers A 0 ∷ Sends B (answer None None) ∷ Delivers B 1
+      ∷ Sends B (Unidirectional None (invoke 48 ∷ [])) ∷ Closes A (Own (id 1)) ∷ Closes B (Peer (id 1)) ∷ Delivers B 2 ∷ Quiet ∷ [];
+}

@@ -1,0 +1,7 @@
+//! Two ends of TCAP dialogues over two channels: which lists of messages two lawful ends may have sent (Q.771, Q.774), with laws over
+//! all runs and worked runs. Definitions and theorems alone: nothing of it runs.
+#![tactic(auto)]
+
+pub mod laws;
+pub mod refused;
+pub mod worked;
