@@ -1,48 +1,82 @@
 -- Channels: the order of what was taken from one and of what is on it, and that it was sent.
-use Rattle.std.proofs.Common.{arith, ◌≡◌, ◌⊎◌, inl, inr, ℕ, zero, suc, ◌<◌, ◌≤◌, List, [], ◌∷◌, ◌++◌, length, Some, refl, sym, ap, ◌∙◌, append_assoc}
-use Rattle.std.specs.Prelude.{slice_get}
+use Rattle.std.proofs.Common.{arith, ◌≡◌, ◌⊎◌, inl, inr, ℕ, zero, suc, ◌+◌, ◌<◌, Bool, true, false, cond, List, [], ◌∷◌, ◌++◌, length, Some, refl, sym, ap, ◌∙◌, append_assoc}
+use Rattle.std.specs.Prelude.{drop, slice_get}
+use Rattle.std.proofs.Math.Seq.{drop-append_seam}
 use Rattle.std.specs.Cmp.{nat_cmp_is}
 use Rattle.std.specs.List.{AllByRecursion}
 use Rattle.std.specs.List.Sorted.{IsStrictlySortedBy}
 use Rattle.std.specs.Ordering.{nat_cmp}
 use Rattle.std.specs.declared.cmp.Ordering.TheVariants.{Less}
-use Rattle.std.proofs.lemmas.List.{append-nil, length-append, map-append}
+use Rattle.std.proofs.lemmas.List.{append-nil, map-append}
 use Rattle.tcap_msg.specs.declared.message.Message.{Message}
 use Rattle.tcap_record.specs.declared.entry.End.{End as Side}
 use Rattle.tcap_record.specs.declared.entry.End.TheVariants.{A, B}
 use Rattle.tcap_end.specs.Table.{Table}
 use Rattle.tcap_end.specs.End.{End}
-use Rattle.tcap_check.specs.World.{Item, Mark, OnItsWay, Sent, World, channel_from, empty, other, with_channel, with_end}
-use Rattle.tcap_check.specs.Run.{Event, Sends, Delivers, Replies, Loses, Expires, Closes, Quiet, Runs, after, joined, numbers_of, taken, taken_from}
+use Rattle.tcap_check.specs.World.{Item, Mark, OnItsWay, Sent, World, channel_from, empty, is_side, other, with_channel, with_end}
+use Rattle.tcap_check.specs.Run.{Event, Sends, Delivers, Replies, Loses, Expires, Closes, Quiet, Runs, after, joined, numbers_of, numbers_sent, taken, taken_from}
 use Rattle.tcap_check.specs.Since.{WasSent}
-use Rattle.tcap_check.proofs.ListLaws.{all_both, all_more, all_weaker}
+use Rattle.tcap_check.proofs.ListLaws.{all_both, all_weaker}
 use Rattle.tcap_check.proofs.RunLaws.{IsQuiet, closing, delivery, expiry, loss, quiet, reply, runs_keep, sending}
-use Rattle.tcap_check.proofs.SinceLaws.{since_more, since_sent}
-
--- ---- numbers that rise
-
--- A number above all of a list may stand behind it.
-one_above : (xs : List ℕ) (n : ℕ) → IsStrictlySortedBy nat_cmp xs → AllByRecursion (λ x. x < n) xs
-    → IsStrictlySortedBy nat_cmp (xs ++ n ∷ [])
-unfolding IsStrictlySortedBy
-one_above [] n rises below = (tt, tt)
-one_above (x ∷ xs) n rises below =
-    (all_more (λ y. nat_cmp x y ≡ Less) xs n rises.0 (sym (nat_cmp_is x n Less below.0)), one_above xs n rises.1 below.1)
+use Rattle.tcap_check.proofs.SinceLaws.{drop_more, no_mark}
 
 -- ---- the sent list
 
--- It is as it was, or has one message more.
+-- It is as it was, or has one message more,
 abbrev IsSentOn : World → World → Type 0
 IsSentOn w next = (next.sent ≡ w.sent) ⊎ ((sender : Side) × (m : Message) × (next.sent ≡ w.sent ++ Sent sender m ∷ []))
 
--- One item more makes it longer.
-one_longer : (items : List Item) (item : Item) → length items < length (items ++ item ∷ [])
-one_longer items item = rw (length-append items (item ∷ [])) (omega arith)
+-- one of the other end.
+abbrev IsNotSent : Side → World → World → Type 0
+IsNotSent side w next =
+    (next.sent ≡ w.sent) ⊎ ((sender : Side) × (m : Message) × (next.sent ≡ w.sent ++ Sent sender m ∷ []) × (is_side side sender ≡ false))
 
--- It never gets shorter.
-not_shorter : (w next : World) → IsSentOn w next → length w.sent ≤ length next.sent
-not_shorter w next (inl same) = rw same (omega arith)
-not_shorter w next (inr (sender, m, more)) = let longer = one_longer w.sent (Sent sender m) in rw more (omega arith)
+sent_on : (side : Side) (w next : World) → IsNotSent side w next → IsSentOn w next
+sent_on side w next (inl same) = inl same
+sent_on side w next (inr (sender, m, more, apart)) = inr (sender, m, more)
+
+further : (n : ℕ) (items : List Item) → (n + 1) + length items ≡ n + length (Mark ∷ items)
+further n items = omega arith
+
+-- One message more has the next number,
+numbers_more : (side sender : Side) (m : Message) (n : ℕ) (items : List Item)
+    → numbers_sent side n (items ++ Sent sender m ∷ [])
+    ≡ numbers_sent side n items ++ cond (is_side side sender) ((n + length items) ∷ []) []
+numbers_more side sender m n [] = by (is_side side sender)
+  where
+    at_front : n + 0 ≡ n
+    at_front = omega arith
+
+    by : (same : Bool) → cond same (n ∷ []) [] ≡ [] ++ cond same ((n + 0) ∷ []) []
+    by true = rw at_front refl
+    by false = refl
+numbers_more side sender m n (Mark ∷ items) =
+    numbers_more side sender m (n + 1) items
+    ∙ ap (λ k. numbers_sent side (n + 1) items ++ cond (is_side side sender) (k ∷ []) []) (further n items)
+numbers_more side sender m n (Sent other_one message ∷ items) = by (is_side side other_one)
+    (numbers_more side sender m (n + 1) items
+    ∙ ap (λ k. numbers_sent side (n + 1) items ++ cond (is_side side sender) (k ∷ []) []) (further n items))
+  where
+    by : (same : Bool) → numbers_sent side (n + 1) (items ++ Sent sender m ∷ [])
+        ≡ numbers_sent side (n + 1) items ++ cond (is_side side sender) ((n + length (Mark ∷ items)) ∷ []) []
+        → cond same (n ∷ numbers_sent side (n + 1) (items ++ Sent sender m ∷ [])) (numbers_sent side (n + 1) (items ++ Sent sender m ∷ []))
+        ≡ cond same (n ∷ numbers_sent side (n + 1) items) (numbers_sent side (n + 1) items)
+        ++ cond (is_side side sender) ((n + length (Mark ∷ items)) ∷ []) []
+    by true is = ap (λ more. n ∷ more) is
+    by false is = is
+
+-- and a mark none.
+numbers_mark : (side : Side) (n : ℕ) (items : List Item) → numbers_sent side n (items ++ Mark ∷ []) ≡ numbers_sent side n items
+numbers_mark side n [] = refl
+numbers_mark side n (Mark ∷ items) = numbers_mark side (n + 1) items
+numbers_mark side n (Sent sender message ∷ items) =
+    ap (λ more. cond (is_side side sender) (n ∷ more) more) (numbers_mark side (n + 1) items)
+
+-- Nothing more of this end.
+numbers_same : (side : Side) (w next : World) → IsNotSent side w next → numbers_sent side 0 next.sent ≡ numbers_sent side 0 w.sent
+numbers_same side w next (inl same) = rw same refl
+numbers_same side w next (inr (sender, m, more, apart)) =
+    rw (more, numbers_more side sender m 0 w.sent, apart) (append-nil (numbers_sent side 0 w.sent))
 
 -- An item stands where it stood, with one more behind it,
 get_more : (items : List Item) (item found : Item) (n : ℕ) → slice_get items n ≡ Some found
@@ -65,7 +99,9 @@ still_sent side w next messages on = all_weaker (WasSent w side) (WasSent next s
     by (inl same) m was = record { listed = rw same was.listed; since = rw same was.since }
     by (inr (sender, n, more)) m was = record {
       listed = rw more (get_more w.sent (Sent sender n) (Sent side m.message) m.number was.listed);
-      since = rw more (since_more side sender m.message n w.sent was.since);
+      since =
+          rw (more, drop_more (Sent sender n) (Sent side m.message) w.sent m.number was.listed)
+          (no_mark sender n (drop m.number w.sent) was.since);
     }
 
 -- the newest message on its way
@@ -76,7 +112,7 @@ newest w m = record { number = length w.sent; message = m }
 newest_was_sent : (side : Side) (w next : World) (m : Message) → next.sent ≡ w.sent ++ Sent side m ∷ [] → WasSent next side (newest w m)
 newest_was_sent side w next m more = record {
   listed = rw more (get_new w.sent (Sent side m));
-  since = rw more (since_sent side m w.sent);
+  since = rw (more, drop-append_seam w.sent (Sent side m ∷ [])) refl;
 }
 
 -- ---- what a step does to a channel
@@ -89,13 +125,13 @@ record Passes (event : Event) (side : Side) (w next : World) : Type 0 where
   was : channel_from side w ≡ gone ++ left
   now : channel_from side next ≡ left ++ new
   taken_is : taken side event ≡ numbers_of gone
-  new_is : (new ≡ []) ⊎ ((m : Message) × (new ≡ newest w m ∷ []) × (next.sent ≡ w.sent ++ Sent side m ∷ []))
+  new_is : ((new ≡ []) × (numbers_sent side 0 next.sent ≡ numbers_sent side 0 w.sent))
+      ⊎ ((m : Message) × (new ≡ newest w m ∷ []) × (next.sent ≡ w.sent ++ Sent side m ∷ []))
   kept : AllByRecursion (WasSent w side) (gone ++ left) → AllByRecursion (WasSent next side) left
-  longer : length w.sent ≤ length next.sent
 
 module _ {event : Event} {side : Side} {w next : World} where
   -- It stays as it is,
-  stays : taken side event ≡ [] → channel_from side next ≡ channel_from side w → IsSentOn w next → Passes event side w next
+  stays : taken side event ≡ [] → channel_from side next ≡ channel_from side w → IsNotSent side w next → Passes event side w next
   stays none same on = record {
     gone = [];
     left = channel_from side w;
@@ -103,14 +139,13 @@ module _ {event : Event} {side : Side} {w next : World} where
     was = refl;
     now = same ∙ sym (append-nil (channel_from side w));
     taken_is = none;
-    new_is = inl refl;
-    kept = still_sent side w next (channel_from side w) on;
-    longer = not_shorter w next on;
+    new_is = inl (refl, numbers_same side w next on);
+    kept = still_sent side w next (channel_from side w) (sent_on side w next on);
   }
 
   -- or loses its head,
   loses_head : (head : OnItsWay) (more : List OnItsWay) → taken side event ≡ head.number ∷ [] → channel_from side w ≡ head ∷ more
-      → channel_from side next ≡ more → IsSentOn w next → Passes event side w next
+      → channel_from side next ≡ more → IsNotSent side w next → Passes event side w next
   loses_head head more took was now on = record {
     gone = head ∷ [];
     left = more;
@@ -118,9 +153,8 @@ module _ {event : Event} {side : Side} {w next : World} where
     was = was;
     now = now ∙ sym (append-nil more);
     taken_is = took;
-    new_is = inl refl;
-    kept = λ all. still_sent side w next more on all.1;
-    longer = not_shorter w next on;
+    new_is = inl (refl, numbers_same side w next on);
+    kept = λ all. still_sent side w next more (sent_on side w next on) all.1;
   }
 
   -- or a message joins it.
@@ -135,7 +169,6 @@ module _ {event : Event} {side : Side} {w next : World} where
     taken_is = none;
     new_is = inr (m, refl, sent);
     kept = still_sent side w next (channel_from side w) (inr (side, m, sent));
-    longer = not_shorter w next (inr (side, m, sent));
   }
 
 -- ---- each kind of step
@@ -144,8 +177,8 @@ module _ {event : Event} {side : Side} {w next : World} where
 sends_passes : (side sender : Side) (m : Message) (made : End) (w : World)
     → Passes (Sends sender m) side w (joined sender m (with_end sender made w))
 sends_passes A A m made w = gets m refl refl refl
-sends_passes A B m made w = stays refl refl (inr (B, m, refl))
-sends_passes B A m made w = stays refl refl (inr (A, m, refl))
+sends_passes A B m made w = stays refl refl (inr (B, m, refl, refl))
+sends_passes B A m made w = stays refl refl (inr (A, m, refl, refl))
 sends_passes B B m made w = gets m refl refl refl
 
 -- what is taken of a channel, by its head's number
@@ -175,8 +208,8 @@ replies_passes : (side replier : Side) (number : ℕ) (w : World) (abort : Messa
     → channel_from (other replier) w ≡ head ∷ more → head.number ≡ number
     → Passes (Replies replier number) side w (joined replier abort (with_channel (other replier) more w))
 replies_passes A A number w abort head more was is = gets abort refl refl refl
-replies_passes A B number w abort head more was is = loses_head head more (head_number head number is) was refl (inr (B, abort, refl))
-replies_passes B A number w abort head more was is = loses_head head more (head_number head number is) was refl (inr (A, abort, refl))
+replies_passes A B number w abort head more was is = loses_head head more (head_number head number is) was refl (inr (B, abort, refl, refl))
+replies_passes B A number w abort head more was is = loses_head head more (head_number head number is) was refl (inr (A, abort, refl, refl))
 replies_passes B B number w abort head more was is = gets abort refl refl refl
 
 -- What happens to an end unseen is no matter of channels.
@@ -196,9 +229,8 @@ quiet_passes side w next is = record {
   was = (empty_at side).0;
   now = (empty_at side).1;
   taken_is = refl;
-  new_is = inl refl;
+  new_is = inl (refl, rw is.next_is (numbers_mark side 0 w.sent));
   kept = λ all. tt;
-  longer = rw is.next_is (let longer = one_longer w.sent Mark in omega arith);
 }
   where
     empty_at : (side : Side) → (channel_from side w ≡ []) × (channel_from side next ≡ [])
@@ -223,24 +255,11 @@ passes table (Closes place name) w next is side =
     let h = closing table place name w next is in rw (h.next_is) (hidden_passes side place (Closes place name) w h.made refl)
 passes table Quiet w next is side = quiet_passes side w next (quiet table w next is)
 
--- ---- the order of a channel
+-- ---- what was taken from a channel, and what is on it
 
--- what was taken from a channel, and then what is on it
+-- the one, and then the other
 abbrev passed : Side → List Event → World → List ℕ
 passed side events w = taken_from side events ++ numbers_of (channel_from side w)
-
--- Numbers rise, below that one.
-record InOrder (n : ℕ) (numbers : List ℕ) : Type 0 where
-  rises : IsStrictlySortedBy nat_cmp numbers
-  below : AllByRecursion (λ x. x < n) numbers
-
--- both channels
-abbrev AreInOrder : List Event → World → Type 0
-AreInOrder events w = (side : Side) → InOrder (length w.sent) (passed side events w)
-
--- A list of numbers is as it was, or has the number of the newest item behind it.
-abbrev IsGrown : ℕ → ℕ → List ℕ → List ℕ → Type 0
-IsGrown n n' was is = (is ≡ was) ⊎ ((is ≡ was ++ n ∷ []) × (n < n'))
 
 -- What is taken by a step stands last.
 taken_more : (side : Side) (before : List Event) (event : Event)
@@ -263,54 +282,81 @@ numbers_regroup : (gone left new : List OnItsWay)
 numbers_regroup [] left new = map-append (λ m. m.number) left new
 numbers_regroup (first ∷ gone) left new = ap (λ more. first.number ∷ more) (numbers_regroup gone left new)
 
--- What is taken, and then what is on the channel, is what was on it, and what is new.
-grows : (event : Event) (side : Side) (w next : World) → Passes event side w next
-    → IsGrown (length w.sent) (length next.sent) (numbers_of (channel_from side w))
-    (taken side event ++ numbers_of (channel_from side next))
-grows event side w next it = by it.new_is
+is_itself : (side : Side) → is_side side side ≡ true
+is_itself A = refl
+is_itself B = refl
+
+module _ {event : Event} {side : Side} {w next : World} (it : Passes event side w next) where
+  -- What is taken, and then what is on the channel, is what was on it, and what is new.
+  now_there : taken side event ++ numbers_of (channel_from side next) ≡ numbers_of (channel_from side w) ++ numbers_of it.new
+  now_there = rw (it.taken_is, it.now, it.was) (numbers_regroup it.gone it.left it.new)
+
+  -- What is new was sent.
+  now_sent : numbers_sent side 0 next.sent ≡ numbers_sent side 0 w.sent ++ numbers_of it.new
+  now_sent = by it.new_is
+    where
+      by : ((it.new ≡ []) × (numbers_sent side 0 next.sent ≡ numbers_sent side 0 w.sent))
+          ⊎ ((m : Message) × (it.new ≡ newest w m ∷ []) × (next.sent ≡ w.sent ++ Sent side m ∷ []))
+          → numbers_sent side 0 next.sent ≡ numbers_sent side 0 w.sent ++ numbers_of it.new
+      by (inl (none, same)) = same ∙ rw none (sym (append-nil (numbers_sent side 0 w.sent)))
+      by (inr (m, one, more)) =
+          rw (more, one, numbers_more side side m 0 w.sent, is_itself side)
+          (ap (λ k. numbers_sent side 0 w.sent ++ k ∷ []) (let none : 0 + length w.sent ≡ length w.sent = omega arith in none))
+
+-- both channels
+abbrev AreWhole : List Event → World → Type 0
+AreWhole events w = (side : Side) → passed side events w ≡ numbers_sent side 0 w.sent
+
+-- A step keeps them whole,
+whole_kept : (before : List Event) (event : Event) (w next : World) → ((side : Side) → Passes event side w next) → AreWhole before w
+    → AreWhole (before ++ event ∷ []) next
+whole_kept before event w next step whole side =
+    passed_more side before event next
+    ∙ ap (λ more. taken_from side before ++ more) (now_there (step side))
+    ∙ sym (append_assoc (taken_from side before) (numbers_of (channel_from side w)) (numbers_of (step side).new))
+    ∙ ap (λ front. front ++ numbers_of (step side).new) (whole side)
+    ∙ sym (now_sent (step side))
+
+nothing_whole : AreWhole [] empty
+nothing_whole A = refl
+nothing_whole B = refl
+
+-- and so they are behind each run.
+pub are_whole : (table : Table) (events : List Event) (w : World) → Runs table events w → (side : Side)
+    → passed side events w ≡ numbers_sent side 0 w.sent
+are_whole table = runs_keep table AreWhole nothing_whole
+    (λ before event w next ran step. whole_kept before event w next (passes table event w next step))
+
+-- ---- the order of a channel
+
+-- Numbers of what is sent are above one that was given before.
+all_above : (side : Side) (k n : ℕ) (items : List Item) → k < n → AllByRecursion (λ x. nat_cmp k x ≡ Less) (numbers_sent side n items)
+all_above side k n [] below = tt
+all_above side k n (Mark ∷ items) below = all_above side k (n + 1) items (omega arith)
+all_above side k n (Sent sender m ∷ items) below = by (is_side side sender) (all_above side k (n + 1) items (omega arith))
   where
-    whole : taken side event ++ numbers_of (channel_from side next) ≡ numbers_of (channel_from side w) ++ numbers_of it.new
-    whole = rw (it.taken_is, it.now, it.was) (numbers_regroup it.gone it.left it.new)
+    by : (same : Bool) → AllByRecursion (λ x. nat_cmp k x ≡ Less) (numbers_sent side (n + 1) items)
+        → AllByRecursion (λ x. nat_cmp k x ≡ Less) (cond same (n ∷ numbers_sent side (n + 1) items) (numbers_sent side (n + 1) items))
+    by true above = (sym (nat_cmp_is k n Less below), above)
+    by false above = above
 
-    by : (it.new ≡ []) ⊎ ((m : Message) × (it.new ≡ newest w m ∷ []) × (next.sent ≡ w.sent ++ Sent side m ∷ []))
-        → IsGrown (length w.sent) (length next.sent) (numbers_of (channel_from side w))
-        (taken side event ++ numbers_of (channel_from side next))
-    by (inl none) = inl (whole ∙ rw none (append-nil (numbers_of (channel_from side w))))
-    by (inr (m, one, more)) = inr (whole ∙ rw one refl, rw more (one_longer w.sent (Sent side m)))
-
--- Such a list is in order still.
-grown_in_order : (n n' : ℕ) (front was is : List ℕ) → n ≤ n' → IsGrown n n' was is → InOrder n (front ++ was) → InOrder n' (front ++ is)
-grown_in_order n n' front was is longer grown order = by grown
-  where
-    below : AllByRecursion (λ x. x < n') (front ++ was)
-    below = all_weaker (λ x. x < n) (λ x. x < n') (front ++ was) (λ x less. omega arith) order.below
-
-    by : IsGrown n n' was is → InOrder n' (front ++ is)
-    by (inl same) = rw (same) (record { rises = order.rises; below = below })
-    by (inr more) = rw (more.0, ← append_assoc front was (n ∷ [])) (record {
-      rises = one_above (front ++ was) n order.rises order.below;
-      below = all_more (λ x. x < n') (front ++ was) n below more.1;
-    })
-
--- A step keeps the order,
-order_kept : (before : List Event) (event : Event) (w next : World) → ((side : Side) → Passes event side w next) → AreInOrder before w
-    → AreInOrder (before ++ event ∷ []) next
-order_kept before event w next step order side = rw (passed_more side before event next)
-    (grown_in_order (length w.sent) (length next.sent) (taken_from side before) _ _ (step side).longer
-    (grows event side w next (step side)) (order side))
-
--- In the beginning there is nothing on them,
-nothing_in_order : AreInOrder [] empty
+sent_in_order : (side : Side) (n : ℕ) (items : List Item) → IsStrictlySortedBy nat_cmp (numbers_sent side n items)
 unfolding IsStrictlySortedBy
-nothing_in_order A = record { rises = tt; below = tt }
-nothing_in_order B = record { rises = tt; below = tt }
+sent_in_order side n [] = tt
+sent_in_order side n (Mark ∷ items) = sent_in_order side (n + 1) items
+sent_in_order side n (Sent sender m ∷ items) =
+    by (is_side side sender) (all_above side n (n + 1) items (omega arith)) (sent_in_order side (n + 1) items)
+  where
+    by : (same : Bool) → AllByRecursion (λ x. nat_cmp n x ≡ Less) (numbers_sent side (n + 1) items)
+        → IsStrictlySortedBy nat_cmp (numbers_sent side (n + 1) items)
+        → IsStrictlySortedBy nat_cmp (cond same (n ∷ numbers_sent side (n + 1) items) (numbers_sent side (n + 1) items))
+    by true above rises = (above, rises)
+    by false above rises = rises
 
--- and each run has it.
+-- So they rise behind each run.
 pub in_order : (table : Table) (events : List Event) (w : World) → Runs table events w → (side : Side)
     → IsStrictlySortedBy nat_cmp (passed side events w)
-in_order table events w is side =
-    (runs_keep table AreInOrder nothing_in_order
-    (λ before event w next ran step. order_kept before event w next (passes table event w next step)) events w is side).rises
+in_order table events w is side = rw (are_whole table events w is side) (sent_in_order side 0 w.sent)
 
 -- ---- what is on a channel was sent
 
@@ -326,9 +372,10 @@ sent_kept event w next step all side =
     it : Passes event side w next
     it = step side
 
-    by : (it.new ≡ []) ⊎ ((m : Message) × (it.new ≡ newest w m ∷ []) × (next.sent ≡ w.sent ++ Sent side m ∷ []))
+    by : ((it.new ≡ []) × (numbers_sent side 0 next.sent ≡ numbers_sent side 0 w.sent))
+        ⊎ ((m : Message) × (it.new ≡ newest w m ∷ []) × (next.sent ≡ w.sent ++ Sent side m ∷ []))
         → AllByRecursion (WasSent next side) it.new
-    by (inl none) = rw none tt
+    by (inl none) = rw (none.0) tt
     by (inr (m, one, more)) = rw one (newest_was_sent side w next m more, tt)
 
 -- In the beginning there is none,

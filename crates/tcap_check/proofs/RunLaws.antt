@@ -1,8 +1,9 @@
 -- What holds along runs, and what each step is.
-use Rattle.std.proofs.Common.{rules, ◌≡◌, ◌≤◌, arith, length, ℤ, ℕ, Bool, true, false, List, [], ◌∷◌, ◌++◌, Option, Some, None, option_map, refl, sym, append_assoc}
-use Rattle.std.specs.Prelude.{◌&&◌, cond}
+use Rattle.std.proofs.Common.{rules, ◌≡◌, ◌≤◌, arith, length, ℤ, ℕ, Bool, true, false, List, [], ◌∷◌, ◌++◌, Option, Some, None, option_map, refl, sym, ap, ◌∙◌, append_assoc}
+use Rattle.std.specs.Prelude.{◌&&◌, ◌||◌, cond}
 use Rattle.std.proofs.lemmas.Bool.{eqb-true}
 use Rattle.std.proofs.lemmas.List.{append-nil, length-append}
+use Rattle.std.proofs.lemmas.Option.{cond_some}
 use Rattle.tcap_msg.specs.declared.message.Message.{Message}
 use Rattle.tcap_record.specs.declared.entry.End.{End as Side}
 use Rattle.tcap_record.specs.declared.entry.End.TheVariants as sides
@@ -10,12 +11,13 @@ use Rattle.tcap_end.specs.declared.half.HalfName.{HalfName}
 use Rattle.tcap_end.specs.Table.{Table}
 use Rattle.tcap_end.specs.End.{End, all_closed, nothing}
 use Rattle.tcap_end.specs.Hidden.{closed, expired}
-use Rattle.tcap_end.specs.Message.{received_message, sent_message, then_so}
+use Rattle.tcap_end.specs.Message.{received_message, sent_message, then_so, where_so}
+use Rattle.tcap_end.specs.Reply.{refuses_begin, refuses_continue}
 use Rattle.tcap_end.specs.Sound.{IsEnd}
 use Rattle.tcap_end.proofs.EndLaws.{nothing_sound}
 use Rattle.tcap_end.proofs.StepLaws.{closes, expires, map_some, receives, sends, where_some}
-use Rattle.tcap_check.specs.World.{Item, Mark, OnItsWay, World, channel_from, empty, end_at, other, with_channel, with_end}
-use Rattle.tcap_check.specs.Run.{Adds, Event, Sends, Delivers, Replies, Loses, Expires, Closes, Quiet, Runs, after, after_quiet, head_taken, joined, played, reply_to}
+use Rattle.tcap_check.specs.World.{Item, Sent, Mark, OnItsWay, World, channel_from, empty, end_at, other, with_channel, with_end}
+use Rattle.tcap_check.specs.Run.{Adds, Event, Sends, Delivers, Replies, Loses, Expires, Closes, Quiet, Runs, after, after_quiet, head_taken, joined, played, provider_abort, reply_to}
 
 -- ---- runs
 
@@ -209,20 +211,46 @@ quiet table w next is = by w.from_a w.from_b is
 
 -- ---- the sent list
 
+-- A reply is the provider's Abort.
+reply_is : (e : End) (m abort : Message) → reply_to e m ≡ Some abort → provider_abort m ≡ Some abort
+reply_is e m abort is = by (provider_abort m) is
+  where
+    by : (o : Option Message) → then_so o (λ found. where_so (refuses_begin e m found || refuses_continue e m found) (Some found)) ≡ Some abort
+        → o ≡ Some abort
+    by None is = cc
+    by (Some found) is = ap Some ((cond_some _ _ abort is).1)
+
+-- It joins the sent list.
+sent_behind : (side : Side) (abort : Message) (more : List OnItsWay) (w : World)
+    → (joined side abort (with_channel (other side) more w)).sent ≡ w.sent ++ Sent side abort ∷ []
+sent_behind sides.A abort more w = refl
+sent_behind sides.B abort more w = refl
+
 -- What a step adds to it.
 pub grows : (table : Table) (event : Event) (w next : World) → after table event w ≡ Some next
-    → (items : List Item) × Adds event items × (next.sent ≡ w.sent ++ items)
-grows table event w next is = search rules
+    → (items : List Item) × Adds w event items × (next.sent ≡ w.sent ++ items)
+grows table (Replies side number) w next is =
+    let r = reply table side number w next is in (
+      Sent side r.abort ∷ [],
+      (r.head, r.more, r.abort, r.channel, r.number_is, reply_is (end_at side w) r.head.message r.abort r.step, refl),
+      ap (λ (v : World). v.sent) r.next_is ∙ sent_behind side r.abort r.more w,
+    )
+grows table (Sends side m) w next is = search rules
+grows table (Delivers side number) w next is = search rules
+grows table (Loses side number) w next is = search rules
+grows table (Expires side name id) w next is = search rules
+grows table (Closes side name) w next is = search rules
+grows table Quiet w next is = search rules
 
 -- That is one item at most.
-one_at_most : (event : Event) (items : List Item) → Adds event items → length items ≤ 1
-one_at_most (Sends side m) items adds = rw adds (omega arith)
-one_at_most (Delivers side number) items adds = rw adds (omega arith)
-one_at_most (Replies side number) items adds = rw (adds.2) (omega arith)
-one_at_most (Loses side number) items adds = rw adds (omega arith)
-one_at_most (Expires side name id) items adds = rw adds (omega arith)
-one_at_most (Closes side name) items adds = rw adds (omega arith)
-one_at_most Quiet items adds = rw adds (omega arith)
+one_at_most : (w : World) (event : Event) (items : List Item) → Adds w event items → length items ≤ 1
+one_at_most w (Sends side m) items adds = rw adds (omega arith)
+one_at_most w (Delivers side number) items adds = rw adds (omega arith)
+one_at_most w (Replies side number) items adds = rw (adds.6) (omega arith)
+one_at_most w (Loses side number) items adds = rw adds (omega arith)
+one_at_most w (Expires side name id) items adds = rw adds (omega arith)
+one_at_most w (Closes side name) items adds = rw adds (omega arith)
+one_at_most w Quiet items adds = rw adds (omega arith)
 
 -- A run has at least as many steps as items.
 pub steps_for_items : (table : Table) (events : List Event) (w : World) → Runs table events w → length w.sent ≤ length events
@@ -232,7 +260,7 @@ steps_for_items table = runs_keep table (λ events w. length w.sent ≤ length e
         → length w.sent ≤ length before → length next.sent ≤ length (before ++ event ∷ [])
     by before event w next ran step kept =
         let adds = grows table event w next step in
-        let one = one_at_most event adds.0 adds.1 in
+        let one = one_at_most w event adds.0 adds.1 in
         let one_step : length (event ∷ []) ≡ 1 = refl in
         rw (adds.2, length-append w.sent adds.0, length-append before (event ∷ []), one_step) (omega arith)
 

@@ -1,6 +1,6 @@
 -- What was sent since the last quiet mark stays so until the next.
-use Rattle.std.proofs.Common.{◌≡◌, ◌⊎◌, inl, inr, Bool, true, false, List, [], ◌∷◌, ◌++◌, refl, ap, ◌∙◌, append_assoc}
-use Rattle.std.specs.Prelude.{cond}
+use Rattle.std.proofs.Common.{◌≡◌, ◌⊎◌, inl, inr, Bool, true, false, ℕ, zero, suc, List, [], ◌∷◌, ◌++◌, Some, refl, ap, subst, ◌∙◌, append_assoc}
+use Rattle.std.specs.Prelude.{cond, drop, slice_get}
 use Rattle.tcap_msg.specs.declared.message.Message.{Message}
 use Rattle.tcap_record.specs.declared.entry.End.{End as Side}
 use Rattle.tcap_check.specs.World.{Item, Mark, Sent}
@@ -8,7 +8,7 @@ use Rattle.tcap_check.specs.Follows.{has_mark, is_mark}
 use Rattle.tcap_check.specs.Since.{SentSince}
 
 -- A message more is no mark more,
-no_mark : (other : Side) (n : Message) (items : List Item) → has_mark items ≡ false → has_mark (items ++ Sent other n ∷ []) ≡ false
+pub no_mark : (other : Side) (n : Message) (items : List Item) → has_mark items ≡ false → has_mark (items ++ Sent other n ∷ []) ≡ false
 no_mark other n [] is = refl
 no_mark other n (item ∷ more) is = by (is_mark item) (no_mark other n more) is
   where
@@ -48,6 +48,23 @@ place_back item at (i ∷ items) (f ∷ front) behind is = by (place_back item a
         → (item ≡ at) ⊎ ((before : List Item) × (i ∷ items ≡ (f ∷ front) ++ at ∷ before) × (behind ≡ before ++ item ∷ []))
     by (inl last) = inl last
     by (inr old) = inr (old.0, cc, old.2)
+
+-- What stands at a place, with no mark behind it, was sent since.
+pub since_at : (side : Side) (m : Message) (items : List Item) (n : ℕ) → slice_get items n ≡ Some (Sent side m)
+    → has_mark (drop n items) ≡ false → SentSince side m items
+since_at side m [] n is none = cc
+since_at side m (first ∷ items) zero is none =
+    let same : first ≡ Sent side m = cc in
+    ([], items, ap (λ item. item ∷ items) same, subst (λ item. has_mark (item ∷ items) ≡ false) same none)
+since_at side m (first ∷ items) (suc n) is none =
+    let (front, behind, joined, no_more) = since_at side m items n is none in (first ∷ front, behind, ap (λ more. first ∷ more) joined, no_more)
+
+-- What stands from a place on has one item more.
+pub drop_more : (item found : Item) (items : List Item) (n : ℕ) → slice_get items n ≡ Some found
+    → drop n (items ++ item ∷ []) ≡ drop n items ++ item ∷ []
+drop_more item found [] n is = cc
+drop_more item found (first ∷ items) zero is = refl
+drop_more item found (first ∷ items) (suc n) is = drop_more item found items n is
 
 -- the newest item
 pub since_sent : (side : Side) (m : Message) (items : List Item) → SentSince side m (items ++ Sent side m ∷ [])

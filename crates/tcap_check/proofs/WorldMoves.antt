@@ -20,7 +20,7 @@ use Rattle.tcap_check.proofs.Moves.{Moves}
 use Rattle.tcap_check.proofs.TurnLaws.{moves_nowhere}
 use Rattle.tcap_check.proofs.SentMoves.{begin_uses, closed_moves, continue_uses, ending_closes, expired_moves, sent_moves}
 use Rattle.tcap_check.proofs.ReceivedMoves.{received_moves}
-use Rattle.tcap_check.proofs.SinceLaws.{since_back, since_mark, since_more}
+use Rattle.tcap_check.proofs.SinceLaws.{since_at, since_back, since_mark, since_more}
 use Rattle.tcap_check.proofs.ChannelLaws.{were_sent}
 use Rattle.tcap_check.proofs.RunLaws.{IsDelivery, IsHidden, IsLoss, IsQuiet, IsReply, IsSending, closing, delivery, expiry, loss, quiet, reply, runs_keep, sending, sound}
 
@@ -196,7 +196,7 @@ delivery_advances table side number w next sound on_their_way is = record {
     all = rw is.channel at on_their_way
 
     since : SentSince (other (other side)) is.head.message w.sent
-    since = rw (back_again side) (all.0.since)
+    since = rw (back_again side) (since_at side is.head.message w.sent is.head.number all.0.listed all.0.since)
 
     sent : next.sent ≡ w.sent
     sent = rw (is.next_is, sent_with_end (other side) is.made (with_channel side is.more w), sent_with_channel side is.more w) refl

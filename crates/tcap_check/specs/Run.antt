@@ -1,6 +1,6 @@
 -- Runs of two ends over two channels (Q.774 3.2 and 3.3): one step after the other. A message is received by the other end, answered by
 -- its provider, or lost.
-use Rattle.std.specs.Prelude.{◌≡◌, ℕ, ℤ, List, [], ◌∷◌, ◌++◌, map, length, Option, Some, None, ◌==◌, ◌||◌, cond, option_map}
+use Rattle.std.specs.Prelude.{◌≡◌, ℕ, ◌+◌, ℤ, List, [], ◌∷◌, ◌++◌, map, length, Option, Some, None, ◌==◌, ◌||◌, cond, option_map}
 use Rattle.tcap_msg.specs.declared.message.AbortReason.TheVariants.{Cause}
 use Rattle.tcap_msg.specs.declared.message.Message.{Message}
 use Rattle.tcap_msg.specs.declared.message.Message.TheVariants.{Begin, Continue, Abort}
@@ -86,12 +86,14 @@ played table (event ∷ events) w = then_so (after table event w) (played table 
 abbrev pub Runs : Table → List Event → World → Type 0
 Runs table events w = played table events empty ≡ Some w
 
--- What an event adds to the sent list.
-abbrev pub Adds : Event → List Item → Type 0
-Adds (Sends side message) items = items ≡ Sent side message ∷ []
-Adds (Replies side number) items = (otid : List ℕ) × (cause : ℕ) × (items ≡ Sent side (Abort otid (Some (Cause cause))) ∷ [])
-Adds Quiet items = items ≡ Mark ∷ []
-Adds _ items = items ≡ []
+-- What an event adds to the sent list; a reply, the Abort that answers the message which it takes.
+abbrev pub Adds : World → Event → List Item → Type 0
+Adds w (Sends side message) items = items ≡ Sent side message ∷ []
+Adds w (Replies side number) items =
+    (head : OnItsWay) × (more : List OnItsWay) × (abort : Message) × (channel_from (other side) w ≡ head ∷ more) × (head.number ≡ number)
+    × (provider_abort head.message ≡ Some abort) × (items ≡ Sent side abort ∷ [])
+Adds w Quiet items = items ≡ Mark ∷ []
+Adds w _ items = items ≡ []
 
 -- the number of the message that an event takes from an end's channel, if it takes one
 abbrev pub taken : Side → Event → List ℕ
@@ -107,6 +109,13 @@ taken_from side (event ∷ events) = taken side event ++ taken_from side events
 
 abbrev pub numbers_of : List OnItsWay → List ℕ
 numbers_of messages = map (λ m. m.number) messages
+
+-- the numbers of the messages that an end sent; the first of these items has number n
+abbrev pub numbers_sent : Side → ℕ → List Item → List ℕ
+numbers_sent side n [] = []
+numbers_sent side n (Sent sender message ∷ items) =
+    cond (is_side side sender) (n ∷ numbers_sent side (n + 1) items) (numbers_sent side (n + 1) items)
+numbers_sent side n (Mark ∷ items) = numbers_sent side (n + 1) items
 
 -- A run that sends these items, in this order, and nothing else.
 abbrev pub IsRunOf : List Item → Table → List Event → Type 0

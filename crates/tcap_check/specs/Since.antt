@@ -1,5 +1,5 @@
 -- What was sent since the last quiet mark, and what it says of an end.
-use Rattle.std.specs.Prelude.{◌≡◌, ℕ, ℤ, Bool, true, false, List, ◌∷◌, ◌++◌, slice_get, Contains, Option, Some, None, is_none}
+use Rattle.std.specs.Prelude.{◌≡◌, ℕ, ℤ, Bool, true, false, List, ◌∷◌, ◌++◌, drop, slice_get, Contains, Option, Some, None, is_none}
 use Rattle.std.specs.List.{AllByRecursion}
 use Rattle.tcap_parts.specs.declared.component.Component.{Component}
 use Rattle.tcap_parts.specs.declared.component.Component.TheVariants.{Invoke, ReturnResult, ReturnError}
@@ -22,10 +22,10 @@ SentSince side message items = (front behind : List Item) × (items ≡ front ++
 
 -- ---- channels
 
--- What is on its way was sent since the last mark by that end, and stands in the sent list at its number.
+-- What is on its way was sent by that end: it stands in the sent list at its number, and no quiet mark stands behind it.
 pub record WasSent (w : World) (side : Side) (m : OnItsWay) : Type 0 where
   pub listed : slice_get w.sent m.number ≡ Some (Sent side m.message)
-  pub since : SentSince side m.message w.sent
+  pub since : has_mark (drop m.number w.sent) ≡ false
 
 -- ---- what an end's halves know
 

@@ -10,7 +10,7 @@ ghost use Rattle.tcap_end.specs.Table.{Table};
 ghost use Rattle.tcap_end.specs.End.{Found};
 ghost use Rattle.tcap_end.specs.Sound.{Has, IsEnd};
 ghost use Rattle.tcap_check.specs.World.{Item, World, channel_from, end_at};
-ghost use Rattle.tcap_check.specs.Run.{Adds, Event, IsLawful, Runs, after, numbers_of, taken_from};
+ghost use Rattle.tcap_check.specs.Run.{Adds, Event, IsLawful, Runs, after, numbers_of, numbers_sent, taken_from};
 ghost use Rattle.tcap_check.specs.Certificate.{Certificate, IsPrompt};
 ghost use Rattle.tcap_check.specs.Follows.{Follows, IsPlain};
 ghost use Rattle.tcap_check.specs.Since.{
@@ -27,7 +27,7 @@ ghost use Rattle.tcap_check.specs.Since.{
 /// The sent list only grows, and by what the step sends.
 pub fn sent_list_grows()
     ensures { (table : Table) (event : Event) (w next : World) → after table event w ≡ Some next
-        → (items : List Item) × Adds event items × (next.sent ≡ w.sent ++ items) }
+        → (items : List Item) × Adds w event items × (next.sent ≡ w.sent ++ items) }
 {}
 
 /// A run has at least as many steps as it sends items.
@@ -38,6 +38,13 @@ pub fn steps_at_least_items()
 /// Each end is one of which the laws of one end speak (`tcap_end::laws`): no two halves have one own transaction ID, nor one peer's.
 pub fn ends_are_sound()
     ensures { (table : Table) (events : List Event) (w : World) (side : Side) → Runs table events w → IsEnd (end_at side w) }
+{}
+
+/// What was taken from a channel, one after the other, and then what is on it, are all messages that its end sent, in order: so a
+/// message leaves a channel only where it is delivered, answered or lost.
+pub fn channels_are_whole()
+    ensures { (table : Table) (events : List Event) (w : World) (side : Side) → Runs table events w
+        → taken_from side events ++ numbers_of (channel_from side w) ≡ numbers_sent side 0 w.sent }
 {}
 
 /// A channel never reorders and never repeats: the numbers of what was taken from it, one after the other, and then of what is on it,
