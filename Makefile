@@ -27,8 +27,8 @@ memory: measured
 	@python3 bench/memory.py
 
 measured: program
-	@log=$$(mktemp) && { (cd crates/tcap_bench && rt run <stdin) >"$$log" 2>&1 || { cat "$$log" >&2; rm -f "$$log"; exit 1; }; \
-		rm -f "$$log"; }
+	@log=$$(mktemp) && { (cd crates/tcap_bench && rt run <stdin && cd ../tcap_end_rows && rt run <stdin) >"$$log" 2>&1 || \
+		{ cat "$$log" >&2; rm -f "$$log"; exit 1; }; rm -f "$$log"; }
 
 needs:
 	@for tool in rt python3; do command -v $$tool >/dev/null || { echo "missing: $$tool" >&2; exit 2; }; done

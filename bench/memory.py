@@ -15,6 +15,7 @@ from collections import Counter
 
 SHOW = ["crates/tcapjudge/out/tcapjudge", "show"]
 BENCH = "crates/tcap_bench/out/tcap_bench"
+CALLS = "crates/tcap_end_rows/out/tcap_end_rows"
 RECORD = "examples/components.hex"
 ENTRIES = [
     "0 A Begin otid=01\n  Invoke id=5 linked=1 op=g:2a864801\n  ReturnResultNotLast id=2 op=45\n"
@@ -71,7 +72,7 @@ def main():
             f" {given[neither]} are the program's, and it does without {given[fed]}"
         )
         made, again = ("0 0\n", 0), ("1 0\n", 0)
-        count, given = look("calls of an end", library, [BENCH, "calls"], b"", made, [again, neither])
+        count, given = look("calls of an end", library, [CALLS], b"", made, [again, neither])
         print(
             f"calls of an end: of {count} allocations {given[again]} fail in a call, and the same call made again goes on;"
             f" {given[neither]} are of messages and tables, and it does without {given[made]}"

@@ -3,9 +3,7 @@
 //! `octets` it does so one octet at a time; then it prints how many octets the element has in all rounds. With `frames` it
 //! frames the record on standard input in pieces, with `frames-octets` one octet at a time, and prints how many entries it
 //! has. For `make memory`, with `feed` it feeds the record one octet at a time, each once more where memory ran out, and
-//! prints how many entries it took, how often memory ran out, and whether the record ended well. With `calls` it makes the
-//! worked lists of calls of one end, each call once more where memory ran out, and prints how often it ran out and how many
-//! lists had a wrong answer; with `end` it gives an end the record on standard input, and prints how many entries it took.
+//! prints how many entries it took, how often memory ran out, and whether the record ended well. With `end` it gives an end the record on standard input, and prints how many entries it took.
 #![tactic(auto)]
 
 mod ends;
@@ -14,7 +12,7 @@ ghost use Rattle.std.specs.Prelude.{◌≡◌};
 ghost use Rattle.tcap_ber.specs.Walking.{outer_at};
 ghost use Rattle.tcap_bench.specs.Whole.{whole_len};
 
-use crate::ends::{count_taken, make_lists};
+use crate::ends::count_taken;
 use std::alloc::Global;
 use std::process::ExitCode;
 use std::{env, io};
@@ -145,12 +143,6 @@ fn run(rt: &HostRuntime) -> io::Result<()> {
         Some(word) if word.as_str() == "feed" => {
             let (taken, failed, ended) = feed_octets(rt.alloc(), &octets);
             return println!(rt; "{taken} {failed} {ended}");
-        }
-        Some(word) if word.as_str() == "calls" => {
-            let Some((failed, wrong)) = make_lists(rt.alloc()) else {
-                return Err(io::Error::from(io::ErrorKind::OutOfMemory));
-            };
-            return println!(rt; "{failed} {wrong}");
         }
         Some(word) if word.as_str() == "end" => match count_taken(rt.alloc(), &octets) {
             Some(count) => count,

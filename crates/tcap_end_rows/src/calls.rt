@@ -10,14 +10,14 @@ use tcap_msg_rows::VECTORS;
 
 /// A half, by a transaction ID of one octet: its own or its peer's.
 #[derive(Clone, Copy)]
-pub enum Name {
+pub(crate) enum Name {
     Own(u8),
     Peer(u8),
 }
 
 /// A call: messages by their names, and the text of the table where a hidden step asks it.
 #[derive(Clone, Copy)]
-pub enum Call {
+pub(crate) enum Call {
     Send(&'static str),
     Receive(&'static str),
     RefuseBegin(&'static str, &'static str),
@@ -30,13 +30,13 @@ pub enum Call {
 /// What came of a list of calls: how often memory ran out, and the first call whose answer is not the one wanted of it, with
 /// that answer.
 #[derive(Clone, Copy, PartialEq, Eq, Debug)]
-pub struct Answers {
-    pub failed: usize,
-    pub wrong: Option<(usize, u8)>,
+pub(crate) struct Answers {
+    pub(crate) failed: usize,
+    pub(crate) wrong: Option<(usize, u8)>,
 }
 
 /// The table of that text; `None` where it is none, or where memory ran out.
-pub fn table_of(alloc: Global, text: &str) -> Option<Table> {
+pub(crate) fn table_of(alloc: Global, text: &str) -> Option<Table> {
     Table::from_json(alloc, text.as_bytes()).ok()
 }
 
@@ -163,7 +163,7 @@ fn answer(alloc: Global, end: &mut EndState, call: Call, as_value: bool) -> Opti
 
 /// Makes a list of calls on a new end, each once more where memory ran out. Beside each call stands the number that it has to
 /// answer, 0 for Ok. The messages are values of their own or views of their octets. `None` where memory ran out outside a call.
-pub fn made(alloc: Global, list: &[(Call, u8)], as_values: bool) -> Option<Answers> {
+pub(crate) fn made(alloc: Global, list: &[(Call, u8)], as_values: bool) -> Option<Answers> {
     let mut end = EndState::new(alloc);
     let mut answers = Answers {
         failed: 0,

@@ -5,7 +5,7 @@ use crate::calls::Call::{Close, Expire, Quiet, Receive, RefuseBegin, RefuseConti
 use crate::calls::Name::{Own, Peer};
 
 /// Operations of each class, and one to which that of class 4 may be linked.
-pub const TABLE: &str =
+pub(crate) const TABLE: &str =
     r#"{"operations":[{"class":1,"code":45},{"class":2,"code":46},{"class":3,"code":47},
     {"class":4,"code":48},{"class":1,"code":50,"linked":[48]}]}"#;
 
@@ -37,7 +37,7 @@ pub(crate) const MESSAGES: [(&str, &str); 8] = [
 ];
 
 /// The lists.
-pub const LISTS: [&[(Call, u8)]; 18] = [
+pub(crate) const LISTS: [&[(Call, u8)]; 18] = [
     &[
         (Send("begin_with_invoke"), 0),
         (Send("begin_with_invoke"), 41),
