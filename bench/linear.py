@@ -115,5 +115,7 @@ if COMPILER:
         plain = f"{folder}/show_begins"
         subprocess.run([COMPILER, "-O2", "-o", plain, "bench/show_begins.c"], check=True)
         for name, entry in (("Begins", bytes.fromhex("416203480101")), ("Begins with an Invoke", SMALL)):
-            ours, theirs = (seconds(command, entry * 100_000) for command in (SHOW, [plain]))
+            # By turns, since the speed of the machine may change.
+            turns = [[seconds(command, entry * 100_000) for command in (SHOW, [plain])] for _ in range(10)]
+            ours, theirs = (min(times) for times in zip(*turns))
             print(f"show of 100000 {name}: {ours:.4f} s, {ours / theirs:.1f} times the {theirs:.4f} s of a plain C program")

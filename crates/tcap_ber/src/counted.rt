@@ -1,8 +1,8 @@
 //! std's readers and writers as devices.
 
-ghost use Rattle.std.specs.Prelude.{◌≡◌};
-ghost use Rattle.std.specs.Io.KnownBytes.{Keeps};
-ghost use Rattle.tcap_ber.specs.Device.{CountsFailure, counted_inner, counted_failures, one_more};
+ghost use Rattle.std.specs.Prelude.{◌≡◌, ◌≤◌, IfOk, MatchResult, length, take, drop};
+ghost use Rattle.std.specs.Io.KnownBytes.{Appends, Keeps};
+ghost use Rattle.tcap_ber.specs.Device.{CountsFailure, Takes, counted_inner, counted_failures, one_more};
 
 use crate::device::{Failed, Read, Write};
 use std::io;
@@ -85,24 +85,55 @@ impl<T: io::Read> Read for Counted<T> {
     }
 }
 
+impl<T: io::Write> Counted<T> {
+    /// Writes once, and answers how many octets the writer took: none where a signal interrupted it, or where there are
+    /// none. `Failed` where it failed or took none of some.
+    #[inline(always)]
+    fn write_once(&mut self, octets: &[u8]) -> Result<usize, Failed>
+        ensures within { IfOk result (λ n. n ≤ length octets.now) }
+        ensures taken { MatchResult result (λ n. Appends (T.contents (counted_inner self.old)) (T.contents (counted_inner self.new)) (take n octets.now))
+            (λ _. Keeps (T.contents (counted_inner self.old)) (T.contents (counted_inner self.new))) }
+        ensures counts { CountsFailure (counted_failures self.old) (counted_failures self.new) result }
+    {
+        match self.inner.write(octets) {
+            Ok(0) if !octets.is_empty() => Err(self.fail()),
+            Ok(count) => Ok(count),
+            Err(error) if error.kind() == ErrorKind::Interrupted => Ok(0),
+            Err(_) => Err(self.fail()),
+        }
+    }
+
+    /// Writes what the writer did not take at once: the octets behind the first `taken` ones.
+    #[cold]
+    #[inline(never)]
+    fn write_rest(&mut self, octets: &[u8], taken: usize) -> Result<(), Failed>
+        requires { taken ≤ length octets.now }
+        ensures takes { Takes (T.contents (counted_inner self.old)) (T.contents (counted_inner self.new)) result (drop taken octets.now) }
+        ensures counts { CountsFailure (counted_failures self.old) (counted_failures self.new) result }
+    {
+        let mut rest = &octets[taken..];
+        for _ in 0..u64::MAX {
+            if rest.is_empty() {
+                return Ok(());
+            }
+            let count = self.write_once(rest)?;
+            rest = &rest[count..];
+        }
+        Err(self.fail())
+    }
+}
+
 impl<T: io::Write> Write for Counted<T> {
     ghost taken = { λ device. T.contents (counted_inner device) };
 
     ghost failures = { counted_failures };
 
+    #[inline(always)]
     fn write_all(&mut self, octets: &[u8]) -> Result<(), Failed> {
-        let mut taken = 0;
-        for _ in 0..u64::MAX {
-            if taken == octets.len() {
-                return Ok(());
-            }
-            match self.inner.write(&octets[taken..]) {
-                Ok(0) => break,
-                Ok(count) => taken += count,
-                Err(error) if error.kind() == ErrorKind::Interrupted => {}
-                Err(_) => break,
-            }
+        let taken = self.write_once(octets)?;
+        if taken == octets.len() {
+            return Ok(());
         }
-        Err(self.fail())
+        self.write_rest(octets, taken)
     }
 }

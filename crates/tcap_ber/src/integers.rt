@@ -81,6 +81,7 @@ fn number(octets: &[u8]) -> i32
 }
 
 #[tactic(auto, unfolding(crate::specs::Reading::small_integer_at))]
+#[inline(always)]
 fn read_small(tlv: Tlv, limit: usize, too_wide: Reason) -> Result<i32, Fault>
     requires { limit ≤ 4 }
     ensures exact { Gives (λ x. x) result (small_integer_at limit too_wide (element tlv.entry)) }
@@ -98,6 +99,7 @@ fn read_small(tlv: Tlv, limit: usize, too_wide: Reason) -> Result<i32, Fault>
 /// The number of an element that is to be an INTEGER of at most `limit` octets, which is at most 4
 /// (X.690 8.3). `BadInteger` where its contents are none, else `too_wide` where they have more octets, both
 /// at the element's first octet.
+#[inline(always)]
 pub fn small_integer(tlv: Tlv, limit: usize, too_wide: Reason) -> Result<i32, Fault>
     requires { limit ≤ 4 }
     ensures found { IfOk result (λ n. IsSmallInteger limit n tlv.entry.content.octets.now) }

@@ -139,6 +139,7 @@ impl<'a> RawView<'a> {
 
     /// A parameter: the element that any octets left in the window have to be, or `None` where none are.
     /// The faults are those of [`next_tlv`].
+    #[inline(always)]
     pub fn parameter(window: Window<'a>) -> Result<(Option<RawView<'a>>, Window<'a>), Fault>
         // What is read is spelled there, and what is left is the window behind it.
         ensures found { IfOk result (λ x. Taken parameter (span window.entry) (option_map (λ raw. raw.octets.now) x.0) (span x.1)) }

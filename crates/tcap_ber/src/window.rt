@@ -43,6 +43,7 @@ pub fn outer(octets: &[u8]) -> Result<Outer, Fault>
 }
 
 /// The element at the front of a window, which has this header of definite length.
+#[inline(always)]
 fn read_definite<'a>(window: Window<'a>, header: Header) -> Result<(Tlv<'a>, Window<'a>), Fault>
     requires tag { header.tag_len ≤ header.len }
     requires there { header.len ≤ length window.octets.now }
@@ -89,6 +90,7 @@ fn walked_len(window: Window, tag_len: usize) -> Result<usize, Fault>
 }
 
 /// The element of indefinite length at the front of a window, whose tag has so many octets.
+#[inline(never)]
 fn read_indefinite<'a>(window: Window<'a>, tag_len: usize) -> Result<(Tlv<'a>, Window<'a>), Fault>
     requires opening { opening_at (span window) ≡ Ok (Some (Opening.Indefinite tag_len)) }
     ensures exact { Gives (λ x. (element x.0, span x.1)) result (indefinite_at (span window.entry) tag_len (outer_at window.entry.octets.now)) }
@@ -109,6 +111,7 @@ fn read_indefinite<'a>(window: Window<'a>, tag_len: usize) -> Result<(Tlv<'a>, W
 }
 
 #[tactic(auto, unfolding(crate::specs::Reading::next_at))]
+#[inline(always)]
 fn read_next(window: Window) -> Result<(Tlv, Window), Fault>
     requires { 0 < length window.octets.now }
     ensures exact { Gives (λ x. (element x.0, span x.1)) result (next_at (span window.entry)) }
@@ -136,6 +139,7 @@ fn read_next(window: Window) -> Result<(Tlv, Window), Fault>
 /// octet. Where it is of indefinite length, the elements in it have these faults too, each at its own place, and
 /// `TooDeep`; `Overrun` stands at the innermost element that is not whole. The window of its content ends at its two zero
 /// octets.
+#[inline(always)]
 pub fn next_tlv(window: Window) -> Result<(Tlv, Window), Fault>
     requires { 0 < length window.octets.now }
     // What is read is the element that stands there, and its parts are those octets of the window.
@@ -151,6 +155,7 @@ pub fn next_tlv(window: Window) -> Result<(Tlv, Window), Fault>
 }
 
 #[tactic(auto, unfolding(crate::specs::Reading::some_at))]
+#[inline(always)]
 fn read_any(window: Window) -> Result<(Tlv, Window), Fault>
     ensures exact { Gives (λ x. (element x.0, span x.1)) result (some_at (span window.entry)) }
 {
@@ -165,6 +170,7 @@ fn read_any(window: Window) -> Result<(Tlv, Window), Fault>
 
 /// The first element of a window, which has to be there, with any tag, and the window behind it
 /// (X.690 8.1.1). `Missing` at the window's end where it is empty, else the faults of [`next_tlv`].
+#[inline(always)]
 pub fn required_any(window: Window) -> Result<(Tlv, Window), Fault>
     // What is read is the element that stands there, and its parts are those octets of the window.
     ensures found { IfOk result (λ x. FindsElement (span window.entry) (element x.0) (span x.1)) }
@@ -180,6 +186,7 @@ pub fn required_any(window: Window) -> Result<(Tlv, Window), Fault>
 }
 
 #[tactic(auto, unfolding(crate::specs::Reading::required_at, crate::specs::Reading::some_at))]
+#[inline(always)]
 fn read_required(window: Window, tag: u8) -> Result<(Tlv, Window), Fault>
     ensures exact { Gives (λ x. (element x.0, span x.1)) result (required_at tag (span window.entry)) }
 {
@@ -194,6 +201,7 @@ fn read_required(window: Window, tag: u8) -> Result<(Tlv, Window), Fault>
 /// The first element of a window, which has to be there with this tag of one octet, and the window
 /// behind it (X.690 8.1.1). `Missing` at the window's end where it is empty, `UnexpectedTag` at the
 /// element's first octet where it has another tag, else the faults of [`next_tlv`].
+#[inline(always)]
 pub fn required(window: Window, tag: u8) -> Result<(Tlv, Window), Fault>
     // What is read is the element that stands there, and has this tag.
     ensures found { IfOk result (λ x. FindsElement (span window.entry) (element x.0) (span x.1) × (x.0.tag.octets.now ≡ tag ∷ [])) }

@@ -64,14 +64,15 @@ struct Showing {
 }
 
 /// Writes the lines of the entry of that number, and answers whether it is bad.
+#[inline(always)]
 fn show_entry<W: Write>(
     number: usize,
-    entry: EntryView,
+    entry: &EntryView,
     text: &mut String,
     writer: &mut W,
 ) -> Result<bool, Stop>
-    ensures shown { (bad : Bool) → result ≡ Ok bad → Appends (W.taken writer.old) (W.taken writer.new) (entry_lines number (entry_read entry.entry))
-        × (bad ≡ is_bad (entry_read entry.entry)) }
+    ensures shown { (bad : Bool) → result ≡ Ok bad → Appends (W.taken writer.old) (W.taken writer.new) (entry_lines number (entry_read entry.now))
+        × (bad ≡ is_bad (entry_read entry.now)) }
     ensures memory { (f : FeedFault) → result ≡ Err (Stop.Fault f) → (f ≡ feed_fault FeedReason.Memory 0) × (writer.new ≡ writer.old) }
     ensures write { result ≡ Err Stop.Write → W.failures writer.new ≡ one_more (W.failures writer.old) }
     ensures others { result ≢ Err Stop.Write → W.failures writer.new ≡ W.failures writer.old }
@@ -84,6 +85,7 @@ fn show_entry<W: Write>(
 }
 
 /// Writes the lines of the entry at the front, where a whole one stands there, and answers whether it is bad.
+#[inline(never)]
 fn show_front<W: Write>(
     frames: &Frames,
     text: &mut String,
@@ -99,7 +101,7 @@ fn show_front<W: Write>(
     let Some(entry) = frames.front() else {
         return Ok(None);
     };
-    Ok(Some(show_entry(frames.dropped(), entry, text, writer)?))
+    Ok(Some(show_entry(frames.dropped(), &entry, text, writer)?))
 }
 
 impl Showing {
@@ -118,13 +120,13 @@ impl Showing {
         let mut taken = 0;
         loop {
             let rest = &piece[taken..];
-            let Some((entry, len)) = self.frames.lend(rest) else {
+            let Some((entry, len)) = &self.frames.lend(rest) else {
                 return Ok(taken);
             };
             let bad = show_entry(self.frames.dropped(), entry, &mut self.text, writer)?;
             self.bad = self.bad || bad;
-            self.frames.pass(&rest[..len]);
-            taken += len;
+            self.frames.pass(&rest[..*len]);
+            taken += *len;
         }
     }
 

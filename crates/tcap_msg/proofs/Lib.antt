@@ -1,4 +1,5 @@
 pub mod KindLaws
+pub mod LoneLaws
 pub mod MessageLaws
 pub mod MessageWithin
 pub mod DecodeLaws

@@ -111,15 +111,27 @@ impl<'a> MessageView<'a> {
         ensures { option_map dialogue_of result ≡ dialogue_in (message_of self.now) }
     {
         match self {
-            MessageView::Unidirectional { dialogue, .. }
-            | MessageView::Begin { dialogue, .. }
-            | MessageView::Continue { dialogue, .. }
-            | MessageView::End { dialogue, .. } => *dialogue,
-            MessageView::Abort {
+            MessageView::Unidirectional {
+                dialogue: Some(dialogue),
+                ..
+            }
+            | MessageView::Begin {
+                dialogue: Some(dialogue),
+                ..
+            }
+            | MessageView::Continue {
+                dialogue: Some(dialogue),
+                ..
+            }
+            | MessageView::End {
+                dialogue: Some(dialogue),
+                ..
+            }
+            | MessageView::Abort {
                 reason: Some(AbortReasonView::Dialogue(dialogue)),
                 ..
             } => Some(*dialogue),
-            MessageView::Abort { .. } => None,
+            _ => None,
         }
     }
 

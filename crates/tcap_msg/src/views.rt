@@ -68,6 +68,7 @@ pub enum AbortReasonView<'a> {
 
 /// The originating transaction ID at the front of a window.
 #[tactic(auto, unfolding(crate::specs::Reading::otid_at))]
+#[inline(always)]
 fn otid(window: Window) -> Result<(TransactionIdView, Window), Fault>
     ensures exact { Gives (λ x. (x.0.octets.now, span x.1)) result (otid_at (span window.entry)) }
 {
@@ -98,6 +99,7 @@ fn cause(window: Window) -> Result<(Option<SmallView>, Window), Fault>
 
 /// The dialogue portion at the front of a window, or `None` where the next tag is not its own.
 #[tactic(auto, unfolding(crate::specs::Reading::dialogue_portion_at))]
+#[inline(always)]
 fn dialogue_portion(window: Window) -> Result<(Option<DialogueView>, Window), Fault>
     ensures exact { Gives (λ x. (option_map dialogue_of x.0, span x.1)) result (dialogue_portion_at (span window.entry)) }
 {
@@ -110,6 +112,7 @@ fn dialogue_portion(window: Window) -> Result<(Option<DialogueView>, Window), Fa
 
 /// The component portion at the front of a window, or `None` where the next tag is not its own.
 #[tactic(auto, unfolding(crate::specs::Reading::component_portion_at))]
+#[inline(always)]
 fn component_portion(window: Window) -> Result<(Option<PortionView>, Window), Fault>
     ensures exact { Gives (λ x. (option_map components_of x.0, span x.1)) result (component_portion_at (span window.entry)) }
 {
@@ -149,6 +152,14 @@ fn view_begin(content: Window) -> Result<MessageView, Fault>
     ensures exact { Gives message_of result (begin_at (span content.entry)) }
 {
     let (otid, rest) = otid(content)?;
+    // Where nothing is left, no portion has to be looked for.
+    if rest.octets.is_empty() {
+        return Ok(MessageView::Begin {
+            otid,
+            dialogue: None,
+            components: None,
+        });
+    }
     let (dialogue, rest) = dialogue_portion(rest)?;
     let (components, rest) = component_portion(rest)?;
     ended(rest)?;
@@ -165,6 +176,13 @@ fn view_end(content: Window) -> Result<MessageView, Fault>
     ensures exact { Gives message_of result (end_message_at (span content.entry)) }
 {
     let (dtid, rest) = dtid(content)?;
+    if rest.octets.is_empty() {
+        return Ok(MessageView::End {
+            dtid,
+            dialogue: None,
+            components: None,
+        });
+    }
     let (dialogue, rest) = dialogue_portion(rest)?;
     let (components, rest) = component_portion(rest)?;
     ended(rest)?;
@@ -182,6 +200,14 @@ fn view_continue(content: Window) -> Result<MessageView, Fault>
 {
     let (otid, rest) = otid(content)?;
     let (dtid, rest) = dtid(rest)?;
+    if rest.octets.is_empty() {
+        return Ok(MessageView::Continue {
+            otid,
+            dtid,
+            dialogue: None,
+            components: None,
+        });
+    }
     let (dialogue, rest) = dialogue_portion(rest)?;
     let (components, rest) = component_portion(rest)?;
     ended(rest)?;

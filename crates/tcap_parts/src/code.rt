@@ -32,6 +32,7 @@ pub enum CodeView<'a> {
 
 /// The code at the front of a window, and the window behind it (Q.773 4.2.2).
 #[tactic(auto, unfolding(crate::specs::Reading::code_at))]
+#[inline(always)]
 pub(crate) fn read_code(window: Window) -> Result<(CodeView, Window), Fault>
     ensures exact { Gives (λ x. (code_of x.0, span x.1)) result (code_at (span window.entry)) }
 {

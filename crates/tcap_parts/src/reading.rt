@@ -23,6 +23,7 @@ use tcap_ber::{
 
 /// The invoke ID at the front of a window.
 #[tactic(auto, unfolding(crate::specs::Reading::invoke_id_at))]
+#[inline(always)]
 fn invoke_id(window: Window) -> Result<(i8, Window), Fault>
     ensures exact { Gives (λ x. (x.0, span x.1)) result (invoke_id_at (span window.entry)) }
 {
@@ -32,6 +33,7 @@ fn invoke_id(window: Window) -> Result<(i8, Window), Fault>
 
 /// The linked ID at the front of a window, or `None` where the next tag is not its own.
 #[tactic(auto, unfolding(crate::specs::Reading::linked_id_at))]
+#[inline(always)]
 fn linked_id(window: Window) -> Result<(Option<i8>, Window), Fault>
     ensures exact { Gives (λ x. (x.0, span x.1)) result (linked_id_at (span window.entry)) }
 {
@@ -60,6 +62,7 @@ fn rejected_id(window: Window) -> Result<(Option<i8>, Window), Fault>
 
 /// The parts of an Invoke, which are all of `content`.
 #[tactic(auto, unfolding(crate::specs::Reading::invoke_at))]
+#[inline(always)]
 fn view_invoke(content: Window) -> Result<ComponentView, Fault>
     ensures exact { Gives component_of result (invoke_at (span content.entry)) }
 {
@@ -138,6 +141,7 @@ fn view_reject(content: Window) -> Result<ComponentView, Fault>
 }
 
 #[tactic(auto, unfolding(crate::specs::Reading::component_at))]
+#[inline(always)]
 fn read_component(window: Window) -> Result<(ComponentView, Window), Fault>
     ensures exact { Gives (λ x. (component_of x.0, span x.1)) result (component_at (span window.entry)) }
 {
@@ -166,6 +170,7 @@ fn read_component(window: Window) -> Result<(ComponentView, Window), Fault>
 /// carries; `BadInteger` or `BadSize` at an invoke ID, a linked ID or a problem;
 /// `BadInteger` or `CodeTooWide` at a local code, `BadObjectId` at a global one; `BadSize` at a NULL with
 /// content; those of [`RawView::parameter`]; and `Trailing` behind the last part.
+#[inline(always)]
 pub fn view_component(window: Window) -> Result<(ComponentView, Window), Fault>
     // What is read is spelled there.
     ensures found { IfOk result (λ x. Taken component (span window.entry) (component_of x.0) (span x.1)) }

@@ -29,10 +29,6 @@ use Rattle.tcap_record.specs.declared.entry.Entry.{Entry}
 abbrev pub line_end : List ℕ
 line_end = 10 ∷ []
 
-abbrev pub name_of_end : End → List ℕ
-name_of_end ends.A = codes "A"
-name_of_end ends.B = codes "B"
-
 -- a local code as a number, a global one as g: and its octets
 abbrev pub code_text : Code → List ℕ
 code_text (Local n) = signed_decimal n
@@ -93,10 +89,10 @@ kind_name kinds.Continue = codes "Continue"
 kind_name kinds.End = codes "End"
 kind_name kinds.Abort = codes "Abort"
 
--- a transaction ID of that name
+-- a transaction ID behind that label
 abbrev pub id_text : List ℕ → Option (List ℕ) → List ℕ
-id_text name None = []
-id_text name (Some id) = codes " " ++ name ++ codes "=" ++ encode_lower id
+id_text label None = []
+id_text label (Some id) = label ++ encode_lower id
 
 abbrev pub cause_text : Option ℕ → List ℕ
 cause_text None = []
@@ -136,7 +132,7 @@ dialogue_portion_text (Some dialogue) = dialogue_text dialogue
 -- what a message is, but for its components: its kind, and those of its parts that it has
 abbrev pub head_text : Message → List ℕ
 head_text m =
-    kind_name (kind_in m) ++ id_text (codes "otid") (otid_in m) ++ id_text (codes "dtid") (dtid_in m) ++ cause_text (cause_in m)
+    kind_name (kind_in m) ++ id_text (codes " otid=") (otid_in m) ++ id_text (codes " dtid=") (dtid_in m) ++ cause_text (cause_in m)
     ++ dialogue_portion_text (dialogue_in m)
 
 -- a message behind the number and the end of its entry, and the lines of its components
@@ -151,7 +147,8 @@ body_text Quiet = codes "Q" ++ line_end
 -- the end that sent the entry; a quiet mark has none
 abbrev pub side_text : Option End → List ℕ
 side_text None = []
-side_text (Some side) = name_of_end side ++ codes " "
+side_text (Some ends.A) = codes "A "
+side_text (Some ends.B) = codes "B "
 
 -- the lines of the entry of that number
 abbrev pub entry_lines : ℕ → Entry → List ℕ

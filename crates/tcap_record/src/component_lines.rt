@@ -41,6 +41,7 @@ fn push_code(text: &mut String, code: CodeView) -> Result<(), AllocError>
 }
 
 /// Appends an operation code or an error code, and a parameter.
+#[inline(always)]
 fn push_coded(
     text: &mut String,
     code: CodeView,
@@ -54,6 +55,7 @@ fn push_coded(
 }
 
 /// Appends an operation code and a parameter, named.
+#[inline(always)]
 fn push_operation(
     text: &mut String,
     code: CodeView,
@@ -80,6 +82,7 @@ fn push_error_code(
 }
 
 /// Appends an Invoke.
+#[inline(always)]
 fn push_invoke(
     text: &mut String,
     id: i8,

@@ -48,6 +48,7 @@ fn push_octet(text: &mut String, octet: u8) -> Result<(), AllocError>
 }
 
 /// Appends the digits of octets, one after the other.
+#[inline(always)]
 fn push_few(text: &mut String, octets: &[u8]) -> Result<(), AllocError>
     ensures { OnOk result (string_bytes text.new ≡ string_bytes text.old ++ encode_lower octets.now) }
 {
@@ -60,6 +61,7 @@ fn push_few(text: &mut String, octets: &[u8]) -> Result<(), AllocError>
 }
 
 /// Appends the digits of octets, those of 128 octets at once.
+#[inline(never)]
 fn push_many(text: &mut String, octets: &[u8]) -> Result<(), AllocError>
     ensures { OnOk result (string_bytes text.new ≡ string_bytes text.old ++ encode_lower octets.now) }
 {
@@ -71,6 +73,7 @@ fn push_many(text: &mut String, octets: &[u8]) -> Result<(), AllocError>
 }
 
 /// Appends the digits of octets.
+#[inline(always)]
 pub(crate) fn push_hex(text: &mut String, octets: &[u8]) -> Result<(), AllocError>
     ensures { OnOk result (string_bytes text.new ≡ string_bytes text.old ++ encode_lower octets.now) }
 {

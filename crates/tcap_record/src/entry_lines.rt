@@ -4,7 +4,7 @@ ghost use Rattle.std.specs.Prelude.{◌≡◌, ◌++◌, OnOk, codes};
 ghost use Rattle.std.specs.Fmt.{decimal};
 ghost use Rattle.std.specs.String.{string_bytes};
 ghost use Rattle.tcap_record.specs.declared.entry.Body.TheVariants.{Bad, Quiet};
-ghost use Rattle.tcap_record.specs.Lines.{name_of_end, body_text, side_text, entry_lines};
+ghost use Rattle.tcap_record.specs.Lines.{body_text, side_text, entry_lines};
 ghost use Rattle.tcap_record.specs.Viewed.{body_read, entry_read};
 
 use crate::entry::{BodyView, End, EntryView};
@@ -13,35 +13,24 @@ use crate::numbers::push_number;
 use std::alloc::AllocError;
 use tcap_ber::Fault;
 
-/// The name of an end.
-fn name(side: End) -> &'static str
-    ensures { result.now ≡ name_of_end side }
-{
-    match side {
-        End::A => "A",
-        End::B => "B",
-    }
-}
-
-/// Appends the end that sent an entry, where one did.
+/// Appends what stands behind an entry's number: the end that sent it, where one did.
+#[inline(always)]
 fn push_side(text: &mut String, side: Option<End>) -> Result<(), AllocError>
-    ensures { OnOk result (string_bytes text.new ≡ string_bytes text.old ++ side_text side) }
+    ensures { OnOk result (string_bytes text.new ≡ string_bytes text.old ++ codes " " ++ side_text side) }
 {
     match side {
-        Some(side) => {
-            text.push_str(name(side))?;
-            text.push_str(" ")
-        }
-        None => Ok(()),
+        Some(End::A) => text.push_str(" A "),
+        Some(End::B) => text.push_str(" B "),
+        None => text.push_str(" "),
     }
 }
 
 /// Appends an entry's number, and the end that sent it, where one did.
+#[inline(always)]
 fn push_front(text: &mut String, number: usize, side: Option<End>) -> Result<(), AllocError>
     ensures { OnOk result (string_bytes text.new ≡ string_bytes text.old ++ decimal number ++ codes " " ++ side_text side) }
 {
     push_number(text, number)?;
-    text.push_str(" ")?;
     push_side(text, side)
 }
 
@@ -62,6 +51,7 @@ fn push_quiet(text: &mut String) -> Result<(), AllocError>
 }
 
 /// Appends what stands behind the number and the end of an entry that is lent, and the lines of its components.
+#[inline(always)]
 fn push_body_view(text: &mut String, body: &BodyView) -> Result<(), AllocError>
     ensures { OnOk result (string_bytes text.new ≡ string_bytes text.old ++ body_text (body_read body.now)) }
 {
@@ -74,8 +64,9 @@ fn push_body_view(text: &mut String, body: &BodyView) -> Result<(), AllocError>
 
 /// Appends to `text` the lines of the entry of that number, as `show` writes them, of an entry that is lent. `Err` where
 /// memory ran out: what `text` holds then is not said.
-pub fn push_view(text: &mut String, number: usize, entry: EntryView) -> Result<(), AllocError>
-    ensures { OnOk result (string_bytes text.new ≡ string_bytes text.old ++ entry_lines number (entry_read entry.entry)) }
+#[inline(always)]
+pub fn push_view(text: &mut String, number: usize, entry: &EntryView) -> Result<(), AllocError>
+    ensures { OnOk result (string_bytes text.new ≡ string_bytes text.old ++ entry_lines number (entry_read entry.now)) }
 {
     push_front(text, number, entry.side)?;
     push_body_view(text, &entry.body)

@@ -71,6 +71,7 @@ fn whole_len(octets: &[u8]) -> Option<usize>
 
 /// The entry at the front, lent, and the count of its octets, where a whole one stands there; the place is that of the first
 /// octet.
+#[inline(never)]
 pub(crate) fn front_view(octets: &[u8], place: u64) -> Option<(EntryView<'_>, usize)>
     requires fits { place + 65552 < 2 ^ 64 }
     ensures found { IfSome result (λ x. IsLent place octets.now (entry_read x.0) x.1) }

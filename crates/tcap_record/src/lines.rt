@@ -14,28 +14,28 @@ use tcap_ber::{ObjectIdView, SmallView};
 use tcap_msg::{Kind, MessageParts, TransactionIdView};
 use tcap_parts::{DialogueView, InfoView, SourceView};
 
-/// The name of a kind of messages.
-fn name_of_kind(kind: Kind) -> &'static str
-    ensures { result.now ≡ kind_name kind }
+/// Appends the name of a kind of messages.
+#[inline(always)]
+fn push_kind(text: &mut String, kind: Kind) -> Result<(), AllocError>
+    ensures { OnOk result (string_bytes text.new ≡ string_bytes text.old ++ kind_name kind) }
 {
     match kind {
-        Kind::Unidirectional => "Unidirectional",
-        Kind::Begin => "Begin",
-        Kind::Continue => "Continue",
-        Kind::End => "End",
-        Kind::Abort => "Abort",
+        Kind::Unidirectional => text.push_str("Unidirectional"),
+        Kind::Begin => text.push_str("Begin"),
+        Kind::Continue => text.push_str("Continue"),
+        Kind::End => text.push_str("End"),
+        Kind::Abort => text.push_str("Abort"),
     }
 }
 
-/// Appends a transaction ID of that name, where there is one.
-fn push_id(text: &mut String, name: &str, id: Option<TransactionIdView>) -> Result<(), AllocError>
-    ensures { OnOk result (string_bytes text.new ≡ string_bytes text.old ++ id_text name.now (id_of id.entry)) }
+/// Appends a transaction ID behind that label, where there is one.
+#[inline(always)]
+fn push_id(text: &mut String, label: &str, id: Option<TransactionIdView>) -> Result<(), AllocError>
+    ensures { OnOk result (string_bytes text.new ≡ string_bytes text.old ++ id_text label.now (id_of id.entry)) }
 {
     match id {
         Some(id) => {
-            text.push_str(" ")?;
-            text.push_str(name)?;
-            text.push_str("=")?;
+            text.push_str(label)?;
             push_hex(text, id.octets)
         }
         None => Ok(()),
@@ -160,9 +160,9 @@ fn push_dialogue_portion(
 fn push_head<M: MessageParts>(text: &mut String, message: &M) -> Result<(), AllocError>
     ensures { OnOk result (string_bytes text.new ≡ string_bytes text.old ++ head_text (M.meaning message.now)) }
 {
-    text.push_str(name_of_kind(message.kind()))?;
-    push_id(text, "otid", message.otid())?;
-    push_id(text, "dtid", message.dtid())?;
+    push_kind(text, message.kind())?;
+    push_id(text, " otid=", message.otid())?;
+    push_id(text, " dtid=", message.dtid())?;
     push_cause(text, message.cause())?;
     push_dialogue_portion(text, message.dialogue())
 }

@@ -51,7 +51,7 @@ pub fn show<W: Write>(alloc: Global, record: &Record, writer: &mut W) -> Result<
     let mut text = String::new(alloc);
     for (number, entry) in record.entries.iter().enumerate() {
         text.clear();
-        push_view(&mut text, number, entry.view())?;
+        push_view(&mut text, number, &entry.view())?;
         writer.write_all(text.as_bytes())?;
     }
     Ok(())

@@ -104,7 +104,7 @@ pub(crate) fn framed_by(
             let Some(entry) = frames.front() else {
                 break;
             };
-            push_view(&mut text, frames.dropped(), entry)?;
+            push_view(&mut text, frames.dropped(), &entry)?;
             frames.drop_front();
         }
     }

@@ -1,9 +1,11 @@
-use Rattle.std.proofs.Common.{◌≡◌, ◌+◌, ◌-◌, Bool, List, ℕ, length, take, drop, refl, sym, ap, subst, ◌∙◌, arith}
-use Rattle.std.specs.Prelude.{◌||◌}
+use Rattle.std.proofs.Common.{◌≡◌, ◌+◌, ◌-◌, Bool, List, ℕ, Option, length, take, drop, refl, sym, ap, subst, ◌∙◌, arith}
+use Rattle.std.specs.Prelude.{◌||◌, IfSome, is_some}
 use Rattle.std.specs.Io.KnownBytes.{Appends}
 use Rattle.std.proofs.lemmas.List.{length-drop}
 use Rattle.tcap_record.specs.declared.entry.Entry.{Entry}
+use Rattle.tcap_record.specs.declared.entry.EntryView.{EntryView}
 use Rattle.tcap_record.specs.Held.{Held}
+use Rattle.tcap_record.specs.Lent.{IsLent}
 use Rattle.tcap_record.specs.Lines.{entry_lines}
 use Rattle.tcap_record.specs.Viewed.{entry_read}
 use Rattle.tcap_record.proofs.FeederLaws.{rest_is}
@@ -22,8 +24,9 @@ loop-entry-preserved g c =
     let behind : rest ≡ drop at piece = rest_is piece at in
     let entry : Entry = entry_read c.in-Some.entry in
     let len = c.in-Some.len in
-    let lent = c.in-Some.ensures.entry in
-    let free = c.in-Some.ensures.exact.0 refl in
+    let found = c.in-Some.is in
+    let lent = subst (λ (r : Option (EntryView × ℕ)). IfSome r (λ x. IsLent c.loop-entry.self.frames.place rest (entry_read x.0) x.1)) found c.lend.ensures.entry in
+    let free = c.lend.ensures.exact.0 (ap is_some found) in
     let there = c.in_ok-bad.ensures.shown c.in_ok-bad.bad refl in
     let lines = subst (λ (n : ℕ). Appends (g.W.Write.taken c.loop-entry.writer) (g.W.Write.taken c.show_entry.new.writer) (entry_lines n entry)) c.dropped.ensures.count there.0 in
     let bad_is : c.if-self.self ≡ (c.loop-entry.self.bad || is_bad entry) = elim c.if-self.branch [
