@@ -5,7 +5,7 @@ of many, of as many components as an entry can hold, and of dialogue portions; t
 the worked rows, one after the other. So it does for walks over an element of indefinite length that is made of elements
 of two octets, for framing a record, in one go and one octet at a time, and for an end that sends and one that receives a
 transaction of many Continues, each with an Invoke that is never answered. Where a C compiler is there, it prints how much
-longer `show` takes than a plain C program that prints the same lines. `make bench` builds both programs first."""
+longer `show` takes than a plain C program that prints the same lines. `make bench` builds the programs first."""
 
 import re
 import shutil
@@ -98,8 +98,13 @@ for way, name in (("walk", "in one go"), ("octets", "one octet at a time")):
         f"walk of an element of {QUARTER * 8} octets, {name}, {ROUNDS} times: {again:.3f} s, {each:.1f} ns an octet;"
         f" a quarter of it {once:.3f} s, half {twice / once:.2f} times that, all {again / once:.2f}"
     )
-PIECES, OCTETS = (seconds(VIEW + [way], SMALL * 50_000) for way in ("frames", "frames-octets"))
-print(f"framing 50000 small entries: in pieces {PIECES:.3f} s; one octet at a time {OCTETS / PIECES:.2f} times that")
+WAYS = [VIEW + [way] for way in ("frames", "frames-octets")]
+WHOLE, OCTETS = (seconds(way, SMALL * 50_000) for way in WAYS)
+MOST, LEAST = (peak(way, SMALL * 50_000) for way in WAYS)
+print(
+    f"framing 50000 small entries: whole {WHOLE:.3f} s, one octet at a time {OCTETS / WHOLE:.2f} times that;"
+    f" memory, with the record's {len(SMALL) * 50} kB, {MOST} kB and {LEAST} kB"
+)
 # A Begin from end B, and a Continue that answers it with an Invoke of class 4; then from end A, and from end B.
 SENT = bytes.fromhex("426203480101"), bytes.fromhex("4165104801024901016c08a106020101020130")
 RECEIVED = bytes.fromhex("416203480101"), bytes.fromhex("4265104801024901016c08a106020101020130")

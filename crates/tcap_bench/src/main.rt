@@ -18,7 +18,7 @@ use std::process::ExitCode;
 use std::{env, io};
 use tcap_ber::{Counted, Fault, Outer, Walk, outer, read_to_end};
 use tcap_msg::view;
-use tcap_record::{FeedReason, Feeder, Frames, PIECE_LEN};
+use tcap_record::{FeedReason, Feeder, Frames};
 
 /// How often the octets are read.
 const ROUNDS: u32 = 200;
@@ -82,10 +82,14 @@ fn count_walks(octets: &[u8], one_at_a_time: bool) -> usize {
     count
 }
 
-/// How many entries begin the record, up to the first fault, framed in pieces or one octet at a time.
+/// How many entries begin the record, up to the first fault, framed in one piece or one octet at a time.
 fn count_entries(alloc: Global, octets: &[u8], one_at_a_time: bool) -> usize {
     let mut frames = Frames::new(alloc);
-    let len = if one_at_a_time { 1 } else { PIECE_LEN };
+    let len = if one_at_a_time {
+        1
+    } else {
+        octets.len().max(1)
+    };
     for piece in octets.chunks(len) {
         let mut rest = piece;
         for _ in 0..=piece.len() {

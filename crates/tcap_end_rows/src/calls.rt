@@ -40,7 +40,7 @@ pub(crate) fn table_of(alloc: Global, text: &str) -> Option<Table> {
     Table::from_json(alloc, text.as_bytes()).ok()
 }
 
-/// The octets of the message of that name; `None` where memory ran out.
+/// The octets of the message of that name; `None` where there is none, or memory ran out.
 fn message_of(alloc: Global, name: &str) -> Option<Vec<u8>> {
     for (other, digits, _) in VECTORS {
         if other == name {
@@ -63,7 +63,7 @@ fn half_of(name: Name) -> Option<HalfName> {
     })
 }
 
-/// The message of that name, as a value of its own; `None` where memory ran out.
+/// The message of that name, as a value of its own; `None` where there is none, or memory ran out.
 fn value_of(alloc: Global, name: &str) -> Option<Message> {
     let octets = message_of(alloc, name)?;
     Some(decode(alloc, &octets).ok()?.0)

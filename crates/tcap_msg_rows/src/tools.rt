@@ -74,7 +74,8 @@ pub fn lens(alloc: Global, octets: &[u8]) -> Result<(usize, Option<usize>), Fail
     Ok((len, encoded_len(&message)))
 }
 
-/// The number and the place of the fault by which `decode` refuses the octets, `None` where it does not.
+/// The number and the place of the fault by which `decode` refuses the octets, `None` where it does not, or where memory ran
+/// out.
 pub fn refusal(alloc: Global, octets: &[u8]) -> Option<(u8, u64)>
     ensures { IfSome result (λ x. refusal_of (message_at octets.now) ≡ Some x) }
 {

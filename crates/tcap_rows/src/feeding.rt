@@ -253,7 +253,7 @@ fn begins_in_two_feeds(rt: HostRuntime) -> Result<(), Fail> {
 #[test]
 fn failing_reader_of_two(rt: HostRuntime) -> Result<(), Fail> {
     let octets = octets_of(rt.alloc(), TWO)?;
-    for count in 0..octets.len() {
+    for count in 0..=octets.len() {
         let mut reader = Failing::new(octets.as_slice(), count);
         let fault = read_record(rt.alloc(), &mut reader).err().ok_or("a fault")?;
         let wanted = FeedFault {
