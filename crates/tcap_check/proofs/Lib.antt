@@ -13,3 +13,6 @@ pub mod WorldMoves
 pub mod PeerLaws
 pub mod UsedLaws
 pub mod NotDescribed
+pub mod ReplayLaws
+pub mod ReplayGaps
+pub mod ReplayEntries

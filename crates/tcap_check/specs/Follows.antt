@@ -34,13 +34,14 @@ named_entry items gap entry = cond (has_mark (drop entry (take gap items))) None
 abbrev pub half_begun : Side → Side → List ℕ → HalfName
 half_begun side sender otid = cond (is_side side sender) (names.Own otid) (names.Peer otid)
 
--- the closing that is listed, where its entry is a Begin
+-- the closing of a half that this entry began, where it is a Begin
+abbrev pub closing_by : Closing → Item → Option Event
+closing_by c (Sent sender (Begin otid dialogue components)) = Some (Closes c.side (half_begun c.side sender otid))
+closing_by c _ = None
+
+-- the closing that is listed
 abbrev pub closing_event : List Item → Closing → Option Event
-closing_event items c = then_so (named_entry items c.gap c.entry) by
-  where
-    by : Item → Option Event
-    by (Sent sender (Begin otid dialogue components)) = Some (Closes c.side (half_begun c.side sender otid))
-    by _ = None
+closing_event items c = then_so (named_entry items c.gap c.entry) (closing_by c)
 
 abbrev pub invoke_id : Component → Option ℤ
 invoke_id (Invoke id linked code parameter) = Some id
@@ -52,16 +53,17 @@ originating (Begin otid dialogue components) = Some otid
 originating (Continue otid dtid dialogue components) = Some otid
 originating _ = None
 
--- the expiry that is listed, where its entry is a Begin or a Continue of that end, and its component an Invoke
+-- the expiry of what this entry invoked, where it is a Begin or a Continue of that end, and its component an Invoke
+abbrev pub expiry_by : Expiry → Item → Option Event
+expiry_by x (Sent sender message) =
+    where_so (is_side x.side sender)
+    (then_so (originating message)
+    (λ otid. then_so (then_so (slice_get (components_in message) x.component) invoke_id) (λ id. Some (Expires x.side (names.Own otid) id))))
+expiry_by x Mark = None
+
+-- the expiry that is listed
 abbrev pub expiry_event : List Item → Expiry → Option Event
-expiry_event items x = then_so (named_entry items x.gap x.entry) by
-  where
-    by : Item → Option Event
-    by (Sent sender message) =
-        where_so (is_side x.side sender)
-        (then_so (originating message)
-        (λ otid. then_so (then_so (slice_get (components_in message) x.component) invoke_id) (λ id. Some (Expires x.side (names.Own otid) id))))
-    by Mark = None
+expiry_event items x = then_so (named_entry items x.gap x.entry) (expiry_by x)
 
 -- ---- gaps
 
@@ -89,22 +91,23 @@ taken_by reply n [] = []
 taken_by reply n (By k ∷ fates) = cond (k == reply) (n ∷ taken_by reply (n + 1) fates) (taken_by reply (n + 1) fates)
 taken_by reply n (_ ∷ fates) = taken_by reply (n + 1) fates
 
--- The event that adds the item of that number to the sent list: an Abort with a cause is the provider's reply to the one message that is
--- taken by it; nothing is taken by another item. A quiet mark has the next gap as its fate.
-abbrev pub sending : Certificate → ℕ → Item → Option Event
-sending certificate number item = by item (taken_by number 0 certificate.fates)
-  where
-    by_fate : Option Fate → Option Event
-    by_fate (Some (Gap g)) = where_so (g == number + 1) (Some Quiet)
-    by_fate _ = None
+-- a quiet mark of that number, whose fate is the next gap
+abbrev pub mark_by : ℕ → Option Fate → Option Event
+mark_by number (Some (Gap g)) = where_so (g == number + 1) (Some Quiet)
+mark_by number _ = None
 
-    by : Item → List ℕ → Option Event
-    by (Sent side (Abort dtid (Some (Cause cause)))) (taken ∷ []) = Some (Replies side taken)
-    by (Sent side (Abort dtid (Some (Cause cause)))) _ = None
-    by (Sent side message) [] = Some (Sends side message)
-    by (Sent side message) (taken ∷ more) = None
-    by Mark [] = by_fate (slice_get certificate.fates number)
-    by Mark (taken ∷ more) = None
+-- The event that adds the item of that number to the sent list, where these messages are taken by it: an Abort with a cause is the
+-- provider's reply to the one message that is; nothing is taken by another item.
+abbrev pub sending_by : Certificate → ℕ → Item → List ℕ → Option Event
+sending_by c number (Sent side (Abort dtid (Some (Cause cause)))) (taken ∷ []) = Some (Replies side taken)
+sending_by c number (Sent side (Abort dtid (Some (Cause cause)))) _ = None
+sending_by c number (Sent side message) [] = Some (Sends side message)
+sending_by c number (Sent side message) (taken ∷ more) = None
+sending_by c number Mark [] = mark_by number (slice_get c.fates number)
+sending_by c number Mark (taken ∷ more) = None
+
+abbrev pub sending : Certificate → ℕ → Item → Option Event
+sending c number item = sending_by c number item (taken_by number 0 c.fates)
 
 -- the half over which a message is sent, if it is one that carries Invokes over a half
 abbrev pub half_over : Message → Option HalfName

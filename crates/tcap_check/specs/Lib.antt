@@ -5,3 +5,5 @@ pub mod Follows
 pub mod Worked
 pub mod Since
 pub mod Refused
+pub mod Replayed
+pub mod Replays

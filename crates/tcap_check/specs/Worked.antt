@@ -66,13 +66,13 @@ abbrev pub answer : Option Dialogue → Option (List Component) → Message
 answer dialogue components = Continue (id 2) (id 1) dialogue components
 
 -- A's Continue from 01 to 02
-abbrev further : Component → Message
+abbrev pub further : Component → Message
 further component = Continue (id 1) (id 2) None (Some (component ∷ []))
 
 abbrev pub end_to : ℕ → Option (List Component) → Message
 end_to octet components = EndMessage (id octet) None components
 
-abbrev provider_abort : ℕ → ℕ → Message
+abbrev pub provider_abort : ℕ → ℕ → Message
 provider_abort octet cause = Abort (id octet) (Some (Cause cause))
 
 -- ---- runs

@@ -4,4 +4,5 @@
 
 pub mod laws;
 pub mod refused;
+pub mod replays;
 pub mod worked;

@@ -1,0 +1,169 @@
+-- Entries that are replayed, one after the other, follow the certificate but for losses.
+use Rattle.std.proofs.Common.{◌≡◌, ℕ, ◌+◌, ◌==◌, arith, Bool, true, false, List, [], ◌∷◌, ◌++◌, map, length, Option, Some, None, Result, Ok, Err, refl, sym, ap, ap₂, subst, ◌∙◌, append_assoc, append-nil}
+use Rattle.std.specs.Prelude.{slice_get}
+use Rattle.std.specs.List.{AllByRecursion}
+use Rattle.std.proofs.lemmas.Bool.{eqb-true}
+use Rattle.std.proofs.lemmas.List.{length-append}
+use Rattle.tcap_ber.specs.declared.fault.Fault.{Fault}
+use Rattle.tcap_msg.specs.declared.message.Message.{Message}
+use Rattle.tcap_record.specs.declared.entry.End.{End as Side}
+use Rattle.tcap_record.specs.declared.entry.Entry.{Entry}
+use Rattle.tcap_end.specs.Table.{Table}
+use Rattle.tcap_end.specs.Message.{where_so}
+use Rattle.tcap_end.proofs.StepLaws.{map_some}
+use Rattle.tcap_check.specs.World.{Item, Sent, Mark}
+use Rattle.tcap_check.specs.Run.{Event, Quiet, after}
+use Rattle.tcap_check.specs.Certificate.{Certificate, Fate, Gap, Lost, By}
+use Rattle.tcap_check.specs.Follows.{FatesFit, FollowsFrom, IsImplied, gap_events, mark_by, sending, sending_by, taken_by, without_losses}
+use Rattle.tcap_check.specs.Replayed.{◌>>=◌, BadMessage, CheckFault, FateCount, FateRange, NotQuiet, OutOfOrder, Replay, entries_replayed, entry_replayed, gap_replayed, happens, if_so, is_gap, is_in_order, is_nothing, item_of, item_replayed, lost_from_both, mark_replayed, message_replayed, next_entry, or_refused, sent_replayed, stepped}
+use Rattle.tcap_check.proofs.RunLaws.{grows}
+use Rattle.tcap_check.proofs.ReplayLaws.{Extends, IsSentBy, Replays, both_ok, both_replay, extends_then, gap_replays, if_so_ok, message_replays, or_refused_ok, replays_then, stepped_replays, without_both}
+use Rattle.tcap_check.proofs.ReplayGaps.{gap_events_before}
+
+-- The gap before an item was replayed, and then the item.
+pub record IsReplayedBy (table : Table) (c : Certificate) (item : Item) (r next : Replay) : Type 0 where
+  pub here : List Event
+  pub mid : Replay
+  pub here_is : map Some here ≡ gap_events c r.world.sent (next_entry r)
+  pub gap : Replays table r here [] mid
+  pub sent : IsSentBy table c item mid next
+
+-- A quiet mark.
+quiet_replays : (table : Table) (c : Certificate) (entry : ℕ) (r next : Replay) → happens table c Quiet NotQuiet entry r ≡ Ok next
+    → Replays table r (Quiet ∷ []) (Mark ∷ []) next
+quiet_replays table c entry r next is =
+    let before = lost_from_both c r in
+    let step = or_refused_ok NotQuiet entry (stepped table Quiet before) next is in
+    let found = map_some _ (after table Quiet before.world) next step in
+    let g = grows table Quiet before.world found.0 found.1 in
+    replays_then table r before next [] (Quiet ∷ []) [] (Mark ∷ []) (both_replay table c r)
+    (stepped_replays table Quiet (Mark ∷ []) before next refl step
+    (ap (λ (x : Replay). x.world.sent) (sym found.2) ∙ g.2 ∙ ap (λ (x : List Item). before.world.sent ++ x) g.1))
+
+nothing_is : (numbers : List ℕ) → is_nothing numbers ≡ true → numbers ≡ []
+nothing_is [] is = refl
+nothing_is (n ∷ numbers) is = cc
+
+mark_is : (number : ℕ) (fate : Fate) → is_gap (number + 1) fate ≡ true → mark_by number (Some fate) ≡ Some Quiet
+mark_is number (Gap g) is = rw is refl
+mark_is number Lost is = cc
+mark_is number (By k) is = cc
+
+mark_replays : (table : Table) (c : Certificate) (fate : Fate) (r next : Replay) → slice_get c.fates (next_entry r) ≡ Some fate
+    → mark_replayed table c fate r ≡ Ok next → IsReplayedBy table c Mark r next
+mark_replays table c fate r next has is =
+    let number = next_entry r in
+    let so = if_so_ok (is_gap (number + 1) fate) FateRange number _ next is in
+    let gap = both_ok (gap_replayed table c r) _ next so.1 in
+    let here = gap_replays table c r gap.0 gap.1 in
+    let free = if_so_ok (is_nothing (taken_by number 0 c.fates)) NotQuiet number _ next gap.2 in
+    let same : next_entry gap.0 ≡ number = ap length (here.2.sent ∙ append-nil r.world.sent) in
+    let sends : sending c number Mark ≡ Some Quiet =
+    ap (sending_by c number Mark) (nothing_is (taken_by number 0 c.fates) free.0) ∙ ap (mark_by number) has ∙ mark_is number fate so.0 in
+    record {
+      here = here.0;
+      mid = gap.0;
+      here_is = here.1;
+      gap = here.2;
+      sent = record {
+        implied = [];
+        sends = Quiet;
+        are_implied = tt;
+        sends_is = ap (λ (n : ℕ). sending c n Mark) same ∙ sends;
+        replays = quiet_replays table c number gap.0 next free.1;
+      };
+    }
+
+sent_replays : (table : Table) (c : Certificate) (fate : Fate) (side : Side) (message : Message) (r next : Replay)
+    → sent_replayed table c fate side message r ≡ Ok next → IsReplayedBy table c (Sent side message) r next
+sent_replays table c fate side message r next is =
+    let so = if_so_ok (is_in_order c side fate r.world.sent) OutOfOrder (next_entry r) _ next is in
+    let gap = both_ok (gap_replayed table c r) _ next so.1 in
+    let here = gap_replays table c r gap.0 gap.1 in
+    record { here = here.0; mid = gap.0; here_is = here.1; gap = here.2; sent = message_replays table c side message gap.0 next gap.2 }
+
+item_replays : (table : Table) (c : Certificate) (fate : Fate) (item : Item) (r next : Replay) → slice_get c.fates (next_entry r) ≡ Some fate
+    → item_replayed table c fate item r ≡ Ok next → IsReplayedBy table c item r next
+item_replays table c fate (Sent side message) r next has is = sent_replays table c fate side message r next is
+item_replays table c fate Mark r next has is = mark_replays table c fate r next has is
+
+-- ---- entries
+
+abbrev ok_item : Item → Result Item Fault
+ok_item item = Ok item
+
+-- Entries that were replayed are these items, and the steps follow the certificate but for losses.
+pub record AreReplayed (table : Table) (c : Certificate) (entries : List Entry) (r next : Replay) : Type 0 where
+  pub items : List Item
+  pub are : map ok_item items ≡ map item_of entries
+  pub steps : List Event
+  pub extends : Extends table r steps next
+  pub sent : next.world.sent ≡ r.world.sent ++ items
+  pub counted : length next.world.sent ≡ length c.fates
+  pub follows : FollowsFrom c (r.world.sent ++ items) (next_entry r) items (without_losses steps)
+
+in_turn : (here implied : List Event) (sends : Event) (rest : List Event) → here ++ (implied ++ sends ∷ []) ++ rest ≡ here ++ implied ++ sends ∷ rest
+in_turn here implied sends rest =
+    ap (λ (x : List Event). x ++ rest) (sym (append_assoc here implied (sends ∷ []))) ∙ append_assoc (here ++ implied) (sends ∷ []) rest
+
+one_entry : (table : Table) (c : Certificate) (entry : Entry) (entries : List Entry) (item : Item) (r mid next : Replay) (count : ℕ) → FatesFit count 0 c.fates
+    → ok_item item ≡ item_of entry → IsReplayedBy table c item r mid → AreReplayed table c entries mid next → AreReplayed table c (entry ∷ entries) r next
+one_entry table c entry entries item r mid next count fit is one rest =
+    let before = r.world.sent in
+    let more = rest.items in
+    let all = item ∷ more in
+    let both = replays_then table r one.mid mid one.here _ [] (item ∷ []) one.gap one.sent.replays in
+    let sent : mid.world.sent ≡ before ++ item ∷ [] = both.sent in
+    let joined : mid.world.sent ++ more ≡ before ++ all = ap (λ (x : List Item). x ++ more) sent ∙ append_assoc before (item ∷ []) more in
+    let number : next_entry mid ≡ next_entry r + 1 = ap length sent ∙ length-append before (item ∷ []) in
+    let same : next_entry one.mid ≡ next_entry r = ap length (one.gap.sent ∙ append-nil before) in
+    let follows : FollowsFrom c (before ++ all) (next_entry r + 1) more (without_losses rest.steps) =
+    subst (λ (n : ℕ). FollowsFrom c (before ++ all) n more (without_losses rest.steps)) number
+    (subst (λ (x : List Item). FollowsFrom c x (next_entry mid) more (without_losses rest.steps)) joined rest.follows) in
+    record {
+      items = all;
+      are = ap₂ (λ (x : Result Item Fault) (xs : List (Result Item Fault)). x ∷ xs) is rest.are;
+      steps = both.steps ++ rest.steps;
+      extends = extends_then table r mid next both.steps rest.steps both.extends rest.extends;
+      sent = rest.sent ∙ joined;
+      counted = rest.counted;
+      follows = (
+        one.here,
+        one.sent.implied,
+        without_losses rest.steps,
+        one.sent.sends,
+        one.here_is ∙ sym (gap_events_before c count before all fit),
+        one.sent.are_implied,
+        ap (λ (n : ℕ). sending c n item) (sym same) ∙ one.sent.sends_is,
+        without_both both.steps rest.steps ∙ ap (λ (x : List Event). x ++ without_losses rest.steps) both.are
+        ∙ in_turn one.here one.sent.implied one.sent.sends (without_losses rest.steps),
+        follows,
+      );
+    }
+
+pub entries_replay : (table : Table) (c : Certificate) (entries : List Entry) (r next : Replay) (count : ℕ) → FatesFit count 0 c.fates
+    → entries_replayed table c entries r ≡ Ok next → AreReplayed table c entries r next
+entries_replay table c [] r next count fit is =
+    let so = if_so_ok (next_entry r == length c.fates) FateCount (next_entry r) (gap_replayed table c r) next is in
+    let gap = gap_replays table c r next so.1 in
+    record {
+      items = [];
+      are = refl;
+      steps = gap.2.steps;
+      extends = gap.2.extends;
+      sent = gap.2.sent;
+      counted = ap length (gap.2.sent ∙ append-nil r.world.sent) ∙ eqb-true (next_entry r) (length c.fates) so.0;
+      follows = ap (map Some) gap.2.are ∙ gap.1 ∙ sym (gap_events_before c count r.world.sent [] fit);
+    }
+entries_replay table c (entry ∷ entries) r next count fit is =
+    let fate = both_ok (or_refused FateCount (next_entry r) (slice_get c.fates (next_entry r))) _ next is in
+    let has = or_refused_ok FateCount (next_entry r) (slice_get c.fates (next_entry r)) fate.0 fate.1 in
+    let one = both_ok (entry_replayed table c fate.0 (item_of entry) r) _ next fate.2 in
+    let rest = entries_replay table c entries one.0 next count fit one.2 in
+    by fate.0 one.0 (item_of entry) refl has one.1 rest
+  where
+    by : (fate : Fate) (mid : Replay) (x : Result Item Fault) → item_of entry ≡ x → slice_get c.fates (next_entry r) ≡ Some fate
+        → entry_replayed table c fate x r ≡ Ok mid → AreReplayed table c entries mid next → AreReplayed table c (entry ∷ entries) r next
+    by fate mid (Ok item) e has is rest =
+        one_entry table c entry entries item r mid next count fit (sym e) (item_replays table c fate item r mid has is) rest
+    by fate mid (Err fault) e has is rest = cc

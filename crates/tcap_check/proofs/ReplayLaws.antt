@@ -1,0 +1,519 @@
+-- What is replayed is a run, step by step.
+use Rattle.std.proofs.Common.{◌≡◌, ℕ, ℤ, ◌+◌, ◌==◌, Bool, true, false, cond, List, [], ◌∷◌, ◌++◌, map, filter, filter_map, length, arith, drop, Option, Some, None, Result, Ok, Err, option_map, refl, sym, ap, ap₂, subst, ◌∙◌, append_assoc, append-nil}
+use Rattle.std.specs.Prelude.{◌&&◌, ◌||◌, Contains, slice_get}
+use Rattle.std.specs.Str.{bytes_eq}
+use Rattle.std.specs.List.{AllByRecursion}
+use Rattle.std.proofs.lemmas.List.Elements.{Contains-append_right}
+use Rattle.std.proofs.lemmas.Bool.{and_parts, eq-eqb, eqb-true}
+use Rattle.std.proofs.lemmas.Slice.Eq.{bytes_eq-Decides}
+use Rattle.tcap_msg.specs.declared.message.AbortReason.TheVariants.{Cause, Dialogue as ByDialogue}
+use Rattle.tcap_msg.specs.declared.message.Message.{Message}
+use Rattle.tcap_msg.specs.declared.message.Message.TheVariants.{Unidirectional, Begin, Continue, End as EndMessage, Abort}
+use Rattle.tcap_msg.specs.Parts.{components_in}
+use Rattle.tcap_record.specs.declared.entry.End.{End as Side}
+use Rattle.tcap_record.specs.declared.entry.End.TheVariants as sides
+use Rattle.tcap_end.specs.declared.fault.EndFault.{EndFault}
+use Rattle.tcap_end.specs.declared.fault.EndFault.TheVariants as faults
+use Rattle.tcap_end.specs.End.{End}
+use Rattle.tcap_end.specs.Refusal.{send_fault}
+use Rattle.tcap_end.specs.Reply.{aborts, refuses_begin, refuses_continue}
+use Rattle.tcap_end.specs.declared.half.HalfName.{HalfName}
+use Rattle.tcap_end.specs.declared.half.HalfName.TheVariants as names
+use Rattle.tcap_end.specs.Table.{Table}
+use Rattle.tcap_end.specs.Message.{then_so, where_so}
+use Rattle.tcap_end.proofs.StepLaws.{map_some, where_some}
+use Rattle.tcap_check.specs.World.{Item, Sent, Mark, OnItsWay, World, channel_from, end_at, is_side, other, with_channel}
+use Rattle.tcap_check.specs.Run.{Event, Sends, Delivers, Replies, Loses, Expires, Closes, Quiet, after, head_taken, played, provider_abort}
+use Rattle.tcap_check.specs.Certificate.{Certificate, Closing, Expiry, Fate, Gap, Lost, By}
+use Rattle.tcap_check.specs.Follows.{IsImplied, half_over, closing_by, closing_event, deliveries, expiry_by, expiry_event, gap_events, half_begun, invoke_id, is_loss, named_entry, originating, sending, sending_by, without_losses}
+use Rattle.tcap_check.proofs.RunLaws.{grows}
+use Rattle.tcap_check.specs.Replayed.{◌>>=◌, BadReply, CheckFault, FateRange, HiddenRefused, Reason, closings_replayed, deliveries_replayed, expiries_replayed, gap_replayed, if_so, implied, implied_over, may_reply, message_by, message_replayed, reply_replayed, next_entry, or_same, send_replayed, sent_or_refused, Replay, happens, losing, lost_before, lost_from_both, lost_from_front, if_lost, lost_front, or_refused, stepped}
+
+-- ---- runs, one behind the other
+
+pub played_on : (table : Table) (first rest : List Event) (w mid : World) → played table first w ≡ Some mid → played table (first ++ rest) w ≡ played table rest mid
+played_on table [] rest w mid is = let same : w ≡ mid = cc in ap (played table rest) same
+played_on table (event ∷ first) rest w mid is = by (after table event w) (λ x on. played_on table first rest x mid on) is
+  where
+    by : (o : Option World) → ((x : World) → played table first x ≡ Some mid → played table (first ++ rest) x ≡ played table rest mid)
+        → then_so o (played table first) ≡ Some mid → then_so o (played table (first ++ rest)) ≡ played table rest mid
+    by None on is = cc
+    by (Some x) on is = on x is
+
+-- These steps lead from the one to the other.
+pub record Extends (table : Table) (r : Replay) (more : List Event) (next : Replay) : Type 0 where
+  pub events : next.events ≡ r.events ++ more
+  pub plays : played table more r.world ≡ Some next.world
+
+pub extends_nothing : (table : Table) (r : Replay) → Extends table r [] r
+extends_nothing table r = record { events = sym (append-nil r.events); plays = refl }
+
+pub extends_then : (table : Table) (r mid next : Replay) (first rest : List Event) → Extends table r first mid → Extends table mid rest next
+    → Extends table r (first ++ rest) next
+extends_then table r mid next first rest a b = record {
+  events = b.events ∙ ap (λ (x : List Event). x ++ rest) a.events ∙ append_assoc r.events first rest;
+  plays = played_on table first rest r.world mid.world a.plays ∙ b.plays;
+}
+
+-- ---- one step
+
+pub or_refused_ok : {A : Type 0} (reason : Reason) (entry : ℕ) (o : Option A) (x : A) → or_refused reason entry o ≡ Ok x → o ≡ Some x
+or_refused_ok reason entry None x is = cc
+or_refused_ok reason entry (Some y) x is = cc
+
+pub stepped_extends : (table : Table) (event : Event) (r next : Replay) → stepped table event r ≡ Some next → Extends table r (event ∷ []) next
+stepped_extends table event r next is =
+    let found = map_some _ (after table event r.world) next is in record {
+      events = ap (λ (x : Replay). x.events) (sym found.2);
+      plays = rw found.1 (ap (λ (x : Replay). Some x.world) found.2);
+    }
+
+-- ---- losses
+
+with_same : (side : Side) (w : World) → with_channel side (channel_from side w) w ≡ w
+with_same sides.A w = refl
+with_same sides.B w = refl
+
+with_twice : (side : Side) (a b : List OnItsWay) (w : World) → with_channel side a (with_channel side b w) ≡ with_channel side a w
+with_twice sides.A a b w = refl
+with_twice sides.B a b w = refl
+
+channel_with : (side : Side) (a : List OnItsWay) (w : World) → channel_from side (with_channel side a w) ≡ a
+channel_with sides.A a w = refl
+channel_with sides.B a w = refl
+
+stays : (side : Side) (channel : List OnItsWay) (w : World) → channel_from side w ≡ channel → Some w ≡ Some (with_channel side channel w)
+stays side channel w is = ap Some (sym (ap (λ (x : List OnItsWay). with_channel side x w) (sym is) ∙ with_same side w))
+
+-- Those at the front that are lost may be lost.
+pub front_plays : (table : Table) (fates : List Fate) (side : Side) (channel : List OnItsWay) (w : World) → channel_from side w ≡ channel
+    → played table (map (Loses side) (lost_front fates channel)) w ≡ Some (with_channel side (drop (length (lost_front fates channel)) channel) w)
+front_plays table fates side [] w is = stays side [] w is
+front_plays table fates side (first ∷ more) w is =
+    by (slice_get fates first.number) (front_plays table fates side more (with_channel side more w) (channel_with side more w))
+  where
+    rest : List ℕ
+    rest = lost_front fates more
+
+    taken : after table (Loses side first.number) w ≡ Some (with_channel side more w)
+    taken = rw (is, eq-eqb first.number first.number refl) refl
+
+    by : (o : Option Fate)
+        → played table (map (Loses side) rest) (with_channel side more w)
+        ≡ Some (with_channel side (drop (length rest) more) (with_channel side more w))
+        → played table (map (Loses side) (if_lost o (first.number ∷ rest))) w
+        ≡ Some (with_channel side (drop (length (if_lost o (first.number ∷ rest))) (first ∷ more)) w)
+    by None goes = stays side (first ∷ more) w is
+    by (Some (Gap g)) goes = stays side (first ∷ more) w is
+    by (Some (By k)) goes = stays side (first ∷ more) w is
+    by (Some Lost) goes = rw taken (goes ∙ ap Some (with_twice side (drop (length rest) more) more w))
+
+-- ---- steps and losses
+
+pub without_both : (xs ys : List Event) → without_losses (xs ++ ys) ≡ without_losses xs ++ without_losses ys
+without_both [] ys = refl
+without_both (x ∷ xs) ys = by (is_loss x) (without_both xs ys)
+  where
+    by : (b : Bool) → without_losses (xs ++ ys) ≡ without_losses xs ++ without_losses ys
+        → cond b (without_losses (xs ++ ys)) (x ∷ without_losses (xs ++ ys))
+        ≡ cond b (without_losses xs) (x ∷ without_losses xs) ++ without_losses ys
+    by true rest = rest
+    by false rest = ap (λ (es : List Event). x ∷ es) rest
+
+without_all : (side : Side) (numbers : List ℕ) → without_losses (map (Loses side) numbers) ≡ []
+without_all side [] = refl
+without_all side (n ∷ numbers) = without_all side numbers
+
+-- Steps lead from the one to the other that are these but for losses, and add these items to the sent list.
+pub record Replays (table : Table) (r : Replay) (plain : List Event) (items : List Item) (next : Replay) : Type 0 where
+  pub steps : List Event
+  pub extends : Extends table r steps next
+  pub are : without_losses steps ≡ plain
+  pub sent : next.world.sent ≡ r.world.sent ++ items
+
+pub replays_nothing : (table : Table) (r : Replay) → Replays table r [] [] r
+replays_nothing table r = record { steps = []; extends = extends_nothing table r; are = refl; sent = sym (append-nil r.world.sent) }
+
+pub replays_then : (table : Table) (r mid next : Replay) (xs ys : List Event) (before behind : List Item) → Replays table r xs before mid → Replays table mid ys behind next
+    → Replays table r (xs ++ ys) (before ++ behind) next
+replays_then table r mid next xs ys before behind a b = record {
+  steps = a.steps ++ b.steps;
+  extends = extends_then table r mid next a.steps b.steps a.extends b.extends;
+  are = without_both a.steps b.steps ∙ ap (λ (x : List Event). x ++ without_losses b.steps) a.are ∙ ap (λ (y : List Event). xs ++ y) b.are;
+  sent = b.sent ∙ ap (λ (x : List Item). x ++ behind) a.sent ∙ append_assoc r.world.sent before behind;
+}
+
+sent_with_channel : (side : Side) (messages : List OnItsWay) (w : World) → (with_channel side messages w).sent ≡ w.sent
+sent_with_channel sides.A messages w = refl
+sent_with_channel sides.B messages w = refl
+
+pub losing_replays : (table : Table) (c : Certificate) (side : Side) (r : Replay) → Replays table r [] [] (lost_from_front c side r)
+losing_replays table c side r =
+    let lost = lost_front c.fates (channel_from side r.world) in record {
+      steps = map (Loses side) lost;
+      extends = record { events = refl; plays = front_plays table c.fates side (channel_from side r.world) r.world refl };
+      are = without_all side lost;
+      sent = sent_with_channel side _ r.world ∙ sym (append-nil r.world.sent);
+    }
+
+pub both_replay : (table : Table) (c : Certificate) (r : Replay) → Replays table r [] [] (lost_from_both c r)
+both_replay table c r =
+    let first = lost_from_front c sides.A r in
+    replays_then table r first (lost_from_both c r) [] [] [] [] (losing_replays table c sides.A r) (losing_replays table c sides.B first)
+
+pub before_replays : (table : Table) (c : Certificate) (event : Event) (r : Replay) → Replays table r [] [] (lost_before c event r)
+before_replays table c (Sends side m) r = replays_nothing table r
+before_replays table c (Delivers side n) r = losing_replays table c side r
+before_replays table c (Replies side n) r = losing_replays table c (other side) r
+before_replays table c (Loses side n) r = replays_nothing table r
+before_replays table c (Expires side name id) r = replays_nothing table r
+before_replays table c (Closes side name) r = replays_nothing table r
+before_replays table c Quiet r = both_replay table c r
+
+-- A step that is no loss.
+pub stepped_replays : (table : Table) (event : Event) (items : List Item) (r next : Replay) → is_loss event ≡ false → stepped table event r ≡ Some next
+    → next.world.sent ≡ r.world.sent ++ items → Replays table r (event ∷ []) items next
+stepped_replays table event items r next plain is sent = record {
+  steps = event ∷ [];
+  extends = stepped_extends table event r next is;
+  are = rw plain refl;
+  sent = sent;
+}
+
+-- ---- results one after the other
+
+-- Both were answered.
+pub both_ok : {A B : Type 0} (first : Result A CheckFault) (more : A → Result B CheckFault) (y : B) → (first >>= more) ≡ Ok y
+    → (x : A) × (first ≡ Ok x) × (more x ≡ Ok y)
+both_ok (Ok x) more y is = (x, refl, is)
+both_ok (Err fault) more y is = cc
+
+-- ---- a gap
+
+some_is : {A : Type 0} {x y : A} → (let o : Option A = Some x in o) ≡ Some y → x ≡ y
+some_is e = cc
+
+-- What happens in a gap adds nothing to the sent list.
+pub record IsGapEvent (event : Event) : Type 0 where
+  pub plain : is_loss event ≡ false
+  pub adds : (table : Table) (w next : World) → after table event w ≡ Some next → next.sent ≡ w.sent ++ []
+
+closes_in_gap : (side : Side) (name : HalfName) → IsGapEvent (Closes side name)
+closes_in_gap side name = record {
+  plain = refl;
+  adds = λ table w next is. let g = grows table (Closes side name) w next is in g.2 ∙ ap (λ (x : List Item). w.sent ++ x) g.1;
+}
+
+expires_in_gap : (side : Side) (name : HalfName) (id : ℤ) → IsGapEvent (Expires side name id)
+expires_in_gap side name id = record {
+  plain = refl;
+  adds = λ table w next is. let g = grows table (Expires side name id) w next is in g.2 ∙ ap (λ (x : List Item). w.sent ++ x) g.1;
+}
+
+delivers_in_gap : (side : Side) (number : ℕ) → IsGapEvent (Delivers side number)
+delivers_in_gap side number = record {
+  plain = refl;
+  adds = λ table w next is. let g = grows table (Delivers side number) w next is in g.2 ∙ ap (λ (x : List Item). w.sent ++ x) g.1;
+}
+
+-- One such event, with the losses before it.
+pub gap_event : (table : Table) (c : Certificate) (event : Event) (reason : Reason) (entry : ℕ) (r next : Replay) → IsGapEvent event
+    → happens table c event reason entry r ≡ Ok next → Replays table r (event ∷ []) [] next
+gap_event table c event reason entry r next in_gap is =
+    let before = lost_before c event r in
+    let step = or_refused_ok reason entry (stepped table event before) next is in
+    let found = map_some _ (after table event before.world) next step in
+    let sent : next.world.sent ≡ before.world.sent ++ [] = ap (λ (x : Replay). x.world.sent) (sym found.2) ∙ in_gap.adds table before.world found.0 found.1 in
+    replays_then table r before next [] (event ∷ []) [] [] (before_replays table c event r) (stepped_replays table event [] before next in_gap.plain step sent)
+
+then_some : {A B : Type 0} (o : Option A) (step : A → Option B) (y : B) → then_so o step ≡ Some y → (x : A) × (o ≡ Some x) × (step x ≡ Some y)
+then_some None step y is = cc
+then_some (Some x) step y is = (x, refl, is)
+
+closing_in_gap : (items : List Item) (x : Closing) (event : Event) → closing_event items x ≡ Some event → IsGapEvent event
+closing_in_gap items x event is = let found = then_some (named_entry items x.gap x.entry) (closing_by x) event is in by found.0 found.2
+  where
+    by : (item : Item) → closing_by x item ≡ Some event → IsGapEvent event
+    by (Sent sender (Begin otid dialogue components)) e = subst IsGapEvent (some_is e) (closes_in_gap x.side (half_begun x.side sender otid))
+    by (Sent sender (Unidirectional dialogue components)) e = cc
+    by (Sent sender (Continue otid dtid dialogue components)) e = cc
+    by (Sent sender (EndMessage dtid dialogue components)) e = cc
+    by (Sent sender (Abort dtid reason)) e = cc
+    by Mark e = cc
+
+expiry_in_gap : (items : List Item) (x : Expiry) (event : Event) → expiry_event items x ≡ Some event → IsGapEvent event
+expiry_in_gap items x event is = let found = then_some (named_entry items x.gap x.entry) (expiry_by x) event is in by found.0 found.2
+  where
+    by : (item : Item) → expiry_by x item ≡ Some event → IsGapEvent event
+    by (Sent sender message) e =
+        let so = where_some (is_side x.side sender) _ event e in
+        let named = then_some (originating message) _ event so.1 in
+        let id = then_some (then_so (slice_get (components_in message) x.component) invoke_id) _ event named.2 in
+        subst IsGapEvent (some_is id.2) (expires_in_gap x.side (names.Own named.0) id.0)
+    by Mark e = cc
+
+-- Closings, as they are listed for the items that were sent so far.
+pub closings_replay : (table : Table) (c : Certificate) (listed : List Closing) (items : List Item) (r next : Replay) → r.world.sent ≡ items
+    → closings_replayed table c listed r ≡ Ok next
+    → (events : List Event) × (map Some events ≡ map (closing_event items) listed) × Replays table r events [] next
+closings_replay table c [] items r next so is = let same : r ≡ next = cc in ([], refl, subst (Replays table r [] []) same (replays_nothing table r))
+closings_replay table c (x ∷ more) items r next so is =
+    let found = both_ok (or_refused FateRange x.entry (closing_event r.world.sent x)) _ next is in
+    let event = found.0 in
+    let named = or_refused_ok FateRange x.entry (closing_event r.world.sent x) event found.1 in
+    let then = both_ok (happens table c event (HiddenRefused faults.CannotClose) x.entry r) _ next found.2 in
+    let one = gap_event table c event (HiddenRefused faults.CannotClose) x.entry r then.0 (closing_in_gap r.world.sent x event named) then.1 in
+    let so_far : then.0.world.sent ≡ items = one.sent ∙ append-nil r.world.sent ∙ so in
+    let rest = closings_replay table c more items then.0 next so_far then.2 in (
+      event ∷ rest.0,
+      ap₂ (λ (e : Option Event) (es : List (Option Event)). e ∷ es) (sym named ∙ ap (λ (s : List Item). closing_event s x) so) rest.1,
+      replays_then table r then.0 next (event ∷ []) rest.0 [] [] one rest.2,
+    )
+
+-- Expiries, as they are listed for them.
+pub expiries_replay : (table : Table) (c : Certificate) (listed : List Expiry) (items : List Item) (r next : Replay) → r.world.sent ≡ items
+    → expiries_replayed table c listed r ≡ Ok next
+    → (events : List Event) × (map Some events ≡ map (expiry_event items) listed) × Replays table r events [] next
+expiries_replay table c [] items r next so is = let same : r ≡ next = cc in ([], refl, subst (Replays table r [] []) same (replays_nothing table r))
+expiries_replay table c (x ∷ more) items r next so is =
+    let found = both_ok (or_refused FateRange x.entry (expiry_event r.world.sent x)) _ next is in
+    let event = found.0 in
+    let named = or_refused_ok FateRange x.entry (expiry_event r.world.sent x) event found.1 in
+    let then = both_ok (happens table c event (HiddenRefused faults.CannotExpire) x.entry r) _ next found.2 in
+    let one = gap_event table c event (HiddenRefused faults.CannotExpire) x.entry r then.0 (expiry_in_gap r.world.sent x event named) then.1 in
+    let so_far : then.0.world.sent ≡ items = one.sent ∙ append-nil r.world.sent ∙ so in
+    let rest = expiries_replay table c more items then.0 next so_far then.2 in (
+      event ∷ rest.0,
+      ap₂ (λ (e : Option Event) (es : List (Option Event)). e ∷ es) (sym named ∙ ap (λ (s : List Item). expiry_event s x) so) rest.1,
+      replays_then table r then.0 next (event ∷ []) rest.0 [] [] one rest.2,
+    )
+
+-- Deliveries, by number.
+pub deliveries_replay : (table : Table) (c : Certificate) (gap number : ℕ) (fates : List Fate) (items : List Item) (r next : Replay)
+    → deliveries_replayed table c gap number fates items r ≡ Ok next → Replays table r (deliveries gap number fates items) [] next
+deliveries_replay table c gap number [] items r next is = let same : r ≡ next = cc in subst (Replays table r [] []) same (replays_nothing table r)
+deliveries_replay table c gap number (fate ∷ fates) [] r next is = let same : r ≡ next = cc in subst (Replays table r [] []) same (replays_nothing table r)
+deliveries_replay table c gap number (Gap g ∷ fates) (Sent side message ∷ items) r next is =
+    by (g == gap) (λ mid. deliveries_replay table c gap (number + 1) fates items mid next) is
+  where
+    by : (b : Bool)
+        → ((mid : Replay) → deliveries_replayed table c gap (number + 1) fates items mid ≡ Ok next
+        → Replays table mid (deliveries gap (number + 1) fates items) [] next)
+        → (cond b (happens table c (Delivers side number) BadReply number r) (Ok r) >>= deliveries_replayed table c gap (number + 1) fates items) ≡ Ok next
+        → Replays table r (cond b (Delivers side number ∷ deliveries gap (number + 1) fates items) (deliveries gap (number + 1) fates items)) [] next
+    by true on is =
+        let one = both_ok (happens table c (Delivers side number) BadReply number r) _ next is in
+        replays_then table r one.0 next (Delivers side number ∷ []) (deliveries gap (number + 1) fates items) [] []
+        (gap_event table c (Delivers side number) BadReply number r one.0 (delivers_in_gap side number) one.1) (on one.0 one.2)
+    by false on is = on r is
+deliveries_replay table c gap number (Gap g ∷ fates) (Mark ∷ items) r next is = deliveries_replay table c gap (number + 1) fates items r next is
+deliveries_replay table c gap number (Lost ∷ fates) (Sent side message ∷ items) r next is = deliveries_replay table c gap (number + 1) fates items r next is
+deliveries_replay table c gap number (Lost ∷ fates) (Mark ∷ items) r next is = deliveries_replay table c gap (number + 1) fates items r next is
+deliveries_replay table c gap number (By k ∷ fates) (Sent side message ∷ items) r next is = deliveries_replay table c gap (number + 1) fates items r next is
+deliveries_replay table c gap number (By k ∷ fates) (Mark ∷ items) r next is = deliveries_replay table c gap (number + 1) fates items r next is
+
+map_both : {A B : Type 0} (f : A → B) (xs ys : List A) → map f (xs ++ ys) ≡ map f xs ++ map f ys
+map_both f [] ys = refl
+map_both f (x ∷ xs) ys = ap (λ zs. f x ∷ zs) (map_both f xs ys)
+
+three_parts : (xs ys zs : List Event) (firsts seconds : List (Option Event)) → map Some xs ≡ firsts → map Some ys ≡ seconds
+    → map Some (xs ++ ys ++ zs) ≡ firsts ++ seconds ++ map Some zs
+three_parts xs ys zs firsts seconds a b =
+    map_both Some (xs ++ ys) zs ∙ ap (λ (x : List (Option Event)). x ++ map Some zs) (map_both Some xs ys ∙ ap₂ (λ (x y : List (Option Event)). x ++ y) a b)
+
+-- The gap before the next entry.
+pub gap_replays : (table : Table) (c : Certificate) (r next : Replay) → gap_replayed table c r ≡ Ok next
+    → (events : List Event) × (map Some events ≡ gap_events c r.world.sent (next_entry r)) × Replays table r events [] next
+gap_replays table c r next is =
+    let items = r.world.sent in
+    let gap = next_entry r in
+    let closing = filter (λ (x : Closing). x.gap == gap) c.close in
+    let expiring = filter (λ (x : Expiry). x.gap == gap) c.expire in
+    let a = both_ok (closings_replayed table c closing r) _ next is in
+    let closed = closings_replay table c closing items r a.0 refl a.1 in
+    let b = both_ok (expiries_replayed table c expiring a.0) _ next a.2 in
+    let expired = expiries_replay table c expiring items a.0 b.0 (closed.2.sent ∙ append-nil items) b.1 in
+    let delivered = deliveries_replay table c gap 0 c.fates items b.0 next b.2 in
+    let events = deliveries gap 0 c.fates items in (
+      closed.0 ++ expired.0 ++ events,
+      three_parts closed.0 expired.0 events (map (closing_event items) closing) (map (expiry_event items) expiring) closed.1 expired.1,
+      replays_then table r b.0 next (closed.0 ++ expired.0) events [] [] (replays_then table r a.0 b.0 closed.0 expired.0 [] [] closed.2 expired.2) delivered,
+    )
+
+-- ---- an item
+
+-- Expiries that a message implies.
+pub implied_replay : (table : Table) (side : Side) (message : Message) (name : HalfName) (ids : List ℤ) (r : Replay) → half_over message ≡ Some name
+    → ((id : ℤ) → Contains ids id → Contains (filter_map invoke_id (components_in message)) id)
+    → (events : List Event) × AllByRecursion (IsImplied (Sent side message)) events × Replays table r events [] (implied table side name ids r)
+implied_replay table side message name [] r over there = ([], tt, replays_nothing table r)
+implied_replay table side message name (id ∷ ids) r over there =
+    by (stepped table (Expires side name id) r) refl (λ next. implied_replay table side message name ids next over behind)
+  where
+    behind : (other : ℤ) → Contains ids other → Contains (filter_map invoke_id (components_in message)) other
+    behind other h = there other (Contains-append_right (id ∷ []) ids other h)
+
+    by : (o : Option Replay) → stepped table (Expires side name id) r ≡ o
+        → ((next : Replay) → (events : List Event) × AllByRecursion (IsImplied (Sent side message)) events × Replays table next events [] (implied table side name ids next))
+        → (events : List Event) × AllByRecursion (IsImplied (Sent side message)) events × Replays table r events [] (implied table side name ids (or_same r o))
+    by None is on = on r
+    by (Some next) is on =
+        let event = Expires side name id in
+        let found = map_some _ (after table event r.world) next is in
+        let sent : next.world.sent ≡ r.world.sent ++ [] =
+        ap (λ (x : Replay). x.world.sent) (sym found.2) ∙ (expires_in_gap side name id).adds table r.world found.0 found.1 in
+        let rest = on next in (
+          event ∷ rest.0,
+          ((refl, over, there id (0, omega arith, refl)), rest.1),
+          replays_then table r next _ (event ∷ []) rest.0 [] [] (stepped_replays table event [] r next refl is sent) rest.2,
+        )
+
+-- A message that an end sends.
+pub send_replays : (table : Table) (side : Side) (message : Message) (r next : Replay) → send_replayed table side message r ≡ Ok next
+    → Replays table r (Sends side message ∷ []) (Sent side message ∷ []) next
+send_replays table side message r next is = by (send_fault table (end_at side r.world) message) is
+  where
+    by : (fault : Option EndFault) → sent_or_refused (next_entry r) fault (stepped table (Sends side message) r) ≡ Ok next
+        → Replays table r (Sends side message ∷ []) (Sent side message ∷ []) next
+    by (Some fault) e = cc
+    by None e =
+        let step = or_refused_ok BadReply (next_entry r) (stepped table (Sends side message) r) next e in
+        let found = map_some _ (after table (Sends side message) r.world) next step in
+        let g = grows table (Sends side message) r.world found.0 found.1 in
+        stepped_replays table (Sends side message) (Sent side message ∷ []) r next refl step
+        (ap (λ (x : Replay). x.world.sent) (sym found.2) ∙ g.2 ∙ ap (λ (x : List Item). r.world.sent ++ x) g.1)
+
+-- A provider's Abort is the one that answers.
+abort_is : (cause : ℕ) (id : List ℕ) (abort : Message) → aborts cause id abort ≡ true → abort ≡ Abort id (Some (Cause cause))
+abort_is cause id (Abort dtid (Some (Cause n))) is =
+    let both = and_parts (n == cause) (bytes_eq id dtid) is in
+    ap₂ (λ (d : List ℕ) (k : ℕ). Abort d (Some (Cause k))) (sym ((bytes_eq-Decides id dtid).0 both.1)) (eqb-true n cause both.0)
+abort_is cause id (Abort dtid (Some (ByDialogue d))) is = cc
+abort_is cause id (Abort dtid None) is = cc
+abort_is cause id (Unidirectional dialogue components) is = cc
+abort_is cause id (Begin otid dialogue components) is = cc
+abort_is cause id (Continue otid dtid dialogue components) is = cc
+abort_is cause id (EndMessage dtid dialogue components) is = cc
+
+or_false : (b : Bool) → (b || false) ≡ true → b ≡ true
+or_false true is = refl
+or_false false is = is
+
+may_reply_is : (e : End) (m abort : Message) → (refuses_begin e m abort || refuses_continue e m abort) ≡ true → provider_abort m ≡ Some abort
+may_reply_is e (Begin otid dialogue components) abort is =
+    let all = and_parts (aborts 4 otid abort) _ (or_false (refuses_begin e (Begin otid dialogue components) abort) is) in
+    ap Some (sym (abort_is 4 otid abort all.0))
+may_reply_is e (Continue otid dtid dialogue components) abort is =
+    let all = and_parts (aborts 1 otid abort) _ is in
+    ap Some (sym (abort_is 1 otid abort all.0))
+may_reply_is e (Unidirectional dialogue components) abort is = cc
+may_reply_is e (EndMessage dtid dialogue components) abort is = cc
+may_reply_is e (Abort dtid reason) abort is = cc
+
+pub if_so_ok : {A : Type 0} (so : Bool) (reason : Reason) (entry : ℕ) (more : Result A CheckFault) (x : A) → if_so so reason entry more ≡ Ok x
+    → (so ≡ true) × (more ≡ Ok x)
+if_so_ok true reason entry more x is = (refl, is)
+if_so_ok false reason entry more x is = cc
+
+-- An Abort by which the provider of an end answers.
+pub reply_replays : (table : Table) (c : Certificate) (side : Side) (abort : Message) (number : ℕ) (r next : Replay)
+    → reply_replayed table c side abort number r ≡ Ok next → Replays table r (Replies side number ∷ []) (Sent side abort ∷ []) next
+reply_replays table c side abort number r next is =
+    let event = Replies side number in
+    let before = lost_from_front c (other side) r in
+    let so = if_so_ok (may_reply (end_at side r.world) abort (channel_from (other side) before.world)) BadReply (next_entry r) _ next is in
+    let step = or_refused_ok BadReply (next_entry r) (stepped table event before) next so.1 in
+    let found = map_some _ (after table event before.world) next step in
+    let g = grows table event before.world found.0 found.1 in
+    let made = g.1 in
+    let head = made.0 in
+    let answers = subst (λ (messages : List OnItsWay). may_reply (end_at side r.world) abort messages ≡ true) made.3 so.0 in
+    let same : made.2 ≡ abort = some_is (sym made.5 ∙ may_reply_is (end_at side r.world) head.message abort answers) in
+    let sent : next.world.sent ≡ before.world.sent ++ Sent side abort ∷ [] =
+    ap (λ (x : Replay). x.world.sent) (sym found.2) ∙ g.2 ∙ ap (λ (x : List Item). before.world.sent ++ x) made.6
+    ∙ ap (λ (m : Message). before.world.sent ++ Sent side m ∷ []) same in
+    replays_then table r before next [] (event ∷ []) [] (Sent side abort ∷ []) (losing_replays table c (other side) r)
+    (stepped_replays table event (Sent side abort ∷ []) before next refl step sent)
+
+-- What sends an item is a send of it, or a reply of its end, or a quiet mark.
+sends_itself : (c : Certificate) (number : ℕ) (side sender : Side) (message sent : Message) (taken : List ℕ)
+    → sending_by c number (Sent side message) taken ≡ Some (Sends sender sent) → Sends sender sent ≡ Sends side message
+sends_itself c number side sender (Abort dtid (Some (Cause cause))) sent [] is = cc
+sends_itself c number side sender (Abort dtid (Some (Cause cause))) sent (t ∷ []) is = cc
+sends_itself c number side sender (Abort dtid (Some (Cause cause))) sent (t ∷ u ∷ more) is = cc
+sends_itself c number side sender (Abort dtid (Some (ByDialogue d))) sent [] is = sym (some_is is)
+sends_itself c number side sender (Abort dtid (Some (ByDialogue d))) sent (t ∷ more) is = cc
+sends_itself c number side sender (Abort dtid None) sent [] is = sym (some_is is)
+sends_itself c number side sender (Abort dtid None) sent (t ∷ more) is = cc
+sends_itself c number side sender (Unidirectional dialogue components) sent [] is = sym (some_is is)
+sends_itself c number side sender (Unidirectional dialogue components) sent (t ∷ more) is = cc
+sends_itself c number side sender (Begin otid dialogue components) sent [] is = sym (some_is is)
+sends_itself c number side sender (Begin otid dialogue components) sent (t ∷ more) is = cc
+sends_itself c number side sender (Continue otid dtid dialogue components) sent [] is = sym (some_is is)
+sends_itself c number side sender (Continue otid dtid dialogue components) sent (t ∷ more) is = cc
+sends_itself c number side sender (EndMessage dtid dialogue components) sent [] is = sym (some_is is)
+sends_itself c number side sender (EndMessage dtid dialogue components) sent (t ∷ more) is = cc
+
+replies_itself : (c : Certificate) (number k : ℕ) (side replier : Side) (message : Message) (taken : List ℕ)
+    → sending_by c number (Sent side message) taken ≡ Some (Replies replier k) → Replies replier k ≡ Replies side k
+replies_itself c number k side replier (Abort dtid (Some (Cause cause))) [] is = cc
+replies_itself c number k side replier (Abort dtid (Some (Cause cause))) (t ∷ []) is = cc
+replies_itself c number k side replier (Abort dtid (Some (Cause cause))) (t ∷ u ∷ more) is = cc
+replies_itself c number k side replier (Abort dtid (Some (ByDialogue d))) [] is = cc
+replies_itself c number k side replier (Abort dtid (Some (ByDialogue d))) (t ∷ more) is = cc
+replies_itself c number k side replier (Abort dtid None) [] is = cc
+replies_itself c number k side replier (Abort dtid None) (t ∷ more) is = cc
+replies_itself c number k side replier (Unidirectional dialogue components) [] is = cc
+replies_itself c number k side replier (Unidirectional dialogue components) (t ∷ more) is = cc
+replies_itself c number k side replier (Begin otid dialogue components) [] is = cc
+replies_itself c number k side replier (Begin otid dialogue components) (t ∷ more) is = cc
+replies_itself c number k side replier (Continue otid dtid dialogue components) [] is = cc
+replies_itself c number k side replier (Continue otid dtid dialogue components) (t ∷ more) is = cc
+replies_itself c number k side replier (EndMessage dtid dialogue components) [] is = cc
+replies_itself c number k side replier (EndMessage dtid dialogue components) (t ∷ more) is = cc
+
+-- A message is replayed: the expiries that it implies, and the event that adds it to the sent list.
+pub record IsSentBy (table : Table) (c : Certificate) (item : Item) (r next : Replay) : Type 0 where
+  pub implied : List Event
+  pub sends : Event
+  pub are_implied : AllByRecursion (IsImplied item) implied
+  pub sends_is : sending c (next_entry r) item ≡ Some sends
+  pub replays : Replays table r (implied ++ sends ∷ []) (item ∷ []) next
+
+implied_by : (table : Table) (side : Side) (message : Message) (r : Replay)
+    → (events : List Event) × AllByRecursion (IsImplied (Sent side message)) events × Replays table r events [] (implied_over table side message (half_over message) r)
+implied_by table side message r = by (half_over message) refl
+  where
+    by : (name : Option HalfName) → half_over message ≡ name
+        → (events : List Event) × AllByRecursion (IsImplied (Sent side message)) events × Replays table r events [] (implied_over table side message name r)
+    by None is = ([], tt, replays_nothing table r)
+    by (Some name) is = implied_replay table side message name (filter_map invoke_id (components_in message)) r is (λ id h. h)
+
+pub message_replays : (table : Table) (c : Certificate) (side : Side) (message : Message) (r next : Replay)
+    → message_replayed table c side message r ≡ Ok next → IsSentBy table c (Sent side message) r next
+message_replays table c side message r next is = by (sending c (next_entry r) (Sent side message)) refl is
+  where
+    by : (o : Option Event) → sending c (next_entry r) (Sent side message) ≡ o → message_by table c side message o r ≡ Ok next
+        → IsSentBy table c (Sent side message) r next
+    by None found e = cc
+    by (Some (Sends sender sent)) found e =
+        let before = implied_by table side message r in
+        let mid = implied_over table side message (half_over message) r in record {
+          implied = before.0;
+          sends = Sends side message;
+          are_implied = before.1;
+          sends_is = found ∙ ap Some (sends_itself c (next_entry r) side sender message sent _ found);
+          replays = replays_then table r mid next before.0 (Sends side message ∷ []) [] (Sent side message ∷ []) before.2 (send_replays table side message mid next e);
+        }
+    by (Some (Replies replier number)) found e = record {
+      implied = [];
+      sends = Replies side number;
+      are_implied = tt;
+      sends_is = found ∙ ap Some (replies_itself c (next_entry r) number side replier message _ found);
+      replays = reply_replays table c side message number r next e;
+    }
+    by (Some (Delivers sender number)) found e = cc
+    by (Some (Loses sender number)) found e = cc
+    by (Some (Expires sender name id)) found e = cc
+    by (Some (Closes sender name)) found e = cc
+    by (Some Quiet) found e = cc

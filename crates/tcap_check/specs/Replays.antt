@@ -1,0 +1,152 @@
+-- Worked replays: the run that a certificate gives for a record, or why it gives none.
+use Rattle.std.specs.Prelude.{◌≡◌, ℕ, List, [], ◌∷◌, ◌++◌, map, Some, None, Ok}
+use Rattle.tcap_ber.specs.declared.fault.Fault.{Fault}
+use Rattle.tcap_ber.specs.declared.fault.Reason.TheVariants as element
+use Rattle.tcap_msg.specs.declared.message.Message.TheVariants.{Begin}
+use Rattle.tcap_record.specs.declared.entry.Body.TheVariants.{Bad}
+use Rattle.tcap_record.specs.declared.entry.End.TheVariants.{A, B}
+use Rattle.tcap_record.specs.declared.entry.Entry.{Entry}
+use Rattle.tcap_end.specs.declared.fault.EndFault.TheVariants as faults
+use Rattle.tcap_end.specs.Table.{Table}
+use Rattle.tcap_check.specs.World.{Item, Sent, Mark}
+use Rattle.tcap_check.specs.Certificate.{Certificate, Closing, Expiry, Fate, Gap, Lost, By}
+use Rattle.tcap_check.specs.Worked.{Worked, answer, begin, by_fates, crossing, end_to, id, invoke, lasting, late_reject, prearranged, provider_abort, table, two_entries}
+use Rattle.tcap_check.specs.Replayed.{FateCount, FateRange, OutOfOrder, BadReply, SendRefused, HiddenRefused, NotQuiet, BadMessage, Reason, entry_of, moves_of, refused, replayed}
+
+-- The certificate of a worked run gives that run.
+abbrev pub IsReplayed : Table → Worked → Type 0
+IsReplayed table w = replayed table w.certificate (map entry_of w.items) ≡ Ok w.events
+
+-- It gives a run of so many steps.
+abbrev pub Gives : Table → Certificate → List Item → ℕ → Type 0
+Gives table certificate items moves = moves_of table certificate (map entry_of items) ≡ Ok moves
+
+-- It gives none, for that reason, at that entry.
+abbrev pub Refuses : Table → Certificate → List Item → Reason → ℕ → Type 0
+Refuses table certificate items reason entry = replayed table certificate (map entry_of items) ≡ refused reason entry
+
+abbrev expiring : List Expiry → Certificate → Certificate
+expiring listed c = record c { expire = listed }
+
+abbrev closing : List Closing → Certificate → Certificate
+closing listed c = record c { close = listed }
+
+-- ---- a Begin and an End
+
+abbrev pub too_few_fates : Type 0
+too_few_fates = Refuses table (by_fates (Gap 1 ∷ [])) two_entries.items FateCount 1
+
+abbrev pub too_many_fates : Type 0
+too_many_fates = Refuses table (by_fates (Gap 1 ∷ Gap 2 ∷ Gap 3 ∷ [])) two_entries.items FateCount 2
+
+abbrev pub delivered_before_it_is_sent : Type 0
+delivered_before_it_is_sent = Refuses table (by_fates (Gap 1 ∷ Gap 1 ∷ [])) two_entries.items FateRange 1
+
+abbrev pub taken_before_it_is_sent : Type 0
+taken_before_it_is_sent = Refuses table (by_fates (By 0 ∷ Gap 2 ∷ [])) two_entries.items FateRange 0
+
+abbrev pub closes_by_an_end : Type 0
+closes_by_an_end = Refuses table (closing (record { gap = 2; side = A; entry = 1 } ∷ []) two_entries.certificate) two_entries.items FateRange 1
+
+abbrev pub closes_what_is_not_there : Type 0
+closes_what_is_not_there =
+    Refuses table (closing (record { gap = 1; side = B; entry = 0 } ∷ []) two_entries.certificate) two_entries.items (HiddenRefused faults.CannotClose) 0
+
+-- ---- an invocation that ends unseen
+
+abbrev pub expires_twice : Type 0
+expires_twice = Refuses table (expiring (late_reject.certificate.expire ++ late_reject.certificate.expire) late_reject.certificate) late_reject.items
+    (HiddenRefused faults.CannotExpire) 0
+
+abbrev pub does_not_expire : Type 0
+does_not_expire = Refuses lasting late_reject.certificate late_reject.items (HiddenRefused faults.CannotExpire) 0
+
+abbrev pub no_expiry_is_listed : Type 0
+no_expiry_is_listed = Refuses table (expiring [] late_reject.certificate) late_reject.items (SendRefused faults.RejectNotAllowed) 2
+
+-- a Begin that invokes one ID twice
+abbrev pub invokes_twice : Type 0
+invokes_twice = Refuses table (by_fates (Gap 1 ∷ [])) (Sent A (begin None (Some (invoke 45 ∷ invoke 45 ∷ []))) ∷ []) (SendRefused faults.InvokeIdBusy) 0
+
+-- ---- order, and replies
+
+-- the second of three Begins before the first
+abbrev pub comes_before_the_first : Type 0
+comes_before_the_first = Refuses table (by_fates (Gap 3 ∷ Gap 2 ∷ Gap 3 ∷ []))
+    (Sent A (begin None None) ∷ Sent A (Begin (id 3) None None) ∷ Sent A (Begin (id 4) None None) ∷ []) OutOfOrder 1
+
+-- a Continue that is to come where the half is closed
+abbrev pub comes_where_it_may_not : Type 0
+comes_where_it_may_not = Refuses table (by_fates (Gap 1 ∷ Gap 2 ∷ Gap 4 ∷ Gap 4 ∷ Gap 5 ∷ [])) crossing.items BadReply 3
+
+-- an active half that closes, which is lawful by prearrangement alone
+abbrev closed_unseen : List Item
+closed_unseen = Sent A (begin None None) ∷ Sent B (answer None None) ∷ Sent B (answer None None) ∷ Sent A (provider_abort 2 1) ∷ []
+
+abbrev closes_unseen : Certificate
+closes_unseen = closing (record { gap = 3; side = A; entry = 0 } ∷ []) (by_fates (Gap 1 ∷ Gap 2 ∷ By 3 ∷ Gap 4 ∷ []))
+
+abbrev pub closes_without_leave : Type 0
+closes_without_leave = Refuses table closes_unseen closed_unseen (HiddenRefused faults.CannotClose) 0
+
+abbrev pub closes_with_leave : Type 0
+closes_with_leave = Gives prearranged closes_unseen closed_unseen 8
+
+-- Two Continues cross an End, and one Abort answers.
+abbrev two_cross : List Item
+two_cross = Sent A (begin None None) ∷ Sent B (answer None None) ∷ Sent A (end_to 2 None) ∷ Sent B (answer None None) ∷ Sent B (answer None None)
+    ∷ Sent A (provider_abort 2 1) ∷ []
+
+abbrev by_two : Fate → Fate → Certificate
+by_two first second = by_fates (Gap 1 ∷ Gap 2 ∷ Gap 5 ∷ first ∷ second ∷ Gap 6 ∷ [])
+
+abbrev pub one_reply_for_two : Type 0
+one_reply_for_two = Refuses table (by_two (By 5) (By 5)) two_cross BadReply 5
+
+abbrev pub reply_to_nothing : Type 0
+reply_to_nothing = Refuses table (by_two Lost Lost) two_cross BadReply 5
+
+abbrev pub reply_behind_a_loss : Type 0
+reply_behind_a_loss = Gives table (by_two Lost (By 5)) two_cross 11
+
+-- a Continue that is taken by what is no reply
+abbrev pub taken_by_a_message : Type 0
+taken_by_a_message = Refuses table (by_fates (Gap 1 ∷ By 2 ∷ Gap 3 ∷ []))
+    (Sent A (begin None None) ∷ Sent B (answer None None) ∷ Sent A (begin None None) ∷ []) BadReply 2
+
+-- an Abort with the cause of the other reply
+abbrev pub reply_of_the_other_cause : Type 0
+reply_of_the_other_cause = Refuses table (by_fates (By 1 ∷ Gap 2 ∷ [])) (Sent A (begin None None) ∷ Sent B (provider_abort 1 1) ∷ []) BadReply 1
+
+-- ---- quiet marks
+
+abbrev dialogue_and_mark : List Item
+dialogue_and_mark = Sent A (begin None None) ∷ Sent B (answer None None) ∷ Sent A (end_to 2 None) ∷ Mark ∷ []
+
+abbrev pub mark_before_a_message_comes : Type 0
+mark_before_a_message_comes = Refuses table (by_fates (Gap 1 ∷ Gap 2 ∷ Gap 4 ∷ Gap 4 ∷ [])) dialogue_and_mark NotQuiet 3
+
+abbrev pub mark_is_lost : Type 0
+mark_is_lost = Refuses table (by_fates (Gap 1 ∷ Gap 2 ∷ Gap 3 ∷ Lost ∷ [])) dialogue_and_mark FateRange 3
+
+abbrev pub mark_when_all_is_quiet : Type 0
+mark_when_all_is_quiet = Gives table (by_fates (Gap 1 ∷ Gap 2 ∷ Gap 3 ∷ Gap 4 ∷ [])) dialogue_and_mark 7
+
+abbrev pub mark_with_an_open_half : Type 0
+mark_with_an_open_half = Refuses table (by_fates (Gap 1 ∷ Gap 2 ∷ [])) (Sent A (begin None None) ∷ Mark ∷ []) NotQuiet 1
+
+-- a Begin that is lost and given up
+abbrev pub mark_behind_a_lost_begin : Type 0
+mark_behind_a_lost_begin =
+    Gives table (closing (record { gap = 1; side = A; entry = 0 } ∷ []) (by_fates (Lost ∷ Gap 2 ∷ []))) (Sent A (begin None None) ∷ Mark ∷ []) 4
+
+-- ---- an entry that is no message
+
+abbrev pub no_message : Type 0
+no_message = replayed table (by_fates (Gap 1 ∷ [])) (bad ∷ []) ≡ refused (BadMessage fault) 0
+  where
+    fault : Fault
+    fault = record { reason = element.Missing; place = 6 }
+
+    bad : Entry
+    bad = record { side = Some A; place = 1; body = Bad fault }
