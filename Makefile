@@ -1,10 +1,14 @@
 # make demo      shows the records of examples/ by the program, run unproved
 # make program   proves and builds the program, and prints where it lies
-# make test      the gate: all proofs, the must-fail edits, the tests and runs of the program, with the seconds of each part
-# make bench     prints how the time grows with the record, with the messages that are read as views, with an element that is
-#                walked, and with the messages of a transaction that an end takes
+# make test      the gate: all proofs, the must-fail edits, the tests and runs of the program, with the seconds of each
+#                part and its processor time
+# make edits     tries all edits of all crates, or of CRATES="NAME ..", over what is proved in a kept copy of the
+#                repository; RT_JOBS=N has N go side by side
+# make changed   proves and tests in that copy what changed since the commit BASE, by default origin/main, else HEAD~1
+# make bench     prints how the time grows with the record, with the messages that are read as views, with an element
+#                that is walked, and with the messages of a transaction that an end takes
 # make memory    lets each allocation of a run fail in turn
-.PHONY: demo program test bench memory measured needs
+.PHONY: demo program test edits changed bench memory measured needs
 
 PROGRAM = crates/tcapjudge/out/tcapjudge
 
@@ -13,12 +17,18 @@ demo: needs
 
 program: needs
 	@echo "Proves what is not yet proved: minutes on a fresh clone"
-	@log=$$(mktemp) && { (cd crates/tcapjudge && rt run -- --help) >"$$log" 2>&1 || { cat "$$log" >&2; rm -f "$$log"; exit 1; }; \
-		rm -f "$$log"; }
+	@log=$$(mktemp) && { (cd crates/tcapjudge && rt run -- --help) >"$$log" 2>&1 \
+		|| { cat "$$log" >&2; rm -f "$$log"; exit 1; }; rm -f "$$log"; }
 	@echo "The proved program is $(PROGRAM)"
 
 test: needs
 	@python3 tools/gate.py
+
+edits: needs
+	@python3 tools/edits.py $(CRATES)
+
+changed: needs
+	@python3 tools/changed.py $(BASE)
 
 bench: measured
 	@python3 bench/linear.py
@@ -27,8 +37,8 @@ memory: measured
 	@python3 bench/memory.py
 
 measured: program
-	@log=$$(mktemp) && { (cd crates/tcap_bench && rt run <stdin && cd ../tcap_end_rows && rt run <stdin) >"$$log" 2>&1 || \
-		{ cat "$$log" >&2; rm -f "$$log"; exit 1; }; rm -f "$$log"; }
+	@log=$$(mktemp) && { (cd crates/tcap_bench && rt run <stdin && cd ../tcap_end_rows && rt run <stdin) >"$$log" 2>&1 \
+		|| { cat "$$log" >&2; rm -f "$$log"; exit 1; }; rm -f "$$log"; }
 
 needs:
 	@for tool in rt python3; do command -v $$tool >/dev/null || { echo "missing: $$tool" >&2; exit 2; }; done

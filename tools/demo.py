@@ -9,8 +9,8 @@ import tempfile
 
 
 def run(word, folder, out):
-    """Runs the program with that word over each file of the folder, one after the other. `rt try` puts a line with a file's
-    name before what is printed of it, and a newline behind that."""
+    """Runs the program with that word over each file of the folder, one after the other. `rt try` puts a line with
+    a file's name before what is printed of it, and a newline behind that."""
     command = ["rt", "try", "--cases", os.path.abspath(folder), "--", word]
     run = subprocess.run(command, cwd="crates/tcapjudge", stdout=out, stderr=subprocess.PIPE, check=False)
     if run.returncode != 0:

@@ -1,14 +1,19 @@
-"""The gate, which `make test` runs: `rt ci`, then tests/program.py on the program that `rt ci` built, and tests/borrows.py. What they print is
-passed on. Then it prints how many seconds each crate's proof, its tests' proof and its must-fail edits took, and closes with
-the line `N passed, M failed`, in which both are counted. The exit status is 0 where none failed.
+"""The gate, which `make test` runs: `rt ci`, then tests/program.py on the program that `rt ci` built, then
+tests/borrows.py and tests/pages.py. What they print is passed on. Then it prints how many seconds each crate's proof,
+its tests' proof and its must-fail edits took, with their processor time, and closes with the line `N passed, M failed`,
+in which all are counted. The exit status is 0 where none failed.
 
-`rt ci` does not say when a part begins and ends. So twice a second this looks in /proc for the runs of `rattle` that `rt ci`
-started, which a word in their environment marks, and takes a part to last from the first to the last time that it is seen:
-a run names its crate, that of an edit is in a folder rt-edit-*, and that of tests has the word --test."""
+`rt ci` does not say when a part begins and ends. So twice a second this looks in /proc for the runs of `rattle` that
+`rt ci` started, which a word in their environment marks, and takes a part to last from the first to the last time that
+it is seen: a run names its crate, that of an edit is in a folder rt-edit-*, and that of tests has the word --test. The
+processor time of a part is what its runs had when they were last seen, so it lacks up to half a second of each. That of
+`rt ci` is whole: it is what the system counts of the processes that have ended."""
 
+import collections
 import glob
 import os
 import re
+import resource
 import signal
 import subprocess
 import sys
@@ -18,33 +23,50 @@ import time
 PROGRAM = "crates/tcapjudge/out/tcapjudge"
 MARK = "GATE_RUN"
 COUNTS = re.compile(rb"(\d+) passed, (\d+) failed\n?")
+TICKS = os.sysconf("SC_CLK_TCK")
 
 
-def parts_now():
-    """The parts of `rt ci` that run now: the crate and the kind of each."""
-    for process in glob.glob("/proc/[0-9]*"):
-        try:
-            with open(f"{process}/cmdline", "rb") as file:
-                words = file.read().decode(errors="replace").split("\0")
-            if not words[0].endswith("/rattle") or "--crate-name" not in words:
-                continue
-            with open(f"{process}/environ", "rb") as file:
-                if f"{MARK}={os.getpid()}".encode() not in file.read().split(b"\0"):
-                    continue
-            folder = os.path.basename(os.readlink(f"{process}/cwd"))
-        except OSError:
-            # It has ended.
-            continue
-        kind = "must-fail edits" if folder.startswith("rt-edit-") else "tests' proof" if "--test" in words else "proof"
-        yield words[words.index("--crate-name") + 1], kind
+class Part:
+    """A part of `rt ci`: the seconds after the start at which it is first and last seen, and the processor seconds of
+    each of its processes when that was last seen."""
+
+    def __init__(self, now):
+        self.first, self.last, self.used = now, now, {}
 
 
-def watch(start, spans, is_over):
-    """Notes the seconds after the start at which each part is first and last seen, until it is over."""
+def run_at(process):
+    """The crate and the kind of the part that a process under /proc runs for, and then the process, by its number and
+    the time of its start, and its processor seconds so far. None where it is no run of `rattle` of this gate."""
+    with open(f"{process}/cmdline", "rb") as file:
+        words = file.read().decode(errors="replace").split("\0")
+    if not words[0].endswith("/rattle") or "--crate-name" not in words:
+        return None
+    with open(f"{process}/environ", "rb") as file:
+        if f"{MARK}={os.getpid()}".encode() not in file.read().split(b"\0"):
+            return None
+    folder = os.path.basename(os.readlink(f"{process}/cwd"))
+    with open(f"{process}/stat", "rb") as file:
+        # Behind the name, which is in parentheses, the fields are numbered from 3 on.
+        fields = file.read().rpartition(b") ")[2].split()
+    kind = "must-fail edits" if folder.startswith("rt-edit-") else "tests' proof" if "--test" in words else "proof"
+    part = words[words.index("--crate-name") + 1], kind
+    return part, (process, fields[19]), (int(fields[11]) + int(fields[12])) / TICKS
+
+
+def watch(start, parts, is_over):
+    """Notes what is seen of each part, until all is over."""
     while not is_over.wait(0.5):
         now = time.monotonic() - start
-        for part in parts_now():
-            spans[part] = (spans.get(part, (now, now))[0], now)
+        for process in glob.glob("/proc/[0-9]*"):
+            try:
+                seen = run_at(process)
+            except OSError:
+                # It has ended.
+                continue
+            if seen:
+                name, run, seconds = seen
+                part = parts.setdefault(name, Part(now))
+                part.last, part.used[run] = now, seconds
 
 
 def counts_of(command):
@@ -66,11 +88,35 @@ def counts_of(command):
     return passed, max(failed, int(run.returncode != 0))
 
 
-def show_spans(spans, seconds):
-    """Prints how long each part took, the longest first."""
-    print(f"rt ci took {seconds:.0f} seconds. Its parts, which run side by side:")
-    for (crate, kind), (first, last) in sorted(spans.items(), key=lambda part: part[1][0] - part[1][1]):
-        print(f"{last - first:6.0f} s  {crate:12} {kind:16} from {first:.0f} to {last:.0f}")
+def used_by_ended():
+    """The processor seconds of all processes that this one, or one that it waited for, started and waited for."""
+    used = resource.getrusage(resource.RUSAGE_CHILDREN)
+    return used.ru_utime + used.ru_stime
+
+
+def watched(command):
+    """Runs a command as `counts_of` does. Returns its counts, its parts, its seconds and its processor seconds."""
+    parts, is_over, start, before = {}, threading.Event(), time.monotonic(), used_by_ended()
+    watching = threading.Thread(target=watch, args=(start, parts, is_over), daemon=True)
+    watching.start()
+    counts = counts_of(command)
+    seconds = time.monotonic() - start
+    is_over.set()
+    watching.join()
+    return counts, parts, seconds, used_by_ended() - before
+
+
+def show_parts(parts, seconds, used):
+    """Prints how long each part took, the longest first, and the processor time of each and of each kind."""
+    print(f"rt ci took {seconds:.0f} seconds, and {used:.0f} seconds of processor time. Its parts, side by side:")
+    kinds = collections.Counter()
+    for (crate, kind), part in sorted(parts.items(), key=lambda it: it[1].first - it[1].last):
+        own = sum(part.used.values())
+        kinds[kind] += own
+        span = f"from {part.first:.0f} to {part.last:.0f}"
+        print(f"{part.last - part.first:6.0f} s {own:6.0f} s of processor time  {crate:13} {kind:16} {span}")
+    for kind, own in kinds.most_common():
+        print(f"{own:15.0f} s of processor time  {kind} of all crates")
 
 
 def main():
@@ -80,13 +126,7 @@ def main():
     # What is run then is what this `rt ci` built, also where it stops early.
     if os.path.exists(PROGRAM):
         os.remove(PROGRAM)
-    spans, is_over, start = {}, threading.Event(), time.monotonic()
-    watching = threading.Thread(target=watch, args=(start, spans, is_over), daemon=True)
-    watching.start()
-    passed, failed = counts_of(["rt", "ci"])
-    seconds = time.monotonic() - start
-    is_over.set()
-    watching.join()
+    (passed, failed), parts, seconds, used = watched(["rt", "ci"])
     if os.path.exists(PROGRAM):
         runs = counts_of([sys.executable, "tests/program.py"])
         print(f"{runs[0] + runs[1]} runs of the program, {runs[1]} wrong")
@@ -95,9 +135,13 @@ def main():
         print("rt ci built no program, so it was not run")
     lent = counts_of([sys.executable, "tests/borrows.py"])
     print(f"feeding while an entry is lent: {'refused' if lent[0] else 'NOT refused'}")
-    show_spans(spans, seconds)
-    print(f"{passed + runs[0] + lent[0]} passed, {failed + runs[1] + lent[1]} failed", flush=True)
-    return int(failed + runs[1] + lent[1] != 0)
+    pages = counts_of([sys.executable, "tests/pages.py"])
+    print(f"{pages[0] + pages[1]} pages with an example, {pages[1]} that differ from what is proved")
+    show_parts(parts, seconds, used)
+    both = [passed + runs[0] + lent[0] + pages[0], failed + runs[1] + lent[1] + pages[1]]
+    print(f"{both[0]} passed, {both[1]} failed", flush=True)
+    return int(both[1] != 0)
 
 
-sys.exit(main())
+if __name__ == "__main__":
+    sys.exit(main())
