@@ -20,9 +20,10 @@ use Rattle.tcap_ber.specs.Span.{Span}
 use Rattle.tcap_ber.specs.Walking.{at_first, goes, gone_on, outer_at, innermost_at}
 use Rattle.tcap_ber.specs.Reading.{fault, ◌>>=◌, opening_at, Element, definite_at, indefinite_at, element_of, next_at}
 use Rattle.tcap_ber.proofs.Steps.{ok_is, err_is, ok_not_err}
-use Rattle.tcap_ber.proofs.OpeningLaws.{from, definite_complete, indefinite_complete, opening_fault, opening_refused, opening_moves}
+use Rattle.tcap_ber.proofs.OpeningLaws.{from, definite_complete, indefinite_complete, opening_fault, opening_refused}
+use Rattle.tcap_ber.proofs.OpeningPlaceLaws.{opening_moves}
 use Rattle.tcap_ber.proofs.WalkLaws.{walk_stops}
-use Rattle.tcap_ber.proofs.WalkedLaws.{nothing_walked}
+use Rattle.tcap_ber.proofs.WalkedStepLaws.{nothing_walked}
 use Rattle.tcap_ber.proofs.OuterLaws.{outer_whole, outer_of_element, outer_fault, outer_refused, is_unfinished, place_there, innermost_sound, innermost_unique}
 
 -- what stands in an element of indefinite length

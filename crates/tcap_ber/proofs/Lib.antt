@@ -4,8 +4,13 @@ pub mod TagLaws
 pub mod HeaderLaws
 pub mod StayLaws
 pub mod OpeningLaws
+pub mod OpeningPlaceLaws
 pub mod WalkLaws
-pub mod WalkedLaws
+pub mod ReachLaws
+pub mod WalkedStepLaws
+pub mod WalkedOpenLaws
+pub mod WalkedStopLaws
+pub mod WalkedInnermostLaws
 pub mod ResumeLaws
 pub mod ResumingLaws
 pub mod OuterLaws

@@ -13,8 +13,12 @@ use Rattle.tcap_ber.specs.Walked.{Level, walked, IsWalked, IsWalkFault, IsUnfini
 use Rattle.tcap_ber.specs.Walking.{at_first, goes, outer_at, stopped, last_opened, innermost_by, innermost_at}
 use Rattle.tcap_ber.specs.Reading.{fault, is_whole, is_raw}
 use Rattle.tcap_ber.proofs.Steps.{ok_not_err}
-use Rattle.tcap_ber.proofs.WalkLaws.{stops_there, left, left_shorter, walk, stops, notes, reaches_walk, reaches_stops, reaches_fewer, reaches_stop, progress_of, reaches_levels, walk_of_element, goes_sound}
-use Rattle.tcap_ber.proofs.WalkedLaws.{nothing_walked, steps, stands, whole_there, wrong_there, refused_there, wrong_within, noted_there, opened_innermost}
+use Rattle.tcap_ber.proofs.WalkLaws.{stops_there, left, left_shorter, walk, stops, notes, goes_sound}
+use Rattle.tcap_ber.proofs.ReachLaws.{reaches_walk, reaches_stops, reaches_fewer, reaches_stop, progress_of, reaches_levels, walk_of_element}
+use Rattle.tcap_ber.proofs.WalkedStepLaws.{nothing_walked}
+use Rattle.tcap_ber.proofs.WalkedOpenLaws.{steps, stands}
+use Rattle.tcap_ber.proofs.WalkedStopLaws.{whole_there, wrong_there, refused_there, wrong_within}
+use Rattle.tcap_ber.proofs.WalkedInnermostLaws.{noted_there, opened_innermost}
 use Rattle.tcap_ber.proofs.ResumeLaws.{needed, needs_more}
 
 -- where the walk over the octets stops

@@ -15,7 +15,8 @@ use Rattle.tcap_ber.specs.HeaderReading.{◌>>=◌, opening_at}
 use Rattle.tcap_ber.specs.Walking.{is_ending, within_limit, opened, closed, passed, behind_header, gone_to, gone_on, walk_on, resume}
 use Rattle.tcap_ber.specs.Progress.{header_octets}
 use Rattle.tcap_ber.proofs.Steps.{chosen, bind_ok, ok_is}
-use Rattle.tcap_ber.proofs.OpeningLaws.{from, opening_stays, fault_stays, opening_within, opening_exact}
+use Rattle.tcap_ber.proofs.OpeningLaws.{from}
+use Rattle.tcap_ber.proofs.OpeningPlaceLaws.{opening_stays, fault_stays, opening_within, opening_exact}
 use Rattle.tcap_ber.proofs.WalkLaws.{left, walk, enough_steps, behind_further}
 
 -- two octets decide whether it is an ending

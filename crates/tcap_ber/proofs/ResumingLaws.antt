@@ -12,7 +12,8 @@ use Rattle.tcap_ber.specs.HeaderReading.{opening_at}
 use Rattle.tcap_ber.specs.Walking.{behind_header, walk_on, at_first, outer_at, resume, resume_unless}
 use Rattle.tcap_ber.specs.Resuming.{resumes, IsStopped}
 use Rattle.tcap_ber.specs.Progress.{header_octets}
-use Rattle.tcap_ber.proofs.OpeningLaws.{from, opening_within}
+use Rattle.tcap_ber.proofs.OpeningLaws.{from}
+use Rattle.tcap_ber.proofs.OpeningPlaceLaws.{opening_within}
 use Rattle.tcap_ber.proofs.ResumeLaws.{skips, holds, fails, fails_behind, goes_behind, goes_behind_whole}
 
 -- before the first octet

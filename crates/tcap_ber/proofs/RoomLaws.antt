@@ -14,8 +14,10 @@ use Rattle.tcap_ber.specs.Walked.{Level, walked, AreOpen, IsWalked}
 use Rattle.tcap_ber.specs.HeaderReading.{◌>>=◌, opening_at}
 use Rattle.tcap_ber.specs.Walking.{is_ending, within_limit, opened, closed, passed, behind_header, gone_to, gone_on, outer_at}
 use Rattle.tcap_ber.proofs.Steps.{chosen, bind_ok, ok_is}
-use Rattle.tcap_ber.proofs.OpeningLaws.{from, definite_sound, indefinite_sound, unfinished_within}
-use Rattle.tcap_ber.proofs.WalkLaws.{walk_stops, content_began, content_count, progress_of}
+use Rattle.tcap_ber.proofs.OpeningLaws.{from, definite_sound, indefinite_sound}
+use Rattle.tcap_ber.proofs.OpeningPlaceLaws.{unfinished_within}
+use Rattle.tcap_ber.proofs.WalkLaws.{walk_stops}
+use Rattle.tcap_ber.proofs.ReachLaws.{content_began, content_count, progress_of}
 use Rattle.tcap_ber.proofs.OuterLaws.{stop_of}
 use Rattle.tcap_ber.proofs.ElementLaws.{IsInner, element_form, definite_len, indefinite_len}
 

@@ -4,6 +4,7 @@ use Rattle.std.specs.Io.KnownBytes.{Appends, Consumes, Keeps}
 use Rattle.tcap_ber.specs.declared.device.Failed.{Failed}
 use Rattle.tcap_ber.specs.declared.counted.Counted.{Counted}
 use Rattle.tcap_ber.specs.declared.failing.Failing.{Failing}
+use Rattle.tcap_ber.specs.declared.unopened.Unopened.{Unopened}
 use Rattle.tcap_ber.specs.declared.to_end.ReadError.{ReadError}
 use Rattle.tcap_ber.specs.declared.to_end.ReadError.TheVariants.{Failed as DeviceFailed}
 
@@ -21,7 +22,8 @@ Tells old new result buffer = MatchResult result (λ n. Consumes old new (take n
 
 -- A write took all the octets; a failed one took a beginning of them that isn't said.
 abbrev pub Takes : Option (List ℕ) → Option (List ℕ) → Result (Unit {0}) Failed → List ℕ → Type 0
-Takes old new result octets = MatchResult result (λ _. Appends old new octets) (λ _. (n : ℕ) × Appends old new (take n octets))
+Takes old new result octets = MatchResult result (λ _. Appends old new octets)
+    (λ _. (n : ℕ) × Appends old new (take n octets))
 
 -- the reader or writer in a `Counted`
 abbrev pub counted_inner : {T : Type 0} → Counted T → T
@@ -38,6 +40,10 @@ failing_inner device = device.device.inner
 -- how often a `Failing` failed
 abbrev pub failing_failures : {T : Type 0} → Failing T → ℕ
 failing_failures device = device.device.failures
+
+-- how often an `Unopened` was read from
+abbrev pub unopened_failures : Unopened → ℕ
+unopened_failures device = device.failures
 
 -- how many octets go through a `Failing` before it fails; none is known once it has failed
 abbrev pub failing_left : {T : Type 0} → Failing T → Option ℕ

@@ -31,6 +31,18 @@ IsLength n (first ∷ more) =
 abbrev pub content_limit : ℕ
 content_limit = 65535
 
+-- the greatest count of octets of a header of definite length: five of the tag, and five of the length
+abbrev pub header_limit : ℕ
+header_limit = 10
+
+-- of a header of indefinite length: five of the tag, and the length octet
+abbrev pub opening_limit : ℕ
+opening_limit = 6
+
+-- of a shortest header, as the encoder writes it: one of the tag, and three of the length
+abbrev pub shortest_header_limit : ℕ
+shortest_header_limit = 4
+
 -- A tag, a length and a content are an element of definite length where the length is the content's count of octets
 -- (X.690 8.1.3.3).
 pub record IsDefinite (tag content octets : List ℕ) : Type 0 where

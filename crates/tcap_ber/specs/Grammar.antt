@@ -56,7 +56,8 @@ pub record IsUnexpected (tag : ℕ) (s : Span) (reason : Reason) (place : ℕ) :
   pub place_is : place ≡ s.place
 
 -- an element of this tag begins the window, and something is wrong inside
-pub record IsFaultyInside (tag : ℕ) (faulty : ℕ → Span → Reason → ℕ → Type 0) (s : Span) (reason : Reason) (place : ℕ) : Type 0 where
+pub record IsFaultyInside (tag : ℕ) (faulty : ℕ → Span → Reason → ℕ → Type 0) (s : Span) (reason : Reason)
+    (place : ℕ) : Type 0 where
   pub content : List ℕ
   pub octets : List ℕ
   pub rest : List ℕ
@@ -137,7 +138,8 @@ ended = record {
 abbrev pub after : ℕ → List ℕ → List ℕ → Span
 after place front rest = record { octets = rest; place = place + length front }
 
-pub record SpellsThen {V W : Type 0} (first : Field V) (others : V → Content W) (x : V × W) (octets : List ℕ) : Type 0 where
+pub record SpellsThen {V W : Type 0} (first : Field V) (others : V → Content W) (x : V × W)
+    (octets : List ℕ) : Type 0 where
   pub front : List ℕ
   pub rest : List ℕ
   pub joined : octets ≡ front ++ rest
@@ -145,7 +147,8 @@ pub record SpellsThen {V W : Type 0} (first : Field V) (others : V → Content W
   pub are_others : (others x.0).spells x.1 rest
 
 -- the first part is there, and something is wrong behind it
-pub record IsFaultyBehind {V : Type 0} (first : Field V) (faulty : V → Span → Reason → ℕ → Type 0) (s : Span) (reason : Reason) (place : ℕ) : Type 0 where
+pub record IsFaultyBehind {V : Type 0} (first : Field V) (faulty : V → Span → Reason → ℕ → Type 0) (s : Span)
+    (reason : Reason) (place : ℕ) : Type 0 where
   pub value : V
   pub front : List ℕ
   pub rest : List ℕ
@@ -168,7 +171,8 @@ first ⨾ others = first ⨾▹ (λ _. others)
 
 abbrev pub SpellsEach : {V : Type 0} → Field V → List V → List ℕ → Type 0
 SpellsEach item [] octets = octets ≡ []
-SpellsEach item (v ∷ vs) octets = (front rest : List ℕ) × (octets ≡ front ++ rest) × item.spells v front rest × SpellsEach item vs rest
+SpellsEach item (v ∷ vs) octets = (front rest : List ℕ) × (octets ≡ front ++ rest) × item.spells v front rest
+    × SpellsEach item vs rest
 
 -- behind items of these values stands one that is wrong
 abbrev pub IsFaultyAfter : {V : Type 0} → Field V → List V → Span → Reason → ℕ → Type 0

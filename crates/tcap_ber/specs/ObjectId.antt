@@ -12,7 +12,8 @@ IsSubidentifier octets = IsContinued octets × (BeginsWith 0x80 octets → ⊥)
 -- the contents of an OBJECT IDENTIFIER: one subidentifier after the other (X.690 8.19.2), and at least one
 abbrev pub IsObjectId : List ℕ → Type 0
 IsObjectId octets =
-    (subidentifiers : List (List ℕ)) × (subidentifiers ≢ []) × AllByRecursion IsSubidentifier subidentifiers × (octets ≡ concat subidentifiers)
+    (subidentifiers : List (List ℕ)) × (subidentifiers ≢ []) × AllByRecursion IsSubidentifier subidentifiers
+    × (octets ≡ concat subidentifiers)
 
 -- an OBJECT IDENTIFIER, known by its contents; what is none is refused at the element
 abbrev pub object_id : Body (List ℕ)

@@ -92,7 +92,8 @@ integer_at e = if is_integer e.content.octets then Ok e.content.octets else Err 
 
 -- the number of an INTEGER of at most so many octets
 abbrev pub within : ℕ → Reason → Element → List ℕ → Result ℤ Fault
-within limit too_wide e octets = if nat_lt limit (length octets) then Err (fault too_wide e.place) else Ok (signed octets)
+within limit too_wide e octets = if nat_lt limit (length octets) then Err (fault too_wide e.place)
+    else Ok (signed octets)
 
 unfoldable pub small_integer_at : ℕ → Reason → Element → Result ℤ Fault
 small_integer_at limit too_wide e = integer_at e >>= within limit too_wide e
@@ -181,7 +182,8 @@ abbrev pub one_of_at : {V : Type 0} → (Element → Result V Fault) → Span �
 one_of_at read s = some_at s >>= with_body read
 
 -- an element with this tag, and one with another
-abbrev pub tagged_at : {V : Type 0} → ℕ → (Element → Result V Fault) → (Element → Result V Fault) → Element → Result V Fault
+abbrev pub tagged_at : {V : Type 0} → ℕ → (Element → Result V Fault) → (Element → Result V Fault) → Element
+    → Result V Fault
 tagged_at tag read others e = if is_tag tag e.tag then read e else others e
 
 -- an element that is none of them

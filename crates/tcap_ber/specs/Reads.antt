@@ -30,7 +30,8 @@ pub record ReadsChoice {V : Type 0} (choice : Choice V) (read : Element → Resu
   pub stops : (e : Element) (f : Fault) → choice.faulty e.tag e.place e.content f.reason f.place → read e ≡ Err f
 
 -- a reader of what is left of a structure, which makes a value of the parts
-pub record ReadsContent {V W : Type 0} (content : Content V) (make : V → W) (read : Span → Result W Fault) : Type 0 where
+pub record ReadsContent {V W : Type 0} (content : Content V) (make : V → W)
+    (read : Span → Result W Fault) : Type 0 where
   pub sound : (s : Span) (w : W) → read s ≡ Ok w → (v : V) × (w ≡ make v) × content.spells v s.octets
   pub complete : (s : Span) (v : V) → content.spells v s.octets → read s ≡ Ok (make v)
   pub refuses : (s : Span) (f : Fault) → read s ≡ Err f → content.faulty s f.reason f.place

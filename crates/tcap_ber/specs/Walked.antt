@@ -58,13 +58,15 @@ IsWrongThere levels rest TagForm place = HasLongTag rest × (place ≡ length (w
 IsWrongThere levels rest LengthForm place =
     (octet offset : ℕ) × (132 < octet) × HasLengthOctet octet rest offset × (place ≡ length (walked levels) + offset)
 IsWrongThere levels rest Indefinite place =
-    (offset : ℕ) × (h : HasLengthOctet 0x80 rest offset) × (IsConstructed h.tag → ⊥) × (place ≡ length (walked levels) + offset)
+    (offset : ℕ) × (h : HasLengthOctet 0x80 rest offset) × (IsConstructed h.tag → ⊥)
+    × (place ≡ length (walked levels) + offset)
 IsWrongThere levels rest TooDeep place =
     (offset : ℕ) × (h : HasLengthOctet 0x80 rest offset) × IsConstructed h.tag × (length levels ≡ depth_limit)
     × (place ≡ length (walked levels))
 IsWrongThere levels rest TooLong place =
     (HasLongLength rest × (place ≡ length (walked levels)))
-    ⊎ ((levels ≢ []) × (place ≡ 0) × ((front more : List ℕ) × (count : ℕ) × (rest ≡ front ++ more) × Announces levels front count
+    ⊎ ((levels ≢ []) × (place ≡ 0) × ((front more : List ℕ) × (count : ℕ) × (rest ≡ front ++ more)
+    × Announces levels front count
     × (content_limit < content_walked levels + count)))
 IsWrongThere levels rest _ place = ⊥
 

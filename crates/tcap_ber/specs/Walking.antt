@@ -76,7 +76,8 @@ outer_at octets = walk_on (length octets + 1) at_first octets
 -- where the walk goes on, if it does
 abbrev pub goes_to : Progress → List ℕ → Result Progress Fault → Option Progress
 goes_to p octets (Err f) = None
-goes_to p octets (Ok next) = if nat_lt (length octets) (next.at - p.at) then None else (if next.depth == 0 then None else Some next)
+goes_to p octets (Ok next) = if nat_lt (length octets) (next.at - p.at) then None
+    else (if next.depth == 0 then None else Some next)
 
 abbrev pub goes_by : Progress → List ℕ → Result (Option Opening) Fault → Option Progress
 goes_by p octets (Err f) = None
@@ -87,7 +88,8 @@ unfoldable pub goes : Progress → List ℕ → Option Progress
 goes p octets = goes_by p octets (opening_at (record { octets = octets; place = p.at }))
 
 -- where the walk stands in the end, and what is left there
-abbrev pub stopped_by : (Progress → List ℕ → Progress × List ℕ) → Progress → List ℕ → Option Progress → Progress × List ℕ
+abbrev pub stopped_by : (Progress → List ℕ → Progress × List ℕ) → Progress → List ℕ → Option Progress → Progress
+    × List ℕ
 stopped_by walk p octets None = (p, octets)
 stopped_by walk p octets (Some next) = walk next (drop (next.at - p.at) octets)
 

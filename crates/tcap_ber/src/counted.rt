@@ -91,7 +91,8 @@ impl<T: io::Write> Counted<T> {
     #[inline(always)]
     fn write_once(&mut self, octets: &[u8]) -> Result<usize, Failed>
         ensures within { IfOk result (λ n. n ≤ length octets.now) }
-        ensures taken { MatchResult result (λ n. Appends (T.contents (counted_inner self.old)) (T.contents (counted_inner self.new)) (take n octets.now))
+        ensures taken { MatchResult result (λ n. Appends (T.contents (counted_inner self.old))
+            (T.contents (counted_inner self.new)) (take n octets.now))
             (λ _. Keeps (T.contents (counted_inner self.old)) (T.contents (counted_inner self.new))) }
         ensures counts { CountsFailure (counted_failures self.old) (counted_failures self.new) result }
     {
@@ -108,7 +109,8 @@ impl<T: io::Write> Counted<T> {
     #[inline(never)]
     fn write_rest(&mut self, octets: &[u8], taken: usize) -> Result<(), Failed>
         requires { taken ≤ length octets.now }
-        ensures takes { Takes (T.contents (counted_inner self.old)) (T.contents (counted_inner self.new)) result (drop taken octets.now) }
+        ensures takes { Takes (T.contents (counted_inner self.old)) (T.contents (counted_inner self.new)) result
+            (drop taken octets.now) }
         ensures counts { CountsFailure (counted_failures self.old) (counted_failures self.new) result }
     {
         let mut rest = &octets[taken..];

@@ -10,13 +10,13 @@ pub enum Reason {
     Cut,
     /// A length octet of 85 to FF (X.690 8.1.3.5; 85 to FE are this profile's limit).
     LengthForm,
-    /// A content of over 65,535 octets, this profile's limit; that of an element of indefinite length is looked at as it is
-    /// walked.
+    /// A content of over 65,535 octets, this profile's limit; that of an element of indefinite length is looked at as
+    /// it is walked.
     TooLong,
     /// A tag of over five octets, this profile's limit (X.690 8.1.2.4).
     TagForm,
-    /// A header or a content goes past the window that it stands in, or the window ends before the ending of an element of
-    /// indefinite length.
+    /// A header or a content goes past the window that it stands in, or the window ends before the ending of an element
+    /// of indefinite length.
     Overrun,
     /// An INTEGER that is empty or has a needless leading octet (X.690 8.3).
     BadInteger,
@@ -44,8 +44,8 @@ pub enum Reason {
     Indefinite,
     /// A local code of over four octets, this profile's limit.
     CodeTooWide,
-    /// An element of indefinite length (X.690 8.1.3.6) where 32 are open, counted inside the innermost element of definite
-    /// length around it; this profile's limit.
+    /// An element of indefinite length (X.690 8.1.3.6) where 32 are open, counted inside the innermost element of
+    /// definite length around it; this profile's limit.
     TooDeep,
 }
 

@@ -1,7 +1,7 @@
 //! The header of an element: its tag and its length (X.690 8.1.2, 8.1.3).
 
 ghost use Rattle.std.specs.Prelude.{◌≡◌, ◌+◌, ◌^◌, ◌<◌, ◌≤◌, length, IfOk, IfSome};
-ghost use Rattle.tcap_ber.specs.Element.{number};
+ghost use Rattle.tcap_ber.specs.Element.{number, content_limit, header_limit};
 ghost use Rattle.tcap_ber.specs.Element.{is_next};
 ghost use Rattle.tcap_ber.specs.HeaderReading.{Gives, tag_at, length_at, definite_behind, is_constructed, opening_at, span};
 ghost use Rattle.tcap_ber.specs.Progress.{header_octets, IsHeaderWithin};
@@ -144,7 +144,8 @@ fn behind_tag(window: Window, tag_len: usize) -> Result<Option<Header>, Fault>
     requires few { tag_len ≤ 5 }
     ensures exact { Gives (λ x. x) result (definite_behind (span window.entry) tag_len) }
     ensures within { IfOk result (λ found. IfSome found (λ h. h.len ≤ length window.entry.octets.now)) }
-    ensures limit { IfOk result (λ found. IfSome found (λ h. (h.len ≤ 10) × (h.len + h.content_len ≤ 65545))) }
+    ensures limit { IfOk result (λ found. IfSome found
+        (λ h. (h.len ≤ header_limit) × (h.len + h.content_len ≤ content_limit + header_limit))) }
     ensures tag { IfOk result (λ found. IfSome found (λ h. (h.tag_len ≡ tag_len) × (tag_len < h.len))) }
 {
     let Some((length_len, content_len)) = length(window.behind(tag_len))? else {

@@ -67,8 +67,8 @@ fn find_innermost(octets: &[u8]) -> usize
     }
 }
 
-/// The place of the innermost element in `octets`, which end before it does: that of the element which begins behind all
-/// that was gone over, or where no octet stands there that of the innermost open one (X.690 8.1.3.6).
+/// The place of the innermost element in `octets`, which end before it does: that of the element which begins behind
+/// all that was gone over, or where no octet stands there that of the innermost open one (X.690 8.1.3.6).
 pub(crate) fn innermost(octets: &[u8]) -> usize
     ensures exact { result ≡ innermost_at octets.now }
     ensures within { result ≤ length octets.now }

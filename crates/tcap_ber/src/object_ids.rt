@@ -79,7 +79,8 @@ pub fn object_id<'a>(tlv: Tlv<'a>) -> Result<ObjectIdView<'a>, Fault>
     // What is read are the contents, and they are an OBJECT IDENTIFIER.
     ensures found { IfOk result (λ id. object_id.spells id.octets.now tlv.entry.content.octets.now) }
     // Such contents are read.
-    ensures only { (value : List ℕ) → object_id.spells value tlv.entry.content.octets.now → IsOkAnd result (λ id. id.octets.now ≡ value) }
+    ensures only { (value : List ℕ) → object_id.spells value tlv.entry.content.octets.now
+        → IsOkAnd result (λ id. id.octets.now ≡ value) }
     // What is refused is faulty there, and what is faulty is refused by that fault.
     ensures faulty { (fault : Fault) → (result ≡ Err fault)
         ↔ object_id.faulty tlv.entry.start (span tlv.entry.content) fault.reason fault.place }

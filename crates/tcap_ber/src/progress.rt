@@ -1,6 +1,7 @@
 //! How far a walk over an element's octets is.
 
 ghost use Rattle.std.specs.Prelude.{◌≡◌, ◌+◌, ◌^◌, ◌<◌, ◌≤◌, ◌-◌, length, IfOk, IfSome};
+ghost use Rattle.tcap_ber.specs.Element.{content_limit, header_limit};
 ghost use Rattle.tcap_ber.specs.HeaderReading.{Gives};
 ghost use Rattle.tcap_ber.specs.Walking.{is_ending, within_limit, opened, closed, passed, behind_header, goes};
 ghost use Rattle.tcap_ber.specs.Progress.{IsPlaced, IsHeaderWithin};
@@ -109,7 +110,7 @@ impl Progress {
     /// Behind an element of definite length, which has so many octets.
     fn passed(self, len: usize) -> Result<Progress, Fault>
         requires placed { IsPlaced self }
-        requires few { len ≤ 65545 }
+        requires few { len ≤ content_limit + header_limit }
         requires first { self.depth ≡ 0 → self.at ≡ 0 }
         ensures exact { Gives (λ p. p) result (passed self len) }
         ensures placed { IfOk result IsPlaced }
@@ -148,7 +149,8 @@ impl Progress {
         requires first { self.depth ≡ 0 → self.at ≡ 0 }
         requires fits { self.at + length octets.now < 2 ^ 64 }
         ensures exact { result ≡ goes self octets.now }
-        ensures placed { IfSome result (λ p. IsPlaced p × (0 < p.depth) × (self.at < p.at) × (p.at - self.at ≤ length octets.now)) }
+        ensures placed { IfSome result (λ p. IsPlaced p × (0 < p.depth) × (self.at < p.at)
+            × (p.at - self.at ≤ length octets.now)) }
     {
         let window = Window {
             octets,

@@ -1,6 +1,7 @@
 //! Elements as they are written: with the shortest definite length (X.690 8.1.3).
 
-ghost use Rattle.std.specs.Prelude.{◌≡◌, ℕ, List, Some, ◌++◌, ◌≤◌, length, OnOk, IfSome};
+ghost use Rattle.std.specs.Prelude.{◌+◌, ◌≡◌, ℕ, List, Some, ◌++◌, ◌≤◌, length, OnOk, IfSome};
+ghost use Rattle.tcap_ber.specs.Element.{content_limit, shortest_header_limit};
 ghost use Rattle.std.specs.Io.KnownBytes.{Appends};
 ghost use Rattle.std.specs.Option.{option_map};
 ghost use Rattle.tcap_ber.specs.Canonical.{element_around, shortest_header, number_octets, integer_len, integer_octets};
@@ -12,7 +13,7 @@ use crate::header::CONTENT_LIMIT;
 /// The count of octets of the shortest header before a content of `content_len` octets, at most 65,535,
 /// with any tag of one octet (X.690 8.1.3).
 pub fn header_len(content_len: usize) -> usize
-    requires { content_len ≤ 65535 }
+    requires { content_len ≤ content_limit }
     ensures exact { (tag : ℕ) → result ≡ length (shortest_header tag content_len) }
     ensures most { result ≤ 4 }
 {
@@ -28,7 +29,7 @@ pub fn header_len(content_len: usize) -> usize
 pub fn element_len(content_len: usize) -> Option<usize>
     ensures exact { (tag : ℕ) (content : List ℕ) → content_len ≡ length content
         → result ≡ option_map length (element_around tag (Some content)) }
-    ensures most { IfSome result (λ n. n ≤ 65539) }
+    ensures most { IfSome result (λ n. n ≤ content_limit + shortest_header_limit) }
 {
     if content_len > CONTENT_LIMIT {
         return None;
@@ -39,7 +40,7 @@ pub fn element_len(content_len: usize) -> Option<usize>
 /// Writes the shortest header of an element with a tag of one octet and a content of `content_len`
 /// octets, at most 65,535 (X.690 8.1.3). `Failed` where the writer failed.
 pub fn put_header<W: Write>(tag: u8, content_len: usize, writer: &mut W) -> Result<(), Failed>
-    requires { content_len ≤ 65535 }
+    requires { content_len ≤ content_limit }
     ensures ok { OnOk result (Appends (W.taken writer.old) (W.taken writer.new) (shortest_header tag content_len)) }
     ensures counts { CountsFailure (W.failures writer.old) (W.failures writer.new) result }
 {
@@ -60,7 +61,7 @@ pub fn put_header<W: Write>(tag: u8, content_len: usize, writer: &mut W) -> Resu
 /// Writes the shortest element with a tag of one octet around `content`, of at most 65,535 octets
 /// (X.690 8.1.3). `Failed` where the writer failed.
 pub fn put_element<W: Write>(tag: u8, content: &[u8], writer: &mut W) -> Result<(), Failed>
-    requires { length content.now ≤ 65535 }
+    requires { length content.now ≤ content_limit }
     ensures ok { OnOk result (Appends (W.taken writer.old) (W.taken writer.new)
         (shortest_header tag (length content.now) ++ content.now)) }
     ensures counts { CountsFailure (W.failures writer.old) (W.failures writer.new) result }

@@ -87,13 +87,15 @@ impl<'a> RawView<'a> {
     pub fn next(window: Window<'a>) -> Result<(RawView<'a>, Window<'a>), Fault>
         requires { 0 < length window.octets.now }
         // What is read is the element that stands there, verbatim.
-        ensures found { IfOk result (λ x. IsRaw x.0.octets.now × (window.entry.octets.now ≡ x.0.octets.now ++ x.1.octets.now)
+        ensures found { IfOk result (λ x. IsRaw x.0.octets.now
+            × (window.entry.octets.now ≡ x.0.octets.now ++ x.1.octets.now)
             × (x.1.place ≡ window.entry.place + length x.0.octets.now)) }
         // What stands there is read.
         ensures only { (octets rest : List ℕ) → IsRaw octets → window.entry.octets.now ≡ octets ++ rest
             → IsOkAnd result (λ x. (x.0.octets.now ≡ octets) × (x.1.octets.now ≡ rest)) }
         // What is refused is faulty there, and what is faulty is refused by that fault.
-        ensures faulty { (fault : Fault) → (result ≡ Err fault) ↔ IsElementFault (span window.entry) fault.reason fault.place }
+        ensures faulty { (fault : Fault) → (result ≡ Err fault)
+            ↔ IsElementFault (span window.entry) fault.reason fault.place }
         ensures exact { Gives (λ x. (x.0.octets.now, span x.1)) result (raw_at (span window.entry)) }
     {
         RawView::read_next(window)
@@ -117,10 +119,12 @@ impl<'a> RawView<'a> {
         // What is read is the element that stands there, verbatim, and has this tag.
         ensures found { IfOk result (λ x. Taken (verbatim tag) (span window.entry) x.0.octets.now (span x.1)) }
         // An element of this tag that stands there is read.
-        ensures only { (value octets rest : List ℕ) → (verbatim tag).spells value octets rest → window.entry.octets.now ≡ octets ++ rest
+        ensures only { (value octets rest : List ℕ) → (verbatim tag).spells value octets rest
+            → window.entry.octets.now ≡ octets ++ rest
             → IsOkAnd result (λ x. (x.0.octets.now ≡ value) × (x.1.octets.now ≡ rest)) }
         // What is refused is faulty there, and what is faulty is refused by that fault.
-        ensures faulty { (fault : Fault) → (result ≡ Err fault) ↔ (verbatim tag).faulty (span window.entry) fault.reason fault.place }
+        ensures faulty { (fault : Fault) → (result ≡ Err fault)
+            ↔ (verbatim tag).faulty (span window.entry) fault.reason fault.place }
         ensures exact { Gives (λ x. (x.0.octets.now, span x.1)) result (verbatim_at tag (span window.entry)) }
     {
         RawView::read_required(window, tag)
@@ -128,7 +132,8 @@ impl<'a> RawView<'a> {
 
     #[tactic(auto, unfolding(crate::specs::Reading::parameter_at))]
     fn read_parameter(window: Window<'a>) -> Result<(Option<RawView<'a>>, Window<'a>), Fault>
-        ensures exact { Gives (λ x. (option_map (λ raw. raw.octets.now) x.0, span x.1)) result (parameter_at (span window.entry)) }
+        ensures exact { Gives (λ x. (option_map (λ raw. raw.octets.now) x.0, span x.1)) result
+            (parameter_at (span window.entry)) }
     {
         if window.octets.is_empty() {
             return Ok((None, window));
@@ -142,13 +147,17 @@ impl<'a> RawView<'a> {
     #[inline(always)]
     pub fn parameter(window: Window<'a>) -> Result<(Option<RawView<'a>>, Window<'a>), Fault>
         // What is read is spelled there, and what is left is the window behind it.
-        ensures found { IfOk result (λ x. Taken parameter (span window.entry) (option_map (λ raw. raw.octets.now) x.0) (span x.1)) }
+        ensures found { IfOk result (λ x. Taken parameter (span window.entry) (option_map (λ raw. raw.octets.now) x.0)
+            (span x.1)) }
         // What is spelled there is read.
-        ensures only { (value : Option (List ℕ)) → (octets rest : List ℕ) → parameter.spells value octets rest → window.entry.octets.now ≡ octets ++ rest
+        ensures only { (value : Option (List ℕ)) → (octets rest : List ℕ) → parameter.spells value octets rest
+            → window.entry.octets.now ≡ octets ++ rest
             → IsOkAnd result (λ x. (option_map (λ raw. raw.octets.now) x.0 ≡ value) × (x.1.octets.now ≡ rest)) }
         // What is refused is faulty there, and what is faulty is refused by that fault.
-        ensures faulty { (fault : Fault) → (result ≡ Err fault) ↔ parameter.faulty (span window.entry) fault.reason fault.place }
-        ensures exact { Gives (λ x. (option_map (λ raw. raw.octets.now) x.0, span x.1)) result (parameter_at (span window.entry)) }
+        ensures faulty { (fault : Fault) → (result ≡ Err fault)
+            ↔ parameter.faulty (span window.entry) fault.reason fault.place }
+        ensures exact { Gives (λ x. (option_map (λ raw. raw.octets.now) x.0, span x.1)) result
+            (parameter_at (span window.entry)) }
     {
         RawView::read_parameter(window)
     }

@@ -98,7 +98,8 @@ pub fn small_number(tlv: Tlv) -> Result<SmallView, Fault>
     // What is read is spelled by the contents.
     ensures found { IfOk result (λ n. small.spells n.number tlv.entry.content.octets.now) }
     // What they spell is read.
-    ensures only { (value : ℕ) → small.spells value tlv.entry.content.octets.now → IsOkAnd result (λ n. n.number ≡ value) }
+    ensures only { (value : ℕ) → small.spells value tlv.entry.content.octets.now
+        → IsOkAnd result (λ n. n.number ≡ value) }
     // What is refused is faulty there, and what is faulty is refused by that fault.
     ensures faulty { (fault : Fault) → (result ≡ Err fault)
         ↔ small.faulty tlv.entry.start (span tlv.entry.content) fault.reason fault.place }

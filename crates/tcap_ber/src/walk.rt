@@ -1,6 +1,7 @@
 //! A walk over an element's octets that can stop at any octet and go on when more have come.
 
 ghost use Rattle.std.specs.Prelude.{◌≡◌, ◌+◌, ◌<◌, ◌≤◌, ◌⊎◌, ◌++◌, ◌∷◌, ◌↔◌, [], ℕ, List, length, take, Option, None, Err, IsTrue, IfSome};
+ghost use Rattle.tcap_ber.specs.Element.{content_limit, header_limit, opening_limit};
 ghost use Rattle.tcap_ber.specs.Progress.{IsPlaced, IsUnfinishedHeader};
 
 use crate::element::{Outer, Window};
@@ -26,7 +27,8 @@ pub struct Walk {
     // What is wrong with the octets.
     fault: Option<Fault>,
     ghost placed: { IsPlaced progress },
-    ghost room: { (held ≤ 9) × (length (take held header) ≡ held) × (skip ≤ 65551) },
+    ghost room: { (held ≤ 9) × (length (take held header) ≡ held)
+        × (skip ≤ content_limit + opening_limit + header_limit) },
     ghost unfinished: { IsUnfinishedHeader progress (take held header) },
 }
 
@@ -83,7 +85,7 @@ impl Walk {
     /// The walk that goes on there, once so many octets have come.
     fn behind(self, progress: Progress, skip: usize) -> Walk
         requires placed { IsPlaced progress }
-        requires few { skip ≤ 65551 }
+        requires few { skip ≤ content_limit + opening_limit + header_limit }
         ensures fault { result.fault ≡ None }
         ensures skip { result.skip ≡ skip }
         ensures progress { result.progress ≡ progress }
@@ -163,7 +165,8 @@ impl Walk {
         requires none { self.skip ≡ 0 }
         requires goes { IsStopped self → ⊥ }
         requires nothing { self.held ≡ 0 }
-        ensures same { IfSome result (λ x. (more : List ℕ) → resumes x.0 (x.1.now ++ more) ≡ resumes self (octets.now ++ more)) }
+        ensures same { IfSome result (λ x. (more : List ℕ)
+            → resumes x.0 (x.1.now ++ more) ≡ resumes self (octets.now ++ more)) }
         ensures fewer { IfSome result (λ x. length x.1.now < length octets.now) }
     {
         let window = Window {

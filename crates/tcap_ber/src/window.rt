@@ -5,7 +5,7 @@ ghost use Rattle.tcap_ber.specs.declared.element.Outer.{Outer};
 ghost use Rattle.tcap_ber.specs.declared.fault.Fault.{Fault};
 ghost use Rattle.tcap_ber.specs.declared.fault.Reason.{Reason};
 ghost use Rattle.tcap_ber.specs.declared.header.Opening.{Opening};
-ghost use Rattle.tcap_ber.specs.Element.{IsElement};
+ghost use Rattle.tcap_ber.specs.Element.{IsElement, content_limit, header_limit};
 ghost use Rattle.tcap_ber.specs.Walked.{BeginsElement, NeedsMore, IsWalkFault};
 ghost use Rattle.tcap_ber.specs.Grammar.{BeginsWith, IsMissing, IsElementFault, IsUnexpected};
 ghost use Rattle.tcap_ber.specs.Found.{FindsElement};
@@ -27,12 +27,11 @@ fn read_outer(octets: &[u8]) -> Result<Outer, Fault>
     }
 }
 
-/// How `octets` begin: with a whole element of so many octets, or with none yet and no fault so far, so
-/// that at least so many octets are needed in all. A fault where the octets as far as they stand there are
-/// wrong, its place counted from the first octet: `TagForm` and `TooLong` at 0, `LengthForm` and
-/// `Indefinite` at the first length octet (X.690 8.1.2, 8.1.3). The elements in one of indefinite length have these faults
-/// too, each at its own place, and `TooDeep` at that of the 33rd open one; a content of indefinite length is `TooLong` at
-/// the outermost element, 0.
+/// How `octets` begin: with a whole element of so many octets, or with none yet and no fault so far, so that at least
+/// so many octets are needed in all. A fault where the octets as far as they stand there are wrong, its place counted
+/// from the first octet: `TagForm` and `TooLong` at 0, `LengthForm` and `Indefinite` at the first length octet (X.690
+/// 8.1.2, 8.1.3). The elements in one of indefinite length have these faults too, each at its own place, and `TooDeep`
+/// at that of the 33rd open one; a content of indefinite length is `TooLong` at the outermost element, 0.
 pub fn outer(octets: &[u8]) -> Result<Outer, Fault>
     ensures whole { (n : ℕ) → (result ≡ Ok (Outer.Whole n)) ↔ BeginsElement octets.now n }
     ensures need { (n : ℕ) → result ≡ Ok (Outer.Need n) → NeedsMore octets.now n }
@@ -47,7 +46,7 @@ pub fn outer(octets: &[u8]) -> Result<Outer, Fault>
 fn read_definite<'a>(window: Window<'a>, header: Header) -> Result<(Tlv<'a>, Window<'a>), Fault>
     requires tag { header.tag_len ≤ header.len }
     requires there { header.len ≤ length window.octets.now }
-    requires few { header.len + header.content_len ≤ 65545 }
+    requires few { header.len + header.content_len ≤ content_limit + header_limit }
     ensures exact { Gives (λ x. (element x.0, span x.1)) result (definite_at (span window.entry) header) }
 {
     let len = header.len + header.content_len;
@@ -93,7 +92,8 @@ fn walked_len(window: Window, tag_len: usize) -> Result<usize, Fault>
 #[inline(never)]
 fn read_indefinite<'a>(window: Window<'a>, tag_len: usize) -> Result<(Tlv<'a>, Window<'a>), Fault>
     requires opening { opening_at (span window) ≡ Ok (Some (Opening.Indefinite tag_len)) }
-    ensures exact { Gives (λ x. (element x.0, span x.1)) result (indefinite_at (span window.entry) tag_len (outer_at window.entry.octets.now)) }
+    ensures exact { Gives (λ x. (element x.0, span x.1)) result
+        (indefinite_at (span window.entry) tag_len (outer_at window.entry.octets.now)) }
 {
     let len = walked_len(window, tag_len)?;
     let (tag, _) = window.octets.split_at(tag_len);
@@ -134,21 +134,23 @@ fn read_next(window: Window) -> Result<(Tlv, Window), Fault>
     }
 }
 
-/// The first element of a window that is not empty, and the window behind it (X.690 8.1.1). `TagForm`,
-/// `TooLong` or `Overrun` at the element's first octet, `LengthForm` or `Indefinite` at its first length
-/// octet. Where it is of indefinite length, the elements in it have these faults too, each at its own place, and
-/// `TooDeep`; `Overrun` stands at the innermost element that is not whole. The window of its content ends at its two zero
-/// octets.
+/// The first element of a window that is not empty, and the window behind it (X.690 8.1.1). `TagForm`, `TooLong` or
+/// `Overrun` at the element's first octet, `LengthForm` or `Indefinite` at its first length octet. Where it is of
+/// indefinite length, the elements in it have these faults too, each at its own place, and `TooDeep`; `Overrun` stands
+/// at the innermost element that is not whole. The window of its content ends at its two zero octets.
 #[inline(always)]
 pub fn next_tlv(window: Window) -> Result<(Tlv, Window), Fault>
     requires { 0 < length window.octets.now }
     // What is read is the element that stands there, and its parts are those octets of the window.
     ensures found { IfOk result (λ x. FindsElement (span window.entry) (element x.0) (span x.1)) }
     // What stands there is read.
-    ensures only { (tag content octets rest : List ℕ) → IsElement tag content octets → window.entry.octets.now ≡ octets ++ rest
-        → IsOkAnd result (λ x. (x.0.tag.octets.now ≡ tag) × (x.0.content.octets.now ≡ content) × (x.1.octets.now ≡ rest)) }
+    ensures only { (tag content octets rest : List ℕ) → IsElement tag content octets
+        → window.entry.octets.now ≡ octets ++ rest
+        → IsOkAnd result (λ x. (x.0.tag.octets.now ≡ tag) × (x.0.content.octets.now ≡ content)
+        × (x.1.octets.now ≡ rest)) }
     // What is refused is faulty there, and what is faulty is refused by that fault.
-    ensures faulty { (fault : Fault) → (result ≡ Err fault) ↔ IsElementFault (span window.entry) fault.reason fault.place }
+    ensures faulty { (fault : Fault) → (result ≡ Err fault)
+        ↔ IsElementFault (span window.entry) fault.reason fault.place }
     ensures exact { Gives (λ x. (element x.0, span x.1)) result (next_at (span window.entry)) }
 {
     read_next(window)
@@ -175,8 +177,10 @@ pub fn required_any(window: Window) -> Result<(Tlv, Window), Fault>
     // What is read is the element that stands there, and its parts are those octets of the window.
     ensures found { IfOk result (λ x. FindsElement (span window.entry) (element x.0) (span x.1)) }
     // What stands there is read.
-    ensures only { (tag content octets rest : List ℕ) → IsElement tag content octets → window.entry.octets.now ≡ octets ++ rest
-        → IsOkAnd result (λ x. (x.0.tag.octets.now ≡ tag) × (x.0.content.octets.now ≡ content) × (x.1.octets.now ≡ rest)) }
+    ensures only { (tag content octets rest : List ℕ) → IsElement tag content octets
+        → window.entry.octets.now ≡ octets ++ rest
+        → IsOkAnd result (λ x. (x.0.tag.octets.now ≡ tag) × (x.0.content.octets.now ≡ content)
+        × (x.1.octets.now ≡ rest)) }
     // It is refused exactly where it is missing or faulty itself.
     ensures faulty { (fault : Fault) → (result ≡ Err fault) ↔ (IsMissing (span window.entry) fault.reason fault.place
         ⊎ IsElementFault (span window.entry) fault.reason fault.place) }
@@ -204,9 +208,11 @@ fn read_required(window: Window, tag: u8) -> Result<(Tlv, Window), Fault>
 #[inline(always)]
 pub fn required(window: Window, tag: u8) -> Result<(Tlv, Window), Fault>
     // What is read is the element that stands there, and has this tag.
-    ensures found { IfOk result (λ x. FindsElement (span window.entry) (element x.0) (span x.1) × (x.0.tag.octets.now ≡ tag ∷ [])) }
+    ensures found { IfOk result (λ x. FindsElement (span window.entry) (element x.0) (span x.1)
+        × (x.0.tag.octets.now ≡ tag ∷ [])) }
     // An element of this tag that stands there is read.
-    ensures only { (content octets rest : List ℕ) → IsElement (tag ∷ []) content octets → window.entry.octets.now ≡ octets ++ rest
+    ensures only { (content octets rest : List ℕ) → IsElement (tag ∷ []) content octets
+        → window.entry.octets.now ≡ octets ++ rest
         → IsOkAnd result (λ x. (x.0.content.octets.now ≡ content) × (x.1.octets.now ≡ rest)) }
     // It is refused exactly where it is missing, or faulty itself, or has another tag.
     ensures faulty { (fault : Fault) → (result ≡ Err fault) ↔ (IsMissing (span window.entry) fault.reason fault.place

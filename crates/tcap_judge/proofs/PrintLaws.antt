@@ -7,17 +7,17 @@ use Rattle.tcap_record.specs.declared.entry.Entry.{Entry}
 use Rattle.tcap_record.specs.declared.fault.FeedFault.{FeedFault}
 use Rattle.tcap_record.specs.Lines.{lines_of}
 use Rattle.tcap_judge.specs.declared.status.Status.TheVariants as statuses
-use Rattle.tcap_judge.specs.Shown.{Prints, fault_line, memory_line}
+use Rattle.tcap_judge.specs.Shown.{Prints, feed_fault_line, memory_line}
 
 -- all lines, and the fault's or that memory ran out
 pub faulted : (entries : List Entry) (fault : FeedFault) (old mid new : Option (List ℕ))
     → Appends old mid (lines_of entries)
-    → ((line : List ℕ) × ((line ≡ fault_line fault) ⊎ (line ≡ memory_line)) × Appends mid new line)
+    → ((line : List ℕ) × ((line ≡ feed_fault_line fault) ⊎ (line ≡ memory_line)) × Appends mid new line)
     → (text : List ℕ) × Prints entries (Err fault) text statuses.Fault × Appends old new text
 faulted entries fault old mid new before behind =
     (lines_of entries ++ behind.0, which behind.1, Appends-trans old mid new _ _ before behind.2)
   where
-    which : ((behind.0 ≡ fault_line fault) ⊎ (behind.0 ≡ memory_line))
+    which : ((behind.0 ≡ feed_fault_line fault) ⊎ (behind.0 ≡ memory_line))
         → Prints entries (Err fault) (lines_of entries ++ behind.0) statuses.Fault
     which (inl e) = inl (ap (λ (x : List ℕ). lines_of entries ++ x) e, refl)
     which (inr e) = inr (

@@ -5,7 +5,7 @@ use Rattle.tcap_ber.specs.Device.{one_more}
 use Rattle.tcap_record.specs.declared.fault.FeedFault.{FeedFault}
 use Rattle.tcap_record.specs.declared.fault.FeedReason.TheVariants as feed
 use Rattle.tcap_record.specs.HexLines.{IsPacked, IsPackedUpTo}
-use Rattle.tcap_judge.specs.Shown.{fault_line, memory_line}
+use Rattle.tcap_judge.specs.Shown.{feed_fault_line, memory_line}
 use Rattle.tcap_judge.specs.declared.status.Status.{Status}
 use Rattle.tcap_judge.specs.declared.status.Status.TheVariants as statuses
 
@@ -18,11 +18,12 @@ pub record FailsToPack (told : List ℕ) (untold : Option (List ℕ)) (failures 
   pub packed : IsPackedUpTo told fault untold taken taken'
   pub failed : fault.reason ≡ feed.Read → failures' ≡ one_more failures
   pub sound : fault.reason ≢ feed.Read → failures' ≡ failures
-  pub line_is : (line ≡ fault_line fault) ⊎ (line ≡ memory_line)
+  pub line_is : (line ≡ feed_fault_line fault) ⊎ (line ≡ memory_line)
   pub says : Appends said said' line
 
 -- All lines that the reader told, up to its end, were packed, and nothing was said of a fault.
-pub record PacksAll (told : List ℕ) (untold : Option (List ℕ)) (failures failures' : ℕ) (taken taken' said said' : Option (List ℕ))
+pub record PacksAll (told : List ℕ) (untold : Option (List ℕ)) (failures failures' : ℕ)
+    (taken taken' said said' : Option (List ℕ))
     : Type 0 where
   pub count : ℕ
   pub packed : IsPacked told count taken taken'
@@ -30,7 +31,8 @@ pub record PacksAll (told : List ℕ) (untold : Option (List ℕ)) (failures fai
   pub sound : failures' ≡ failures
   pub says : said' ≡ said
 
-abbrev pub PacksSo : List ℕ → Option (List ℕ) → ℕ → ℕ → Option (List ℕ) → Option (List ℕ) → Option (List ℕ) → Option (List ℕ)
+abbrev pub PacksSo : List ℕ → Option (List ℕ) → ℕ → ℕ → Option (List ℕ) → Option (List ℕ) → Option (List ℕ)
+    → Option (List ℕ)
     → Status → Type 0
 PacksSo told untold failures failures' taken taken' said said' statuses.Fine =
     PacksAll told untold failures failures' taken taken' said said'
@@ -41,4 +43,5 @@ PacksSo told untold failures failures' taken taken' said said' statuses.Fault =
 abbrev pub PacksTold : Option (List ℕ) → Option (List ℕ) → ℕ → ℕ → Option (List ℕ) → Option (List ℕ) → Option (List ℕ)
     → Option (List ℕ) → Status → Type 0
 PacksTold untold untold' failures failures' taken taken' said said' status =
-    (told : List ℕ) × Consumes untold untold' told × PacksSo told untold' failures failures' taken taken' said said' status
+    (told : List ℕ) × Consumes untold untold' told
+    × PacksSo told untold' failures failures' taken taken' said said' status

@@ -13,7 +13,8 @@ use Rattle.tcap_judge.specs.declared.showing.Stop.TheVariants as stops
 
 -- The octets that were taken are these entries and what is held; the lines of the entries were written, and bad says
 -- whether one of them is no message.
-pub record ShownSoFar (told : List ℕ) (entries : List Entry) (held : Held) (bad : Bool) (taken taken' : Option (List ℕ)) : Type 0 where
+pub record ShownSoFar (told : List ℕ) (entries : List Entry) (held : Held) (bad : Bool)
+    (taken taken' : Option (List ℕ)) : Type 0 where
   pub fed : Fed told entries held
   pub written : Appends taken taken' (lines_of entries)
   pub bad_is : bad ≡ list_any is_bad entries
@@ -21,11 +22,13 @@ pub record ShownSoFar (told : List ℕ) (entries : List Entry) (held : Held) (ba
 -- Wherever it was so before some octets were taken, it is so behind them, of those entries and more.
 abbrev pub Leads : Held → Bool → Option (List ℕ) → List ℕ → Held → Bool → Option (List ℕ) → Type 0
 Leads old_held old_bad old_taken octets held bad taken =
-    (told : List ℕ) (entries : List Entry) (start : Option (List ℕ)) → ShownSoFar told entries old_held old_bad start old_taken
+    (told : List ℕ) (entries : List Entry) (start : Option (List ℕ))
+    → ShownSoFar told entries old_held old_bad start old_taken
     → (shown : List Entry) × ShownSoFar (told ++ octets) shown held bad start taken
 
 -- What the reader told is these entries, whose lines were written, and this end behind them.
-pub record ShowsAll (untold untold' : Option (List ℕ)) (failures failures' : ℕ) (bad : Bool) (taken taken' : Option (List ℕ)) (end : Result (Unit {0}) FeedFault) : Type 0 where
+pub record ShowsAll (untold untold' : Option (List ℕ)) (failures failures' : ℕ) (bad : Bool)
+    (taken taken' : Option (List ℕ)) (end : Result (Unit {0}) FeedFault) : Type 0 where
   pub told : List ℕ
   pub entries : List Entry
   pub tells : Consumes untold untold' told

@@ -1,27 +1,19 @@
 //! The line of a fault.
 
-ghost use Rattle.std.specs.Prelude.{◌≡◌, ◌++◌, ◌⊎◌, ℕ, List, OnOk, OnErr, string_bytes};
+ghost use Rattle.std.specs.Prelude.{◌≡◌, ◌⊎◌, ℕ, List, OnOk, OnErr};
 ghost use Rattle.std.specs.Io.KnownBytes.{Appends};
 ghost use Rattle.tcap_ber.specs.Device.{one_more};
-ghost use Rattle.tcap_judge.specs.Shown.{fault_line, memory_line};
+ghost use Rattle.tcap_judge.specs.Shown.{feed_fault_line, memory_line};
 
 use crate::status::WriteFailed;
 use std::alloc::{AllocError, Global};
 use tcap_ber::Write;
-use tcap_record::FeedFault;
+use tcap_record::{FeedFault, push_fault};
 
 /// The line where memory ran out.
-const MEMORY_LINE: &[u8] = b"FAULT 99 0\n";
+pub const MEMORY_LINE: &str = "FAULT 99 0\n";
 
-/// Appends the line of a fault of the record.
-fn push_fault(text: &mut String, fault: FeedFault) -> Result<(), AllocError>
-    ensures { OnOk result (string_bytes text.new ≡ string_bytes text.old ++ fault_line fault) }
-{
-    let number = fault.reason.number();
-    let place = fault.place;
-    writeln!(text, "FAULT {number} {place}")
-}
-
+/// Writes a line.
 fn write_line<W: Write>(writer: &mut W, line: &[u8]) -> Result<(), WriteFailed>
     ensures line { OnOk result (Appends (W.taken writer.old) (W.taken writer.new) line.now) }
     ensures counts { OnOk result (W.failures writer.new ≡ W.failures writer.old) }
@@ -36,14 +28,14 @@ pub(crate) fn write_fault<W: Write>(
     fault: FeedFault,
     writer: &mut W,
 ) -> Result<(), WriteFailed>
-    ensures line { OnOk result ((line : List ℕ) × ((line ≡ fault_line fault) ⊎ (line ≡ memory_line))
+    ensures line { OnOk result ((line : List ℕ) × ((line ≡ feed_fault_line fault) ⊎ (line ≡ memory_line))
         × Appends (W.taken writer.old) (W.taken writer.new) line) }
     ensures counts { OnOk result (W.failures writer.new ≡ W.failures writer.old) }
     ensures failed { OnErr result (W.failures writer.new ≡ one_more (W.failures writer.old)) }
 {
     let mut line = String::new(alloc);
-    match push_fault(&mut line, fault) {
+    match push_fault(&mut line, fault.reason.number(), fault.place) {
         Ok(()) => write_line(writer, line.as_bytes()),
-        Err(AllocError) => write_line(writer, MEMORY_LINE),
+        Err(AllocError) => write_line(writer, MEMORY_LINE.as_bytes()),
     }
 }

@@ -9,6 +9,7 @@ mod status;
 mod words;
 
 pub use asked::Request;
+pub use fault_lines::MEMORY_LINE;
 pub use packing::run_pack;
 pub use showing::run_show;
 pub use status::{Status, WriteFailed};

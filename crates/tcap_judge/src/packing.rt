@@ -11,8 +11,8 @@ use tcap_ber::{Read, Write};
 use tcap_record::{PackFault, pack};
 
 /// Writes the record that the lines of hex stand for which `reader` tells up to its end: see
-/// [`pack`](tcap_record::pack). The line of a fault goes to `faults`; the entries of the lines before it are written then.
-/// The status says whether there is one. `WriteFailed` where a writer failed in this call.
+/// [`pack`](tcap_record::pack). The line of a fault goes to `faults`; the entries of the lines before it are written
+/// then. The status says whether there is one. `WriteFailed` where a writer failed in this call.
 pub fn run_pack<R: Read, W: Write, F: Write>(
     alloc: Global,
     reader: &mut R,
@@ -26,7 +26,8 @@ pub fn run_pack<R: Read, W: Write, F: Write>(
         × (F.failures faults.new ≡ F.failures faults.old)) }
     ensures failed { OnErr result (((W.failures writer.new ≡ one_more (W.failures writer.old))
         × (F.failures faults.new ≡ F.failures faults.old))
-        ⊎ ((W.failures writer.new ≡ W.failures writer.old) × (F.failures faults.new ≡ one_more (F.failures faults.old)))) }
+        ⊎ ((W.failures writer.new ≡ W.failures writer.old)
+        × (F.failures faults.new ≡ one_more (F.failures faults.old)))) }
 {
     match pack(alloc, reader, writer) {
         Ok(_) => Ok(Status::Fine),

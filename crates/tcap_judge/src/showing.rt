@@ -71,9 +71,11 @@ fn show_entry<W: Write>(
     text: &mut String,
     writer: &mut W,
 ) -> Result<bool, Stop>
-    ensures shown { (bad : Bool) → result ≡ Ok bad → Appends (W.taken writer.old) (W.taken writer.new) (entry_lines number (entry_read entry.now))
+    ensures shown { (bad : Bool) → result ≡ Ok bad
+        → Appends (W.taken writer.old) (W.taken writer.new) (entry_lines number (entry_read entry.now))
         × (bad ≡ is_bad (entry_read entry.now)) }
-    ensures memory { (f : FeedFault) → result ≡ Err (Stop.Fault f) → (f ≡ feed_fault FeedReason.Memory 0) × (writer.new ≡ writer.old) }
+    ensures memory { (f : FeedFault) → result ≡ Err (Stop.Fault f) → (f ≡ feed_fault FeedReason.Memory 0)
+        × (writer.new ≡ writer.old) }
     ensures write { result ≡ Err Stop.Write → W.failures writer.new ≡ one_more (W.failures writer.old) }
     ensures others { result ≢ Err Stop.Write → W.failures writer.new ≡ W.failures writer.old }
 {
@@ -91,10 +93,14 @@ fn show_front<W: Write>(
     text: &mut String,
     writer: &mut W,
 ) -> Result<Option<bool>, Stop>
-    ensures shown { (bad : Bool) → result ≡ Ok (Some bad) → (entry : Entry) × IsFront entry frames.now × (frames.now.fault ≡ None) × IsWhole frames.now.octets
-        × Appends (W.taken writer.old) (W.taken writer.new) (entry_lines frames.now.count entry) × (bad ≡ is_bad entry) }
-    ensures none { result ≡ Ok None → ((frames.now.fault ≡ None) × IsWhole frames.now.octets → ⊥) × (writer.new ≡ writer.old) }
-    ensures memory { (f : FeedFault) → result ≡ Err (Stop.Fault f) → (f ≡ feed_fault FeedReason.Memory 0) × (writer.new ≡ writer.old) }
+    ensures shown { (bad : Bool) → result ≡ Ok (Some bad) → (entry : Entry) × IsFront entry frames.now
+        × (frames.now.fault ≡ None) × IsWhole frames.now.octets
+        × Appends (W.taken writer.old) (W.taken writer.new) (entry_lines frames.now.count entry)
+        × (bad ≡ is_bad entry) }
+    ensures none { result ≡ Ok None → ((frames.now.fault ≡ None) × IsWhole frames.now.octets → ⊥)
+        × (writer.new ≡ writer.old) }
+    ensures memory { (f : FeedFault) → result ≡ Err (Stop.Fault f) → (f ≡ feed_fault FeedReason.Memory 0)
+        × (writer.new ≡ writer.old) }
     ensures write { result ≡ Err Stop.Write → W.failures writer.new ≡ one_more (W.failures writer.old) }
     ensures others { result ≢ Err Stop.Write → W.failures writer.new ≡ W.failures writer.old }
 {
@@ -105,13 +111,16 @@ fn show_front<W: Write>(
 }
 
 impl Showing {
-    /// Takes the entries that stand whole one after the other at the front of `piece`, where nothing is held, writes their
-    /// lines, and answers how many octets they have.
+    /// Takes the entries that stand whole one after the other at the front of `piece`, where nothing is held, writes
+    /// their lines, and answers how many octets they have.
     fn show_whole<W: Write>(&mut self, piece: &[u8], writer: &mut W) -> Result<usize, Stop>
         ensures most { IfOk result (λ n. n ≤ length piece.now) }
-        ensures shows { IfOk result (λ n. Leads self.old.frames self.old.bad (W.taken writer.old) (take n piece.now) self.new.frames self.new.bad (W.taken writer.new)) }
-        ensures failed { (f : FeedFault) → result ≡ Err (Stop.Fault f) → (f ≡ feed_fault FeedReason.Memory 0) × ((n : ℕ) × (n ≤ length piece.now)
-            × Leads self.old.frames self.old.bad (W.taken writer.old) (take n piece.now) self.new.frames self.new.bad (W.taken writer.new)) }
+        ensures shows { IfOk result (λ n. Leads self.old.frames self.old.bad (W.taken writer.old)
+            (take n piece.now) self.new.frames self.new.bad (W.taken writer.new)) }
+        ensures failed { (f : FeedFault) → result ≡ Err (Stop.Fault f) → (f ≡ feed_fault FeedReason.Memory 0)
+            × ((n : ℕ) × (n ≤ length piece.now)
+            × Leads self.old.frames self.old.bad (W.taken writer.old) (take n piece.now) self.new.frames self.new.bad
+            (W.taken writer.new)) }
         ensures octets { self.new.frames.octets ≡ self.old.frames.octets }
         ensures held { IsHeld self.old.frames → IsHeld self.new.frames }
         ensures write { result ≡ Err Stop.Write → W.failures writer.new ≡ one_more (W.failures writer.old) }
@@ -130,18 +139,21 @@ impl Showing {
         }
     }
 
-    /// Takes octets of `piece` until a whole entry is held or the piece ends, writes the lines of the entries before it, and
-    /// answers how many were taken.
+    /// Takes octets of `piece` until a whole entry is held or the piece ends, writes the lines of the entries before
+    /// it, and answers how many were taken.
     fn take_some<W: Write>(&mut self, piece: &[u8], writer: &mut W) -> Result<usize, Stop>
         ensures most { IfOk result (λ n. n ≤ length piece.now) }
         ensures sound { IfOk result (λ n. self.new.frames.fault ≡ None) }
         ensures all { IfOk result (λ n. n < length piece.now → IsWhole self.new.frames.octets) }
         ensures framed { IfOk result (λ n. IsHeld self.new.frames) }
         ensures grows { IfOk result (λ n. length self.new.frames.octets ≤ length self.old.frames.octets + n) }
-        ensures shows { IfOk result (λ n. Leads self.old.frames self.old.bad (W.taken writer.old) (take n piece.now) self.new.frames self.new.bad (W.taken writer.new)) }
-        ensures failed { (f : FeedFault) → result ≡ Err (Stop.Fault f) → ((f ≡ feed_fault FeedReason.Memory 0) ⊎ (self.new.frames.fault ≡ Some f))
+        ensures shows { IfOk result (λ n. Leads self.old.frames self.old.bad (W.taken writer.old)
+            (take n piece.now) self.new.frames self.new.bad (W.taken writer.new)) }
+        ensures failed { (f : FeedFault) → result ≡ Err (Stop.Fault f)
+            → ((f ≡ feed_fault FeedReason.Memory 0) ⊎ (self.new.frames.fault ≡ Some f))
             × ((n : ℕ) × (n ≤ length piece.now)
-            × Leads self.old.frames self.old.bad (W.taken writer.old) (take n piece.now) self.new.frames self.new.bad (W.taken writer.new)) }
+            × Leads self.old.frames self.old.bad (W.taken writer.old) (take n piece.now) self.new.frames self.new.bad
+            (W.taken writer.new)) }
         ensures held { IsHeld self.old.frames → IsHeld self.new.frames }
         ensures write { result ≡ Err Stop.Write → W.failures writer.new ≡ one_more (W.failures writer.old) }
         ensures others { result ≢ Err Stop.Write → W.failures writer.new ≡ W.failures writer.old }
@@ -153,10 +165,13 @@ impl Showing {
 
     /// Takes all octets of `piece`, up to a fault, and writes the lines of the entries that are whole then.
     fn show_piece<W: Write>(&mut self, piece: &[u8], writer: &mut W) -> Result<(), Stop>
-        ensures shows { result ≢ Err Stop.Write → (n : ℕ) × (n ≤ length piece.now) × (result ≡ Ok tt → n ≡ length piece.now)
-            × Leads self.old.frames self.old.bad (W.taken writer.old) (take n piece.now) self.new.frames self.new.bad (W.taken writer.new) }
+        ensures shows { result ≢ Err Stop.Write → (n : ℕ) × (n ≤ length piece.now)
+            × (result ≡ Ok tt → n ≡ length piece.now)
+            × Leads self.old.frames self.old.bad (W.taken writer.old) (take n piece.now) self.new.frames self.new.bad
+            (W.taken writer.new) }
         ensures sound { OnOk result ((self.new.frames.fault ≡ None) × IsPart self.new.frames.octets) }
-        ensures fault { (f : FeedFault) → result ≡ Err (Stop.Fault f) → (f ≡ feed_fault FeedReason.Memory 0) ⊎ (self.new.frames.fault ≡ Some f) }
+        ensures fault { (f : FeedFault) → result ≡ Err (Stop.Fault f) → (f ≡ feed_fault FeedReason.Memory 0)
+            ⊎ (self.new.frames.fault ≡ Some f) }
         ensures held { IsHeld self.old.frames → IsHeld self.new.frames }
         ensures write { result ≡ Err Stop.Write → W.failures writer.new ≡ one_more (W.failures writer.old) }
         ensures others { result ≢ Err Stop.Write → W.failures writer.new ≡ W.failures writer.old }
@@ -182,7 +197,8 @@ fn show_all<R: Read, W: Write>(
 ) -> Result<(), Stop>
     requires fresh { showing.old.frames ≡ nothing_held }
     requires fine { showing.old.bad ≡ false }
-    ensures shows { UnlessWrite (ShowsAll (R.untold reader.old) (R.untold reader.new) (R.failures reader.old) (R.failures reader.new)
+    ensures shows { UnlessWrite (ShowsAll (R.untold reader.old) (R.untold reader.new) (R.failures reader.old)
+        (R.failures reader.new)
         showing.new.bad (W.taken writer.old) (W.taken writer.new)) result }
     ensures write { result ≡ Err Stop.Write → W.failures writer.new ≡ one_more (W.failures writer.old) }
     ensures others { result ≢ Err Stop.Write → W.failures writer.new ≡ W.failures writer.old }
@@ -205,9 +221,9 @@ fn show_all<R: Read, W: Write>(
 }
 
 /// Prints the entries of the record that `reader` tells up to its end, each as soon as its last octet was read, and the
-/// fault behind them where there is one. The status says whether a line of fault was printed. Where memory runs out, lines
-/// of the first entries are printed, whole ones, and its line. `WriteFailed` where the writer failed in this call. One
-/// entry is held at a time.
+/// fault behind them where there is one. The status says whether a line of fault was printed. Where memory runs out,
+/// lines of the first entries are printed, whole ones, and its line. `WriteFailed` where the writer failed in this
+/// call. One entry is held at a time.
 pub fn run_show<R: Read, W: Write>(
     alloc: Global,
     reader: &mut R,

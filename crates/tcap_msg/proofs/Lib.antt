@@ -1,5 +1,4 @@
 pub mod KindLaws
-pub mod LoneLaws
 pub mod MessageLaws
 pub mod MessageWithin
 pub mod DecodeLaws

@@ -7,7 +7,10 @@ use Rattle.tcap_msg.specs.declared.encode_message.EncodeFault.TheVariants.{TooLo
 
 -- what encoding octets does to a writer: they were all written, or nothing was where there are none, or
 -- the writer failed
-abbrev pub IsEncoded : Option (List ℕ) → Option (List ℕ) → Option (List ℕ) → ℕ → ℕ → Result (Unit {0}) EncodeFault → Type 0
-IsEncoded spelling old new failed fails (Ok _) = ((octets : List ℕ) × (spelling ≡ Some octets) × Appends old new octets) × (fails ≡ failed)
+abbrev pub IsEncoded : Option (List ℕ) → Option (List ℕ) → Option (List ℕ) → ℕ → ℕ → Result (Unit {0}) EncodeFault
+    → Type 0
+IsEncoded spelling old new failed fails (Ok _) =
+    ((octets : List ℕ) × (spelling ≡ Some octets) × Appends old new octets) × (fails ≡ failed)
 IsEncoded spelling old new failed fails (Err TooLong) = (spelling ≡ None) × Keeps old new × (fails ≡ failed)
-IsEncoded spelling old new failed fails (Err Write) = ((octets : List ℕ) × (spelling ≡ Some octets)) × (fails ≡ one_more failed)
+IsEncoded spelling old new failed fails (Err Write) = ((octets : List ℕ) × (spelling ≡ Some octets))
+    × (fails ≡ one_more failed)

@@ -29,14 +29,16 @@ abbrev pub make_begin : List ℕ × (Option Dialogue × (Option (List Component)
 make_begin parts = Begin parts.0 parts.1.0 parts.1.1.0
 
 abbrev pub begin : Body Message
-begin = made make_begin (structure (required 0x48 transaction_id ⨾ optional 0x6B dialogue ⨾ optional 0x6C portion ⨾ ended))
+begin = made make_begin (structure (required 0x48 transaction_id ⨾ optional 0x6B dialogue ⨾ optional 0x6C portion
+    ⨾ ended))
 
 -- End: DTID 49, [dialogue portion 6B], [component portion 6C]
 abbrev pub make_end : List ℕ × (Option Dialogue × (Option (List Component) × Unit {0})) → Message
 make_end parts = End parts.0 parts.1.0 parts.1.1.0
 
 abbrev pub end_message : Body Message
-end_message = made make_end (structure (required 0x49 transaction_id ⨾ optional 0x6B dialogue ⨾ optional 0x6C portion ⨾ ended))
+end_message = made make_end (structure (required 0x49 transaction_id ⨾ optional 0x6B dialogue ⨾ optional 0x6C portion
+    ⨾ ended))
 
 -- Continue: OTID 48, DTID 49, [dialogue portion 6B], [component portion 6C]
 abbrev pub make_continue : List ℕ × (List ℕ × (Option Dialogue × (Option (List Component) × Unit {0}))) → Message
@@ -63,7 +65,8 @@ abbrev pub make_abort : List ℕ × (Option ℕ × (Option Dialogue × Unit {0})
 make_abort parts = Abort parts.0 (make_reason parts.1.0 parts.1.1.0)
 
 abbrev pub abort : Body Message
-abort = made make_abort (structure (required 0x49 transaction_id ⨾ optional 0x4A small ⨾▹ λ cause. unless_cause cause ⨾ ended))
+abort = made make_abort (structure (required 0x49 transaction_id ⨾ optional 0x4A small ⨾▹ λ cause. unless_cause cause
+    ⨾ ended))
 
 -- the messages, by their tags
 abbrev pub messages : Choice Message

@@ -22,4 +22,5 @@ is_transaction_id octets = nat_lt 0 (length octets) && nat_lt (length octets) 5
 
 -- the transaction ID that an element holds
 unfoldable pub transaction_id_of : Element → Result (List ℕ) Fault
-transaction_id_of e = if is_transaction_id e.content.octets then Ok e.content.octets else Err (fault BadTransactionId e.place)
+transaction_id_of e = if is_transaction_id e.content.octets then Ok e.content.octets
+    else Err (fault BadTransactionId e.place)

@@ -26,8 +26,10 @@ IsAbortReason (Some (reasons.Dialogue dialogue)) = IsDialogue dialogue
 
 abbrev pub IsMessage : Message → Type 0
 IsMessage (Unidirectional dialogue components) = IsDialoguePortion dialogue × IsPortion components
-IsMessage (Begin otid dialogue components) = IsTransactionId otid × IsDialoguePortion dialogue × IsComponentPortion components
+IsMessage (Begin otid dialogue components) = IsTransactionId otid × IsDialoguePortion dialogue
+    × IsComponentPortion components
 IsMessage (Continue otid dtid dialogue components) =
     IsTransactionId otid × IsTransactionId dtid × IsDialoguePortion dialogue × IsComponentPortion components
-IsMessage (End dtid dialogue components) = IsTransactionId dtid × IsDialoguePortion dialogue × IsComponentPortion components
+IsMessage (End dtid dialogue components) = IsTransactionId dtid × IsDialoguePortion dialogue
+    × IsComponentPortion components
 IsMessage (Abort dtid reason) = IsTransactionId dtid × IsAbortReason reason

@@ -1,7 +1,8 @@
 //! Messages as they are written: with the shortest definite lengths, the protocol version as 80 02 07 80, parameters
 //! and user information verbatim.
 
-ghost use Rattle.std.specs.Prelude.{◌≡◌, ◌≢◌, ℕ, ◌≤◌, ◌↔◌, List, length, Some, None, Err, IfSome, OnOk};
+ghost use Rattle.std.specs.Prelude.{◌+◌, ◌≡◌, ◌≢◌, ℕ, ◌≤◌, ◌↔◌, List, length, Some, None, Err, IfSome, OnOk};
+ghost use Rattle.tcap_ber.specs.Element.{content_limit, shortest_header_limit};
 ghost use Rattle.std.specs.Option.{option_map, IsSome};
 ghost use Rattle.std.specs.Io.KnownBytes.{Appends};
 ghost use Rattle.tcap_ber.specs.Device.{CountsFailure, one_more};
@@ -70,7 +71,7 @@ fn len_cause(cause: Option<SmallView>) -> usize
 /// octets.
 fn len_dialogue_portion(dialogue: Option<DialogueView>) -> Option<usize>
     ensures exact { result ≡ option_map length (canonical_dialogue_portion (option_map dialogue_of dialogue.entry)) }
-    ensures most { IfSome result (λ n. n ≤ 65539) }
+    ensures most { IfSome result (λ n. n ≤ content_limit + shortest_header_limit) }
 {
     match dialogue {
         Some(dialogue) => element_len(len_dialogue(dialogue)?),
@@ -81,8 +82,9 @@ fn len_dialogue_portion(dialogue: Option<DialogueView>) -> Option<usize>
 /// The count of octets of a component portion, 0 where there is none; `None` exactly where a content is over 65,535
 /// octets.
 fn len_component_portion(components: Option<PortionView>) -> Option<usize>
-    ensures exact { result ≡ option_map length (canonical_component_portion (option_map components_of components.entry)) }
-    ensures most { IfSome result (λ n. n ≤ 65539) }
+    ensures exact { result ≡ option_map length
+        (canonical_component_portion (option_map components_of components.entry)) }
+    ensures most { IfSome result (λ n. n ≤ content_limit + shortest_header_limit) }
 {
     match components {
         Some(components) => element_len(len_components(components)?),
@@ -136,7 +138,8 @@ fn write_dialogue_portion<W: Write>(
     writer: &mut W,
 ) -> Result<(), Failed>
     requires { IsSome (canonical_dialogue_portion (option_map dialogue_of dialogue)) }
-    ensures ok { OnOk result (Written (canonical_dialogue_portion (option_map dialogue_of dialogue.entry)) (W.taken writer.old) (W.taken writer.new)) }
+    ensures ok { OnOk result (Written (canonical_dialogue_portion (option_map dialogue_of dialogue.entry))
+        (W.taken writer.old) (W.taken writer.new)) }
     ensures counts { CountsFailure (W.failures writer.old) (W.failures writer.new) result }
 {
     let Some(dialogue) = dialogue else {
@@ -155,7 +158,8 @@ fn write_component_portion<W: Write>(
     writer: &mut W,
 ) -> Result<(), Failed>
     requires { IsSome (canonical_component_portion (option_map components_of components)) }
-    ensures ok { OnOk result (Written (canonical_component_portion (option_map components_of components.entry)) (W.taken writer.old) (W.taken writer.new)) }
+    ensures ok { OnOk result (Written (canonical_component_portion (option_map components_of components.entry))
+        (W.taken writer.old) (W.taken writer.new)) }
     ensures counts { CountsFailure (W.failures writer.old) (W.failures writer.new) result }
 {
     let Some(components) = components else {
@@ -171,7 +175,8 @@ fn write_component_portion<W: Write>(
 /// Writes the content of a message, which is within the limits. `Failed` where the writer failed.
 fn write_content<W: Write>(message: MessageView, writer: &mut W) -> Result<(), Failed>
     requires { IsSome (canonical_content (message_of message)) }
-    ensures ok { OnOk result (Written (canonical_content (message_of message.entry)) (W.taken writer.old) (W.taken writer.new)) }
+    ensures ok { OnOk result (Written (canonical_content (message_of message.entry)) (W.taken writer.old)
+        (W.taken writer.new)) }
     ensures counts { CountsFailure (W.failures writer.old) (W.failures writer.new) result }
 {
     write_id(OTID, message.otid(), writer)?;

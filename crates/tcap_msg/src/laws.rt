@@ -27,7 +27,8 @@ pub fn no_longer_spelling()
 
 /// Octets have at most one fault.
 pub fn one_fault()
-    ensures { (octets : List ℕ) (f f' : Fault) → IsFaulty octets f.reason f.place → IsFaulty octets f'.reason f'.place → f ≡ f' }
+    ensures { (octets : List ℕ) (f f' : Fault) → IsFaulty octets f.reason f.place → IsFaulty octets f'.reason f'.place
+        → f ≡ f' }
 {}
 
 /// The canonical spelling of a message spells it.

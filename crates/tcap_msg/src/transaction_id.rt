@@ -17,8 +17,8 @@ pub struct TransactionIdView<'a> {
     pub ghost is_id: { IsTransactionId octets.now },
 }
 
-/// A transaction ID (Q.773 4.2.1): one to four octets. Two are equal exactly where their octets are; they are ordered by
-/// their octets, from the first on, a shorter one before those that it begins.
+/// A transaction ID (Q.773 4.2.1): one to four octets. Two are equal exactly where their octets are; they are ordered
+/// by their octets, from the first on, a shorter one before those that it begins.
 #[derive(Debug, Drop)]
 pub struct TransactionId {
     octets: [u8; 4],

@@ -101,7 +101,8 @@ fn cause(window: Window) -> Result<(Option<SmallView>, Window), Fault>
 #[tactic(auto, unfolding(crate::specs::Reading::dialogue_portion_at))]
 #[inline(always)]
 fn dialogue_portion(window: Window) -> Result<(Option<DialogueView>, Window), Fault>
-    ensures exact { Gives (λ x. (option_map dialogue_of x.0, span x.1)) result (dialogue_portion_at (span window.entry)) }
+    ensures exact { Gives (λ x. (option_map dialogue_of x.0, span x.1)) result
+        (dialogue_portion_at (span window.entry)) }
 {
     if !begins_with(window, DIALOGUE_PORTION) {
         return Ok((None, window));
@@ -114,7 +115,8 @@ fn dialogue_portion(window: Window) -> Result<(Option<DialogueView>, Window), Fa
 #[tactic(auto, unfolding(crate::specs::Reading::component_portion_at))]
 #[inline(always)]
 fn component_portion(window: Window) -> Result<(Option<PortionView>, Window), Fault>
-    ensures exact { Gives (λ x. (option_map components_of x.0, span x.1)) result (component_portion_at (span window.entry)) }
+    ensures exact { Gives (λ x. (option_map components_of x.0, span x.1)) result
+        (component_portion_at (span window.entry)) }
 {
     if !begins_with(window, COMPONENT_PORTION) {
         return Ok((None, window));
@@ -152,14 +154,6 @@ fn view_begin(content: Window) -> Result<MessageView, Fault>
     ensures exact { Gives message_of result (begin_at (span content.entry)) }
 {
     let (otid, rest) = otid(content)?;
-    // Where nothing is left, no portion has to be looked for.
-    if rest.octets.is_empty() {
-        return Ok(MessageView::Begin {
-            otid,
-            dialogue: None,
-            components: None,
-        });
-    }
     let (dialogue, rest) = dialogue_portion(rest)?;
     let (components, rest) = component_portion(rest)?;
     ended(rest)?;
@@ -176,13 +170,6 @@ fn view_end(content: Window) -> Result<MessageView, Fault>
     ensures exact { Gives message_of result (end_message_at (span content.entry)) }
 {
     let (dtid, rest) = dtid(content)?;
-    if rest.octets.is_empty() {
-        return Ok(MessageView::End {
-            dtid,
-            dialogue: None,
-            components: None,
-        });
-    }
     let (dialogue, rest) = dialogue_portion(rest)?;
     let (components, rest) = component_portion(rest)?;
     ended(rest)?;
@@ -200,14 +187,6 @@ fn view_continue(content: Window) -> Result<MessageView, Fault>
 {
     let (otid, rest) = otid(content)?;
     let (dtid, rest) = dtid(rest)?;
-    if rest.octets.is_empty() {
-        return Ok(MessageView::Continue {
-            otid,
-            dtid,
-            dialogue: None,
-            components: None,
-        });
-    }
     let (dialogue, rest) = dialogue_portion(rest)?;
     let (components, rest) = component_portion(rest)?;
     ended(rest)?;
@@ -225,7 +204,8 @@ fn unless_cause<'a>(
     cause: Option<SmallView>,
     window: Window<'a>,
 ) -> Result<(Option<DialogueView<'a>>, Window<'a>), Fault>
-    ensures exact { Gives (λ x. (option_map dialogue_of x.0, span x.1)) result (unless_cause_at (cause_of cause) (span window.entry)) }
+    ensures exact { Gives (λ x. (option_map dialogue_of x.0, span x.1)) result
+        (unless_cause_at (cause_of cause) (span window.entry)) }
 {
     match cause {
         Some(_) => Ok((None, window)),

@@ -60,7 +60,8 @@ component_tag (ReturnError id code parameter) = 0xA3
 component_tag (Reject id problem) = 0xA4
 
 abbrev pub canonical_content : Component → Option (List ℕ)
-canonical_content (Invoke id linked code parameter) = canonical_integer 0x02 id ⧺ canonical_linked linked ⧺ canonical_coded code parameter
+canonical_content (Invoke id linked code parameter) = canonical_integer 0x02 id ⧺ canonical_linked linked
+    ⧺ canonical_coded code parameter
 canonical_content (ReturnResult last id body) = canonical_integer 0x02 id ⧺ canonical_body body
 canonical_content (ReturnError id code parameter) = canonical_integer 0x02 id ⧺ canonical_coded code parameter
 canonical_content (Reject id problem) = canonical_rejected id ⧺ canonical_problem problem

@@ -27,7 +27,8 @@ make_invoke parts = Invoke parts.0 parts.1.0 parts.1.1.0 parts.1.1.1.0
 
 -- Invoke: invoke ID 02, [linked ID 80], operation code 02 or 06, [parameter]
 abbrev pub invoke : Body Component
-invoke = made make_invoke (structure (required 0x02 invoke_id ⨾ optional 0x80 invoke_id ⨾ one_of code ⨾ parameter ⨾ ended))
+invoke = made make_invoke (structure (required 0x02 invoke_id ⨾ optional 0x80 invoke_id ⨾ one_of code ⨾ parameter
+    ⨾ ended))
 
 abbrev pub make_body : Code × (Option (List ℕ) × Unit {0}) → ResultBody
 make_body parts = record { code = parts.0; parameter = parts.1.0 }

@@ -23,6 +23,7 @@ source_of (source_views.Provider n) = sources.Provider n.number
 -- the PDU that a view lends
 abbrev pub dialogue_of : DialogueView → Dialogue
 dialogue_of (views.Request context info) = owned.Request context.octets.now (info_meaning info)
-dialogue_of (views.Response context result diagnostic info) = owned.Response context.octets.now result.number (source_of diagnostic) (info_meaning info)
+dialogue_of (views.Response context result diagnostic info) = owned.Response context.octets.now result.number
+    (source_of diagnostic) (info_meaning info)
 dialogue_of (views.Abort source info) = owned.Abort source.number (info_meaning info)
 dialogue_of (views.Uni context info) = owned.Uni context.octets.now (info_meaning info)

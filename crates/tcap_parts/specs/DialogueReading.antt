@@ -89,7 +89,8 @@ pdu_of Structured =
     (tagged_at 0x61 (λ e. response_at e.content)
     (tagged_at 0x64 (λ e. abort_at e.content)
     (refused_at DialogueSyntax)))
-pdu_of Unstructured = tagged_at 0x60 (λ e. named_at e.content >>= λ parts. Ok (Uni parts.0 parts.1)) (refused_at DialogueSyntax)
+pdu_of Unstructured = tagged_at 0x60 (λ e. named_at e.content >>= λ parts. Ok (Uni parts.0 parts.1))
+    (refused_at DialogueSyntax)
 
 unfoldable pub pdu_at : Syntax → Span → Result (Dialogue × Span) Fault
 pdu_at s span = one_of_at (pdu_of s) span

@@ -19,6 +19,7 @@ IsSource (Provider n) = n < 128
 
 abbrev pub IsDialogue : Dialogue → Type 0
 IsDialogue (Request context info) = IsObjectId context × IsInfo info
-IsDialogue (Response context result diagnostic info) = IsObjectId context × (result < 128) × IsSource diagnostic × IsInfo info
+IsDialogue (Response context result diagnostic info) = IsObjectId context × (result < 128) × IsSource diagnostic
+    × IsInfo info
 IsDialogue (Abort source info) = (source < 128) × IsInfo info
 IsDialogue (Uni context info) = IsObjectId context × IsInfo info

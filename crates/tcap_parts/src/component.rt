@@ -140,7 +140,8 @@ impl<'a> ComponentView<'a> {
     /// The component as a value of its own. A Reject takes no memory.
     pub fn to_component(self, alloc: Global) -> Result<Component, AllocError>
         ensures made { IfOk result (λ made. made ≡ component_of self.entry) }
-        ensures reject { (id : Option ℤ) (problem : Problem) → component_of self.entry ≡ Component.Reject id problem → IsOk result }
+        ensures reject { (id : Option ℤ) (problem : Problem) → component_of self.entry ≡ Component.Reject id problem
+            → IsOk result }
     {
         match self {
             ComponentView::Invoke {

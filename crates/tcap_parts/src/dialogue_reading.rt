@@ -310,8 +310,8 @@ fn read_dialogue(content: Window) -> Result<DialogueView, Fault>
 /// The PDU of a dialogue portion whose content is `content`, lent from its octets (Q.773 4.2.3).
 ///
 /// A fault is the first from left to right. Its place is the first octet of the element that is named below; that of
-/// `Missing` is the end of the content that the element is missing in. What is wrong in an element of indefinite length,
-/// and what goes past its window, stands where [`next_tlv`](tcap_ber::next_tlv) says.
+/// `Missing` is the end of the content that the element is missing in. What is wrong in an element of indefinite
+/// length, and what goes past its window, stands where [`next_tlv`](tcap_ber::next_tlv) says.
 ///
 /// - `DialogueSyntax` at the EXTERNAL's first element where it has another tag than 06 and where its contents name
 ///   another abstract syntax, at its second element where that has another tag than A0, and at a PDU in the single
@@ -328,9 +328,11 @@ pub fn view_dialogue(content: Window) -> Result<DialogueView, Fault>
     // What is read is spelled by all of the content.
     ensures found { IfOk result (λ view. SpellsDialogue (dialogue_of view) content.entry.octets.now) }
     // What is spelled by all of the content is read.
-    ensures only { (d : Dialogue) → SpellsDialogue d content.entry.octets.now → IsOkAnd result (λ view. dialogue_of view ≡ d) }
+    ensures only { (d : Dialogue) → SpellsDialogue d content.entry.octets.now
+        → IsOkAnd result (λ view. dialogue_of view ≡ d) }
     // What is refused is faulty there, and what is faulty is refused by that fault.
-    ensures faulty { (fault : Fault) (at : ℕ) → (result ≡ Err fault) ↔ dialogue.faulty at (span content.entry) fault.reason fault.place }
+    ensures faulty { (fault : Fault) (at : ℕ)
+        → (result ≡ Err fault) ↔ dialogue.faulty at (span content.entry) fault.reason fault.place }
     ensures exact { Gives dialogue_of result (dialogue_at (span content.entry)) }
 {
     read_dialogue(content)

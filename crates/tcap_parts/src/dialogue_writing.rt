@@ -1,7 +1,8 @@
 //! Dialogue portions as they are written: with the shortest definite lengths, the protocol version always
 //! 80 02 07 80, user information verbatim.
 
-ghost use Rattle.std.specs.Prelude.{◌≡◌, ◌≤◌, length, IfSome, OnOk};
+ghost use Rattle.std.specs.Prelude.{◌+◌, ◌≡◌, ◌≤◌, length, IfSome, OnOk};
+ghost use Rattle.tcap_ber.specs.Element.{content_limit, shortest_header_limit};
 ghost use Rattle.std.specs.Option.{option_map, IsSome};
 ghost use Rattle.tcap_ber.specs.Device.{CountsFailure};
 ghost use Rattle.tcap_ber.specs.Canonical.{◌⧺◌, element_around};
@@ -22,7 +23,7 @@ use tcap_ber::{Failed, ObjectIdView, SmallView, Write, element_len, put_element,
 /// The count of octets of an application context name; `None` exactly where a content is over 65,535 octets.
 fn len_context(id: ObjectIdView) -> Option<usize>
     ensures exact { result ≡ option_map length (canonical_context id.entry.octets.now) }
-    ensures most { IfSome result (λ n. n ≤ 65539) }
+    ensures most { IfSome result (λ n. n ≤ content_limit + shortest_header_limit) }
 {
     element_len(element_len(id.octets.len())?)
 }
@@ -31,7 +32,7 @@ fn len_context(id: ObjectIdView) -> Option<usize>
 /// octets.
 fn len_info(info: Option<InfoView>) -> Option<usize>
     ensures exact { result ≡ option_map length (canonical_info (info_meaning info.entry)) }
-    ensures most { IfSome result (λ n. n ≤ 65539) }
+    ensures most { IfSome result (λ n. n ≤ content_limit + shortest_header_limit) }
 {
     match info {
         Some(info) => element_len(info.octets.len()),
@@ -57,7 +58,7 @@ fn len_pdu_content(dialogue: DialogueView) -> Option<usize>
 /// The count of octets of a PDU; `None` exactly where a content is over 65,535 octets.
 fn len_pdu(dialogue: DialogueView) -> Option<usize>
     ensures exact { result ≡ option_map length (canonical_pdu (dialogue_of dialogue.entry)) }
-    ensures most { IfSome result (λ n. n ≤ 65539) }
+    ensures most { IfSome result (λ n. n ≤ content_limit + shortest_header_limit) }
 {
     element_len(len_pdu_content(dialogue)?)
 }
@@ -74,7 +75,7 @@ fn len_external_content(dialogue: DialogueView) -> Option<usize>
 /// 65,535 octets. It takes no memory.
 pub fn len_dialogue(dialogue: DialogueView) -> Option<usize>
     ensures exact { result ≡ option_map length (canonical_dialogue (dialogue_of dialogue.entry)) }
-    ensures most { IfSome result (λ n. n ≤ 65539) }
+    ensures most { IfSome result (λ n. n ≤ content_limit + shortest_header_limit) }
 {
     element_len(len_external_content(dialogue)?)
 }
@@ -90,7 +91,8 @@ fn write_version<W: Write>(writer: &mut W) -> Result<(), Failed>
 /// Writes an application context name. `Failed` where the writer failed.
 fn write_context<W: Write>(id: ObjectIdView, writer: &mut W) -> Result<(), Failed>
     requires { IsSome (canonical_context id.octets.now) }
-    ensures ok { OnOk result (Written (canonical_context id.entry.octets.now) (W.taken writer.old) (W.taken writer.new)) }
+    ensures ok { OnOk result (Written (canonical_context id.entry.octets.now) (W.taken writer.old)
+        (W.taken writer.new)) }
     ensures counts { CountsFailure (W.failures writer.old) (W.failures writer.new) result }
 {
     let Some(len) = element_len(id.octets.len()) else {
@@ -122,7 +124,8 @@ fn write_source<W: Write>(source: SourceView, writer: &mut W) -> Result<(), Fail
 
 /// Writes a diagnostic. `Failed` where the writer failed.
 fn write_diagnostic<W: Write>(source: SourceView, writer: &mut W) -> Result<(), Failed>
-    ensures ok { OnOk result (Written (element_around 0xA3 (canonical_source (source_of source))) (W.taken writer.old) (W.taken writer.new)) }
+    ensures ok { OnOk result (Written (element_around 0xA3 (canonical_source (source_of source))) (W.taken writer.old)
+        (W.taken writer.new)) }
     ensures counts { CountsFailure (W.failures writer.old) (W.failures writer.new) result }
 {
     put_header(DIAGNOSTIC, 5, writer)?;
@@ -132,7 +135,8 @@ fn write_diagnostic<W: Write>(source: SourceView, writer: &mut W) -> Result<(), 
 /// Writes user information, where there is some. `Failed` where the writer failed.
 fn write_info<W: Write>(info: Option<InfoView>, writer: &mut W) -> Result<(), Failed>
     requires { IsSome (canonical_info (info_meaning info)) }
-    ensures ok { OnOk result (Written (canonical_info (info_meaning info.entry)) (W.taken writer.old) (W.taken writer.new)) }
+    ensures ok { OnOk result (Written (canonical_info (info_meaning info.entry)) (W.taken writer.old)
+        (W.taken writer.new)) }
     ensures counts { CountsFailure (W.failures writer.old) (W.failures writer.new) result }
 {
     match info {
@@ -148,7 +152,8 @@ fn write_named<W: Write>(
     writer: &mut W,
 ) -> Result<(), Failed>
     requires { IsSome (canonical_named context.octets.now (info_meaning info)) }
-    ensures ok { OnOk result (Written (canonical_named context.entry.octets.now (info_meaning info.entry)) (W.taken writer.old) (W.taken writer.new)) }
+    ensures ok { OnOk result (Written (canonical_named context.entry.octets.now (info_meaning info.entry))
+        (W.taken writer.old) (W.taken writer.new)) }
     ensures counts { CountsFailure (W.failures writer.old) (W.failures writer.new) result }
 {
     write_version(writer)?;
@@ -159,7 +164,8 @@ fn write_named<W: Write>(
 /// Writes the content of a PDU. `Failed` where the writer failed.
 fn write_pdu_content<W: Write>(dialogue: DialogueView, writer: &mut W) -> Result<(), Failed>
     requires { IsSome (canonical_pdu_content (dialogue_of dialogue)) }
-    ensures ok { OnOk result (Written (canonical_pdu_content (dialogue_of dialogue.entry)) (W.taken writer.old) (W.taken writer.new)) }
+    ensures ok { OnOk result (Written (canonical_pdu_content (dialogue_of dialogue.entry)) (W.taken writer.old)
+        (W.taken writer.new)) }
     ensures counts { CountsFailure (W.failures writer.old) (W.failures writer.new) result }
 {
     match dialogue {
@@ -209,7 +215,8 @@ fn name(dialogue: DialogueView) -> [u8; 7]
 /// Writes a PDU that is within the limits. `Failed` where the writer failed.
 fn write_pdu<W: Write>(dialogue: DialogueView, writer: &mut W) -> Result<(), Failed>
     requires { IsSome (canonical_pdu (dialogue_of dialogue)) }
-    ensures ok { OnOk result (Written (canonical_pdu (dialogue_of dialogue.entry)) (W.taken writer.old) (W.taken writer.new)) }
+    ensures ok { OnOk result (Written (canonical_pdu (dialogue_of dialogue.entry)) (W.taken writer.old)
+        (W.taken writer.new)) }
     ensures counts { CountsFailure (W.failures writer.old) (W.failures writer.new) result }
 {
     let Some(len) = len_pdu_content(dialogue) else {
@@ -222,7 +229,8 @@ fn write_pdu<W: Write>(dialogue: DialogueView, writer: &mut W) -> Result<(), Fai
 /// Writes the content of a dialogue portion's EXTERNAL, which is within the limits. `Failed` where the writer failed.
 fn write_external_content<W: Write>(dialogue: DialogueView, writer: &mut W) -> Result<(), Failed>
     requires { IsSome (canonical_external_content (dialogue_of dialogue)) }
-    ensures ok { OnOk result (Written (canonical_external_content (dialogue_of dialogue.entry)) (W.taken writer.old) (W.taken writer.new)) }
+    ensures ok { OnOk result (Written (canonical_external_content (dialogue_of dialogue.entry)) (W.taken writer.old)
+        (W.taken writer.new)) }
     ensures counts { CountsFailure (W.failures writer.old) (W.failures writer.new) result }
 {
     let Some(len) = len_pdu(dialogue) else {
@@ -237,7 +245,8 @@ fn write_external_content<W: Write>(dialogue: DialogueView, writer: &mut W) -> R
 /// `Failed` where the writer failed. It takes no memory.
 pub fn write_dialogue<W: Write>(dialogue: DialogueView, writer: &mut W) -> Result<(), Failed>
     requires { IsSome (canonical_dialogue (dialogue_of dialogue)) }
-    ensures ok { OnOk result (Written (canonical_dialogue (dialogue_of dialogue.entry)) (W.taken writer.old) (W.taken writer.new)) }
+    ensures ok { OnOk result (Written (canonical_dialogue (dialogue_of dialogue.entry)) (W.taken writer.old)
+        (W.taken writer.new)) }
     ensures counts { CountsFailure (W.failures writer.old) (W.failures writer.new) result }
 {
     let Some(len) = len_external_content(dialogue) else {

@@ -47,7 +47,8 @@ fn read_external(window: Window) -> Result<(RawView, Window), Fault>
 
 /// Reads each EXTERNAL of `content`, counts them, and refuses the first fault.
 fn count_externals(content: Window) -> Result<usize, Fault>
-    ensures ok { IfOk result (λ n. (externals : List (List ℕ)) × (externals_at (span content.entry) ≡ Ok externals) × (n ≡ length externals)) }
+    ensures ok { IfOk result (λ n. (externals : List (List ℕ)) × (externals_at (span content.entry) ≡ Ok externals)
+        × (n ≡ length externals)) }
     ensures err { IfErr result (λ fault. externals_at (span content.entry) ≡ Err fault) }
 {
     let mut rest = content;
@@ -102,7 +103,8 @@ impl<'a> InfoView<'a> {
         ensures only { (value : List ℕ) → info.spells value tlv.entry.content.octets.now
             → IsOkAnd result (λ view. view.octets.now ≡ value) }
         // What is refused is faulty there, and what is faulty is refused by that fault.
-        ensures faulty { (fault : Fault) → (result ≡ Err fault) ↔ info.faulty tlv.entry.start (span tlv.entry.content) fault.reason fault.place }
+        ensures faulty { (fault : Fault) → (result ≡ Err fault)
+            ↔ info.faulty tlv.entry.start (span tlv.entry.content) fault.reason fault.place }
         ensures exact { Gives (λ info. info.octets.now) result (info_of (element tlv.entry)) }
     {
         InfoView::from_content(tlv)
@@ -111,7 +113,8 @@ impl<'a> InfoView<'a> {
     /// The count of the EXTERNALs: exactly those that the octets spell. It costs the time of reading their headers, and
     /// of walking those of indefinite length.
     pub fn count(self) -> usize
-        ensures spelled { (externals : List (List ℕ)) × (each external).spells externals self.entry.octets.now × (result ≡ length externals) }
+        ensures spelled { (externals : List (List ℕ)) × (each external).spells externals self.entry.octets.now
+            × (result ≡ length externals) }
         ensures exact { result ≡ length (externals_of self.entry.octets.now) }
     {
         let Ok(count) = count_externals(Window::new(self.octets)) else {

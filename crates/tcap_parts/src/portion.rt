@@ -128,7 +128,8 @@ impl<'a> PortionView<'a> {
         ensures only { (components : List Component) → SpellsPortion components tlv.entry.content.octets.now
             → IsOkAnd result (λ view. components_of view ≡ components) }
         // What is refused is faulty there, and what is faulty is refused by that fault.
-        ensures faulty { (fault : Fault) → (result ≡ Err fault) ↔ portion.faulty tlv.entry.start (span tlv.entry.content) fault.reason fault.place }
+        ensures faulty { (fault : Fault) → (result ≡ Err fault)
+            ↔ portion.faulty tlv.entry.start (span tlv.entry.content) fault.reason fault.place }
         ensures exact { Gives components_of result (portion_at (element tlv.entry)) }
     {
         PortionView::from_content(tlv)

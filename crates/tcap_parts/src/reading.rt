@@ -175,10 +175,12 @@ pub fn view_component(window: Window) -> Result<(ComponentView, Window), Fault>
     // What is read is spelled there.
     ensures found { IfOk result (λ x. Taken component (span window.entry) (component_of x.0) (span x.1)) }
     // What is spelled there is read.
-    ensures only { (c : Component) (front rest : List ℕ) → SpellsComponent c front → window.entry.octets.now ≡ front ++ rest
+    ensures only { (c : Component) (front rest : List ℕ) → SpellsComponent c front
+        → window.entry.octets.now ≡ front ++ rest
         → IsOkAnd result (λ x. (component_of x.0 ≡ c) × (x.1.octets.now ≡ rest)) }
     // What is refused is faulty there, and what is faulty is refused by that fault.
-    ensures faulty { (fault : Fault) → (result ≡ Err fault) ↔ component.faulty (span window.entry) fault.reason fault.place }
+    ensures faulty { (fault : Fault) → (result ≡ Err fault)
+        ↔ component.faulty (span window.entry) fault.reason fault.place }
     ensures exact { Gives (λ x. (component_of x.0, span x.1)) result (component_at (span window.entry)) }
 {
     read_component(window)

@@ -1,6 +1,7 @@
 //! Components as they are written: with the shortest definite lengths, parameters verbatim.
 
 ghost use Rattle.std.specs.Prelude.{◌≡◌, ℕ, ◌^◌, ◌+◌, ◌<◌, ◌≤◌, List, length, Some, IfSome, OnOk};
+ghost use Rattle.tcap_ber.specs.Element.{content_limit, shortest_header_limit};
 ghost use Rattle.std.specs.Option.{option_map, IsSome};
 ghost use Rattle.std.specs.Io.KnownBytes.{Appends};
 ghost use Rattle.tcap_ber.specs.Device.{CountsFailure};
@@ -51,7 +52,7 @@ fn len_parameter(parameter: Option<RawView>) -> usize
 /// The count of octets of a code; `None` exactly where its content is over 65,535 octets.
 fn len_code(code: CodeView) -> Option<usize>
     ensures exact { result ≡ option_map length (canonical_code (code_of code.entry)) }
-    ensures most { IfSome result (λ n. n ≤ 65539) }
+    ensures most { IfSome result (λ n. n ≤ content_limit + shortest_header_limit) }
 {
     match code {
         CodeView::Local(local) => Some(len_integer(local)),
@@ -62,7 +63,7 @@ fn len_code(code: CodeView) -> Option<usize>
 /// The count of octets of a code and a parameter; `None` exactly where a content is over 65,535 octets.
 fn len_coded(code: CodeView, parameter: Option<RawView>) -> Option<usize>
     ensures exact { result ≡ option_map length (canonical_coded (code_of code.entry) (parameter_of parameter.entry)) }
-    ensures most { IfSome result (λ n. n < 2 ^ 63 + 65539) }
+    ensures most { IfSome result (λ n. n < 2 ^ 63 + (content_limit + shortest_header_limit)) }
 {
     Some(len_code(code)? + len_parameter(parameter))
 }
@@ -71,7 +72,7 @@ fn len_coded(code: CodeView, parameter: Option<RawView>) -> Option<usize>
 /// content is over 65,535 octets.
 fn len_body(body: Option<ResultBodyView>) -> Option<usize>
     ensures exact { result ≡ option_map length (canonical_body (option_map body_of body.entry)) }
-    ensures most { IfSome result (λ n. n ≤ 65539) }
+    ensures most { IfSome result (λ n. n ≤ content_limit + shortest_header_limit) }
 {
     match body {
         Some(body) => element_len(len_coded(body.code, body.parameter)?),
@@ -126,7 +127,7 @@ fn len_content(component: ComponentView) -> Option<usize>
 /// The count of octets of a component; `None` exactly where a content is over 65,535 octets.
 fn len_component(component: ComponentView) -> Option<usize>
     ensures exact { result ≡ option_map length (canonical_component (component_of component.entry)) }
-    ensures most { IfSome result (λ n. n ≤ 65539) }
+    ensures most { IfSome result (λ n. n ≤ content_limit + shortest_header_limit) }
 {
     element_len(len_content(component)?)
 }
@@ -173,7 +174,8 @@ fn write_coded<W: Write>(
     writer: &mut W,
 ) -> Result<(), Failed>
     requires { IsSome (canonical_coded (code_of code) (parameter_of parameter)) }
-    ensures ok { OnOk result (Written (canonical_coded (code_of code.entry) (parameter_of parameter.entry)) (W.taken writer.old) (W.taken writer.new)) }
+    ensures ok { OnOk result (Written (canonical_coded (code_of code.entry) (parameter_of parameter.entry))
+        (W.taken writer.old) (W.taken writer.new)) }
     ensures counts { CountsFailure (W.failures writer.old) (W.failures writer.new) result }
 {
     write_code(code, writer)?;
@@ -186,7 +188,8 @@ fn write_coded<W: Write>(
 /// Writes what a Return Result carries, where it carries something. `Failed` where the writer failed.
 fn write_body<W: Write>(body: Option<ResultBodyView>, writer: &mut W) -> Result<(), Failed>
     requires { IsSome (canonical_body (option_map body_of body)) }
-    ensures ok { OnOk result (Written (canonical_body (option_map body_of body.entry)) (W.taken writer.old) (W.taken writer.new)) }
+    ensures ok { OnOk result (Written (canonical_body (option_map body_of body.entry)) (W.taken writer.old)
+        (W.taken writer.new)) }
     ensures counts { CountsFailure (W.failures writer.old) (W.failures writer.new) result }
 {
     let Some(body) = body else {
@@ -236,7 +239,8 @@ fn problem_parts(problem: ProblemView) -> (u8, u8)
 
 /// Writes a problem. `Failed` where the writer failed.
 fn write_problem<W: Write>(problem: ProblemView, writer: &mut W) -> Result<(), Failed>
-    ensures ok { OnOk result (Written (canonical_problem (problem_of problem)) (W.taken writer.old) (W.taken writer.new)) }
+    ensures ok { OnOk result (Written (canonical_problem (problem_of problem)) (W.taken writer.old)
+        (W.taken writer.new)) }
     ensures counts { CountsFailure (W.failures writer.old) (W.failures writer.new) result }
 {
     let (tag, number) = problem_parts(problem);
@@ -246,7 +250,8 @@ fn write_problem<W: Write>(problem: ProblemView, writer: &mut W) -> Result<(), F
 /// Writes the content of a component. `Failed` where the writer failed.
 fn write_content<W: Write>(component: ComponentView, writer: &mut W) -> Result<(), Failed>
     requires { IsSome (canonical_content (component_of component)) }
-    ensures ok { OnOk result (Written (canonical_content (component_of component.entry)) (W.taken writer.old) (W.taken writer.new)) }
+    ensures ok { OnOk result (Written (canonical_content (component_of component.entry)) (W.taken writer.old)
+        (W.taken writer.new)) }
     ensures counts { CountsFailure (W.failures writer.old) (W.failures writer.new) result }
 {
     match component {
@@ -295,7 +300,8 @@ fn tag(component: ComponentView) -> u8
 /// Writes a component that is within the limit. `Failed` where the writer failed.
 fn write_component<W: Write>(component: ComponentView, writer: &mut W) -> Result<(), Failed>
     requires { IsSome (canonical_component (component_of component)) }
-    ensures ok { OnOk result (Written (canonical_component (component_of component.entry)) (W.taken writer.old) (W.taken writer.new)) }
+    ensures ok { OnOk result (Written (canonical_component (component_of component.entry)) (W.taken writer.old)
+        (W.taken writer.new)) }
     ensures counts { CountsFailure (W.failures writer.old) (W.failures writer.new) result }
 {
     let Some(len) = len_content(component) else {
@@ -309,7 +315,8 @@ fn write_component<W: Write>(component: ComponentView, writer: &mut W) -> Result
 /// `Failed` where the writer failed. It takes no memory.
 pub fn write_components<W: Write>(portion: PortionView, writer: &mut W) -> Result<(), Failed>
     requires { IsSome (canonical_portion (components_of portion)) }
-    ensures ok { OnOk result (Written (canonical_portion (components_of portion.entry)) (W.taken writer.old) (W.taken writer.new)) }
+    ensures ok { OnOk result (Written (canonical_portion (components_of portion.entry)) (W.taken writer.old)
+        (W.taken writer.new)) }
     ensures counts { CountsFailure (W.failures writer.old) (W.failures writer.new) result }
 {
     for component in portion.components() {

@@ -5,8 +5,8 @@ use Rattle.tcap_record.specs.declared.fault.FeedReason.TheVariants as feed
 use Rattle.tcap_record.specs.Framing.{feed_fault}
 use Rattle.tcap_record.specs.Held.{Held, IsWhole, grown}
 
--- Something was wrong before, and nothing was taken; or it is with some of the octets of the piece, which were taken; or
--- memory ran out, and nothing was taken.
+-- Something was wrong before, and nothing was taken; or it is with some of the octets of the piece, which were taken;
+-- or memory ran out, and nothing was taken.
 abbrev pub FailsFrom : FeedFault → Held → Held → List ℕ → Type 0
 FailsFrom f old new piece =
     ((old.fault ≡ Some f) × (new ≡ old))
@@ -18,4 +18,5 @@ abbrev pub FinishesAs : Result (Unit {0}) FeedFault → Held → Type 0
 FinishesAs (Ok _) h = (h.fault ≡ None) × ((h.octets ≡ []) ⊎ IsWhole h.octets)
 FinishesAs (Err f) h =
     (h.fault ≡ Some f)
-    ⊎ ((h.fault ≡ None) × (h.octets ≢ []) × (IsWhole h.octets → ⊥) × (f ≡ feed_fault feed.CutRecord (h.place + length h.octets)))
+    ⊎ ((h.fault ≡ None) × (h.octets ≢ []) × (IsWhole h.octets → ⊥)
+    × (f ≡ feed_fault feed.CutRecord (h.place + length h.octets)))

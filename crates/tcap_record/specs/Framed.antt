@@ -56,7 +56,8 @@ IsEntry place entry octets others = IsSent place entry octets others ⊎ IsMark 
 abbrev pub FramedFrom : ℕ → List Entry → List ℕ → List ℕ → Type 0
 FramedFrom place [] octets rest = octets ≡ rest
 FramedFrom place (entry ∷ entries) octets rest =
-    (others : List ℕ) × IsEntry place entry octets others × FramedFrom (place + (length octets - length others)) entries others rest
+    (others : List ℕ) × IsEntry place entry octets others
+    × FramedFrom (place + (length octets - length others)) entries others rest
 
 -- the octets are these entries and a rest
 abbrev pub Framed : List Entry → List ℕ → List ℕ → Type 0

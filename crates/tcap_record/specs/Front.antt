@@ -3,6 +3,7 @@ use Rattle.std.specs.Prelude.{◌≡◌, ◌≢◌, ℕ, ◌+◌, ◌-◌, ◌<�
 use Rattle.tcap_ber.specs.declared.fault.Fault.{Fault}
 use Rattle.tcap_ber.specs.declared.element.Outer.{Outer}
 use Rattle.tcap_ber.specs.declared.element.Outer.TheVariants.{Whole as WholeElement, Need}
+use Rattle.tcap_ber.specs.Element.{content_limit, header_limit, opening_limit}
 use Rattle.tcap_ber.specs.Reading.{outer_at}
 use Rattle.tcap_record.specs.declared.entry.End.{End}
 use Rattle.tcap_record.specs.declared.fault.FeedReason.TheVariants as feed
@@ -12,9 +13,10 @@ use Rattle.tcap_record.specs.Framed.{quiet_octet, entry_limit, IsRestFault}
 use Rattle.tcap_record.specs.Framing.{end_in}
 use Rattle.tcap_record.specs.Held.{IsPart, IsWhole}
 
--- more octets than an entry has that is not whole: one of its end, and those of an element
+-- upper bound, in octets, of what is held: an unfinished entry has one octet of its end, a header and a content, and a
+-- header that has begun behind them
 abbrev pub entry_room : ℕ
-entry_room = 65552
+entry_room = 1 + content_limit + opening_limit + header_limit
 
 -- the count and the place are those of few octets
 abbrev pub IsAnswerWithin : Result Outer Fault → Type 0
@@ -62,7 +64,8 @@ taken_of held count (Refused reason place) = count
 abbrev pub BeginsAs : ℕ → List ℕ → Front → Type 0
 BeginsAs count octets (Whole n) = IsWhole octets × (count < entry_limit)
 BeginsAs count octets Part = IsPart octets × (octets ≢ [] → count < entry_limit)
-BeginsAs count octets (Refused reason offset) = IsRestFault count octets reason offset × (reason ≢ feed.CutRecord) × (offset ≤ length octets)
+BeginsAs count octets (Refused reason offset) = IsRestFault count octets reason offset × (reason ≢ feed.CutRecord)
+    × (offset ≤ length octets)
 
 -- So many octets of a piece were taken behind a part; all of the piece, where what is there then is a part.
 pub record IsTaken (count : ℕ) (old piece new : List ℕ) (front : Front) (taken : ℕ) : Type 0 where

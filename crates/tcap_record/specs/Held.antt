@@ -32,7 +32,8 @@ IsWhole octets =
 abbrev pub IsHeldWith : Held → Option FeedFault → Type 0
 IsHeldWith h None = (h.octets ≢ [] → h.count < entry_limit) × (IsPart h.octets ⊎ IsWhole h.octets)
 IsHeldWith h (Some f) =
-    (offset : ℕ) × (f.place ≡ h.place + offset) × IsRestFault h.count h.octets f.reason offset × (f.reason ≢ feed.CutRecord)
+    (offset : ℕ) × (f.place ≡ h.place + offset) × IsRestFault h.count h.octets f.reason offset
+    × (f.reason ≢ feed.CutRecord)
 
 abbrev pub IsHeld : Held → Type 0
 IsHeld h = (h.count ≤ entry_limit) × IsHeldWith h h.fault

@@ -89,8 +89,8 @@ entries_in [] = []
 entries_in (None ∷ lines) = entries_in lines
 entries_in (Some entry ∷ lines) = entry ∷ entries_in lines
 
--- Why what was told behind so many lines goes on with no such line: there may be no more lines; or a whole line is none,
--- or has too many octets, whatever its end will be; or the last line, at the reader's end, is none.
+-- Why what was told behind so many lines goes on with no such line: there may be no more lines; or a whole line is
+-- none, or has too many octets, whatever its end will be; or the last line, at the reader's end, is none.
 abbrev pub IsRefusedLine : ℕ → List ℕ → Option (List ℕ) → Type 0
 IsRefusedLine count rest untold =
     ((count ≡ lines_limit) × (rest ≢ []))

@@ -74,8 +74,10 @@ problem_text (problems.ReturnError n) = codes " error=" ++ decimal n
 abbrev pub component_text : Component → List ℕ
 component_text (Invoke id linked code parameter) =
     codes "Invoke id=" ++ signed_decimal id ++ linked_text linked ++ operation_text code parameter
-component_text (ReturnResult last id body) = result_name last ++ codes " id=" ++ signed_decimal id ++ result_body_text body
-component_text (ReturnError id code parameter) = codes "ReturnError id=" ++ signed_decimal id ++ error_code_text code parameter
+component_text (ReturnResult last id body) = result_name last ++ codes " id=" ++ signed_decimal id
+    ++ result_body_text body
+component_text (ReturnError id code parameter) = codes "ReturnError id=" ++ signed_decimal id
+    ++ error_code_text code parameter
 component_text (Reject id problem) = codes "Reject id=" ++ rejected_text id ++ problem_text problem
 
 -- the line of a component
@@ -139,9 +141,13 @@ head_text m =
 abbrev pub message_text : Message → List ℕ
 message_text m = head_text m ++ line_end ++ flat_map component_line (components_in m)
 
+-- the line of a fault: the number of its reason, and its place
+abbrev pub fault_line : ℕ → ℕ → List ℕ
+fault_line number place = codes "FAULT " ++ decimal number ++ codes " " ++ decimal place ++ line_end
+
 abbrev pub body_text : Body → List ℕ
 body_text (Good m) = message_text m
-body_text (Bad f) = codes "FAULT " ++ decimal (number_of f.reason) ++ codes " " ++ decimal f.place ++ line_end
+body_text (Bad f) = fault_line (number_of f.reason) f.place
 body_text Quiet = codes "Q" ++ line_end
 
 -- the end that sent the entry; a quiet mark has none

@@ -71,7 +71,8 @@ PacksFrom old new piece rest taken taken' =
 
 -- What was held and octets that came begin with lines, whose entries were written; and this is why they were packed no
 -- further, however many octets were told in all.
-pub record PacksUpTo (old : Packing) (octets : List ℕ) (fault : FeedFault) (untold taken taken' : Option (List ℕ)) : Type 0 where
+pub record PacksUpTo (old : Packing) (octets : List ℕ) (fault : FeedFault)
+    (untold taken taken' : Option (List ℕ)) : Type 0 where
   pub lines : List (Option (List ℕ))
   pub front : List ℕ
   pub rest : List ℕ

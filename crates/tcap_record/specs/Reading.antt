@@ -14,7 +14,8 @@ abbrev pub EndsAs : ℕ → ℕ → List ℕ → FeedReason → ℕ → Type 0
 EndsAs count total rest feed.Read place =
     (place ≡ total) × ((rest ≡ []) ⊎ ((offset : ℕ) × IsRestFault count rest feed.CutRecord offset))
 EndsAs count total rest feed.Memory place = place ≡ 0
-EndsAs count total rest reason place = (offset : ℕ) × (place ≡ total - length rest + offset) × IsRestFault count rest reason offset
+EndsAs count total rest reason place = (offset : ℕ) × (place ≡ total - length rest + offset)
+    × IsRestFault count rest reason offset
 
 abbrev pub Ends : ℕ → ℕ → List ℕ → Result (Unit {0}) FeedFault → Type 0
 Ends count total rest (Ok _) = rest ≡ []

@@ -16,7 +16,8 @@ use tcap_parts::{CodeView, ComponentView, Components, ProblemView, ResultBodyVie
 
 /// Appends a parameter, where there is one.
 fn push_parameter(text: &mut String, parameter: Option<RawView>) -> Result<(), AllocError>
-    ensures { OnOk result (string_bytes text.new ≡ string_bytes text.old ++ parameter_text (parameter_of parameter.entry)) }
+    ensures { OnOk result (string_bytes text.new
+        ≡ string_bytes text.old ++ parameter_text (parameter_of parameter.entry)) }
 {
     match parameter {
         Some(raw) => {
@@ -177,7 +178,8 @@ fn push_reject(text: &mut String, id: Option<i8>, problem: ProblemView) -> Resul
 
 /// Appends the line of a component.
 fn push_component(text: &mut String, component: ComponentView) -> Result<(), AllocError>
-    ensures { OnOk result (string_bytes text.new ≡ string_bytes text.old ++ component_line (component_of component.entry)) }
+    ensures { OnOk result (string_bytes text.new
+        ≡ string_bytes text.old ++ component_line (component_of component.entry)) }
 {
     text.push_str("  ")?;
     match component {

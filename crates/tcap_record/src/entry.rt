@@ -32,7 +32,8 @@ pub enum Body {
 pub struct Entry {
     /// The end that sent it; `None` exactly where it is a quiet mark.
     pub side: Option<End>,
-    /// The place of the element's first octet, or that of the quiet mark's octet, counted from the record's first octet.
+    /// The place of the element's first octet, or that of the quiet mark's octet, counted from the record's first
+    /// octet.
     pub place: u64,
     /// What it is.
     pub body: Body,
@@ -54,7 +55,8 @@ pub enum BodyView<'a> {
 pub struct EntryView<'a> {
     /// The end that sent it; `None` exactly where it is a quiet mark.
     pub side: Option<End>,
-    /// The place of the element's first octet, or that of the quiet mark's octet, counted from the record's first octet.
+    /// The place of the element's first octet, or that of the quiet mark's octet, counted from the record's first
+    /// octet.
     pub place: u64,
     /// What it is.
     pub body: BodyView<'a>,

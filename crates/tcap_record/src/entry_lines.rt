@@ -3,15 +3,14 @@
 ghost use Rattle.std.specs.Prelude.{◌≡◌, ◌++◌, OnOk, codes};
 ghost use Rattle.std.specs.Fmt.{decimal};
 ghost use Rattle.std.specs.String.{string_bytes};
-ghost use Rattle.tcap_record.specs.declared.entry.Body.TheVariants.{Bad, Quiet};
-ghost use Rattle.tcap_record.specs.Lines.{body_text, side_text, entry_lines};
+ghost use Rattle.tcap_record.specs.declared.entry.Body.TheVariants.{Quiet};
+ghost use Rattle.tcap_record.specs.Lines.{body_text, entry_lines, fault_line, side_text};
 ghost use Rattle.tcap_record.specs.Viewed.{body_read, entry_read};
 
 use crate::entry::{BodyView, End, EntryView};
 use crate::lines::push_message;
 use crate::numbers::push_number;
 use std::alloc::AllocError;
-use tcap_ber::Fault;
 
 /// Appends what stands behind an entry's number: the end that sent it, where one did.
 #[inline(always)]
@@ -28,19 +27,19 @@ fn push_side(text: &mut String, side: Option<End>) -> Result<(), AllocError>
 /// Appends an entry's number, and the end that sent it, where one did.
 #[inline(always)]
 fn push_front(text: &mut String, number: usize, side: Option<End>) -> Result<(), AllocError>
-    ensures { OnOk result (string_bytes text.new ≡ string_bytes text.old ++ decimal number ++ codes " " ++ side_text side) }
+    ensures { OnOk result (string_bytes text.new
+        ≡ string_bytes text.old ++ decimal number ++ codes " " ++ side_text side) }
 {
     push_number(text, number)?;
     push_side(text, side)
 }
 
-/// Appends why an element spells no message, and at which place.
-fn push_bad(text: &mut String, fault: Fault) -> Result<(), AllocError>
-    ensures { OnOk result (string_bytes text.new ≡ string_bytes text.old ++ body_text (Bad fault)) }
+/// Appends the line of a fault: the number of its reason, and its place. `Err` where memory ran out: what `text` holds
+/// then is not said.
+pub fn push_fault(text: &mut String, number: u8, place: u64) -> Result<(), AllocError>
+    ensures { OnOk result (string_bytes text.new ≡ string_bytes text.old ++ fault_line number place) }
 {
-    let reason = fault.reason.number();
-    let place = fault.place;
-    writeln!(text, "FAULT {reason} {place}")
+    writeln!(text, "FAULT {number} {place}")
 }
 
 /// Appends what a quiet mark is.
@@ -57,13 +56,13 @@ fn push_body_view(text: &mut String, body: &BodyView) -> Result<(), AllocError>
 {
     match body {
         BodyView::Good(message) => push_message(text, message),
-        BodyView::Bad(fault) => push_bad(text, *fault),
+        BodyView::Bad(fault) => push_fault(text, fault.reason.number(), fault.place),
         BodyView::Quiet => push_quiet(text),
     }
 }
 
-/// Appends to `text` the lines of the entry of that number, as `show` writes them, of an entry that is lent. `Err` where
-/// memory ran out: what `text` holds then is not said.
+/// Appends to `text` the lines of the entry of that number, as `show` writes them, of an entry that is lent. `Err`
+/// where memory ran out: what `text` holds then is not said.
 #[inline(always)]
 pub fn push_view(text: &mut String, number: usize, entry: &EntryView) -> Result<(), AllocError>
     ensures { OnOk result (string_bytes text.new ≡ string_bytes text.old ++ entry_lines number (entry_read entry.now)) }

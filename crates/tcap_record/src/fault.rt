@@ -24,9 +24,8 @@ pub enum FeedReason {
     Memory,
 }
 
-/// A refusal of a record: the reason and the place of the octet that it names, counted from 0. For
-/// `CutRecord` and `Read` the place is the count of octets read, for `BadHexLine` the line's number from 1, for `Memory` it
-/// is 0.
+/// A refusal of a record: the reason and the place of the octet that it names, counted from 0. For `CutRecord` and
+/// `Read` the place is the count of octets read, for `BadHexLine` the line's number from 1, for `Memory` it is 0.
 #[derive(Clone, Copy, Debug, PartialEq, Eq)]
 pub struct FeedFault {
     /// Why the octets are refused.

@@ -67,11 +67,13 @@ fn keep_all(
 ) -> Result<(), FeedFault>
     ensures kept { (more : List Entry) × (waiting.new.items ≡ waiting.old.items ++ more) }
     ensures sound { OnOk result ((frames.new.fault ≡ None) × IsPart frames.new.octets) }
-    ensures failed { (f : FeedFault) → result ≡ Err f → (f ≡ feed_fault FeedReason.Memory 0) ⊎ (frames.new.fault ≡ Some f) }
+    ensures failed { (f : FeedFault) → result ≡ Err f → (f ≡ feed_fault FeedReason.Memory 0)
+        ⊎ (frames.new.fault ≡ Some f) }
     ensures held { IsHeld frames.old → IsHeld frames.new }
     ensures fed { (octets : List ℕ) (taken : List Entry) → Fed octets (taken ++ waiting.old.items) frames.old
         → MatchResult result (λ _. Fed (octets ++ piece.now) (taken ++ waiting.new.items) frames.new)
-        (λ _. (n : ℕ) × (n ≤ length piece.now) × Fed (octets ++ take n piece.now) (taken ++ waiting.new.items) frames.new) }
+        (λ _. (n : ℕ) × (n ≤ length piece.now) × Fed (octets ++ take n piece.now)
+        (taken ++ waiting.new.items) frames.new) }
 {
     let mut rest = piece;
     loop {
@@ -94,8 +96,8 @@ fn ran_out(kept: Result<(), FeedFault>) -> bool
     }
 }
 
-/// Keeps the entry at the front and those in `piece` behind it: what is held then, and how the piece goes on. `None` where no
-/// whole entry stands at the front.
+/// Keeps the entry at the front and those in `piece` behind it: what is held then, and how the piece goes on. `None`
+/// where no whole entry stands at the front.
 fn keep_rest(
     alloc: Global,
     frames: &Frames,
@@ -145,12 +147,13 @@ impl Feeder {
         }
     }
 
-    /// Reads the entries on as far as `piece` goes. Fails where something is wrong with the octets, which it does from then
-    /// on: `TooManyEntries`, `BadEnd` and `Element` at its place in the record; the entries before it can still be taken.
-    /// `Memory` where memory ran out: then nothing was fed, and the piece may be fed again.
+    /// Reads the entries on as far as `piece` goes. Fails where something is wrong with the octets, which it does from
+    /// then on: `TooManyEntries`, `BadEnd` and `Element` at its place in the record; the entries before it can still be
+    /// taken. `Memory` where memory ran out: then nothing was fed, and the piece may be fed again.
     pub fn feed(&mut self, piece: &[u8]) -> Result<(), FeedFault>
         // Nothing is wrong, and what is held is a part of an entry, or nothing.
-        ensures sound { OnOk result ((self.old.held.fault ≡ None) × (self.new.held.fault ≡ None) × IsPart self.new.held.octets) }
+        ensures sound { OnOk result ((self.old.held.fault ≡ None) × (self.new.held.fault ≡ None)
+            × IsPart self.new.held.octets) }
         ensures fails { (f : FeedFault) → result ≡ Err f → FeedsNot f self.old self.new piece.now }
         // What is held is as it has to be.
         ensures held { IsHeld self.new.held }
@@ -203,8 +206,8 @@ impl Feeder {
         self.waiting.into_vec()
     }
 
-    /// Whether the record may end here: the fault where something is wrong with the octets, else `CutRecord` at the count
-    /// of all octets where a part of an entry is held. Entries may wait still.
+    /// Whether the record may end here: the fault where something is wrong with the octets, else `CutRecord` at the
+    /// count of all octets where a part of an entry is held. Entries may wait still.
     pub fn finish(&self) -> Result<(), FeedFault>
         ensures ok { IsOk result ↔ ((self.now.held.fault ≡ None) × (self.now.held.octets ≡ [])) }
         ensures ends { FinishesAs result self.now.held }

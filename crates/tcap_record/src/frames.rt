@@ -30,8 +30,8 @@ pub(crate) enum Front {
     Refused(FeedReason, usize),
 }
 
-/// The entries of a record, framed as its octets come, in whatever pieces. It holds at most one entry, as octets, and goes
-/// over each octet once.
+/// The entries of a record, framed as its octets come, in whatever pieces. It holds at most one entry, as octets, and
+/// goes over each octet once.
 #[derive(Debug, Drop)]
 pub struct Frames {
     // The octets that were taken and belong to no dropped entry.
@@ -87,7 +87,8 @@ fn begin(count: usize, walk: Walk, octets: &[u8]) -> (Front, Walk)
     requires fits { length octets.now ≤ entry_room }
     requires walk { (more : List ℕ) → resumes walk more ≡ outer_at more }
     ensures front { result.0 ≡ front_at count octets.now }
-    ensures walk { (more : List ℕ) → result.0 ≡ Front.Part → resumes result.1 more ≡ outer_at (drop 1 octets.now ++ more) }
+    ensures walk { (more : List ℕ) → result.0 ≡ Front.Part
+        → resumes result.1 more ≡ outer_at (drop 1 octets.now ++ more) }
 {
     let (first, more) = (octets[0], &octets[1..]);
     if count == ENTRY_LIMIT {
@@ -123,7 +124,8 @@ fn front_with(part: &[u8], count: usize, walk: Walk, octets: &[u8]) -> (Front, W
     requires fits { length part.now + length octets.now ≤ entry_room }
     requires walk { (more : List ℕ) → resumes walk more ≡ outer_at (drop 1 part.now ++ more) }
     ensures front { result.0 ≡ front_at count (part.now ++ octets.now) }
-    ensures walk { (more : List ℕ) → result.0 ≡ Front.Part → resumes result.1 more ≡ outer_at (drop 1 (part.now ++ octets.now) ++ more) }
+    ensures walk { (more : List ℕ) → result.0 ≡ Front.Part
+        → resumes result.1 more ≡ outer_at (drop 1 (part.now ++ octets.now) ++ more) }
 {
     if part.is_empty() {
         begin(count, walk, octets)
@@ -143,8 +145,8 @@ fn taken_of(front: Front, held: usize, count: usize) -> usize
     }
 }
 
-/// Takes the octets of a piece that belong to what a part of an entry and the piece begin with. Answers what that is, the
-/// walk over its element, and how many octets were taken.
+/// Takes the octets of a piece that belong to what a part of an entry and the piece begin with. Answers what that is,
+/// the walk over its element, and how many octets were taken.
 fn extend(
     part: &mut Vec<u8>,
     count: usize,
@@ -157,7 +159,8 @@ fn extend(
     requires some { 0 < length piece.now }
     requires walk { (more : List ℕ) → resumes walk more ≡ outer_at (drop 1 part.old.items ++ more) }
     ensures taken { IfOk result (λ x. IsTaken count part.old.items piece.now part.new.items x.0 x.2) }
-    ensures walk { IfOk result (λ x. (more : List ℕ) → x.0 ≡ Front.Part → resumes x.1 more ≡ outer_at (drop 1 part.new.items ++ more)) }
+    ensures walk { IfOk result (λ x. (more : List ℕ) → x.0 ≡ Front.Part
+        → resumes x.1 more ≡ outer_at (drop 1 part.new.items ++ more)) }
     ensures kept { IfErr result (λ _. part.new.items ≡ part.old.items) }
 {
     let held = part.len();
@@ -177,6 +180,7 @@ impl Frames {
     ghost use Rattle.tcap_record.specs.Framed.{IsEntry, entry_limit};
     ghost use Rattle.tcap_record.specs.Held.{IsPart, IsWhole, IsHeld, IsFront, Fed, nothing_held, grown, dropped, cut_to};
     ghost use Rattle.tcap_record.specs.Feeding.{FailsFrom, FinishesAs};
+    ghost use Rattle.tcap_record.specs.Front.{entry_room};
     ghost use Rattle.tcap_record.specs.Viewed.{entry_read};
     ghost use Rattle.tcap_record.specs.Lent.{IsLent};
 
@@ -197,7 +201,7 @@ impl Frames {
     /// How many octets are held: those that were taken and belong to no dropped entry.
     pub fn buffered(&self) -> usize
         ensures count { result ≡ length self.now.octets }
-        ensures most { result ≤ 65600 }
+        ensures most { result ≤ entry_room }
     {
         self.octets.len()
     }
@@ -217,14 +221,15 @@ impl Frames {
         self.count
     }
 
-    /// Takes octets of `piece` until a whole entry stands at the front or the piece ends, and answers how many; none where
-    /// one stands there. Fails where something is wrong with the octets, which it does from then on: `TooManyEntries`,
-    /// `BadEnd` and `Element` at its place in the record. `Memory` where memory ran out: then nothing was taken, and the
-    /// piece may be given again. What is held is at most one entry.
+    /// Takes octets of `piece` until a whole entry stands at the front or the piece ends, and answers how many; none
+    /// where one stands there. Fails where something is wrong with the octets, which it does from then on:
+    /// `TooManyEntries`, `BadEnd` and `Element` at its place in the record. `Memory` where memory ran out: then nothing
+    /// was taken, and the piece may be given again. What is held is at most one entry.
     pub fn feed_some(&mut self, piece: &[u8]) -> Result<usize, FeedFault>
         ensures most { IfOk result (λ n. n ≤ length piece.now) }
         // The octets taken stand behind those that were held, and nothing is wrong.
-        ensures taken { IfOk result (λ n. (self.old.fault ≡ None) × (self.new ≡ grown self.old (take n piece.now) None)) }
+        ensures taken { IfOk result (λ n. (self.old.fault ≡ None)
+            × (self.new ≡ grown self.old (take n piece.now) None)) }
         // All were taken but those behind a whole entry.
         ensures all { IfOk result (λ n. n < length piece.now → IsWhole self.new.octets) }
         // None behind one are.
@@ -276,7 +281,8 @@ impl Frames {
         ensures exact { IsTrue result ↔ ((self.old.fault ≡ None) × IsWhole self.old.octets) }
         ensures dropped { self.old.fault ≡ None → IsWhole self.old.octets → self.new ≡ dropped self.old }
         ensures kept { ((self.old.fault ≡ None) × IsWhole self.old.octets → ⊥) → self.new ≡ self.old }
-        ensures fed { (octets : List ℕ) (entries : List Entry) (entry : Entry) → self.old.fault ≡ None → IsFront entry self.old
+        ensures fed { (octets : List ℕ) (entries : List Entry) (entry : Entry) → self.old.fault ≡ None
+            → IsFront entry self.old
             → Fed octets entries self.old → Fed octets (entries ++ entry ∷ []) self.new }
     {
         if !self.whole {
@@ -290,10 +296,12 @@ impl Frames {
         true
     }
 
-    /// The entry at the front of `piece`, lent from it, and the count of its octets, where nothing is held and nothing is
-    /// wrong, a whole one stands there, and there are fewer entries than may be. Nothing is taken: see [`pass`](Frames::pass).
+    /// The entry at the front of `piece`, lent from it, and the count of its octets, where nothing is held and nothing
+    /// is wrong, a whole one stands there, and there are fewer entries than may be. Nothing is taken: see
+    /// [`pass`](Frames::pass).
     pub fn lend<'a>(&self, piece: &'a [u8]) -> Option<(EntryView<'a>, usize)>
-        ensures exact { IsSome result ↔ ((self.now.fault ≡ None) × (self.now.octets ≡ []) × (self.now.count < entry_limit)
+        ensures exact { IsSome result ↔ ((self.now.fault ≡ None) × (self.now.octets ≡ [])
+            × (self.now.count < entry_limit)
             × ((n : ℕ) × IsWhole (take n piece.now))) }
         ensures entry { IfSome result (λ x. IsLent self.now.place piece.now (entry_read x.0) x.1) }
     {
@@ -312,7 +320,8 @@ impl Frames {
         requires whole { IsWhole octets.now }
         ensures dropped { self.new ≡ dropped (grown self.old octets.now None) }
         ensures held { IsHeld self.new }
-        ensures fed { (told : List ℕ) (entries : List Entry) (entry : Entry) → IsEntry self.old.place entry octets.now []
+        ensures fed { (told : List ℕ) (entries : List Entry) (entry : Entry)
+            → IsEntry self.old.place entry octets.now []
             → Fed told entries self.old → Fed (told ++ octets.now) (entries ++ entry ∷ []) self.new }
     {
         let count = self.count + 1;
@@ -328,7 +337,8 @@ impl Frames {
         self.walk
     }
 
-    /// Takes octets off the end again, so that `len` are held, which are a part of an entry; the walk is that over them.
+    /// Takes octets off the end again, so that `len` are held, which are a part of an entry; the walk is that over
+    /// them.
     pub(crate) fn cut(&mut self, len: usize, walk: Walk)
         requires sound { self.old.fault ≡ None }
         requires part { IsPart (take len self.old.octets) }
@@ -356,8 +366,8 @@ impl Frames {
         }
     }
 
-    /// Whether the record may end here: the fault where something is wrong with the octets, else `CutRecord` at the count
-    /// of all octets where a part of an entry is held.
+    /// Whether the record may end here: the fault where something is wrong with the octets, else `CutRecord` at the
+    /// count of all octets where a part of an entry is held.
     pub fn finish(&self) -> Result<(), FeedFault>
         ensures { FinishesAs result self.now }
     {

@@ -4,7 +4,7 @@ ghost use Rattle.std.specs.Prelude.{◌≡◌, ◌+◌, ◌^◌, ◌<◌, [], �
 ghost use Rattle.tcap_ber.specs.Reading.{span};
 ghost use Rattle.tcap_record.specs.Framed.{IsEntry};
 ghost use Rattle.tcap_record.specs.Framing.{body_at};
-ghost use Rattle.tcap_record.specs.Front.{front_at, whole_in};
+ghost use Rattle.tcap_record.specs.Front.{entry_room, front_at, whole_in};
 ghost use Rattle.tcap_record.specs.Held.{IsWhole};
 ghost use Rattle.tcap_record.specs.Lent.{IsLent};
 ghost use Rattle.tcap_record.specs.Viewed.{body_read, entry_read};
@@ -69,11 +69,11 @@ fn whole_len(octets: &[u8]) -> Option<usize>
     }
 }
 
-/// The entry at the front, lent, and the count of its octets, where a whole one stands there; the place is that of the first
-/// octet.
+/// The entry at the front, lent, and the count of its octets, where a whole one stands there; the place is that of the
+/// first octet.
 #[inline(never)]
 pub(crate) fn front_view(octets: &[u8], place: u64) -> Option<(EntryView<'_>, usize)>
-    requires fits { place + 65552 < 2 ^ 64 }
+    requires fits { place + entry_room < 2 ^ 64 }
     ensures found { IfSome result (λ x. IsLent place octets.now (entry_read x.0) x.1) }
     ensures none { result ≡ None → (n : ℕ) → IsWhole (take n octets.now) → ⊥ }
 {

@@ -17,7 +17,7 @@ mod printing;
 mod reading;
 
 pub use entry::{Body, BodyView, End, Entry, EntryView, Record};
-pub use entry_lines::push_view;
+pub use entry_lines::{push_fault, push_view};
 pub use fault::{FeedFault, FeedReason};
 pub use feeder::Feeder;
 pub use frames::Frames;

@@ -72,7 +72,8 @@ fn push_info(text: &mut String, info: Option<InfoView>) -> Result<(), AllocError
 
 /// Appends the name of a PDU and its application context name.
 fn push_named(text: &mut String, name: &str, context: ObjectIdView) -> Result<(), AllocError>
-    ensures { OnOk result (string_bytes text.new ≡ string_bytes text.old ++ named_text name.now context.entry.octets.now) }
+    ensures { OnOk result (string_bytes text.new
+        ≡ string_bytes text.old ++ named_text name.now context.entry.octets.now) }
 {
     text.push_str(" ")?;
     text.push_str(name)?;
@@ -113,7 +114,8 @@ fn push_abort_source(text: &mut String, source: SmallView) -> Result<(), AllocEr
 
 /// Appends a PDU of the dialogue portion.
 fn push_dialogue(text: &mut String, dialogue: DialogueView) -> Result<(), AllocError>
-    ensures { OnOk result (string_bytes text.new ≡ string_bytes text.old ++ dialogue_text (dialogue_of dialogue.entry)) }
+    ensures { OnOk result (string_bytes text.new
+        ≡ string_bytes text.old ++ dialogue_text (dialogue_of dialogue.entry)) }
 {
     match dialogue {
         DialogueView::Request { context, info } => {

@@ -108,7 +108,8 @@ impl From<AllocError> for LineFault {
 /// The element that digits of hex are.
 fn read_element(alloc: Global, digits: &[u8]) -> Result<Vec<u8>, LineFault>
     ensures element { IfOk result (λ element. (decode_of digits.now ≡ Ok element.items) × IsRaw element.items) }
-    ensures bad { result ≡ Err LineFault.Bad → (element : List ℕ) → decode_of digits.now ≡ Ok element → IsRaw element → ⊥ }
+    ensures bad { result ≡ Err LineFault.Bad → (element : List ℕ) → decode_of digits.now ≡ Ok element → IsRaw element
+        → ⊥ }
 {
     let octets = match hex::decode(alloc, digits) {
         Ok(octets) => octets,
@@ -251,7 +252,8 @@ impl Packing {
     fn finish<W: Write>(mut self, writer: &mut W) -> Result<u64, PackFault>
         requires open { IsOpen «self» }
         ensures packed { IfOk result (λ count. Finishes «self» count (W.taken writer.old) (W.taken writer.new)) }
-        ensures refused { (fault : FeedFault) → result ≡ Err (PackFault.Fault fault) → (untold : Option (List ℕ)) → IsAtEnd untold
+        ensures refused { (fault : FeedFault) → result ≡ Err (PackFault.Fault fault) → (untold : Option (List ℕ))
+            → IsAtEnd untold
             → PacksUpTo «self» [] fault untold (W.taken writer.old) (W.taken writer.new) }
         ensures write { result ≡ Err PackFault.Write → W.failures writer.new ≡ one_more (W.failures writer.old) }
         ensures others { result ≢ Err PackFault.Write → W.failures writer.new ≡ W.failures writer.old }
@@ -314,12 +316,12 @@ impl Packing {
     }
 }
 
-/// Packs the lines of hex that `reader` tells up to its end, and answers the count of entries that were written. A line is
-/// `A` or `B`, a space and the digits of one element, in either case, or `Q` for a quiet mark; empty lines and lines that
-/// begin with `#` are skipped. A carriage return before a newline is dropped, and the last line needs no newline.
-/// `BadHexLine`, its place the line's number from 1, at the first other line, one of over 131,092 octets or the one behind
-/// 1,000,000; `Read` at the count of octets read where the reader failed, `Memory` where memory ran out. The entries of the
-/// lines before are written then. `Write` where the writer failed: what went out is not said.
+/// Packs the lines of hex that `reader` tells up to its end, and answers the count of entries that were written. A line
+/// is `A` or `B`, a space and the digits of one element, in either case, or `Q` for a quiet mark; empty lines and lines
+/// that begin with `#` are skipped. A carriage return before a newline is dropped, and the last line needs no newline.
+/// `BadHexLine`, its place the line's number from 1, at the first other line, one of over 131,092 octets or the one
+/// behind 1,000,000; `Read` at the count of octets read where the reader failed, `Memory` where memory ran out. The
+/// entries of the lines before are written then. `Write` where the writer failed: what went out is not said.
 pub fn pack<R: Read, W: Write>(
     alloc: Global,
     reader: &mut R,

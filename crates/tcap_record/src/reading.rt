@@ -43,9 +43,9 @@ fn feed_all<R: Read>(feeder: &mut Feeder, reader: &mut R) -> Result<(), FeedFaul
 }
 
 /// The record that a reader tells up to its end. The faults are those of the first octets that are no entry:
-/// `TooManyEntries` behind 100,000 entries, `BadEnd` at an octet that begins none, `Element` where an entry's element is
-/// wrong, `CutRecord` where the octets end within an entry. `Read` is answered where the reader failed and what it told
-/// before is entries and at most a cut one, and `Memory` where memory ran out.
+/// `TooManyEntries` behind 100,000 entries, `BadEnd` at an octet that begins none, `Element` where an entry's element
+/// is wrong, `CutRecord` where the octets end within an entry. `Read` is answered where the reader failed and what it
+/// told before is entries and at most a cut one, and `Memory` where memory ran out.
 pub fn read_record<R: Read>(alloc: Global, reader: &mut R) -> Result<Record, FeedFault>
     ensures told { (told : List ℕ) × Consumes (R.untold reader.old) (R.untold reader.new) told
         × MatchResult result

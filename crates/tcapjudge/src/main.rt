@@ -5,8 +5,8 @@
 use std::io::BufWriter;
 use std::process::ExitCode;
 use std::{env, fs, io};
-use tcap_ber::{Counted, Failing, Read};
-use tcap_judge::{Request, Status, WordsFault, request, run_pack, run_show};
+use tcap_ber::{Counted, Read, Unopened};
+use tcap_judge::{MEMORY_LINE, Request, Status, WordsFault, request, run_pack, run_show};
 
 /// The exit status where a word of the command is not text, so that it is not for `clap` to say.
 const NO_TEXT: u8 = 4;
@@ -38,8 +38,7 @@ fn run(rt: &HostRuntime) -> io::Result<u8> {
     }
 }
 
-/// Does what is asked for, over the file of that path, or the standard input. A file that can't be opened is a reader that
-/// fails at its first read.
+/// Does what is asked for, over the file of that path, or the standard input.
 fn answer(rt: &HostRuntime, request: Request) -> io::Result<u8> {
     let (Request::Show(path) | Request::Pack(path)) = request;
     let Some(path) = path else {
@@ -47,15 +46,15 @@ fn answer(rt: &HostRuntime, request: Request) -> io::Result<u8> {
     };
     match fs::open(rt, path) {
         Ok(file) => over(rt, request, &mut Counted::new(file)),
-        Err(_) => over(rt, request, &mut Failing::new(io::empty(), 0)),
+        Err(_) => over(rt, request, &mut Unopened::new()),
     }
 }
 
 /// Says that there is no memory, where faults of what is asked for go.
 fn no_memory(rt: &HostRuntime, request: Request) -> io::Result<u8> {
     match request {
-        Request::Show(_) => println!(rt; "FAULT 99 0")?,
-        Request::Pack(_) => eprintln!(rt; "FAULT 99 0")?,
+        Request::Show(_) => print!(rt; "{MEMORY_LINE}")?,
+        Request::Pack(_) => eprint!(rt; "{MEMORY_LINE}")?,
     }
     Ok(Status::Fault.number())
 }
@@ -91,7 +90,7 @@ fn main(rt: HostRuntime) -> ExitCode {
         Ok(status) => ExitCode::from(status),
         Err(error) => {
             if error.kind() == io::ErrorKind::OutOfMemory {
-                let _ = println!(rt; "FAULT 99 0");
+                let _ = print!(rt; "{MEMORY_LINE}");
             }
             ExitCode::from(Status::Fault.number())
         }

@@ -1,5 +1,5 @@
 use Rattle.std.proofs.Common.{take, arith}
-use Rattle.tcap_ber.proofs.OpeningLaws.{unfinished_within}
+use Rattle.tcap_ber.proofs.OpeningPlaceLaws.{unfinished_within}
 use Rattle.tcap_ber.proofs.walk.Walk.holding.Goals as goal
 
 pub invariant_of-result : goal.invariant_of-result

@@ -4,7 +4,8 @@ use Rattle.tcap_ber.specs.declared.progress.Progress.{Progress}
 use Rattle.tcap_ber.specs.HeaderReading.{opening_at}
 use Rattle.tcap_ber.specs.Walking.{behind_header, resume}
 use Rattle.tcap_ber.proofs.WalkLaws.{behind_further}
-use Rattle.tcap_ber.proofs.OpeningLaws.{from, opening_exact}
+use Rattle.tcap_ber.proofs.OpeningLaws.{from}
+use Rattle.tcap_ber.proofs.OpeningPlaceLaws.{opening_exact}
 use Rattle.tcap_ber.proofs.ResumingLaws.{octet_fails, octet_fails_behind, octet_held, octet_goes_behind, gives_by}
 use Rattle.tcap_ber.proofs.walk.Walk.with_octet.Goals as goal
 
