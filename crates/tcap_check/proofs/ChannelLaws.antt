@@ -13,12 +13,12 @@ use Rattle.tcap_record.specs.declared.entry.End.{End as Side}
 use Rattle.tcap_record.specs.declared.entry.End.TheVariants.{A, B}
 use Rattle.tcap_end.specs.Table.{Table}
 use Rattle.tcap_end.specs.End.{End}
-use Rattle.tcap_check.specs.World.{Item, Mark, OnItsWay, Sent, World, channel_from, empty, is_side, other, with_channel, with_end}
-use Rattle.tcap_check.specs.Run.{Event, Sends, Delivers, Replies, Loses, Expires, Closes, Quiet, Runs, after, joined, numbers_of, numbers_sent, taken, taken_from}
+use Rattle.tcap_check.specs.World.{Item, OnItsWay, Sent, World, channel_from, empty, is_side, other, with_channel, with_end}
+use Rattle.tcap_check.specs.Run.{Event, Sends, Receives, Replies, Loses, Expires, Closes, Quiet, Runs, after, joined, numbers_of, numbers_sent, numbers_taken, takes_from}
 use Rattle.tcap_check.specs.Since.{WasSent}
 use Rattle.tcap_check.proofs.ListLaws.{all_both, all_weaker}
 use Rattle.tcap_check.proofs.RunLaws.{IsQuiet, closing, delivery, expiry, loss, quiet, reply, runs_keep, sending}
-use Rattle.tcap_check.proofs.SinceLaws.{drop_more, no_mark}
+use Rattle.tcap_check.proofs.SinceLaws.{drop_more, no_quiet}
 
 -- ---- the sent list
 
@@ -35,7 +35,7 @@ sent_on : (side : Side) (w next : World) → IsNotSent side w next → IsSentOn 
 sent_on side w next (inl same) = inl same
 sent_on side w next (inr (sender, m, more, apart)) = inr (sender, m, more)
 
-further : (n : ℕ) (items : List Item) → (n + 1) + length items ≡ n + length (Mark ∷ items)
+further : (n : ℕ) (items : List Item) → (n + 1) + length items ≡ n + length (Item.Quiet ∷ items)
 further n items = omega arith
 
 -- One message more has the next number,
@@ -50,7 +50,7 @@ numbers_more side sender m n [] = by (is_side side sender)
     by : (same : Bool) → cond same (n ∷ []) [] ≡ [] ++ cond same ((n + 0) ∷ []) []
     by true = rw at_front refl
     by false = refl
-numbers_more side sender m n (Mark ∷ items) =
+numbers_more side sender m n (Item.Quiet ∷ items) =
     numbers_more side sender m (n + 1) items
     ∙ ap (λ k. numbers_sent side (n + 1) items ++ cond (is_side side sender) (k ∷ []) []) (further n items)
 numbers_more side sender m n (Sent other_one message ∷ items) = by (is_side side other_one)
@@ -58,19 +58,19 @@ numbers_more side sender m n (Sent other_one message ∷ items) = by (is_side si
     ∙ ap (λ k. numbers_sent side (n + 1) items ++ cond (is_side side sender) (k ∷ []) []) (further n items))
   where
     by : (same : Bool) → numbers_sent side (n + 1) (items ++ Sent sender m ∷ [])
-        ≡ numbers_sent side (n + 1) items ++ cond (is_side side sender) ((n + length (Mark ∷ items)) ∷ []) []
+        ≡ numbers_sent side (n + 1) items ++ cond (is_side side sender) ((n + length (Item.Quiet ∷ items)) ∷ []) []
         → cond same (n ∷ numbers_sent side (n + 1) (items ++ Sent sender m ∷ [])) (numbers_sent side (n + 1) (items ++ Sent sender m ∷ []))
         ≡ cond same (n ∷ numbers_sent side (n + 1) items) (numbers_sent side (n + 1) items)
-        ++ cond (is_side side sender) ((n + length (Mark ∷ items)) ∷ []) []
+        ++ cond (is_side side sender) ((n + length (Item.Quiet ∷ items)) ∷ []) []
     by true is = ap (λ more. n ∷ more) is
     by false is = is
 
 -- and a mark none.
-numbers_mark : (side : Side) (n : ℕ) (items : List Item) → numbers_sent side n (items ++ Mark ∷ []) ≡ numbers_sent side n items
-numbers_mark side n [] = refl
-numbers_mark side n (Mark ∷ items) = numbers_mark side (n + 1) items
-numbers_mark side n (Sent sender message ∷ items) =
-    ap (λ more. cond (is_side side sender) (n ∷ more) more) (numbers_mark side (n + 1) items)
+numbers_quiet : (side : Side) (n : ℕ) (items : List Item) → numbers_sent side n (items ++ Item.Quiet ∷ []) ≡ numbers_sent side n items
+numbers_quiet side n [] = refl
+numbers_quiet side n (Item.Quiet ∷ items) = numbers_quiet side (n + 1) items
+numbers_quiet side n (Sent sender message ∷ items) =
+    ap (λ more. cond (is_side side sender) (n ∷ more) more) (numbers_quiet side (n + 1) items)
 
 -- Nothing more of this end.
 numbers_same : (side : Side) (w next : World) → IsNotSent side w next → numbers_sent side 0 next.sent ≡ numbers_sent side 0 w.sent
@@ -101,7 +101,7 @@ still_sent side w next messages on = all_weaker (WasSent w side) (WasSent next s
       listed = rw more (get_more w.sent (Sent sender n) (Sent side m.message) m.number was.listed);
       since =
           rw (more, drop_more (Sent sender n) (Sent side m.message) w.sent m.number was.listed)
-          (no_mark sender n (drop m.number w.sent) was.since);
+          (no_quiet sender n (drop m.number w.sent) was.since);
     }
 
 -- the newest message on its way
@@ -124,14 +124,14 @@ record Passes (event : Event) (side : Side) (w next : World) : Type 0 where
   new : List OnItsWay
   was : channel_from side w ≡ gone ++ left
   now : channel_from side next ≡ left ++ new
-  taken_is : taken side event ≡ numbers_of gone
+  taken_is : takes_from side event ≡ numbers_of gone
   new_is : ((new ≡ []) × (numbers_sent side 0 next.sent ≡ numbers_sent side 0 w.sent))
       ⊎ ((m : Message) × (new ≡ newest w m ∷ []) × (next.sent ≡ w.sent ++ Sent side m ∷ []))
   kept : AllByRecursion (WasSent w side) (gone ++ left) → AllByRecursion (WasSent next side) left
 
 module _ {event : Event} {side : Side} {w next : World} where
   -- It stays as it is,
-  stays : taken side event ≡ [] → channel_from side next ≡ channel_from side w → IsNotSent side w next → Passes event side w next
+  stays : takes_from side event ≡ [] → channel_from side next ≡ channel_from side w → IsNotSent side w next → Passes event side w next
   stays none same on = record {
     gone = [];
     left = channel_from side w;
@@ -144,7 +144,7 @@ module _ {event : Event} {side : Side} {w next : World} where
   }
 
   -- or loses its head,
-  loses_head : (head : OnItsWay) (more : List OnItsWay) → taken side event ≡ head.number ∷ [] → channel_from side w ≡ head ∷ more
+  loses_head : (head : OnItsWay) (more : List OnItsWay) → takes_from side event ≡ head.number ∷ [] → channel_from side w ≡ head ∷ more
       → channel_from side next ≡ more → IsNotSent side w next → Passes event side w next
   loses_head head more took was now on = record {
     gone = head ∷ [];
@@ -158,7 +158,7 @@ module _ {event : Event} {side : Side} {w next : World} where
   }
 
   -- or a message joins it.
-  gets : (m : Message) → taken side event ≡ [] → channel_from side next ≡ channel_from side w ++ newest w m ∷ []
+  gets : (m : Message) → takes_from side event ≡ [] → channel_from side next ≡ channel_from side w ++ newest w m ∷ []
       → next.sent ≡ w.sent ++ Sent side m ∷ [] → Passes event side w next
   gets m none now sent = record {
     gone = [];
@@ -185,14 +185,14 @@ sends_passes B B m made w = gets m refl refl refl
 head_number : (head : OnItsWay) (number : ℕ) → head.number ≡ number → number ∷ [] ≡ head.number ∷ []
 head_number head number is = rw is refl
 
--- A message is taken where it is delivered,
-delivers_passes : (side sender : Side) (number : ℕ) (w : World) (made : End) (head : OnItsWay) (more : List OnItsWay)
-    → channel_from sender w ≡ head ∷ more → head.number ≡ number
-    → Passes (Delivers sender number) side w (with_end (other sender) made (with_channel sender more w))
-delivers_passes A A number w made head more was is = loses_head head more (head_number head number is) was refl (inl refl)
-delivers_passes A B number w made head more was is = stays refl refl (inl refl)
-delivers_passes B A number w made head more was is = stays refl refl (inl refl)
-delivers_passes B B number w made head more was is = loses_head head more (head_number head number is) was refl (inl refl)
+-- A message is taken where it is received,
+receives_passes : (side receiver : Side) (number : ℕ) (w : World) (made : End) (head : OnItsWay) (more : List OnItsWay)
+    → channel_from (other receiver) w ≡ head ∷ more → head.number ≡ number
+    → Passes (Receives receiver number) side w (with_end receiver made (with_channel (other receiver) more w))
+receives_passes A A number w made head more was is = stays refl refl (inl refl)
+receives_passes A B number w made head more was is = loses_head head more (head_number head number is) was refl (inl refl)
+receives_passes B A number w made head more was is = loses_head head more (head_number head number is) was refl (inl refl)
+receives_passes B B number w made head more was is = stays refl refl (inl refl)
 
 -- where it is lost,
 loses_passes : (side sender : Side) (number : ℕ) (w : World) (head : OnItsWay) (more : List OnItsWay)
@@ -213,7 +213,7 @@ replies_passes B A number w abort head more was is = loses_head head more (head_
 replies_passes B B number w abort head more was is = gets abort refl refl refl
 
 -- What happens to an end unseen is no matter of channels.
-hidden_passes : (side place : Side) (event : Event) (w : World) (made : End) → taken side event ≡ []
+hidden_passes : (side place : Side) (event : Event) (w : World) (made : End) → takes_from side event ≡ []
     → Passes event side w (with_end place made w)
 hidden_passes A A event w made none = stays none refl (inl refl)
 hidden_passes A B event w made none = stays none refl (inl refl)
@@ -229,7 +229,7 @@ quiet_passes side w next is = record {
   was = (empty_at side).0;
   now = (empty_at side).1;
   taken_is = refl;
-  new_is = inl (refl, rw is.next_is (numbers_mark side 0 w.sent));
+  new_is = inl (refl, rw is.next_is (numbers_quiet side 0 w.sent));
   kept = λ all. tt;
 }
   where
@@ -241,9 +241,9 @@ quiet_passes side w next is = record {
 passes : (table : Table) (event : Event) (w next : World) → after table event w ≡ Some next → (side : Side) → Passes event side w next
 passes table (Sends sender m) w next is side =
     let s = sending table sender m w next is in rw (s.next_is) (sends_passes side sender m s.made w)
-passes table (Delivers sender number) w next is side =
-    let d = delivery table sender number w next is in
-    rw (d.next_is) (delivers_passes side sender number w d.made d.head d.more d.channel d.number_is)
+passes table (Receives receiver number) w next is side =
+    let d = delivery table receiver number w next is in
+    rw (d.next_is) (receives_passes side receiver number w d.made d.head d.more d.channel d.number_is)
 passes table (Replies replier number) w next is side =
     let r = reply table replier number w next is in
     rw (r.next_is) (replies_passes side replier number w r.abort r.head r.more r.channel r.number_is)
@@ -259,22 +259,22 @@ passes table Quiet w next is side = quiet_passes side w next (quiet table w next
 
 -- the one, and then the other
 abbrev passed : Side → List Event → World → List ℕ
-passed side events w = taken_from side events ++ numbers_of (channel_from side w)
+passed side events w = numbers_taken side events ++ numbers_of (channel_from side w)
 
 -- What is taken by a step stands last.
 taken_more : (side : Side) (before : List Event) (event : Event)
-    → taken_from side (before ++ event ∷ []) ≡ taken_from side before ++ taken side event
-taken_more side [] event = append-nil (taken side event)
+    → numbers_taken side (before ++ event ∷ []) ≡ numbers_taken side before ++ takes_from side event
+taken_more side [] event = append-nil (takes_from side event)
 taken_more side (first ∷ before) event =
-    ap (λ others. taken side first ++ others) (taken_more side before event)
-    ∙ sym (append_assoc (taken side first) (taken_from side before) (taken side event))
+    ap (λ others. takes_from side first ++ others) (taken_more side before event)
+    ∙ sym (append_assoc (takes_from side first) (numbers_taken side before) (takes_from side event))
 
 -- So it stands between what was taken before and what is on the channel then.
 passed_more : (side : Side) (before : List Event) (event : Event) (next : World)
-    → passed side (before ++ event ∷ []) next ≡ taken_from side before ++ (taken side event ++ numbers_of (channel_from side next))
+    → passed side (before ++ event ∷ []) next ≡ numbers_taken side before ++ (takes_from side event ++ numbers_of (channel_from side next))
 passed_more side before event next =
     ap (λ front. front ++ numbers_of (channel_from side next)) (taken_more side before event)
-    ∙ append_assoc (taken_from side before) (taken side event) (numbers_of (channel_from side next))
+    ∙ append_assoc (numbers_taken side before) (takes_from side event) (numbers_of (channel_from side next))
 
 -- What goes and what is left behind it are what there was.
 numbers_regroup : (gone left new : List OnItsWay)
@@ -288,7 +288,7 @@ is_itself B = refl
 
 module _ {event : Event} {side : Side} {w next : World} (it : Passes event side w next) where
   -- What is taken, and then what is on the channel, is what was on it, and what is new.
-  now_there : taken side event ++ numbers_of (channel_from side next) ≡ numbers_of (channel_from side w) ++ numbers_of it.new
+  now_there : takes_from side event ++ numbers_of (channel_from side next) ≡ numbers_of (channel_from side w) ++ numbers_of it.new
   now_there = rw (it.taken_is, it.now, it.was) (numbers_regroup it.gone it.left it.new)
 
   -- What is new was sent.
@@ -312,8 +312,8 @@ whole_kept : (before : List Event) (event : Event) (w next : World) → ((side :
     → AreWhole (before ++ event ∷ []) next
 whole_kept before event w next step whole side =
     passed_more side before event next
-    ∙ ap (λ more. taken_from side before ++ more) (now_there (step side))
-    ∙ sym (append_assoc (taken_from side before) (numbers_of (channel_from side w)) (numbers_of (step side).new))
+    ∙ ap (λ more. numbers_taken side before ++ more) (now_there (step side))
+    ∙ sym (append_assoc (numbers_taken side before) (numbers_of (channel_from side w)) (numbers_of (step side).new))
     ∙ ap (λ front. front ++ numbers_of (step side).new) (whole side)
     ∙ sym (now_sent (step side))
 
@@ -332,7 +332,7 @@ are_whole table = runs_keep table AreWhole nothing_whole
 -- Numbers of what is sent are above one that was given before.
 all_above : (side : Side) (k n : ℕ) (items : List Item) → k < n → AllByRecursion (λ x. nat_cmp k x ≡ Less) (numbers_sent side n items)
 all_above side k n [] below = tt
-all_above side k n (Mark ∷ items) below = all_above side k (n + 1) items (omega arith)
+all_above side k n (Item.Quiet ∷ items) below = all_above side k (n + 1) items (omega arith)
 all_above side k n (Sent sender m ∷ items) below = by (is_side side sender) (all_above side k (n + 1) items (omega arith))
   where
     by : (same : Bool) → AllByRecursion (λ x. nat_cmp k x ≡ Less) (numbers_sent side (n + 1) items)
@@ -343,7 +343,7 @@ all_above side k n (Sent sender m ∷ items) below = by (is_side side sender) (a
 sent_in_order : (side : Side) (n : ℕ) (items : List Item) → IsStrictlySortedBy nat_cmp (numbers_sent side n items)
 unfolding IsStrictlySortedBy
 sent_in_order side n [] = tt
-sent_in_order side n (Mark ∷ items) = sent_in_order side (n + 1) items
+sent_in_order side n (Item.Quiet ∷ items) = sent_in_order side (n + 1) items
 sent_in_order side n (Sent sender m ∷ items) =
     by (is_side side sender) (all_above side n (n + 1) items (omega arith)) (sent_in_order side (n + 1) items)
   where

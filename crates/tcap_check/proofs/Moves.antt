@@ -9,7 +9,7 @@ use Rattle.tcap_msg.specs.Parts.{components_in}
 use Rattle.tcap_end.specs.declared.half.Phase.TheVariants as phases
 use Rattle.tcap_end.specs.declared.half.Standing.TheVariants as standings
 use Rattle.tcap_end.specs.Half.{Answer, Half, Invocation, fresh, listed}
-use Rattle.tcap_end.specs.End.{End, Found}
+use Rattle.tcap_end.specs.End.{End, KeptHalf}
 use Rattle.tcap_end.specs.Sound.{Has}
 use Rattle.tcap_check.specs.Follows.{originating}
 use Rattle.tcap_check.specs.Since.{IsAnswer, asks}
@@ -51,5 +51,5 @@ pub record Turns (came : Option Message) (h g : Half) : Type 1 where
 
 -- What is there behind a step comes from what was there, or is new; and what was there is there still, as the step leaves it.
 pub record Moves (came : Option Message) (e next : End) : Type 1 where
-  pub back : (g : Found) → Has next g → (h : Half) × (Has e (record g { half = h }) ⊎ (h ≡ blank)) × Turns came h g.half
-  pub forth : (f : Found) → Has e f → (g : Half) × Has next (record f { half = g }) × Turns came f.half g
+  pub back : (g : KeptHalf) → Has next g → (h : Half) × (Has e (record g { half = h }) ⊎ (h ≡ blank)) × Turns came h g.half
+  pub forth : (f : KeptHalf) → Has e f → (g : Half) × Has next (record f { half = g }) × Turns came f.half g

@@ -5,10 +5,10 @@ use Rattle.tcap_parts.specs.declared.code.Code.TheVariants.{Local}
 use Rattle.tcap_parts.specs.declared.component.Component.TheVariants.{Invoke}
 use Rattle.tcap_msg.specs.declared.message.Message.{Message}
 use Rattle.tcap_msg.specs.declared.message.Message.TheVariants.{Begin}
-use Rattle.tcap_record.specs.declared.entry.End.TheVariants.{A}
+use Rattle.tcap_record.specs.declared.entry.End.TheVariants.{A, B}
 use Rattle.tcap_end.specs.declared.half.HalfName.TheVariants.{Own}
 use Rattle.tcap_check.specs.World.{Sent}
-use Rattle.tcap_check.specs.Run.{Event, Sends, Delivers, Replies, Loses, Expires, Closes, Quiet}
+use Rattle.tcap_check.specs.Run.{Event, Sends, Receives, Replies, Loses, Expires, Closes, Quiet}
 use Rattle.tcap_check.specs.Follows.{Follows, IsImplied}
 use Rattle.tcap_check.specs.Refused as refused
 use Rattle.tcap_check.specs.Refused.{IsNotDescribed}
@@ -65,7 +65,7 @@ at_first : (here implied rest more : List Event) (sends : Event) → map Some he
 at_first (x ∷ here) implied rest more sends here_is all is = cc
 at_first [] [] rest more sends here_is all is = cc
 at_first [] (Expires side name id ∷ implied) rest more sends here_is all is = cc
-at_first [] (Delivers side n ∷ implied) rest more sends here_is all is = cc
+at_first [] (Receives side n ∷ implied) rest more sends here_is all is = cc
 at_first [] (Sends side n ∷ implied) rest more sends here_is all is = absurd all.0
 at_first [] (Replies side n ∷ implied) rest more sends here_is all is = cc
 at_first [] (Loses side n ∷ implied) rest more sends here_is all is = cc
@@ -73,14 +73,14 @@ at_first [] (Closes side n ∷ implied) rest more sends here_is all is = cc
 at_first [] (Quiet ∷ implied) rest more sends here_is all is = cc
 
 -- In the second, behind the delivery, the next Begin implies no expiry in the half of the first.
-not_implied : (here implied rest more : List Event) (sends : Event) → map Some here ≡ Some (Delivers A 0) ∷ []
+not_implied : (here implied rest more : List Event) (sends : Event) → map Some here ≡ Some (Receives B 0) ∷ []
     → AllByRecursion (IsImplied (Sent A (begin_from 3))) implied → sends ≡ Sends A (begin_from 3)
-    → Delivers A 0 ∷ Expires A (Own (1 ∷ [])) (pos 1) ∷ more ≡ here ++ implied ++ sends ∷ rest → ⊥
+    → Receives B 0 ∷ Expires A (Own (1 ∷ [])) (pos 1) ∷ more ≡ here ++ implied ++ sends ∷ rest → ⊥
 not_implied [] implied rest more sends here_is all sends_is is = cc
 not_implied (x ∷ y ∷ here) implied rest more sends here_is all sends_is is = cc
 not_implied (x ∷ []) [] rest more sends here_is all sends_is is = cc
 not_implied (x ∷ []) (Expires side name id ∷ implied) rest more sends here_is all sends_is is = let name_is = all.0.1 in cc
-not_implied (x ∷ []) (Delivers side n ∷ implied) rest more sends here_is all sends_is is = cc
+not_implied (x ∷ []) (Receives side n ∷ implied) rest more sends here_is all sends_is is = cc
 not_implied (x ∷ []) (Sends side n ∷ implied) rest more sends here_is all sends_is is = cc
 not_implied (x ∷ []) (Replies side n ∷ implied) rest more sends here_is all sends_is is = cc
 not_implied (x ∷ []) (Loses side n ∷ implied) rest more sends here_is all sends_is is = cc
@@ -94,7 +94,7 @@ expiry_not_listed = ((_, refl, refl), by)
     by f =
         let (a1, b1, c1, d1, e1, f1, g1, h1, second) = f.gaps in
         let (a2, b2, c2, d2, e2, f2, g2, h2, last) = second in
-        let more : List Event = Delivers A 0 ∷ Expires A (Own (1 ∷ [])) (pos 1) ∷ Sends A (begin_from 3) ∷ Delivers A 1 ∷ [] in
+        let more : List Event = Receives B 0 ∷ Expires A (Own (1 ∷ [])) (pos 1) ∷ Sends A (begin_from 3) ∷ Receives B 1 ∷ [] in
         let same : c1 ≡ more = at_first a1 b1 c1 more d1 e1 f1 h1 in
         let sends_is : d2 ≡ Sends A (begin_from 3) = cc in
         let joined : more ≡ a2 ++ b2 ++ d2 ∷ c2 = cc in

@@ -10,7 +10,7 @@ use Rattle.tcap_end.specs.declared.half.Phase.TheVariants as phases
 use Rattle.tcap_end.specs.declared.half.Standing.TheVariants as standings
 use Rattle.tcap_end.specs.Table.{Table}
 use Rattle.tcap_end.specs.Half.{Answer, Half, Invocation, listed}
-use Rattle.tcap_end.specs.End.{Found}
+use Rattle.tcap_end.specs.End.{KeptHalf}
 use Rattle.tcap_end.specs.Sound.{FitsPhase, Has, IsEnd, IsHalf}
 use Rattle.tcap_check.specs.World.{World, end_at, other}
 use Rattle.tcap_check.specs.Run.{Event, Runs}
@@ -21,7 +21,7 @@ use Rattle.tcap_check.proofs.Moves.{HasCome, IsAsked, IsFrom, Turns, blank}
 use Rattle.tcap_check.proofs.WorldMoves.{Advances, CameSince, EndMoves, SentMore, worlds_keep}
 
 -- All four, of one half.
-pub record Knows (w : World) (side : Side) (f : Found) : Type 0 where
+pub record Knows (w : World) (side : Side) (f : KeptHalf) : Type 0 where
   pub peer : PeerWasSent w side f
   pub request : RequestWasSent w side f
   pub invokes : InvokesWereSent w side f
@@ -55,28 +55,28 @@ peer_or_bare h half = by h.phase refl half.phase
 -- ---- one half
 
 -- What came from the peer did so still, where the half keeps its peer's ID.
-still_came : (w next : World) (side : Side) (f g : Found) (component : Component) → SentMore w next → f.half.peer ≡ g.half.peer
+still_came : (w next : World) (side : Side) (f g : KeptHalf) (component : Component) → SentMore w next → f.half.peer ≡ g.half.peer
     → CameFromPeer w side f component → CameFromPeer next side g component
 still_came w next side f g component sent same (m, since, from, has) = (m, sent.keeps (other side) m since, from ∙ same, has)
 
 -- What comes now comes from the peer.
-now_came : (w next : World) (side : Side) (g : Found) (came : Option Message) (component : Component) → SentMore w next
+now_came : (w next : World) (side : Side) (g : KeptHalf) (came : Option Message) (component : Component) → SentMore w next
     → CameSince w side came → HasCome came component → IsFrom came g.half.peer → CameFromPeer next side g component
 now_came w next side g None component sent since has from = absurd has
 now_came w next side g (Some m) component sent since has from = (m, sent.keeps (other side) m since, from, has)
 
 -- an invocation that the peer sent, and an answer
-abbrev IsInvoked : World → Side → ℤ → Found → Invocation → Type 0
+abbrev IsInvoked : World → Side → ℤ → KeptHalf → Invocation → Type 0
 IsInvoked w side id f item =
     (linked : Option ℤ) × (parameter : Option (List ℕ)) × CameFromPeer w side f (Invoke id linked item.code parameter)
 
-abbrev IsAnswered : World → Side → ℤ → Found → Answer → Type 0
+abbrev IsAnswered : World → Side → ℤ → KeptHalf → Answer → Type 0
 IsAnswered w side id f answer = (component : Component) × IsAnswer answer id component × CameFromPeer w side f component
 
 -- A half that was there, or is new, and what a step makes of it.
-module _ (w next : World) (side : Side) (g : Found) (h : Half) (came : Option Message) (since : CameSince w side came)
+module _ (w next : World) (side : Side) (g : KeptHalf) (h : Half) (came : Option Message) (since : CameSince w side came)
     (sent : SentMore w next) (turns : Turns came h g.half) (known : HasPeer h ⊎ IsBare h) where
-  abbrev was : Found
+  abbrev was : KeptHalf
   was = record g { half = h }
 
   same_peer : HasPeer h → h.peer ≡ g.half.peer
@@ -133,7 +133,7 @@ module _ (w next : World) (side : Side) (g : Found) (h : Half) (came : Option Me
 -- ---- worlds
 
 -- A half that is new knows nothing.
-knows_blank : (w : World) (side : Side) (g : Found) → Knows w side (record g { half = blank })
+knows_blank : (w : World) (side : Side) (g : KeptHalf) → Knows w side (record g { half = blank })
 knows_blank w side g = record {
   peer = λ id is. cc;
   request = λ received asked. cc;
@@ -143,7 +143,7 @@ knows_blank w side g = record {
 
 -- each half of each end
 abbrev AllKnow : World → Type 0
-AllKnow w = (side : Side) (f : Found) → Has (end_at side w) f → Knows w side f
+AllKnow w = (side : Side) (f : KeptHalf) → Has (end_at side w) f → Knows w side f
 
 -- A step keeps it,
 keeps_known : (w next : World) → ((side : Side) → IsEnd (end_at side w)) → Advances w next → AllKnow w → AllKnow next
@@ -157,7 +157,7 @@ keeps_known w next sound advances held side g had = by (moves.moves.back g had)
 
     by : (h : Half) × (Has (end_at side w) (record g { half = h }) ⊎ (h ≡ blank)) × Turns moves.came h g.half → Knows next side g
     by (h, inl there, turns) =
-        let f : Found = record g { half = h } in
+        let f : KeptHalf = record g { half = h } in
         from h (peer_or_bare h ((sound side).halves f there)) turns (held side f there)
     by (h, inr new, turns) = from h (rw new (inr (λ received. cc, refl, refl))) turns (rw new (knows_blank w side g))
 
@@ -166,6 +166,6 @@ all_know : (table : Table) (events : List Event) (w : World) → Runs table even
 all_know table = worlds_keep table AllKnow (λ w none side f had. absurd (none.halves side f had)) keeps_known
 
 -- What a half knows of its peer, in each run.
-pub knows : (table : Table) (events : List Event) (w : World) (side : Side) (f : Found) → Runs table events w → Has (end_at side w) f
+pub knows : (table : Table) (events : List Event) (w : World) (side : Side) (f : KeptHalf) → Runs table events w → Has (end_at side w) f
     → Knows w side f
 knows table events w side f runs had = all_know table events w runs side f had

@@ -7,9 +7,8 @@ use Rattle.tcap_msg.specs.declared.message.Message.{Message}
 use Rattle.tcap_msg.specs.declared.message.Message.TheVariants.{Unidirectional, Begin, Continue, End as EndMessage, Abort}
 use Rattle.tcap_record.specs.declared.entry.End.{End as Side}
 use Rattle.tcap_record.specs.declared.entry.End.TheVariants as sides
-use Rattle.tcap_end.specs.Message.{where_so}
-use Rattle.tcap_check.specs.World.{Item, Mark, Sent}
-use Rattle.tcap_check.specs.Run.{Event, Sends, Delivers, Replies, Loses, Expires, Closes, Quiet}
+use Rattle.tcap_check.specs.World.{Item, Sent, other}
+use Rattle.tcap_check.specs.Run.{Event, Sends, Receives, Replies, Loses, Expires, Closes, Quiet, where_so}
 use Rattle.tcap_check.specs.Certificate.{By, Certificate, Fate, Gap, IsPrompt, Lost, prompt_from}
 use Rattle.tcap_check.specs.Follows.{Follows, FollowsFrom, IsImplied, IsPlain, deliveries, gap_events, losses_from, lost_from, sending, taken_by, without_losses}
 use Rattle.tcap_check.proofs.ListLaws.{all_both}
@@ -45,14 +44,14 @@ deliveries_plain gap n (fate ∷ fates) [] = tt
 deliveries_plain gap n (Gap g ∷ fates) (Sent side message ∷ items) = by (g == gap) (deliveries_plain gap (n + 1) fates items)
   where
     by : (b : Bool) → AllPlain (deliveries gap (n + 1) fates items)
-        → AllPlain (cond b (Delivers side n ∷ deliveries gap (n + 1) fates items) (deliveries gap (n + 1) fates items))
+        → AllPlain (cond b (Receives (other side) n ∷ deliveries gap (n + 1) fates items) (deliveries gap (n + 1) fates items))
     by true rest = (tt, rest)
     by false rest = rest
-deliveries_plain gap n (Gap g ∷ fates) (Mark ∷ items) = deliveries_plain gap (n + 1) fates items
+deliveries_plain gap n (Gap g ∷ fates) (Item.Quiet ∷ items) = deliveries_plain gap (n + 1) fates items
 deliveries_plain gap n (Lost ∷ fates) (Sent side message ∷ items) = deliveries_plain gap (n + 1) fates items
-deliveries_plain gap n (Lost ∷ fates) (Mark ∷ items) = deliveries_plain gap (n + 1) fates items
+deliveries_plain gap n (Lost ∷ fates) (Item.Quiet ∷ items) = deliveries_plain gap (n + 1) fates items
 deliveries_plain gap n (By k ∷ fates) (Sent side message ∷ items) = deliveries_plain gap (n + 1) fates items
-deliveries_plain gap n (By k ∷ fates) (Mark ∷ items) = deliveries_plain gap (n + 1) fates items
+deliveries_plain gap n (By k ∷ fates) (Item.Quiet ∷ items) = deliveries_plain gap (n + 1) fates items
 
 -- Events that are the same as options are the same.
 same_events : (xs ys : List Event) → map Some xs ≡ map Some ys → xs ≡ ys
@@ -78,12 +77,12 @@ implied_plain item (event ∷ events) all = (by item event all.0, implied_plain 
     by : (item : Item) (event : Event) → IsImplied item event → IsPlain event
     by (Sent side message) (Expires other name id) is = tt
     by (Sent side message) (Sends other m) is = absurd is
-    by (Sent side message) (Delivers other number) is = absurd is
+    by (Sent side message) (Receives other number) is = absurd is
     by (Sent side message) (Replies other number) is = absurd is
     by (Sent side message) (Loses other number) is = absurd is
     by (Sent side message) (Closes other name) is = absurd is
     by (Sent side message) Quiet is = absurd is
-    by Mark event is = absurd is
+    by Item.Quiet event is = absurd is
 
 -- So is a send.
 a_send : (side : Side) (m : Message) (event : Event) → Some (Sends side m) ≡ Some event → IsPlain event
@@ -101,7 +100,7 @@ sending_plain certificate number (Sent side (Abort dtid None)) event none is = a
 sending_plain certificate number (Sent side (Abort dtid (Some (ByDialogue dialogue)))) event none is = a_send side _ event (rw none at is)
 sending_plain certificate number (Sent side (Abort dtid (Some (Cause cause)))) event none is =
     let bad : None ≡ Some event = rw none at is in cc
-sending_plain certificate number Mark event none is = by (slice_get certificate.fates number) refl
+sending_plain certificate number Item.Quiet event none is = by (slice_get certificate.fates number) refl
   where
     quiet : (b : Bool) → where_so b (Some Quiet) ≡ Some event → IsPlain event
     quiet true is = let same : Quiet ≡ event = cc in rw (← same) tt
@@ -122,7 +121,7 @@ no_losses [] from_a from_b plain = tt
 no_losses (Loses sides.A number ∷ events) from_a from_b plain = cc
 no_losses (Loses sides.B number ∷ events) from_a from_b plain = cc
 no_losses (Sends side m ∷ events) from_a from_b plain = (plain.0, no_losses events from_a from_b plain.1)
-no_losses (Delivers side number ∷ events) from_a from_b plain = (plain.0, no_losses events from_a from_b plain.1)
+no_losses (Receives side number ∷ events) from_a from_b plain = (plain.0, no_losses events from_a from_b plain.1)
 no_losses (Replies side number ∷ events) from_a from_b plain = absurd plain.0
 no_losses (Expires side name id ∷ events) from_a from_b plain = (plain.0, no_losses events from_a from_b plain.1)
 no_losses (Closes side name ∷ events) from_a from_b plain = absurd plain.0

@@ -1,7 +1,6 @@
 -- Entries that are replayed, one after the other, follow the certificate but for losses.
-use Rattle.std.proofs.Common.{◌≡◌, ℕ, ◌+◌, ◌==◌, arith, Bool, true, false, List, [], ◌∷◌, ◌++◌, map, length, Option, Some, None, Result, Ok, Err, refl, sym, ap, ap₂, subst, ◌∙◌, append_assoc, append-nil}
-use Rattle.std.specs.Prelude.{slice_get}
-use Rattle.std.specs.List.{AllByRecursion}
+use Rattle.std.proofs.Common.{◌≡◌, ℕ, ◌+◌, ◌==◌, true, List, [], ◌∷◌, ◌++◌, map, length, Some, Result, Ok, Err, refl, sym, ap, ap₂, subst, ◌∙◌, append_assoc, append-nil}
+use Rattle.std.specs.Prelude.{ok_or, slice_get}
 use Rattle.std.proofs.lemmas.Bool.{eqb-true}
 use Rattle.std.proofs.lemmas.List.{length-append}
 use Rattle.tcap_ber.specs.declared.fault.Fault.{Fault}
@@ -9,15 +8,14 @@ use Rattle.tcap_msg.specs.declared.message.Message.{Message}
 use Rattle.tcap_record.specs.declared.entry.End.{End as Side}
 use Rattle.tcap_record.specs.declared.entry.Entry.{Entry}
 use Rattle.tcap_end.specs.Table.{Table}
-use Rattle.tcap_end.specs.Message.{where_so}
-use Rattle.tcap_end.proofs.StepLaws.{map_some}
-use Rattle.tcap_check.specs.World.{Item, Sent, Mark}
+use Rattle.tcap_end.proofs.AnsweringLaws.{needs_ok, some_ok, then_ok}
+use Rattle.tcap_check.specs.World.{Item, Sent}
 use Rattle.tcap_check.specs.Run.{Event, Quiet, after}
 use Rattle.tcap_check.specs.Certificate.{Certificate, Fate, Gap, Lost, By}
-use Rattle.tcap_check.specs.Follows.{FatesFit, FollowsFrom, IsImplied, gap_events, mark_by, sending, sending_by, taken_by, without_losses}
-use Rattle.tcap_check.specs.Replayed.{◌>>=◌, BadMessage, CheckFault, FateCount, FateRange, NotQuiet, OutOfOrder, Replay, entries_replayed, entry_replayed, gap_replayed, happens, if_so, is_gap, is_in_order, is_nothing, item_of, item_replayed, lost_from_both, mark_replayed, message_replayed, next_entry, or_refused, sent_replayed, stepped}
-use Rattle.tcap_check.proofs.RunLaws.{grows}
-use Rattle.tcap_check.proofs.ReplayLaws.{Extends, IsSentBy, Replays, both_ok, both_replay, extends_then, gap_replays, if_so_ok, message_replays, or_refused_ok, replays_then, stepped_replays, without_both}
+use Rattle.tcap_check.specs.Follows.{FatesFit, FollowsFrom, gap_events, quiet_by, sending, sending_by, taken_by, without_losses}
+use Rattle.tcap_check.specs.Replayed.{FateCount, FateRange, NotQuiet, OutOfOrder, Replay, entries_replayed, entry_replayed, fault_at, gap_replayed, happens, is_gap, is_in_order, is_nothing, item_of, item_replayed, lost_from_both, quiet_replayed, next_entry, sent_replayed, stepped}
+use Rattle.tcap_check.proofs.RunLaws.{grows, map_some}
+use Rattle.tcap_check.proofs.ReplayLaws.{Extends, IsSentBy, Replays, both_replay, extends_then, gap_replays, message_replays, replays_then, stepped_replays, without_both}
 use Rattle.tcap_check.proofs.ReplayGaps.{gap_events_before}
 
 -- The gap before an item was replayed, and then the item.
@@ -29,37 +27,38 @@ pub record IsReplayedBy (table : Table) (c : Certificate) (item : Item) (r next 
   pub sent : IsSentBy table c item mid next
 
 -- A quiet mark.
-quiet_replays : (table : Table) (c : Certificate) (entry : ℕ) (r next : Replay) → happens table c Quiet NotQuiet entry r ≡ Ok next
-    → Replays table r (Quiet ∷ []) (Mark ∷ []) next
-quiet_replays table c entry r next is =
+quiet_happens : (table : Table) (c : Certificate) (entry : ℕ) (r next : Replay) → happens table c Quiet NotQuiet entry r ≡ Ok next
+    → Replays table r (Quiet ∷ []) (Item.Quiet ∷ []) next
+quiet_happens table c entry r next is =
     let before = lost_from_both c r in
-    let step = or_refused_ok NotQuiet entry (stepped table Quiet before) next is in
+    let step = some_ok (stepped table Quiet before) (fault_at NotQuiet entry) next is in
     let found = map_some _ (after table Quiet before.world) next step in
     let g = grows table Quiet before.world found.0 found.1 in
-    replays_then table r before next [] (Quiet ∷ []) [] (Mark ∷ []) (both_replay table c r)
-    (stepped_replays table Quiet (Mark ∷ []) before next refl step
+    replays_then table r before next [] (Quiet ∷ []) [] (Item.Quiet ∷ []) (both_replay table c r)
+    (stepped_replays table Quiet (Item.Quiet ∷ []) before next refl step
     (ap (λ (x : Replay). x.world.sent) (sym found.2) ∙ g.2 ∙ ap (λ (x : List Item). before.world.sent ++ x) g.1))
 
 nothing_is : (numbers : List ℕ) → is_nothing numbers ≡ true → numbers ≡ []
 nothing_is [] is = refl
 nothing_is (n ∷ numbers) is = cc
 
-mark_is : (number : ℕ) (fate : Fate) → is_gap (number + 1) fate ≡ true → mark_by number (Some fate) ≡ Some Quiet
-mark_is number (Gap g) is = rw is refl
-mark_is number Lost is = cc
-mark_is number (By k) is = cc
+quiet_is : (number : ℕ) (fate : Fate) → is_gap (number + 1) fate ≡ true → quiet_by number (Some fate) ≡ Some Quiet
+quiet_is number (Gap g) is = rw is refl
+quiet_is number Lost is = cc
+quiet_is number (By k) is = cc
 
-mark_replays : (table : Table) (c : Certificate) (fate : Fate) (r next : Replay) → slice_get c.fates (next_entry r) ≡ Some fate
-    → mark_replayed table c fate r ≡ Ok next → IsReplayedBy table c Mark r next
-mark_replays table c fate r next has is =
+quiet_replays : (table : Table) (c : Certificate) (fate : Fate) (r next : Replay) → slice_get c.fates (next_entry r) ≡ Some fate
+    → quiet_replayed table c fate r ≡ Ok next → IsReplayedBy table c Item.Quiet r next
+quiet_replays table c fate r next has is =
     let number = next_entry r in
-    let so = if_so_ok (is_gap (number + 1) fate) FateRange number _ next is in
-    let gap = both_ok (gap_replayed table c r) _ next so.1 in
+    let so = needs_ok (is_gap (number + 1) fate) (fault_at FateRange number) _ next is in
+    let gap = then_ok (gap_replayed table c r) _ next so.1 in
     let here = gap_replays table c r gap.0 gap.1 in
-    let free = if_so_ok (is_nothing (taken_by number 0 c.fates)) NotQuiet number _ next gap.2 in
+    let free = needs_ok (is_nothing (taken_by number 0 c.fates)) (fault_at NotQuiet number) _ next gap.2 in
     let same : next_entry gap.0 ≡ number = ap length (here.2.sent ∙ append-nil r.world.sent) in
-    let sends : sending c number Mark ≡ Some Quiet =
-    ap (sending_by c number Mark) (nothing_is (taken_by number 0 c.fates) free.0) ∙ ap (mark_by number) has ∙ mark_is number fate so.0 in
+    let sends : sending c number Item.Quiet ≡ Some Quiet =
+    ap (sending_by c number Item.Quiet) (nothing_is (taken_by number 0 c.fates) free.0) ∙ ap (quiet_by number) has
+    ∙ quiet_is number fate so.0 in
     record {
       here = here.0;
       mid = gap.0;
@@ -69,23 +68,23 @@ mark_replays table c fate r next has is =
         implied = [];
         sends = Quiet;
         are_implied = tt;
-        sends_is = ap (λ (n : ℕ). sending c n Mark) same ∙ sends;
-        replays = quiet_replays table c number gap.0 next free.1;
+        sends_is = ap (λ (n : ℕ). sending c n Item.Quiet) same ∙ sends;
+        replays = quiet_happens table c number gap.0 next free.1;
       };
     }
 
 sent_replays : (table : Table) (c : Certificate) (fate : Fate) (side : Side) (message : Message) (r next : Replay)
     → sent_replayed table c fate side message r ≡ Ok next → IsReplayedBy table c (Sent side message) r next
 sent_replays table c fate side message r next is =
-    let so = if_so_ok (is_in_order c side fate r.world.sent) OutOfOrder (next_entry r) _ next is in
-    let gap = both_ok (gap_replayed table c r) _ next so.1 in
+    let so = needs_ok (is_in_order c side fate r.world.sent) (fault_at OutOfOrder (next_entry r)) _ next is in
+    let gap = then_ok (gap_replayed table c r) _ next so.1 in
     let here = gap_replays table c r gap.0 gap.1 in
     record { here = here.0; mid = gap.0; here_is = here.1; gap = here.2; sent = message_replays table c side message gap.0 next gap.2 }
 
 item_replays : (table : Table) (c : Certificate) (fate : Fate) (item : Item) (r next : Replay) → slice_get c.fates (next_entry r) ≡ Some fate
     → item_replayed table c fate item r ≡ Ok next → IsReplayedBy table c item r next
 item_replays table c fate (Sent side message) r next has is = sent_replays table c fate side message r next is
-item_replays table c fate Mark r next has is = mark_replays table c fate r next has is
+item_replays table c fate Item.Quiet r next has is = quiet_replays table c fate r next has is
 
 -- ---- entries
 
@@ -136,7 +135,7 @@ one_entry table c entry entries item r mid next count fit is one rest =
         one.sent.are_implied,
         ap (λ (n : ℕ). sending c n item) (sym same) ∙ one.sent.sends_is,
         without_both both.steps rest.steps ∙ ap (λ (x : List Event). x ++ without_losses rest.steps) both.are
-        ∙ in_turn one.here one.sent.implied one.sent.sends (without_losses rest.steps),
+            ∙ in_turn one.here one.sent.implied one.sent.sends (without_losses rest.steps),
         follows,
       );
     }
@@ -144,7 +143,7 @@ one_entry table c entry entries item r mid next count fit is one rest =
 pub entries_replay : (table : Table) (c : Certificate) (entries : List Entry) (r next : Replay) (count : ℕ) → FatesFit count 0 c.fates
     → entries_replayed table c entries r ≡ Ok next → AreReplayed table c entries r next
 entries_replay table c [] r next count fit is =
-    let so = if_so_ok (next_entry r == length c.fates) FateCount (next_entry r) (gap_replayed table c r) next is in
+    let so = needs_ok (next_entry r == length c.fates) (fault_at FateCount (next_entry r)) (gap_replayed table c r) next is in
     let gap = gap_replays table c r next so.1 in
     record {
       items = [];
@@ -156,9 +155,9 @@ entries_replay table c [] r next count fit is =
       follows = ap (map Some) gap.2.are ∙ gap.1 ∙ sym (gap_events_before c count r.world.sent [] fit);
     }
 entries_replay table c (entry ∷ entries) r next count fit is =
-    let fate = both_ok (or_refused FateCount (next_entry r) (slice_get c.fates (next_entry r))) _ next is in
-    let has = or_refused_ok FateCount (next_entry r) (slice_get c.fates (next_entry r)) fate.0 fate.1 in
-    let one = both_ok (entry_replayed table c fate.0 (item_of entry) r) _ next fate.2 in
+    let fate = then_ok (ok_or (slice_get c.fates (next_entry r)) (fault_at FateCount (next_entry r))) _ next is in
+    let has = some_ok (slice_get c.fates (next_entry r)) (fault_at FateCount (next_entry r)) fate.0 fate.1 in
+    let one = then_ok (entry_replayed table c fate.0 (item_of entry) r) _ next fate.2 in
     let rest = entries_replay table c entries one.0 next count fit one.2 in
     by fate.0 one.0 (item_of entry) refl has one.1 rest
   where

@@ -1,16 +1,15 @@
 -- What is listed for a gap is the same for the items before it and for all; and a certificate whose numbers fit.
-use Rattle.std.proofs.Common.{◌≡◌, ◌≤◌, ◌<◌, ℕ, zero, suc, ◌+◌, ◌==◌, arith, Bool, true, false, cond, nat_lt, nat_le, List, [], ◌∷◌, ◌++◌, map, filter, length, take, drop, Option, Some, None, Result, Ok, Err, refl, sym, ap, ap₂, ◌∙◌}
+use Rattle.std.proofs.Common.{◌≡◌, ◌≤◌, ◌<◌, ℕ, zero, suc, ◌+◌, ◌==◌, arith, Bool, true, false, cond, nat_lt, nat_le, List, [], ◌∷◌, ◌++◌, map, filter, length, drop, Option, Some, None, Ok, refl, sym, ap, ap₂, ◌∙◌}
 use Rattle.std.specs.Prelude.{◌&&◌, slice_get}
 use Rattle.std.specs.List.{AllByRecursion}
 use Rattle.std.proofs.lemmas.Bool.{and_parts, eqb-true, leb-true, ltb-true, ne_eqb}
 use lib.Seq.{take-append_seam, take-length}
-use Rattle.tcap_end.specs.Message.{then_so, where_so}
-use Rattle.tcap_check.specs.World.{Item, Sent, Mark}
-use Rattle.tcap_check.specs.Run.{Event, Delivers}
+use Rattle.tcap_end.proofs.AnsweringLaws.{needs_ok}
+use Rattle.tcap_check.specs.World.{Item, Sent, other}
+use Rattle.tcap_check.specs.Run.{Event, Receives, then_so, where_so}
 use Rattle.tcap_check.specs.Certificate.{Certificate, Closing, Expiry, Fate, Gap, Lost, By}
-use Rattle.tcap_check.specs.Follows.{FatesFit, closing_by, closing_event, deliveries, expiry_by, expiry_event, gap_events, has_mark, named_entry}
-use Rattle.tcap_check.specs.Replayed.{CheckFault, FateRange, all_fit, fate_fits, fates_fit}
-use Rattle.tcap_check.proofs.ReplayLaws.{if_so_ok}
+use Rattle.tcap_check.specs.Follows.{FatesFit, closing_by, closing_event, deliveries, expiry_by, expiry_event, gap_events, has_quiet, named_entry}
+use Rattle.tcap_check.specs.Replayed.{FateRange, all_fit, fate_fits, fates_fit, fault_at}
 
 -- ---- what is listed
 
@@ -21,7 +20,7 @@ get_before (x ∷ xs) ys (suc i) h = get_before xs ys i (omega (arith, h))
 
 named_before : (items rest : List Item) (entry : ℕ) → named_entry (items ++ rest) (length items) entry ≡ named_entry items (length items) entry
 named_before items rest entry =
-    ap₂ (λ (shown : List Item) (o : Option Item). cond (has_mark (drop entry shown)) None o)
+    ap₂ (λ (shown : List Item) (o : Option Item). cond (has_quiet (drop entry shown)) None o)
     (take-append_seam items rest ∙ sym (take-length items)) (by (nat_lt entry (length items)) refl)
   where
     by : (b : Bool) → nat_lt entry (length items) ≡ b → where_so b (slice_get (items ++ rest) entry) ≡ where_so b (slice_get items entry)
@@ -50,23 +49,28 @@ none_delivered count gap n (fate ∷ fates) [] h fit = refl
 none_delivered count gap n (Gap g ∷ fates) (Sent side message ∷ items) h fit =
     let later : (g == gap) ≡ false = ne_eqb g gap (λ e. omega (arith, h, fit.0, e)) in
     rw later (none_delivered count gap (n + 1) fates items (omega (arith, h)) fit.2)
-none_delivered count gap n (Gap g ∷ fates) (Mark ∷ items) h fit = none_delivered count gap (n + 1) fates items (omega (arith, h)) fit.2
+none_delivered count gap n (Gap g ∷ fates) (Item.Quiet ∷ items) h fit =
+    none_delivered count gap (n + 1) fates items (omega (arith, h)) fit.2
 none_delivered count gap n (Lost ∷ fates) (Sent side message ∷ items) h fit = none_delivered count gap (n + 1) fates items (omega (arith, h)) fit
-none_delivered count gap n (Lost ∷ fates) (Mark ∷ items) h fit = none_delivered count gap (n + 1) fates items (omega (arith, h)) fit
+none_delivered count gap n (Lost ∷ fates) (Item.Quiet ∷ items) h fit = none_delivered count gap (n + 1) fates items (omega (arith, h)) fit
 none_delivered count gap n (By k ∷ fates) (Sent side message ∷ items) h fit = none_delivered count gap (n + 1) fates items (omega (arith, h)) fit.2
-none_delivered count gap n (By k ∷ fates) (Mark ∷ items) h fit = none_delivered count gap (n + 1) fates items (omega (arith, h)) fit.2
+none_delivered count gap n (By k ∷ fates) (Item.Quiet ∷ items) h fit = none_delivered count gap (n + 1) fates items (omega (arith, h)) fit.2
 
 deliveries_before : (count gap n : ℕ) (fates : List Fate) (items rest : List Item) → gap ≡ n + length items → FatesFit count n fates
     → deliveries gap n fates (items ++ rest) ≡ deliveries gap n fates items
 deliveries_before count gap n [] items rest h fit = refl
 deliveries_before count gap n (fate ∷ fates) [] rest h fit = none_delivered count gap n (fate ∷ fates) rest (omega (arith, h)) fit
 deliveries_before count gap n (Gap g ∷ fates) (Sent side message ∷ items) rest h fit =
-    ap (λ (others : List Event). cond (g == gap) (Delivers side n ∷ others) others) (deliveries_before count gap (n + 1) fates items rest (omega (arith, h)) fit.2)
-deliveries_before count gap n (Gap g ∷ fates) (Mark ∷ items) rest h fit = deliveries_before count gap (n + 1) fates items rest (omega (arith, h)) fit.2
+    ap (λ (others : List Event). cond (g == gap) (Receives (other side) n ∷ others) others)
+    (deliveries_before count gap (n + 1) fates items rest (omega (arith, h)) fit.2)
+deliveries_before count gap n (Gap g ∷ fates) (Item.Quiet ∷ items) rest h fit =
+    deliveries_before count gap (n + 1) fates items rest (omega (arith, h)) fit.2
 deliveries_before count gap n (Lost ∷ fates) (Sent side message ∷ items) rest h fit = deliveries_before count gap (n + 1) fates items rest (omega (arith, h)) fit
-deliveries_before count gap n (Lost ∷ fates) (Mark ∷ items) rest h fit = deliveries_before count gap (n + 1) fates items rest (omega (arith, h)) fit
+deliveries_before count gap n (Lost ∷ fates) (Item.Quiet ∷ items) rest h fit =
+    deliveries_before count gap (n + 1) fates items rest (omega (arith, h)) fit
 deliveries_before count gap n (By k ∷ fates) (Sent side message ∷ items) rest h fit = deliveries_before count gap (n + 1) fates items rest (omega (arith, h)) fit.2
-deliveries_before count gap n (By k ∷ fates) (Mark ∷ items) rest h fit = deliveries_before count gap (n + 1) fates items rest (omega (arith, h)) fit.2
+deliveries_before count gap n (By k ∷ fates) (Item.Quiet ∷ items) rest h fit =
+    deliveries_before count gap (n + 1) fates items rest (omega (arith, h)) fit.2
 
 -- What happens in a gap is said by the items before it.
 pub gap_events_before : (c : Certificate) (count : ℕ) (items rest : List Item) → FatesFit count 0 c.fates
@@ -82,26 +86,22 @@ gap_events_before c count items rest fit =
 
 -- ---- numbers that fit
 
-pub fates_ok : {A : Type 0} (count n : ℕ) (fates : List Fate) (more : Result A CheckFault) (x : A) → fates_fit count n fates more ≡ Ok x
-    → FatesFit count n fates × (more ≡ Ok x)
-fates_ok count n [] more x is = (tt, is)
-fates_ok count n (Gap g ∷ fates) more x is =
-    let so = if_so_ok (fate_fits count n (Gap g)) FateRange n (fates_fit count (n + 1) fates more) x is in
+pub fates_ok : (count n : ℕ) (fates : List Fate) → fates_fit count n fates ≡ Ok tt → FatesFit count n fates
+fates_ok count n [] is = tt
+fates_ok count n (Gap g ∷ fates) is =
+    let so = needs_ok (fate_fits count n (Gap g)) (fault_at FateRange n) (fates_fit count (n + 1) fates) tt is in
     let both = and_parts (nat_lt n g) (nat_le g count) so.0 in
-    let rest = fates_ok count (n + 1) fates more x so.1 in
-    ((ltb-true n g both.0, leb-true g count both.1, rest.0), rest.1)
-fates_ok count n (By k ∷ fates) more x is =
-    let so = if_so_ok (fate_fits count n (By k)) FateRange n (fates_fit count (n + 1) fates more) x is in
+    (ltb-true n g both.0, leb-true g count both.1, fates_ok count (n + 1) fates so.1)
+fates_ok count n (By k ∷ fates) is =
+    let so = needs_ok (fate_fits count n (By k)) (fault_at FateRange n) (fates_fit count (n + 1) fates) tt is in
     let both = and_parts (nat_lt n k) (nat_lt k count) so.0 in
-    let rest = fates_ok count (n + 1) fates more x so.1 in
-    ((ltb-true n k both.0, ltb-true k count both.1, rest.0), rest.1)
-fates_ok count n (Lost ∷ fates) more x is = fates_ok count (n + 1) fates more x is
+    (ltb-true n k both.0, ltb-true k count both.1, fates_ok count (n + 1) fates so.1)
+fates_ok count n (Lost ∷ fates) is = fates_ok count (n + 1) fates is
 
-pub listed_ok : {A C : Type 0} (count : ℕ) (entry gap : C → ℕ) (listed : List C) (more : Result A CheckFault) (x : A)
-    → all_fit count (map (λ c. (entry c, gap c)) listed) more ≡ Ok x → AllByRecursion (λ c. gap c ≤ count) listed × (more ≡ Ok x)
-listed_ok count entry gap [] more x is = (tt, is)
-listed_ok count entry gap (c ∷ listed) more x is =
-    let so = if_so_ok (nat_lt (entry c) (gap c) && nat_le (gap c) count) FateRange (entry c) _ x is in
+pub listed_ok : {C : Type 0} (count : ℕ) (entry gap : C → ℕ) (listed : List C)
+    → all_fit count (map (λ c. (entry c, gap c)) listed) ≡ Ok tt → AllByRecursion (λ c. gap c ≤ count) listed
+listed_ok count entry gap [] is = tt
+listed_ok count entry gap (c ∷ listed) is =
+    let so = needs_ok (nat_lt (entry c) (gap c) && nat_le (gap c) count) (fault_at FateRange (entry c)) _ tt is in
     let both = and_parts (nat_lt (entry c) (gap c)) (nat_le (gap c) count) so.0 in
-    let rest = listed_ok count entry gap listed more x so.1 in
-    ((leb-true (gap c) count both.1, rest.0), rest.1)
+    (leb-true (gap c) count both.1, listed_ok count entry gap listed so.1)

@@ -1,6 +1,6 @@
 -- What is replayed is a run, step by step.
-use Rattle.std.proofs.Common.{◌≡◌, ℕ, ℤ, ◌+◌, ◌==◌, Bool, true, false, cond, List, [], ◌∷◌, ◌++◌, map, filter, filter_map, length, arith, drop, Option, Some, None, Result, Ok, Err, option_map, refl, sym, ap, ap₂, subst, ◌∙◌, append_assoc, append-nil}
-use Rattle.std.specs.Prelude.{◌&&◌, ◌||◌, Contains, slice_get}
+use Rattle.std.proofs.Common.{◌≡◌, ℕ, ℤ, ◌+◌, ◌==◌, Bool, true, false, cond, List, [], ◌∷◌, ◌++◌, map, filter, filter_map, length, arith, drop, Option, Some, None, Result, Ok, Err, refl, sym, ap, ap₂, subst, ◌∙◌, append_assoc, append-nil}
+use Rattle.std.specs.Prelude.{◌||◌, Contains, is_ok, ok_or, slice_get}
 use Rattle.std.specs.Str.{bytes_eq}
 use Rattle.std.specs.List.{AllByRecursion}
 use Rattle.std.proofs.lemmas.List.Elements.{Contains-append_right}
@@ -15,19 +15,19 @@ use Rattle.tcap_record.specs.declared.entry.End.TheVariants as sides
 use Rattle.tcap_end.specs.declared.fault.EndFault.{EndFault}
 use Rattle.tcap_end.specs.declared.fault.EndFault.TheVariants as faults
 use Rattle.tcap_end.specs.End.{End}
-use Rattle.tcap_end.specs.Refusal.{send_fault}
-use Rattle.tcap_end.specs.Reply.{aborts, refuses_begin, refuses_continue}
+use Rattle.tcap_end.specs.Step.{needs, ◌>>◌, ◌>>=◌}
+use Rattle.tcap_end.specs.Reply.{aborts, refuse_begin}
 use Rattle.tcap_end.specs.declared.half.HalfName.{HalfName}
 use Rattle.tcap_end.specs.declared.half.HalfName.TheVariants as names
 use Rattle.tcap_end.specs.Table.{Table}
-use Rattle.tcap_end.specs.Message.{then_so, where_so}
-use Rattle.tcap_end.proofs.StepLaws.{map_some, where_some}
-use Rattle.tcap_check.specs.World.{Item, Sent, Mark, OnItsWay, World, channel_from, end_at, is_side, other, with_channel}
-use Rattle.tcap_check.specs.Run.{Event, Sends, Delivers, Replies, Loses, Expires, Closes, Quiet, after, head_taken, played, provider_abort}
+use Rattle.tcap_end.specs.Message.{send}
+use Rattle.tcap_end.proofs.AnsweringLaws.{needs_ok, ok_same, some_ok, then_ok}
+use Rattle.tcap_check.specs.World.{Item, OnItsWay, Sent, World, channel_from, end_at, is_side, other, with_channel, with_end}
+use Rattle.tcap_check.specs.Run.{Event, Sends, Receives, Replies, Loses, Expires, Closes, Quiet, abort_for, after, joined, may_refuse, played, then_so}
 use Rattle.tcap_check.specs.Certificate.{Certificate, Closing, Expiry, Fate, Gap, Lost, By}
-use Rattle.tcap_check.specs.Follows.{IsImplied, half_over, closing_by, closing_event, deliveries, expiry_by, expiry_event, gap_events, half_begun, invoke_id, is_loss, named_entry, originating, sending, sending_by, without_losses}
-use Rattle.tcap_check.proofs.RunLaws.{grows}
-use Rattle.tcap_check.specs.Replayed.{◌>>=◌, BadReply, CheckFault, FateRange, HiddenRefused, Reason, closings_replayed, deliveries_replayed, expiries_replayed, gap_replayed, if_so, implied, implied_over, may_reply, message_by, message_replayed, reply_replayed, next_entry, or_same, send_replayed, sent_or_refused, Replay, happens, losing, lost_before, lost_from_both, lost_from_front, if_lost, lost_front, or_refused, stepped}
+use Rattle.tcap_check.specs.Follows.{IsImplied, invoking_half, closing_by, closing_event, deliveries, expiry_by, expiry_event, gap_events, half_begun, invoke_id, is_loss, named_entry, originating, sending, sending_by, without_losses}
+use Rattle.tcap_check.proofs.RunLaws.{grows, map_some, where_some}
+use Rattle.tcap_check.specs.Replayed.{BadReply, CheckFault, FateRange, HiddenRefused, Reason, closings_replayed, deliveries_replayed, expiries_replayed, fault_at, gap_replayed, implied, implied_over, may_reply, message_by, message_replayed, reply_replayed, next_entry, or_same, send_replayed, sent_or_refused, Replay, happens, lost_before, lost_from_both, lost_from_front, if_lost, lost_front, stepped, with_step}
 
 -- ---- runs, one behind the other
 
@@ -56,10 +56,6 @@ extends_then table r mid next first rest a b = record {
 }
 
 -- ---- one step
-
-pub or_refused_ok : {A : Type 0} (reason : Reason) (entry : ℕ) (o : Option A) (x : A) → or_refused reason entry o ≡ Ok x → o ≡ Some x
-or_refused_ok reason entry None x is = cc
-or_refused_ok reason entry (Some y) x is = cc
 
 pub stepped_extends : (table : Table) (event : Event) (r next : Replay) → stepped table event r ≡ Some next → Extends table r (event ∷ []) next
 stepped_extends table event r next is =
@@ -163,7 +159,7 @@ both_replay table c r =
 
 pub before_replays : (table : Table) (c : Certificate) (event : Event) (r : Replay) → Replays table r [] [] (lost_before c event r)
 before_replays table c (Sends side m) r = replays_nothing table r
-before_replays table c (Delivers side n) r = losing_replays table c side r
+before_replays table c (Receives side n) r = losing_replays table c (other side) r
 before_replays table c (Replies side n) r = losing_replays table c (other side) r
 before_replays table c (Loses side n) r = replays_nothing table r
 before_replays table c (Expires side name id) r = replays_nothing table r
@@ -179,14 +175,6 @@ stepped_replays table event items r next plain is sent = record {
   are = rw plain refl;
   sent = sent;
 }
-
--- ---- results one after the other
-
--- Both were answered.
-pub both_ok : {A B : Type 0} (first : Result A CheckFault) (more : A → Result B CheckFault) (y : B) → (first >>= more) ≡ Ok y
-    → (x : A) × (first ≡ Ok x) × (more x ≡ Ok y)
-both_ok (Ok x) more y is = (x, refl, is)
-both_ok (Err fault) more y is = cc
 
 -- ---- a gap
 
@@ -210,10 +198,10 @@ expires_in_gap side name id = record {
   adds = λ table w next is. let g = grows table (Expires side name id) w next is in g.2 ∙ ap (λ (x : List Item). w.sent ++ x) g.1;
 }
 
-delivers_in_gap : (side : Side) (number : ℕ) → IsGapEvent (Delivers side number)
-delivers_in_gap side number = record {
+receives_in_gap : (side : Side) (number : ℕ) → IsGapEvent (Receives side number)
+receives_in_gap side number = record {
   plain = refl;
-  adds = λ table w next is. let g = grows table (Delivers side number) w next is in g.2 ∙ ap (λ (x : List Item). w.sent ++ x) g.1;
+  adds = λ table w next is. let g = grows table (Receives side number) w next is in g.2 ∙ ap (λ (x : List Item). w.sent ++ x) g.1;
 }
 
 -- One such event, with the losses before it.
@@ -221,7 +209,7 @@ pub gap_event : (table : Table) (c : Certificate) (event : Event) (reason : Reas
     → happens table c event reason entry r ≡ Ok next → Replays table r (event ∷ []) [] next
 gap_event table c event reason entry r next in_gap is =
     let before = lost_before c event r in
-    let step = or_refused_ok reason entry (stepped table event before) next is in
+    let step = some_ok (stepped table event before) (fault_at reason entry) next is in
     let found = map_some _ (after table event before.world) next step in
     let sent : next.world.sent ≡ before.world.sent ++ [] = ap (λ (x : Replay). x.world.sent) (sym found.2) ∙ in_gap.adds table before.world found.0 found.1 in
     replays_then table r before next [] (event ∷ []) [] [] (before_replays table c event r) (stepped_replays table event [] before next in_gap.plain step sent)
@@ -239,7 +227,7 @@ closing_in_gap items x event is = let found = then_some (named_entry items x.gap
     by (Sent sender (Continue otid dtid dialogue components)) e = cc
     by (Sent sender (EndMessage dtid dialogue components)) e = cc
     by (Sent sender (Abort dtid reason)) e = cc
-    by Mark e = cc
+    by Item.Quiet e = cc
 
 expiry_in_gap : (items : List Item) (x : Expiry) (event : Event) → expiry_event items x ≡ Some event → IsGapEvent event
 expiry_in_gap items x event is = let found = then_some (named_entry items x.gap x.entry) (expiry_by x) event is in by found.0 found.2
@@ -250,7 +238,7 @@ expiry_in_gap items x event is = let found = then_some (named_entry items x.gap 
         let named = then_some (originating message) _ event so.1 in
         let id = then_some (then_so (slice_get (components_in message) x.component) invoke_id) _ event named.2 in
         subst IsGapEvent (some_is id.2) (expires_in_gap x.side (names.Own named.0) id.0)
-    by Mark e = cc
+    by Item.Quiet e = cc
 
 -- Closings, as they are listed for the items that were sent so far.
 pub closings_replay : (table : Table) (c : Certificate) (listed : List Closing) (items : List Item) (r next : Replay) → r.world.sent ≡ items
@@ -258,10 +246,10 @@ pub closings_replay : (table : Table) (c : Certificate) (listed : List Closing) 
     → (events : List Event) × (map Some events ≡ map (closing_event items) listed) × Replays table r events [] next
 closings_replay table c [] items r next so is = let same : r ≡ next = cc in ([], refl, subst (Replays table r [] []) same (replays_nothing table r))
 closings_replay table c (x ∷ more) items r next so is =
-    let found = both_ok (or_refused FateRange x.entry (closing_event r.world.sent x)) _ next is in
+    let found = then_ok (ok_or (closing_event r.world.sent x) (fault_at FateRange x.entry)) _ next is in
     let event = found.0 in
-    let named = or_refused_ok FateRange x.entry (closing_event r.world.sent x) event found.1 in
-    let then = both_ok (happens table c event (HiddenRefused faults.CannotClose) x.entry r) _ next found.2 in
+    let named = some_ok (closing_event r.world.sent x) (fault_at FateRange x.entry) event found.1 in
+    let then = then_ok (happens table c event (HiddenRefused faults.CannotClose) x.entry r) _ next found.2 in
     let one = gap_event table c event (HiddenRefused faults.CannotClose) x.entry r then.0 (closing_in_gap r.world.sent x event named) then.1 in
     let so_far : then.0.world.sent ≡ items = one.sent ∙ append-nil r.world.sent ∙ so in
     let rest = closings_replay table c more items then.0 next so_far then.2 in (
@@ -276,10 +264,10 @@ pub expiries_replay : (table : Table) (c : Certificate) (listed : List Expiry) (
     → (events : List Event) × (map Some events ≡ map (expiry_event items) listed) × Replays table r events [] next
 expiries_replay table c [] items r next so is = let same : r ≡ next = cc in ([], refl, subst (Replays table r [] []) same (replays_nothing table r))
 expiries_replay table c (x ∷ more) items r next so is =
-    let found = both_ok (or_refused FateRange x.entry (expiry_event r.world.sent x)) _ next is in
+    let found = then_ok (ok_or (expiry_event r.world.sent x) (fault_at FateRange x.entry)) _ next is in
     let event = found.0 in
-    let named = or_refused_ok FateRange x.entry (expiry_event r.world.sent x) event found.1 in
-    let then = both_ok (happens table c event (HiddenRefused faults.CannotExpire) x.entry r) _ next found.2 in
+    let named = some_ok (expiry_event r.world.sent x) (fault_at FateRange x.entry) event found.1 in
+    let then = then_ok (happens table c event (HiddenRefused faults.CannotExpire) x.entry r) _ next found.2 in
     let one = gap_event table c event (HiddenRefused faults.CannotExpire) x.entry r then.0 (expiry_in_gap r.world.sent x event named) then.1 in
     let so_far : then.0.world.sent ≡ items = one.sent ∙ append-nil r.world.sent ∙ so in
     let rest = expiries_replay table c more items then.0 next so_far then.2 in (
@@ -299,18 +287,24 @@ deliveries_replay table c gap number (Gap g ∷ fates) (Sent side message ∷ it
     by : (b : Bool)
         → ((mid : Replay) → deliveries_replayed table c gap (number + 1) fates items mid ≡ Ok next
         → Replays table mid (deliveries gap (number + 1) fates items) [] next)
-        → (cond b (happens table c (Delivers side number) BadReply number r) (Ok r) >>= deliveries_replayed table c gap (number + 1) fates items) ≡ Ok next
-        → Replays table r (cond b (Delivers side number ∷ deliveries gap (number + 1) fates items) (deliveries gap (number + 1) fates items)) [] next
+        → (cond b (happens table c (Receives (other side) number) BadReply number r) (Ok r)
+        >>= deliveries_replayed table c gap (number + 1) fates items) ≡ Ok next
+        → Replays table r
+        (cond b (Receives (other side) number ∷ deliveries gap (number + 1) fates items) (deliveries gap (number + 1) fates items)) [] next
     by true on is =
-        let one = both_ok (happens table c (Delivers side number) BadReply number r) _ next is in
-        replays_then table r one.0 next (Delivers side number ∷ []) (deliveries gap (number + 1) fates items) [] []
-        (gap_event table c (Delivers side number) BadReply number r one.0 (delivers_in_gap side number) one.1) (on one.0 one.2)
+        let one = then_ok (happens table c (Receives (other side) number) BadReply number r) _ next is in
+        replays_then table r one.0 next (Receives (other side) number ∷ []) (deliveries gap (number + 1) fates items) [] []
+        (gap_event table c (Receives (other side) number) BadReply number r one.0 (receives_in_gap (other side) number) one.1)
+        (on one.0 one.2)
     by false on is = on r is
-deliveries_replay table c gap number (Gap g ∷ fates) (Mark ∷ items) r next is = deliveries_replay table c gap (number + 1) fates items r next is
+deliveries_replay table c gap number (Gap g ∷ fates) (Item.Quiet ∷ items) r next is =
+    deliveries_replay table c gap (number + 1) fates items r next is
 deliveries_replay table c gap number (Lost ∷ fates) (Sent side message ∷ items) r next is = deliveries_replay table c gap (number + 1) fates items r next is
-deliveries_replay table c gap number (Lost ∷ fates) (Mark ∷ items) r next is = deliveries_replay table c gap (number + 1) fates items r next is
+deliveries_replay table c gap number (Lost ∷ fates) (Item.Quiet ∷ items) r next is =
+    deliveries_replay table c gap (number + 1) fates items r next is
 deliveries_replay table c gap number (By k ∷ fates) (Sent side message ∷ items) r next is = deliveries_replay table c gap (number + 1) fates items r next is
-deliveries_replay table c gap number (By k ∷ fates) (Mark ∷ items) r next is = deliveries_replay table c gap (number + 1) fates items r next is
+deliveries_replay table c gap number (By k ∷ fates) (Item.Quiet ∷ items) r next is =
+    deliveries_replay table c gap (number + 1) fates items r next is
 
 map_both : {A B : Type 0} (f : A → B) (xs ys : List A) → map f (xs ++ ys) ≡ map f xs ++ map f ys
 map_both f [] ys = refl
@@ -329,9 +323,9 @@ gap_replays table c r next is =
     let gap = next_entry r in
     let closing = filter (λ (x : Closing). x.gap == gap) c.close in
     let expiring = filter (λ (x : Expiry). x.gap == gap) c.expire in
-    let a = both_ok (closings_replayed table c closing r) _ next is in
+    let a = then_ok (closings_replayed table c closing r) _ next is in
     let closed = closings_replay table c closing items r a.0 refl a.1 in
-    let b = both_ok (expiries_replayed table c expiring a.0) _ next a.2 in
+    let b = then_ok (expiries_replayed table c expiring a.0) _ next a.2 in
     let expired = expiries_replay table c expiring items a.0 b.0 (closed.2.sent ∙ append-nil items) b.1 in
     let delivered = deliveries_replay table c gap 0 c.fates items b.0 next b.2 in
     let events = deliveries gap 0 c.fates items in (
@@ -343,7 +337,8 @@ gap_replays table c r next is =
 -- ---- an item
 
 -- Expiries that a message implies.
-pub implied_replay : (table : Table) (side : Side) (message : Message) (name : HalfName) (ids : List ℤ) (r : Replay) → half_over message ≡ Some name
+pub implied_replay : (table : Table) (side : Side) (message : Message) (name : HalfName) (ids : List ℤ) (r : Replay)
+    → invoking_half message ≡ Some name
     → ((id : ℤ) → Contains ids id → Contains (filter_map invoke_id (components_in message)) id)
     → (events : List Event) × AllByRecursion (IsImplied (Sent side message)) events × Replays table r events [] (implied table side name ids r)
 implied_replay table side message name [] r over there = ([], tt, replays_nothing table r)
@@ -371,13 +366,14 @@ implied_replay table side message name (id ∷ ids) r over there =
 -- A message that an end sends.
 pub send_replays : (table : Table) (side : Side) (message : Message) (r next : Replay) → send_replayed table side message r ≡ Ok next
     → Replays table r (Sends side message ∷ []) (Sent side message ∷ []) next
-send_replays table side message r next is = by (send_fault table (end_at side r.world) message) is
+send_replays table side message r next is = by (send table (end_at side r.world) message) refl is
   where
-    by : (fault : Option EndFault) → sent_or_refused (next_entry r) fault (stepped table (Sends side message) r) ≡ Ok next
+    by : (sent : Result End EndFault) → send table (end_at side r.world) message ≡ sent → sent_or_refused side message r sent ≡ Ok next
         → Replays table r (Sends side message ∷ []) (Sent side message ∷ []) next
-    by (Some fault) e = cc
-    by None e =
-        let step = or_refused_ok BadReply (next_entry r) (stepped table (Sends side message) r) next e in
+    by (Err reason) at e = cc
+    by (Ok made) at e =
+        let same = ok_same {F = CheckFault} (with_step (Sends side message) r (joined side message (with_end side made r.world))) next e in
+        let step : stepped table (Sends side message) r ≡ Some next = rw at (ap Some same) in
         let found = map_some _ (after table (Sends side message) r.world) next step in
         let g = grows table (Sends side message) r.world found.0 found.1 in
         stepped_replays table (Sends side message) (Sent side message ∷ []) r next refl step
@@ -399,21 +395,20 @@ or_false : (b : Bool) → (b || false) ≡ true → b ≡ true
 or_false true is = refl
 or_false false is = is
 
-may_reply_is : (e : End) (m abort : Message) → (refuses_begin e m abort || refuses_continue e m abort) ≡ true → provider_abort m ≡ Some abort
+-- A step that needs something and is taken has it.
+needs_so : {A F : Type 0} (so : Bool) (reason : F) (rest : Result A F) → is_ok (needs so reason >> rest) ≡ true → so ≡ true
+needs_so true reason rest is = refl
+needs_so false reason rest is = is
+
+may_reply_is : (e : End) (m abort : Message) → may_refuse e m abort ≡ true → abort_for m ≡ Some abort
 may_reply_is e (Begin otid dialogue components) abort is =
-    let all = and_parts (aborts 4 otid abort) _ (or_false (refuses_begin e (Begin otid dialogue components) abort) is) in
-    ap Some (sym (abort_is 4 otid abort all.0))
+    let so = or_false (is_ok (refuse_begin e (Begin otid dialogue components) abort)) is in
+    ap Some (sym (abort_is 4 otid abort (needs_so (aborts 4 otid abort) faults.NoTransaction _ so)))
 may_reply_is e (Continue otid dtid dialogue components) abort is =
-    let all = and_parts (aborts 1 otid abort) _ is in
-    ap Some (sym (abort_is 1 otid abort all.0))
+    ap Some (sym (abort_is 1 otid abort (needs_so (aborts 1 otid abort) faults.NoTransaction _ is)))
 may_reply_is e (Unidirectional dialogue components) abort is = cc
 may_reply_is e (EndMessage dtid dialogue components) abort is = cc
 may_reply_is e (Abort dtid reason) abort is = cc
-
-pub if_so_ok : {A : Type 0} (so : Bool) (reason : Reason) (entry : ℕ) (more : Result A CheckFault) (x : A) → if_so so reason entry more ≡ Ok x
-    → (so ≡ true) × (more ≡ Ok x)
-if_so_ok true reason entry more x is = (refl, is)
-if_so_ok false reason entry more x is = cc
 
 -- An Abort by which the provider of an end answers.
 pub reply_replays : (table : Table) (c : Certificate) (side : Side) (abort : Message) (number : ℕ) (r next : Replay)
@@ -421,8 +416,9 @@ pub reply_replays : (table : Table) (c : Certificate) (side : Side) (abort : Mes
 reply_replays table c side abort number r next is =
     let event = Replies side number in
     let before = lost_from_front c (other side) r in
-    let so = if_so_ok (may_reply (end_at side r.world) abort (channel_from (other side) before.world)) BadReply (next_entry r) _ next is in
-    let step = or_refused_ok BadReply (next_entry r) (stepped table event before) next so.1 in
+    let so = needs_ok (may_reply (end_at side r.world) abort (channel_from (other side) before.world)) (fault_at BadReply (next_entry r))
+    _ next is in
+    let step = some_ok (stepped table event before) (fault_at BadReply (next_entry r)) next so.1 in
     let found = map_some _ (after table event before.world) next step in
     let g = grows table event before.world found.0 found.1 in
     let made = g.1 in
@@ -481,10 +477,11 @@ pub record IsSentBy (table : Table) (c : Certificate) (item : Item) (r next : Re
   pub replays : Replays table r (implied ++ sends ∷ []) (item ∷ []) next
 
 implied_by : (table : Table) (side : Side) (message : Message) (r : Replay)
-    → (events : List Event) × AllByRecursion (IsImplied (Sent side message)) events × Replays table r events [] (implied_over table side message (half_over message) r)
-implied_by table side message r = by (half_over message) refl
+    → (events : List Event) × AllByRecursion (IsImplied (Sent side message)) events
+    × Replays table r events [] (implied_over table side message (invoking_half message) r)
+implied_by table side message r = by (invoking_half message) refl
   where
-    by : (name : Option HalfName) → half_over message ≡ name
+    by : (name : Option HalfName) → invoking_half message ≡ name
         → (events : List Event) × AllByRecursion (IsImplied (Sent side message)) events × Replays table r events [] (implied_over table side message name r)
     by None is = ([], tt, replays_nothing table r)
     by (Some name) is = implied_replay table side message name (filter_map invoke_id (components_in message)) r is (λ id h. h)
@@ -498,7 +495,7 @@ message_replays table c side message r next is = by (sending c (next_entry r) (S
     by None found e = cc
     by (Some (Sends sender sent)) found e =
         let before = implied_by table side message r in
-        let mid = implied_over table side message (half_over message) r in record {
+        let mid = implied_over table side message (invoking_half message) r in record {
           implied = before.0;
           sends = Sends side message;
           are_implied = before.1;
@@ -512,7 +509,7 @@ message_replays table c side message r next is = by (sending c (next_entry r) (S
       sends_is = found ∙ ap Some (replies_itself c (next_entry r) number side replier message _ found);
       replays = reply_replays table c side message number r next e;
     }
-    by (Some (Delivers sender number)) found e = cc
+    by (Some (Receives receiver number)) found e = cc
     by (Some (Loses sender number)) found e = cc
     by (Some (Expires sender name id)) found e = cc
     by (Some (Closes sender name)) found e = cc

@@ -1,6 +1,7 @@
 -- What holds along runs, and what each step is.
-use Rattle.std.proofs.Common.{rules, ◌≡◌, ◌≤◌, arith, length, ℤ, ℕ, Bool, true, false, List, [], ◌∷◌, ◌++◌, Option, Some, None, option_map, refl, sym, ap, ◌∙◌, append_assoc}
-use Rattle.std.specs.Prelude.{◌&&◌, ◌||◌, cond}
+use Rattle.std.proofs.Common.{rules, ◌≡◌, ◌≤◌, arith, length, ℤ, ℕ, Bool, true, false, List, [], ◌∷◌, ◌++◌, Option, Some, None, Result, Ok, Err, option_map, refl, sym, ap, ◌∙◌, append_assoc}
+use Rattle.std.specs.Prelude.{◌&&◌}
+use Rattle.std.specs.Result.{result_ok}
 use Rattle.std.proofs.lemmas.Bool.{eqb-true}
 use Rattle.std.proofs.lemmas.List.{append-nil, length-append}
 use Rattle.std.proofs.lemmas.Option.{cond_some}
@@ -9,15 +10,33 @@ use Rattle.tcap_record.specs.declared.entry.End.{End as Side}
 use Rattle.tcap_record.specs.declared.entry.End.TheVariants as sides
 use Rattle.tcap_end.specs.declared.half.HalfName.{HalfName}
 use Rattle.tcap_end.specs.Table.{Table}
+use Rattle.tcap_end.specs.declared.fault.EndFault.{EndFault}
+use Rattle.tcap_end.specs.declared.fault.EndFault.TheVariants as faults
 use Rattle.tcap_end.specs.End.{End, all_closed, nothing}
-use Rattle.tcap_end.specs.Hidden.{closed, expired}
-use Rattle.tcap_end.specs.Message.{received_message, sent_message, then_so, where_so}
-use Rattle.tcap_end.specs.Reply.{refuses_begin, refuses_continue}
+use Rattle.tcap_end.specs.Step.{needs, ◌>>◌}
+use Rattle.tcap_end.specs.Hidden.{close, expire}
+use Rattle.tcap_end.specs.Message.{receive, send}
 use Rattle.tcap_end.specs.Sound.{IsEnd}
 use Rattle.tcap_end.proofs.EndLaws.{nothing_sound}
-use Rattle.tcap_end.proofs.StepLaws.{closes, expires, map_some, receives, sends, where_some}
-use Rattle.tcap_check.specs.World.{Item, Sent, Mark, OnItsWay, World, channel_from, empty, end_at, other, with_channel, with_end}
-use Rattle.tcap_check.specs.Run.{Adds, Event, Sends, Delivers, Replies, Loses, Expires, Closes, Quiet, Runs, after, after_quiet, head_taken, joined, played, provider_abort, reply_to}
+use Rattle.tcap_end.proofs.StepLaws.{closes, expires, receives, sends}
+use Rattle.tcap_check.specs.World.{Item, OnItsWay, Sent, World, channel_from, empty, end_at, other, with_channel, with_end}
+use Rattle.tcap_check.specs.Run.{Adds, Event, Sends, Receives, Replies, Loses, Expires, Closes, Quiet, Runs, abort_for, after, after_quiet, head_taken, joined, may_refuse, played, reply_to, then_so, where_so}
+
+-- ---- tests, and steps that are there
+
+pub where_some : {A : Type 0} (b : Bool) (o : Option A) (x : A) → where_so b o ≡ Some x → (b ≡ true) × (o ≡ Some x)
+where_some true o x is = (refl, is)
+where_some false o x is = cc
+
+pub map_some : {A B : Type 0} (f : A → B) (o : Option A) (y : B) → option_map f o ≡ Some y → (x : A) × (o ≡ Some x) × (f x ≡ y)
+map_some f None y is = cc
+map_some f (Some x) y is = (x, refl, cc)
+
+-- The end took the step.
+took : {A F : Type 0} (f : A → World) (step : Result A F) (next : World) → option_map f (result_ok step) ≡ Some next
+    → (x : A) × (step ≡ Ok x) × (f x ≡ next)
+took f (Ok x) next is = (x, refl, cc)
+took f (Err reason) next is = cc
 
 -- ---- runs
 
@@ -63,7 +82,7 @@ runs_keep table Holds none step events w is = keeps_on table Holds step events [
 -- The end behind a step of an end, and the world.
 pub record IsSending (table : Table) (side : Side) (m : Message) (w next : World) : Type 0 where
   pub made : End
-  pub step : sent_message table (end_at side w) m ≡ Some made
+  pub step : send table (end_at side w) m ≡ Ok made
   pub next_is : next ≡ joined side m (with_end side made w)
 
 -- The head of the channel, the end that received it, and the world.
@@ -71,10 +90,10 @@ pub record IsDelivery (table : Table) (side : Side) (number : ℕ) (w next : Wor
   pub head : OnItsWay
   pub more : List OnItsWay
   pub made : End
-  pub channel : channel_from side w ≡ head ∷ more
+  pub channel : channel_from (other side) w ≡ head ∷ more
   pub number_is : head.number ≡ number
-  pub step : received_message table (end_at (other side) w) head.message ≡ Some made
-  pub next_is : next ≡ with_end (other side) made (with_channel side more w)
+  pub step : receive table (end_at side w) head.message ≡ Ok made
+  pub next_is : next ≡ with_end side made (with_channel (other side) more w)
 
 -- The head of the channel, the provider's Abort, and the world.
 pub record IsReply (side : Side) (number : ℕ) (w next : World) : Type 0 where
@@ -95,16 +114,16 @@ pub record IsLoss (side : Side) (number : ℕ) (w next : World) : Type 0 where
   pub next_is : next ≡ with_channel side more w
 
 -- The end behind what happened to it unseen, and the world.
-pub record IsHidden (side : Side) (step : End → Option End) (w next : World) : Type 0 where
+pub record IsHidden (side : Side) (step : End → Result End EndFault) (w next : World) : Type 0 where
   pub made : End
-  pub step_is : step (end_at side w) ≡ Some made
+  pub step_is : step (end_at side w) ≡ Ok made
   pub next_is : next ≡ with_end side made w
 
 -- Nothing was on its way, and nothing is left.
 pub record IsQuiet (w next : World) : Type 0 where
   pub from_a : w.from_a ≡ []
   pub from_b : w.from_b ≡ []
-  pub next_is : next ≡ record { a = nothing; b = nothing; from_a = []; from_b = []; sent = w.sent ++ Mark ∷ [] }
+  pub next_is : next ≡ record { a = nothing; b = nothing; from_a = []; from_b = []; sent = w.sent ++ Item.Quiet ∷ [] }
 
 -- What was taken was the head of the channel.
 record WasTaken (number : ℕ) (step : Message → List OnItsWay → Option World) (messages : List OnItsWay) (next : World) : Type 0 where
@@ -115,10 +134,10 @@ record WasTaken (number : ℕ) (step : Message → List OnItsWay → Option Worl
   step_is : step head.message more ≡ Some next
 
 -- The head that was taken, and the step over it.
-taken : (number : ℕ) (step : Message → List OnItsWay → Option World) (messages : List OnItsWay) (next : World)
+takes_head : (number : ℕ) (step : Message → List OnItsWay → Option World) (messages : List OnItsWay) (next : World)
     → head_taken number step messages ≡ Some next → WasTaken number step messages next
-taken number step [] next is = cc
-taken number step (head ∷ more) next is =
+takes_head number step [] next is = cc
+takes_head number step (head ∷ more) next is =
     let both = where_some _ _ next is in
     record { head = head; more = more; channel = refl; number_is = eqb-true head.number number both.0; step_is = both.1 }
 
@@ -126,16 +145,16 @@ taken number step (head ∷ more) next is =
 pub sending : (table : Table) (side : Side) (m : Message) (w next : World) → after table (Sends side m) w ≡ Some next
     → IsSending table side m w next
 sending table side m w next is =
-    let step = map_some (λ e. joined side m (with_end side e w)) (sent_message table (end_at side w) m) next is in
+    let step = took (λ e. joined side m (with_end side e w)) (send table (end_at side w) m) next is in
     record { made = step.0; step = step.1; next_is = sym step.2 }
 
 -- one is received,
-pub delivery : (table : Table) (side : Side) (number : ℕ) (w next : World) → after table (Delivers side number) w ≡ Some next
+pub delivery : (table : Table) (side : Side) (number : ℕ) (w next : World) → after table (Receives side number) w ≡ Some next
     → IsDelivery table side number w next
 delivery table side number w next is =
-    let head = taken number _ (channel_from side w) next is in
-    let step = map_some (λ e. with_end (other side) e (with_channel side head.more w))
-    (received_message table (end_at (other side) w) head.head.message) next head.step_is in
+    let head = takes_head number _ (channel_from (other side) w) next is in
+    let step = took (λ e. with_end side e (with_channel (other side) head.more w))
+    (receive table (end_at side w) head.head.message) next head.step_is in
     record {
       head = head.head;
       more = head.more;
@@ -150,7 +169,7 @@ delivery table side number w next is =
 pub reply : (table : Table) (side : Side) (number : ℕ) (w next : World) → after table (Replies side number) w ≡ Some next
     → IsReply side number w next
 reply table side number w next is =
-    let head = taken number _ (channel_from (other side) w) next is in
+    let head = takes_head number _ (channel_from (other side) w) next is in
     let step = map_some (λ abort. joined side abort (with_channel (other side) head.more w))
     (reply_to (end_at side w) head.head.message) next head.step_is in
     record {
@@ -167,28 +186,30 @@ reply table side number w next is =
 pub loss : (table : Table) (side : Side) (number : ℕ) (w next : World) → after table (Loses side number) w ≡ Some next
     → IsLoss side number w next
 loss table side number w next is =
-    let head = taken number _ (channel_from side w) next is in
+    let head = takes_head number _ (channel_from side w) next is in
     let same : with_channel side head.more w ≡ next = let step = head.step_is in cc in
     record { head = head.head; more = head.more; channel = head.channel; number_is = head.number_is; next_is = sym same }
 
 -- an invocation ends unseen,
 pub expiry : (table : Table) (side : Side) (name : HalfName) (id : ℤ) (w next : World) → after table (Expires side name id) w ≡ Some next
-    → IsHidden side (λ e. expired table e name id) w next
+    → IsHidden side (λ e. expire table e name id) w next
 expiry table side name id w next is =
-    let step = map_some (λ e. with_end side e w) (expired table (end_at side w) name id) next is in
+    let step = took (λ e. with_end side e w) (expire table (end_at side w) name id) next is in
     record { made = step.0; step_is = step.1; next_is = sym step.2 }
 
 -- a half closes unseen,
 pub closing : (table : Table) (side : Side) (name : HalfName) (w next : World) → after table (Closes side name) w ≡ Some next
-    → IsHidden side (λ e. closed table e name) w next
+    → IsHidden side (λ e. close table e name) w next
 closing table side name w next is =
-    let step = map_some (λ e. with_end side e w) (closed table (end_at side w) name) next is in
+    let step = took (λ e. with_end side e w) (close table (end_at side w) name) next is in
     record { made = step.0; step_is = step.1; next_is = sym step.2 }
 
 -- Both ends are nothing then.
 both_quiet : (a b : Bool) (x : World) (sent : List Item)
-    → then_so (cond a (Some nothing) None)
-    (λ p. option_map (λ q. record { a = p; b = q; from_a = []; from_b = []; sent = sent }) (cond b (Some nothing) None)) ≡ Some x
+    → then_so (result_ok (needs a faults.StillOpen >> Ok nothing))
+    (λ p.
+    option_map (λ q. record { a = p; b = q; from_a = []; from_b = []; sent = sent }) (result_ok (needs b faults.StillOpen >> Ok nothing)))
+    ≡ Some x
     → x ≡ record { a = nothing; b = nothing; from_a = []; from_b = []; sent = sent }
 both_quiet true true x sent is = cc
 both_quiet true false x sent is = cc
@@ -204,7 +225,7 @@ quiet table w next is = by w.from_a w.from_b is
       from_a = refl;
       from_b = refl;
       next_is = both_quiet (all_closed w.a.begun && all_closed w.a.accepted) (all_closed w.b.begun && all_closed w.b.accepted) next
-          (w.sent ++ Mark ∷ []) is;
+          (w.sent ++ Item.Quiet ∷ []) is;
     }
     by [] (m ∷ b) is = cc
     by (m ∷ a) b is = cc
@@ -212,10 +233,10 @@ quiet table w next is = by w.from_a w.from_b is
 -- ---- the sent list
 
 -- A reply is the provider's Abort.
-reply_is : (e : End) (m abort : Message) → reply_to e m ≡ Some abort → provider_abort m ≡ Some abort
-reply_is e m abort is = by (provider_abort m) is
+reply_is : (e : End) (m abort : Message) → reply_to e m ≡ Some abort → abort_for m ≡ Some abort
+reply_is e m abort is = by (abort_for m) is
   where
-    by : (o : Option Message) → then_so o (λ found. where_so (refuses_begin e m found || refuses_continue e m found) (Some found)) ≡ Some abort
+    by : (o : Option Message) → then_so o (λ found. where_so (may_refuse e m found) (Some found)) ≡ Some abort
         → o ≡ Some abort
     by None is = cc
     by (Some found) is = ap Some ((cond_some _ _ abort is).1)
@@ -236,7 +257,7 @@ grows table (Replies side number) w next is =
       ap (λ (v : World). v.sent) r.next_is ∙ sent_behind side r.abort r.more w,
     )
 grows table (Sends side m) w next is = search rules
-grows table (Delivers side number) w next is = search rules
+grows table (Receives side number) w next is = search rules
 grows table (Loses side number) w next is = search rules
 grows table (Expires side name id) w next is = search rules
 grows table (Closes side name) w next is = search rules
@@ -245,7 +266,7 @@ grows table Quiet w next is = search rules
 -- That is one item at most.
 one_at_most : (w : World) (event : Event) (items : List Item) → Adds w event items → length items ≤ 1
 one_at_most w (Sends side m) items adds = rw adds (omega arith)
-one_at_most w (Delivers side number) items adds = rw adds (omega arith)
+one_at_most w (Receives side number) items adds = rw adds (omega arith)
 one_at_most w (Replies side number) items adds = rw (adds.6) (omega arith)
 one_at_most w (Loses side number) items adds = rw adds (omega arith)
 one_at_most w (Expires side name id) items adds = rw adds (omega arith)
@@ -302,10 +323,11 @@ step_sound table (Sends side m) w next is old =
     let step = sending table side m w next is in
     let made = (sends table (end_at side w) step.made m (old side) step.step).sound in
     rw (step.next_is) (joined_sound side m (with_end side step.made w) (with_sound side step.made w made old))
-step_sound table (Delivers side number) w next is old =
+step_sound table (Receives side number) w next is old =
     let step = delivery table side number w next is in
-    let made = (receives table (end_at (other side) w) step.made step.head.message (old (other side)) step.step).sound in
-    rw (step.next_is) (with_sound (other side) step.made (with_channel side step.more w) made (channel_sound side step.more w old))
+    let made = (receives table (end_at side w) step.made step.head.message (old side) step.step).sound in
+    rw (step.next_is)
+    (with_sound side step.made (with_channel (other side) step.more w) made (channel_sound (other side) step.more w old))
 step_sound table (Replies side number) w next is old =
     let step = reply table side number w next is in
     rw (step.next_is)
@@ -321,7 +343,7 @@ step_sound table (Closes side name) w next is old =
     let step = closing table side name w next is in
     let made = (closes table (end_at side w) step.made name (old side) step.step_is).sound in
     rw (step.next_is) (with_sound side step.made w made old)
-step_sound table Quiet w next is old = rw ((quiet table w next is).next_is) (quiet_sound (w.sent ++ Mark ∷ []))
+step_sound table Quiet w next is old = rw ((quiet table w next is).next_is) (quiet_sound (w.sent ++ Item.Quiet ∷ []))
 
 -- Both ends are sound in each run.
 pub sound : (table : Table) (events : List Event) (w : World) → Runs table events w → (side : Side) → IsEnd (end_at side w)

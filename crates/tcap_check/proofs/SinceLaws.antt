@@ -3,32 +3,32 @@ use Rattle.std.proofs.Common.{◌≡◌, ◌⊎◌, inl, inr, Bool, true, false,
 use Rattle.std.specs.Prelude.{cond, drop, slice_get}
 use Rattle.tcap_msg.specs.declared.message.Message.{Message}
 use Rattle.tcap_record.specs.declared.entry.End.{End as Side}
-use Rattle.tcap_check.specs.World.{Item, Mark, Sent}
-use Rattle.tcap_check.specs.Follows.{has_mark, is_mark}
+use Rattle.tcap_check.specs.World.{Item, Sent}
+use Rattle.tcap_check.specs.Follows.{has_quiet, is_quiet}
 use Rattle.tcap_check.specs.Since.{SentSince}
 
 -- A message more is no mark more,
-pub no_mark : (other : Side) (n : Message) (items : List Item) → has_mark items ≡ false → has_mark (items ++ Sent other n ∷ []) ≡ false
-no_mark other n [] is = refl
-no_mark other n (item ∷ more) is = by (is_mark item) (no_mark other n more) is
+pub no_quiet : (other : Side) (n : Message) (items : List Item) → has_quiet items ≡ false → has_quiet (items ++ Sent other n ∷ []) ≡ false
+no_quiet other n [] is = refl
+no_quiet other n (item ∷ more) is = by (is_quiet item) (no_quiet other n more) is
   where
-    by : (b : Bool) → (has_mark more ≡ false → has_mark (more ++ Sent other n ∷ []) ≡ false) → cond b true (has_mark more) ≡ false
-        → cond b true (has_mark (more ++ Sent other n ∷ [])) ≡ false
+    by : (b : Bool) → (has_quiet more ≡ false → has_quiet (more ++ Sent other n ∷ []) ≡ false) → cond b true (has_quiet more) ≡ false
+        → cond b true (has_quiet (more ++ Sent other n ∷ [])) ≡ false
     by true on is = cc
     by false on is = on is
 
 -- and none fewer.
-no_mark_before : (item : Item) (items : List Item) → has_mark (items ++ item ∷ []) ≡ false
-    → (has_mark items ≡ false) × (is_mark item ≡ false)
-no_mark_before item [] is = (refl, by (is_mark item) is)
+no_quiet_before : (item : Item) (items : List Item) → has_quiet (items ++ item ∷ []) ≡ false
+    → (has_quiet items ≡ false) × (is_quiet item ≡ false)
+no_quiet_before item [] is = (refl, by (is_quiet item) is)
   where
     by : (b : Bool) → cond b true false ≡ false → b ≡ false
     by true is = cc
     by false is = refl
-no_mark_before item (first ∷ more) is = by (is_mark first) (no_mark_before item more) is
+no_quiet_before item (first ∷ more) is = by (is_quiet first) (no_quiet_before item more) is
   where
-    by : (b : Bool) → (has_mark (more ++ item ∷ []) ≡ false → (has_mark more ≡ false) × (is_mark item ≡ false))
-        → cond b true (has_mark (more ++ item ∷ [])) ≡ false → (cond b true (has_mark more) ≡ false) × (is_mark item ≡ false)
+    by : (b : Bool) → (has_quiet (more ++ item ∷ []) ≡ false → (has_quiet more ≡ false) × (is_quiet item ≡ false))
+        → cond b true (has_quiet (more ++ item ∷ [])) ≡ false → (cond b true (has_quiet more) ≡ false) × (is_quiet item ≡ false)
     by true on is = cc
     by false on is = on is
 
@@ -51,11 +51,11 @@ place_back item at (i ∷ items) (f ∷ front) behind is = by (place_back item a
 
 -- What stands at a place, with no mark behind it, was sent since.
 pub since_at : (side : Side) (m : Message) (items : List Item) (n : ℕ) → slice_get items n ≡ Some (Sent side m)
-    → has_mark (drop n items) ≡ false → SentSince side m items
+    → has_quiet (drop n items) ≡ false → SentSince side m items
 since_at side m [] n is none = cc
 since_at side m (first ∷ items) zero is none =
     let same : first ≡ Sent side m = cc in
-    ([], items, ap (λ item. item ∷ items) same, subst (λ item. has_mark (item ∷ items) ≡ false) same none)
+    ([], items, ap (λ item. item ∷ items) same, subst (λ item. has_quiet (item ∷ items) ≡ false) same none)
 since_at side m (first ∷ items) (suc n) is none =
     let (front, behind, joined, no_more) = since_at side m items n is none in (first ∷ front, behind, ap (λ more. first ∷ more) joined, no_more)
 
@@ -66,10 +66,6 @@ drop_more item found [] n is = cc
 drop_more item found (first ∷ items) zero is = refl
 drop_more item found (first ∷ items) (suc n) is = drop_more item found items n is
 
--- the newest item
-pub since_sent : (side : Side) (m : Message) (items : List Item) → SentSince side m (items ++ Sent side m ∷ [])
-since_sent side m items = (items, [], refl, refl)
-
 -- one item more
 pub since_more : (side other : Side) (m n : Message) (items : List Item) → SentSince side m items
     → SentSince side m (items ++ Sent other n ∷ [])
@@ -77,7 +73,7 @@ since_more side other m n items is = (
   is.0,
   is.1 ++ Sent other n ∷ [],
   ap (λ l. l ++ Sent other n ∷ []) is.2 ∙ append_assoc is.0 (Sent side m ∷ is.1) (Sent other n ∷ []),
-  no_mark other n is.1 is.3,
+  no_quiet other n is.1 is.3,
 )
 
 -- What was sent behind one item more is that item, or was sent before.
@@ -89,12 +85,13 @@ since_back side other m n items is = by (place_back (Sent other n) (Sent side m)
         ⊎ ((before : List Item) × (items ≡ is.0 ++ Sent side m ∷ before) × (is.1 ≡ before ++ Sent other n ∷ []))
         → ((side ≡ other) × (m ≡ n)) ⊎ SentSince side m items
     by (inl last) = inl (cc, cc)
-    by (inr old) = inr (is.0, old.0, old.1, (no_mark_before (Sent other n) old.0 (rw (old.2) at is.3)).0)
+    by (inr old) = inr (is.0, old.0, old.1, (no_quiet_before (Sent other n) old.0 (rw (old.2) at is.3)).0)
 
 -- Behind a mark nothing was.
-pub since_mark : (side : Side) (m : Message) (items : List Item) → SentSince side m (items ++ Mark ∷ []) → ⊥
-since_mark side m items is = by (place_back Mark (Sent side m) items is.0 is.1 is.2)
+pub since_quiet : (side : Side) (m : Message) (items : List Item) → SentSince side m (items ++ Item.Quiet ∷ []) → ⊥
+since_quiet side m items is = by (place_back Item.Quiet (Sent side m) items is.0 is.1 is.2)
   where
-    by : (Mark ≡ Sent side m) ⊎ ((before : List Item) × (items ≡ is.0 ++ Sent side m ∷ before) × (is.1 ≡ before ++ Mark ∷ [])) → ⊥
+    by : (Item.Quiet ≡ Sent side m)
+        ⊎ ((before : List Item) × (items ≡ is.0 ++ Sent side m ∷ before) × (is.1 ≡ before ++ Item.Quiet ∷ [])) → ⊥
     by (inl last) = cc
-    by (inr old) = let none = (no_mark_before Mark old.0 (rw (old.2) at is.3)).1 in cc
+    by (inr old) = let none = (no_quiet_before Item.Quiet old.0 (rw (old.2) at is.3)).1 in cc

@@ -1,6 +1,6 @@
 -- What becomes of one half, and of an end in which it is put.
 use Rattle.std.proofs.Common.{◌≡◌, ◌≢◌, ◌⊎◌, inl, inr, ℤ, ℕ, Bool, true, false, cond, List, [], ◌∷◌, Option, Some, None, refl, sym, ap, subst, ◌∙◌}
-use Rattle.std.specs.List.{AllByRecursion, list_any}
+use Rattle.std.specs.List.{AllByRecursion}
 use Rattle.std.specs.Map.{keys_of, remove_entry}
 use Rattle.std.specs.BTreeMap.{insert_entry, is_at}
 use Rattle.std.specs.Ordering.{eq_by_cmp, int_cmp}
@@ -13,8 +13,8 @@ use Rattle.std.proofs.lemmas.Slice.Eq.{bytes_eq-Decides}
 use Rattle.tcap_msg.specs.declared.message.Message.{Message}
 use Rattle.tcap_end.specs.declared.half.Slot.{Slot}
 use Rattle.tcap_end.specs.declared.half.Slot.TheVariants.{Begun, Accepted}
-use Rattle.tcap_end.specs.Half.{Half, closed_half, listed, listed_by, taken, with_listed, without_oldest}
-use Rattle.tcap_end.specs.End.{End, Found, is_id, put}
+use Rattle.tcap_end.specs.Half.{Half, closed_half, listed, listed_by, with_listed, without_oldest, without_oldest_of}
+use Rattle.tcap_end.specs.End.{End, KeptHalf, is_id, put}
 use Rattle.tcap_end.specs.Sound.{Has, Rises, halves_of}
 use Rattle.tcap_end.proofs.FoundLaws.{half_at, octets_total}
 use Rattle.tcap_end.proofs.MapLaws.{found_inserted, found_new, keys_eq, kept_at}
@@ -79,19 +79,11 @@ oldest_less {A} fits P (item ∷ list) all = by (fits item) (oldest_less fits P 
     by true rest = all.1
     by false rest = (all.0, rest)
 
--- What is left where an item is taken.
-pub taken_loses : {A : Type 0} (id : ℤ) (fits : A → Bool) (items left : List (ℤ × List A)) → Rises int_cmp items
-    → taken id fits items ≡ Some left → Loses items left
-taken_loses {A} id fits items left rises is = by (list_any fits (listed id items)) is
-  where
-    others : List (ℤ × List A)
-    others = with_listed id (without_oldest fits (listed id items)) items
-
-    by : (b : Bool) → cond b (Some others) None ≡ Some left → Loses items left
-    by true is =
-        let same : others ≡ left = cc in
-        rw (← same) (listed_loses id (without_oldest fits (listed id items)) items rises (λ P. oldest_less fits P (listed id items)))
-    by false is = cc
+-- What is left where the oldest is taken.
+pub taken_loses : {A : Type 0} (id : ℤ) (fits : A → Bool) (items : List (ℤ × List A)) → Rises int_cmp items
+    → Loses items (without_oldest_of id fits items)
+taken_loses id fits items rises =
+    listed_loses id (without_oldest fits (listed id items)) items rises (λ P. oldest_less fits P (listed id items))
 
 -- ---- what becomes of a half
 
@@ -148,7 +140,7 @@ put_there e Begun key h = found_new octets_total key h e.begun
 put_there e Accepted key h = found_new octets_total key h e.accepted
 
 -- Two places are one, or are not.
-one_place : (f g : Found) → ((f.slot ≡ g.slot) × (f.key ≡ g.key)) ⊎ (f.slot ≡ g.slot → f.key ≢ g.key)
+one_place : (f g : KeptHalf) → ((f.slot ≡ g.slot) × (f.key ≡ g.key)) ⊎ (f.slot ≡ g.slot → f.key ≢ g.key)
 one_place f g = by (slots_eq f.slot g.slot) (keys_eq octets_total exact_bytes f.key g.key)
   where
     by : (f.slot ≡ g.slot) ⊎ (f.slot ≢ g.slot) → (f.key ≡ g.key) ⊎ (f.key ≢ g.key)
@@ -165,19 +157,19 @@ moves_nowhere came e = record {
 }
 
 -- A half of it becomes another.
-pub put_moves : (came : Option Message) (e : End) (f : Found) (h : Half) → Has e f → Turns came f.half h
+pub put_moves : (came : Option Message) (e : End) (f : KeptHalf) (h : Half) → Has e f → Turns came f.half h
     → Moves came e (put e f.slot f.key h)
 put_moves came e f h had turns = record {
   back = λ g in_g. back g (put_has e f.slot f.key h g in_g);
   forth = λ g in_g. forth g in_g (one_place g f);
 }
   where
-    back : (g : Found) → IsThere f.slot f.key h g ⊎ Has e g
+    back : (g : KeptHalf) → IsThere f.slot f.key h g ⊎ Has e g
         → (was : Half) × (Has e (record g { half = was }) ⊎ (was ≡ blank)) × Turns came was g.half
     back g (inl new) = (f.half, inl (rw (new.0, new.1) had), rw (new.2) turns)
     back g (inr old) = (g.half, inl old, turns_self came g.half)
 
-    forth : (g : Found) → Has e g → ((g.slot ≡ f.slot) × (g.key ≡ f.key)) ⊎ (g.slot ≡ f.slot → g.key ≢ f.key)
+    forth : (g : KeptHalf) → Has e g → ((g.slot ≡ f.slot) × (g.key ≡ f.key)) ⊎ (g.slot ≡ f.slot → g.key ≢ f.key)
         → (now : Half) × Has (put e f.slot f.key h) (record g { half = now }) × Turns came g.half now
     forth g in_g (inl same) =
         let there : half_at (halves_of f.slot e) f.key ≡ Some g.half = rw (same.0, same.1) at in_g in
@@ -187,13 +179,13 @@ put_moves came e f h had turns = record {
 
 -- A half begins, where none is kept.
 pub new_moves : (came : Option Message) (e : End) (slot : Slot) (key : List ℕ) (h : Half)
-    → ((g : Found) → Has e g → g.slot ≡ slot → g.key ≢ key) → Turns came blank h → Moves came e (put e slot key h)
+    → ((g : KeptHalf) → Has e g → g.slot ≡ slot → g.key ≢ key) → Turns came blank h → Moves came e (put e slot key h)
 new_moves came e slot key h apart turns = record {
   back = λ g in_g. back g (put_has e slot key h g in_g);
   forth = λ g in_g. (g.half, put_other e slot key h g (apart g in_g) in_g, turns_self came g.half);
 }
   where
-    back : (g : Found) → IsThere slot key h g ⊎ Has e g
+    back : (g : KeptHalf) → IsThere slot key h g ⊎ Has e g
         → (was : Half) × (Has e (record g { half = was }) ⊎ (was ≡ blank)) × Turns came was g.half
     back g (inl new) = (blank, inr refl, rw (new.2) turns)
     back g (inr old) = (g.half, inl old, turns_self came g.half)

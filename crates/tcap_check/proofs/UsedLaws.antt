@@ -4,7 +4,7 @@ use Rattle.tcap_msg.specs.declared.message.Message.{Message}
 use Rattle.tcap_msg.specs.declared.message.Message.TheVariants.{Unidirectional, Begin, Continue, End as EndMessage, Abort}
 use Rattle.tcap_record.specs.declared.entry.End.{End as Side}
 use Rattle.tcap_end.specs.Table.{Table}
-use Rattle.tcap_end.specs.End.{End, Found}
+use Rattle.tcap_end.specs.End.{End, KeptHalf}
 use Rattle.tcap_end.specs.Sound.{Has, IsEnd, IsSame}
 use Rattle.tcap_check.specs.World.{World, end_at}
 use Rattle.tcap_check.specs.Run.{Event, Runs}
@@ -55,12 +55,12 @@ pub ids_used : (table : Table) (events : List Event) (w : World) (side : Side) (
 ids_used table events w side m runs since = (has_halves table events w runs side m since).0
 
 -- At one place an end has one half.
-one_half : (e : End) (f g : Found) → Has e f → Has e g → IsSame f g → g.half ≡ f.half
+one_half : (e : End) (f g : KeptHalf) → Has e f → Has e g → IsSame f g → g.half ≡ f.half
 one_half e f g in_f in_g same =
     let here : Some g.half ≡ Some f.half = sym in_g ∙ (rw (← same.0, ← same.1) in_f) in cc
 
 -- A half is closed where the dialogue with its peer was ended since.
-pub ended_closed : (table : Table) (events : List Event) (w : World) (side : Side) (f : Found) → Runs table events w
+pub ended_closed : (table : Table) (events : List Event) (w : World) (side : Side) (f : KeptHalf) → Runs table events w
     → Has (end_at side w) f → EndedIsClosed w side f
 ended_closed table events w side f runs had m id since ends peer =
     let (g, there, of_g, is_closed) = (has_halves table events w runs side m since).1 id ends in

@@ -6,7 +6,7 @@ use Rattle.tcap_record.specs.declared.entry.End.{End as Side}
 use Rattle.tcap_record.specs.declared.entry.End.TheVariants.{A, B}
 use Rattle.tcap_end.specs.declared.half.HalfName.TheVariants.{Own, Peer}
 use Rattle.tcap_check.specs.World.{Item}
-use Rattle.tcap_check.specs.Run.{Event, Delivers, Expires, Closes}
+use Rattle.tcap_check.specs.Run.{Event, Receives, Expires, Closes}
 use Rattle.tcap_check.specs.Follows.{FatesFit, Follows, FollowsFrom, IsImplied, gap_events, losses_from, lost_from, sending, without_losses}
 use Rattle.tcap_check.specs.Worked.{IsWorked, IsWorkedBy, Worked, empty_record, two_entries, three_entries, crossing, late_reject, delayed, closed_half, refused_begin, lost_begin, over_a_mark, both_again, in_a_row, end_implies, both_close, prearranged}
 
@@ -71,14 +71,14 @@ empty_record_runs =
     ((_, refl, refl), refl, follows empty_record refl (search rules) (search rules) (search rules) empty_record_gaps refl refl)
 
 two_entries_gaps : Gaps two_entries
-two_entries_gaps = gap [] refl refl (gap (Delivers A 0 ∷ []) refl refl (last refl))
+two_entries_gaps = gap [] refl refl (gap (Receives B 0 ∷ []) refl refl (last refl))
 
 pub two_entries_runs : IsWorked two_entries 4
 two_entries_runs =
     ((_, refl, refl), refl, follows two_entries refl (search rules) (search rules) (search rules) two_entries_gaps refl refl)
 
 three_entries_gaps : Gaps three_entries
-three_entries_gaps = gap [] refl refl (gap (Delivers A 0 ∷ []) refl refl (gap (Delivers B 1 ∷ []) refl refl (last refl)))
+three_entries_gaps = gap [] refl refl (gap (Receives B 0 ∷ []) refl refl (gap (Receives A 1 ∷ []) refl refl (last refl)))
 
 pub three_entries_runs : IsWorked three_entries 6
 three_entries_runs =
@@ -86,8 +86,8 @@ three_entries_runs =
 
 crossing_gaps : Gaps crossing
 crossing_gaps =
-    gap [] refl refl (gap (Delivers A 0 ∷ []) refl refl (gap (Delivers B 1 ∷ []) refl refl
-    (gap [] refl refl (gap (Delivers A 2 ∷ []) refl refl (last refl)))))
+    gap [] refl refl (gap (Receives B 0 ∷ []) refl refl (gap (Receives A 1 ∷ []) refl refl
+    (gap [] refl refl (gap (Receives B 2 ∷ []) refl refl (last refl)))))
 
 pub crossing_runs : IsWorked crossing 9
 crossing_runs =
@@ -95,7 +95,7 @@ crossing_runs =
 
 late_reject_gaps : Gaps late_reject
 late_reject_gaps =
-    gap [] refl refl (gap (Delivers A 0 ∷ []) refl refl (gap (Expires A (Own (1 ∷ [])) (pos 1) ∷ Delivers B 1 ∷ []) refl refl (last refl)))
+    gap [] refl refl (gap (Receives B 0 ∷ []) refl refl (gap (Expires A (Own (1 ∷ [])) (pos 1) ∷ Receives A 1 ∷ []) refl refl (last refl)))
 
 pub late_reject_runs : IsWorked late_reject 7
 late_reject_runs =
@@ -103,16 +103,16 @@ late_reject_runs =
 
 delayed_gaps : Gaps delayed
 delayed_gaps =
-    gap [] refl refl (gap (Delivers A 0 ∷ []) refl refl (gap (Delivers B 1 ∷ []) refl refl
+    gap [] refl refl (gap (Receives B 0 ∷ []) refl refl (gap (Receives A 1 ∷ []) refl refl
     (implying [] (Expires A (Own (1 ∷ [])) (pos 1) ∷ []) ((refl, refl, (0, search rules, refl)), tt) refl refl
-    (gap (Delivers B 2 ∷ Delivers A 3 ∷ []) refl refl (last refl)))))
+    (gap (Receives A 2 ∷ Receives B 3 ∷ []) refl refl (last refl)))))
 
 pub delayed_runs : IsWorked delayed 11
 delayed_runs =
     ((_, refl, refl), refl, follows delayed refl (search rules) (search rules) (search rules) delayed_gaps refl refl)
 
 closed_half_gaps : Gaps closed_half
-closed_half_gaps = gap [] refl refl (gap (Delivers A 0 ∷ []) refl refl (gap (Closes A (Own (1 ∷ [])) ∷ []) refl refl (last refl)))
+closed_half_gaps = gap [] refl refl (gap (Receives B 0 ∷ []) refl refl (gap (Closes A (Own (1 ∷ [])) ∷ []) refl refl (last refl)))
 
 pub closed_half_runs : IsWorked closed_half 6
 closed_half_runs =
@@ -134,8 +134,8 @@ lost_begin_runs =
 
 over_a_mark_gaps : Gaps over_a_mark
 over_a_mark_gaps =
-    gap [] refl refl (gap (Delivers A 0 ∷ []) refl refl (gap (Delivers B 1 ∷ []) refl refl
-    (gap [] refl refl (gap (Delivers A 3 ∷ []) refl refl (last refl)))))
+    gap [] refl refl (gap (Receives B 0 ∷ []) refl refl (gap (Receives A 1 ∷ []) refl refl
+    (gap [] refl refl (gap (Receives B 3 ∷ []) refl refl (last refl)))))
 
 pub over_a_mark_runs : IsWorked over_a_mark 9
 over_a_mark_runs =
@@ -143,12 +143,12 @@ over_a_mark_runs =
 
 both_again_gaps : Gaps both_again
 both_again_gaps = gap [] refl refl
-    (gap (Delivers A 0 ∷ []) refl refl
-    (gap (Delivers B 1 ∷ []) refl refl
-    (gap (Delivers A 2 ∷ []) refl refl
+    (gap (Receives B 0 ∷ []) refl refl
+    (gap (Receives A 1 ∷ []) refl refl
+    (gap (Receives B 2 ∷ []) refl refl
     (gap [] refl refl
-    (gap (Delivers A 4 ∷ []) refl refl
-    (gap (Delivers B 5 ∷ []) refl refl
+    (gap (Receives B 4 ∷ []) refl refl
+    (gap (Receives A 5 ∷ []) refl refl
     (last refl)))))))
 
 pub both_again_runs : IsWorked both_again 13
@@ -166,8 +166,8 @@ in_a_row_runs =
 
 end_implies_gaps : Gaps end_implies
 end_implies_gaps = gap [] refl refl
-    (gap (Delivers A 0 ∷ []) refl refl
-    (implying (Delivers B 1 ∷ []) (Expires B (Peer (1 ∷ [])) (pos 1) ∷ []) ((refl, refl, (0, search rules, refl)), tt) refl refl
+    (gap (Receives B 0 ∷ []) refl refl
+    (implying (Receives A 1 ∷ []) (Expires B (Peer (1 ∷ [])) (pos 1) ∷ []) ((refl, refl, (0, search rules, refl)), tt) refl refl
     (last refl)))
 
 pub end_implies_runs : IsWorked end_implies 7
@@ -176,9 +176,9 @@ end_implies_runs =
 
 both_close_gaps : Gaps both_close
 both_close_gaps = gap [] refl refl
-    (gap (Delivers A 0 ∷ []) refl refl
-    (gap (Delivers B 1 ∷ []) refl refl
-    (gap (Closes A (Own (1 ∷ [])) ∷ Closes B (Peer (1 ∷ [])) ∷ Delivers B 2 ∷ []) refl refl
+    (gap (Receives B 0 ∷ []) refl refl
+    (gap (Receives A 1 ∷ []) refl refl
+    (gap (Closes A (Own (1 ∷ [])) ∷ Closes B (Peer (1 ∷ [])) ∷ Receives A 2 ∷ []) refl refl
     (last refl))))
 
 pub both_close_runs : IsWorkedBy prearranged both_close 9

@@ -1,5 +1,5 @@
 -- What a step makes of a world: each end moves, and what was sent since stays so, with one message more at most.
-use Rattle.std.proofs.Common.{◌≡◌, ◌⊎◌, inl, inr, ℕ, List, [], ◌∷◌, ◌++◌, Option, Some, None, refl, sym}
+use Rattle.std.proofs.Common.{◌≡◌, ◌⊎◌, inl, inr, ℕ, List, [], ◌∷◌, ◌++◌, Option, Some, None, Result, Ok, refl, sym}
 use Rattle.std.specs.List.{AllByRecursion}
 use Rattle.std.proofs.lemmas.Option.{cond_some}
 use Rattle.tcap_msg.specs.declared.message.AbortReason.TheVariants.{Cause}
@@ -7,20 +7,21 @@ use Rattle.tcap_msg.specs.declared.message.Message.{Message}
 use Rattle.tcap_msg.specs.declared.message.Message.TheVariants.{Unidirectional, Begin, Continue, End as EndMessage, Abort}
 use Rattle.tcap_record.specs.declared.entry.End.{End as Side}
 use Rattle.tcap_record.specs.declared.entry.End.TheVariants as sides
+use Rattle.tcap_end.specs.declared.fault.EndFault.{EndFault}
 use Rattle.tcap_end.specs.declared.half.Phase.TheVariants as phases
 use Rattle.tcap_end.specs.Table.{Table}
-use Rattle.tcap_end.specs.End.{End, Found, nothing}
-use Rattle.tcap_end.specs.Message.{sent_message}
+use Rattle.tcap_end.specs.End.{End, KeptHalf, nothing}
+use Rattle.tcap_end.specs.Message.{send}
 use Rattle.tcap_end.specs.Sound.{Has, IsEnd}
 use Rattle.tcap_end.proofs.EndLaws.{no_half}
 use Rattle.tcap_check.specs.World.{OnItsWay, Sent, World, channel_from, empty, end_at, other, with_channel, with_end}
-use Rattle.tcap_check.specs.Run.{Event, Sends, Delivers, Replies, Loses, Expires, Closes, Quiet, Runs, after, joined, reply_to}
+use Rattle.tcap_check.specs.Run.{Event, Sends, Receives, Replies, Loses, Expires, Closes, Quiet, Runs, after, joined, reply_to}
 use Rattle.tcap_check.specs.Since.{HasUsed, SentSince, WasSent, ended_by}
 use Rattle.tcap_check.proofs.Moves.{Moves}
 use Rattle.tcap_check.proofs.TurnLaws.{moves_nowhere}
 use Rattle.tcap_check.proofs.SentMoves.{begin_uses, closed_moves, continue_uses, ending_closes, expired_moves, sent_moves}
 use Rattle.tcap_check.proofs.ReceivedMoves.{received_moves}
-use Rattle.tcap_check.proofs.SinceLaws.{since_at, since_back, since_mark, since_more}
+use Rattle.tcap_check.proofs.SinceLaws.{since_at, since_back, since_quiet, since_more}
 use Rattle.tcap_check.proofs.ChannelLaws.{were_sent}
 use Rattle.tcap_check.proofs.RunLaws.{IsDelivery, IsHidden, IsLoss, IsQuiet, IsReply, IsSending, closing, delivery, expiry, loss, quiet, reply, runs_keep, sending, sound}
 
@@ -40,7 +41,7 @@ pub record EndMoves (side : Side) (w next : World) : Type 1 where
 -- Where the message ended the dialogue with a peer, the end has a closed half with that peer's ID.
 abbrev pub HasEnded : World → Side → Message → Type 0
 HasEnded w side m = (id : List ℕ) → ended_by m ≡ Some id
-    → (f : Found) × Has (end_at side w) f × (f.half.peer ≡ Some id) × (f.half.phase ≡ phases.Closed)
+    → (f : KeptHalf) × Has (end_at side w) f × (f.half.peer ≡ Some id) × (f.half.phase ≡ phases.Closed)
 
 -- What was sent since stays so; what is new has its half.
 pub record SentMore (w next : World) : Type 0 where
@@ -55,7 +56,7 @@ pub record Advances (w next : World) : Type 1 where
 
 -- No half is there, and nothing was sent since.
 pub record IsBlank (w : World) : Type 0 where
-  pub halves : (side : Side) (f : Found) → Has (end_at side w) f → ⊥
+  pub halves : (side : Side) (f : KeptHalf) → Has (end_at side w) f → ⊥
   pub sent : (side : Side) (m : Message) → SentSince side m w.sent → ⊥
 
 -- ---- ends
@@ -93,7 +94,7 @@ sent_joined sides.B m w = refl
 
 -- one is received,
 changes_got : (side : Side) (more : List OnItsWay) (made : End) (w : World)
-    → Changes (other side) made w (with_end (other side) made (with_channel side more w))
+    → Changes side made w (with_end side made (with_channel (other side) more w))
 changes_got sides.A more made w = record { here = refl; there = refl }
 changes_got sides.B more made w = record { here = refl; there = refl }
 
@@ -149,7 +150,7 @@ one_sent sender n w next is used ended = record {
 
 -- What a sent message says of its end holds behind it.
 send_uses : (table : Table) (side : Side) (m : Message) (w next : World) → IsEnd (end_at side w)
-    → sent_message table (end_at side w) m ≡ Some (end_at side next) → HasUsed next side m
+    → send table (end_at side w) m ≡ Ok (end_at side next) → HasUsed next side m
 send_uses table side (Unidirectional dialogue components) w next sound is = tt
 send_uses table side (Begin otid dialogue components) w next sound is = begin_uses table _ _ otid dialogue components sound is
 send_uses table side (Continue otid dtid dialogue components) w next sound is =
@@ -169,37 +170,32 @@ send_advances table side m w next sound is = record {
     changes : Changes side is.made w next
     changes = rw is.next_is (changes_sent side m is.made w)
 
-    step : sent_message table (end_at side w) m ≡ Some (end_at side next)
+    step : send table (end_at side w) m ≡ Ok (end_at side next)
     step = rw changes.here is.step
 
     sent : next.sent ≡ w.sent ++ Sent side m ∷ []
     sent = rw (is.next_is, sent_joined side m (with_end side is.made w), sent_with_end side is.made w) refl
 
--- The other of the other end is this one.
-back_again : (side : Side) → other (other side) ≡ side
-back_again sides.A = refl
-back_again sides.B = refl
-
 -- one is received,
 delivery_advances : (table : Table) (side : Side) (number : ℕ) (w next : World) → ((place : Side) → IsEnd (end_at place w))
-    → AllByRecursion (WasSent w side) (channel_from side w) → IsDelivery table side number w next → Advances w next
+    → AllByRecursion (WasSent w (other side)) (channel_from (other side) w) → IsDelivery table side number w next → Advances w next
 delivery_advances table side number w next sound on_their_way is = record {
-  ends = one_end (other side) is.made w next (Some is.head.message) changes since
-      (received_moves table _ _ is.head.message (sound (other side)) is.step);
+  ends = one_end side is.made w next (Some is.head.message) changes since
+      (received_moves table _ _ is.head.message (sound side) is.step);
   sent = none_sent w next sent;
 }
   where
-    changes : Changes (other side) is.made w next
+    changes : Changes side is.made w next
     changes = rw is.next_is (changes_got side is.more is.made w)
 
-    all : AllByRecursion (WasSent w side) (is.head ∷ is.more)
+    all : AllByRecursion (WasSent w (other side)) (is.head ∷ is.more)
     all = rw is.channel at on_their_way
 
-    since : SentSince (other (other side)) is.head.message w.sent
-    since = rw (back_again side) (since_at side is.head.message w.sent is.head.number all.0.listed all.0.since)
+    since : SentSince (other side) is.head.message w.sent
+    since = since_at (other side) is.head.message w.sent is.head.number all.0.listed all.0.since
 
     sent : next.sent ≡ w.sent
-    sent = rw (is.next_is, sent_with_end (other side) is.made (with_channel side is.more w), sent_with_channel side is.more w) refl
+    sent = rw (is.next_is, sent_with_end side is.made (with_channel (other side) is.more w), sent_with_channel (other side) is.more w) refl
 
 -- A provider's reply is an Abort with a cause.
 reply_aborts : (e : End) (m abort : Message) → reply_to e m ≡ Some abort
@@ -234,8 +230,8 @@ loss_advances side number w next is = record {
 }
 
 -- or something happens to an end unseen.
-hidden_advances : (side : Side) (step : End → Option End) (w next : World)
-    → ((made : End) → step (end_at side w) ≡ Some made → Moves None (end_at side w) made) → IsHidden side step w next → Advances w next
+hidden_advances : (side : Side) (step : End → Result End EndFault) (w next : World)
+    → ((made : End) → step (end_at side w) ≡ Ok made → Moves None (end_at side w) made) → IsHidden side step w next → Advances w next
 hidden_advances side step w next moves is = record {
   ends = one_end side is.made w next None (rw is.next_is (changes_hidden side is.made w)) tt (moves is.made is.step_is);
   sent = none_sent w next (rw (is.next_is, sent_with_end side is.made w) refl);
@@ -244,7 +240,7 @@ hidden_advances side step w next moves is = record {
 -- ---- blank worlds
 
 -- Ends over which nothing went have no half.
-none_had : (w : World) → w.a ≡ nothing → w.b ≡ nothing → (side : Side) (f : Found) → Has (end_at side w) f → ⊥
+none_had : (w : World) → w.a ≡ nothing → w.b ≡ nothing → (side : Side) (f : KeptHalf) → Has (end_at side w) f → ⊥
 none_had w a b sides.A f had = no_half f.slot f.key f.half (rw a at had)
 none_had w a b sides.B f had = no_half f.slot f.key f.half (rw b at had)
 
@@ -259,7 +255,7 @@ empty_blank = record { halves = none_had empty refl refl; sent = none_since }
 
 -- and so is one behind a quiet mark.
 quiet_blank : (w next : World) → IsQuiet w next → IsBlank next
-quiet_blank w next is = rw is.next_is (record { halves = none_had _ refl refl; sent = λ side m. since_mark side m w.sent })
+quiet_blank w next is = rw is.next_is (record { halves = none_had _ refl refl; sent = λ side m. since_quiet side m w.sent })
 
 -- ---- runs
 
@@ -268,8 +264,8 @@ step_advances : (table : Table) (before : List Event) (event : Event) (w next : 
     → after table event w ≡ Some next → Advances w next ⊎ IsBlank next
 step_advances table before (Sends side m) w next runs is =
     inl (send_advances table side m w next (sound table before w runs) (sending table side m w next is))
-step_advances table before (Delivers side number) w next runs is =
-    inl (delivery_advances table side number w next (sound table before w runs) (were_sent table before w runs side)
+step_advances table before (Receives side number) w next runs is =
+    inl (delivery_advances table side number w next (sound table before w runs) (were_sent table before w runs (other side))
     (delivery table side number w next is))
 step_advances table before (Replies side number) w next runs is =
     inl (reply_advances side number w next (reply table side number w next is))

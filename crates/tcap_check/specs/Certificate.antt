@@ -1,5 +1,5 @@
--- A certificate: what became of each message of a record, and what happened unseen. Entries are counted from 0. Gap 0 is before the first
--- entry, gap g between the entries g - 1 and g, the last gap behind the last entry.
+-- A certificate: what became of each message of a record, and what happened unseen. Entries are counted from 0. Gap 0
+-- is before the first entry, gap g between the entries g - 1 and g, the last gap behind the last entry.
 use Rattle.std.specs.Prelude.{◌≡◌, ℕ, ◌+◌, List, [], ◌∷◌}
 use Rattle.tcap_record.specs.declared.entry.End.{End as Side}
 
@@ -11,8 +11,8 @@ pub data Fate : Type 0 where
   -- it was taken by the provider's reply that is that entry
   By : ℕ → Fate
 
--- An own invocation of an end ended unseen in that gap: the one that the component of that place, from 0, of that entry began. The entry
--- is a Begin or a Continue of that end.
+-- An own invocation of an end ended unseen in that gap: the one that the component of that place, from 0, of that entry
+-- began. The entry is a Begin or a Continue of that end.
 pub record Expiry : Type 0 where
   pub gap : ℕ
   pub side : Side

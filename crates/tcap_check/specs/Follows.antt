@@ -10,27 +10,27 @@ use Rattle.tcap_msg.specs.Parts.{components_in}
 use Rattle.tcap_record.specs.declared.entry.End.{End as Side}
 use Rattle.tcap_end.specs.declared.half.HalfName.{HalfName}
 use Rattle.tcap_end.specs.declared.half.HalfName.TheVariants as names
-use Rattle.tcap_end.specs.Message.{then_so, where_so}
-use Rattle.tcap_check.specs.World.{Item, Sent, Mark, is_side}
-use Rattle.tcap_check.specs.Run.{Event, Sends, Delivers, Replies, Loses, Expires, Closes, Quiet}
+use Rattle.tcap_check.specs.World.{Item, Sent, is_side, other}
+use Rattle.tcap_check.specs.Run.{Event, Sends, Receives, Replies, Loses, Expires, Closes, Quiet, then_so, where_so}
 use Rattle.tcap_check.specs.Certificate.{Certificate, Closing, Expiry, Fate, Gap, Lost, By}
 
 -- ---- what is listed
 
-abbrev pub is_mark : Item → Bool
-is_mark (Sent side message) = false
-is_mark Mark = true
+abbrev pub is_quiet : Item → Bool
+is_quiet (Sent side message) = false
+is_quiet Item.Quiet = true
 
-abbrev pub has_mark : List Item → Bool
-has_mark [] = false
-has_mark (item ∷ more) = cond (is_mark item) true (has_mark more)
+abbrev pub has_quiet : List Item → Bool
+has_quiet [] = false
+has_quiet (item ∷ more) = cond (is_quiet item) true (has_quiet more)
 
 -- the entry that a listed event of a gap names: it stands before the gap, and no quiet mark stands between
 abbrev pub named_entry : List Item → ℕ → ℕ → Option Item
-named_entry items gap entry = cond (has_mark (drop entry (take gap items))) None (where_so (nat_lt entry gap) (slice_get items entry))
+named_entry items gap entry = cond (has_quiet (drop entry (take gap items))) None
+    (where_so (nat_lt entry gap) (slice_get items entry))
 
--- An end's half of the transaction that a Begin with this originating ID began: by its own ID for who sent the Begin, else by its peer's.
--- A half may have two names; what a certificate describes uses this one.
+-- An end's half of the transaction that a Begin with this originating ID began: by its own ID for who sent the Begin,
+-- else by its peer's. A half may have two names; what a certificate describes uses this one.
 abbrev pub half_begun : Side → Side → List ℕ → HalfName
 half_begun side sender otid = cond (is_side side sender) (names.Own otid) (names.Peer otid)
 
@@ -58,8 +58,9 @@ abbrev pub expiry_by : Expiry → Item → Option Event
 expiry_by x (Sent sender message) =
     where_so (is_side x.side sender)
     (then_so (originating message)
-    (λ otid. then_so (then_so (slice_get (components_in message) x.component) invoke_id) (λ id. Some (Expires x.side (names.Own otid) id))))
-expiry_by x Mark = None
+    (λ otid. then_so (then_so (slice_get (components_in message) x.component) invoke_id)
+    (λ id. Some (Expires x.side (names.Own otid) id))))
+expiry_by x Item.Quiet = None
 
 -- the expiry that is listed
 abbrev pub expiry_event : List Item → Expiry → Option Event
@@ -72,7 +73,7 @@ abbrev pub deliveries : ℕ → ℕ → List Fate → List Item → List Event
 deliveries gap n (fate ∷ fates) (item ∷ items) = by item fate (deliveries gap (n + 1) fates items)
   where
     by : Item → Fate → List Event → List Event
-    by (Sent side message) (Gap g) others = cond (g == gap) (Delivers side n ∷ others) others
+    by (Sent side message) (Gap g) others = cond (g == gap) (Receives (other side) n ∷ others) others
     by _ _ others = others
 deliveries gap n _ _ = []
 
@@ -92,34 +93,34 @@ taken_by reply n (By k ∷ fates) = cond (k == reply) (n ∷ taken_by reply (n +
 taken_by reply n (_ ∷ fates) = taken_by reply (n + 1) fates
 
 -- a quiet mark of that number, whose fate is the next gap
-abbrev pub mark_by : ℕ → Option Fate → Option Event
-mark_by number (Some (Gap g)) = where_so (g == number + 1) (Some Quiet)
-mark_by number _ = None
+abbrev pub quiet_by : ℕ → Option Fate → Option Event
+quiet_by number (Some (Gap g)) = where_so (g == number + 1) (Some Quiet)
+quiet_by number _ = None
 
--- The event that adds the item of that number to the sent list, where these messages are taken by it: an Abort with a cause is the
--- provider's reply to the one message that is; nothing is taken by another item.
+-- The event that adds the item of that number to the sent list, where these messages are taken by it: an Abort with a
+-- cause is the provider's reply to the one message that is; nothing is taken by another item.
 abbrev pub sending_by : Certificate → ℕ → Item → List ℕ → Option Event
 sending_by c number (Sent side (Abort dtid (Some (Cause cause)))) (taken ∷ []) = Some (Replies side taken)
 sending_by c number (Sent side (Abort dtid (Some (Cause cause)))) _ = None
 sending_by c number (Sent side message) [] = Some (Sends side message)
 sending_by c number (Sent side message) (taken ∷ more) = None
-sending_by c number Mark [] = mark_by number (slice_get c.fates number)
-sending_by c number Mark (taken ∷ more) = None
+sending_by c number Item.Quiet [] = quiet_by number (slice_get c.fates number)
+sending_by c number Item.Quiet (taken ∷ more) = None
 
 abbrev pub sending : Certificate → ℕ → Item → Option Event
 sending c number item = sending_by c number item (taken_by number 0 c.fates)
 
 -- the half over which a message is sent, if it is one that carries Invokes over a half
-abbrev pub half_over : Message → Option HalfName
-half_over (Begin otid dialogue components) = Some (names.Own otid)
-half_over (Continue otid dtid dialogue components) = Some (names.Own otid)
-half_over (EndMessage dtid dialogue components) = Some (names.Peer dtid)
-half_over _ = None
+abbrev pub invoking_half : Message → Option HalfName
+invoking_half (Begin otid dialogue components) = Some (names.Own otid)
+invoking_half (Continue otid dtid dialogue components) = Some (names.Own otid)
+invoking_half (EndMessage dtid dialogue components) = Some (names.Peer dtid)
+invoking_half _ = None
 
 -- An expiry right before an item is sent, of an ID that this item invokes, on its half.
 abbrev pub IsImplied : Item → Event → Type 0
 IsImplied (Sent sender message) (Expires side name id) =
-    (side ≡ sender) × (half_over message ≡ Some name) × Contains (filter_map invoke_id (components_in message)) id
+    (side ≡ sender) × (invoking_half message ≡ Some name) × Contains (filter_map invoke_id (components_in message)) id
 IsImplied _ _ = ⊥
 
 -- ---- runs
@@ -135,7 +136,8 @@ without_losses (event ∷ events) = cond (is_loss event) (without_losses events)
 -- the messages of an end that are lost, in order
 abbrev pub losses_from : Side → List Event → List ℕ
 losses_from side [] = []
-losses_from side (Loses sender number ∷ events) = cond (is_side side sender) (number ∷ losses_from side events) (losses_from side events)
+losses_from side (Loses sender number ∷ events) = cond (is_side side sender) (number ∷ losses_from side events)
+    (losses_from side events)
 losses_from side (_ ∷ events) = losses_from side events
 
 -- those whose fate says so; the first of these items has number n
@@ -170,8 +172,8 @@ FatesFit count n (Gap g ∷ fates) = (n < g) × (g ≤ count) × FatesFit count 
 FatesFit count n (By k ∷ fates) = (n < k) × (k < count) × FatesFit count (n + 1) fates
 FatesFit count n (Lost ∷ fates) = FatesFit count (n + 1) fates
 
--- The events are what the certificate describes for these items. Losses stand anywhere. Whether they are a run, and one that sends these
--- items, `IsRunOf` says.
+-- The events are what the certificate describes for these items. Losses stand anywhere. Whether they are a run, and one
+-- that sends these items, `IsRunOf` says.
 pub record Follows (certificate : Certificate) (items : List Item) (events : List Event) : Type 0 where
   pub counted : length certificate.fates ≡ length items
   pub fates : FatesFit (length items) 0 certificate.fates

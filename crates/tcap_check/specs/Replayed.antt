@@ -1,5 +1,6 @@
--- The run that a certificate gives for the entries of a record, built entry by entry, or the first reason why it gives none.
-use Rattle.std.specs.Prelude.{ℕ, ℤ, ◌+◌, ◌*◌, Bool, true, false, List, [], ◌∷◌, ◌++◌, map, length, drop, filter, filter_map, slice_get, Option, Some, None, Result, Ok, Err, ◌==◌, ◌&&◌, ◌||◌, not, nat_lt, nat_le, cond, option_map}
+-- The run that a certificate gives for the entries of a record, built entry by entry, or the first reason why it gives
+-- none.
+use Rattle.std.specs.Prelude.{ℕ, ℤ, ◌+◌, ◌*◌, Bool, true, false, List, [], ◌∷◌, ◌++◌, map, length, drop, filter, filter_map, slice_get, Option, Some, None, Result, Ok, Err, ok_or, ◌==◌, ◌&&◌, ◌||◌, not, nat_lt, nat_le, cond, option_map}
 use Rattle.tcap_ber.specs.declared.fault.Fault.{Fault}
 use Rattle.tcap_msg.specs.declared.message.Message.{Message}
 use Rattle.tcap_msg.specs.Parts.{components_in}
@@ -13,12 +14,12 @@ use Rattle.tcap_end.specs.declared.fault.EndFault.TheVariants as faults
 use Rattle.tcap_end.specs.declared.half.HalfName.{HalfName}
 use Rattle.tcap_end.specs.Table.{Table}
 use Rattle.tcap_end.specs.End.{End}
-use Rattle.tcap_end.specs.Refusal.{send_fault}
-use Rattle.tcap_end.specs.Reply.{refuses_begin, refuses_continue}
-use Rattle.tcap_check.specs.World.{Item, Sent, Mark, OnItsWay, World, channel_from, empty, end_at, is_side, other, with_channel}
-use Rattle.tcap_check.specs.Run.{Event, Sends, Delivers, Replies, Loses, Expires, Closes, Quiet, after}
+use Rattle.tcap_end.specs.Message.{send}
+use Rattle.tcap_end.specs.Step.{needs, ◌>>◌, ◌>>=◌}
+use Rattle.tcap_check.specs.World.{Item, OnItsWay, Sent, World, channel_from, empty, end_at, is_side, other, with_channel, with_end}
+use Rattle.tcap_check.specs.Run.{Event, Sends, Receives, Replies, Loses, Expires, Quiet, after, joined, may_refuse}
 use Rattle.tcap_check.specs.Certificate.{Certificate, Closing, Expiry, Fate, Gap, Lost, By}
-use Rattle.tcap_check.specs.Follows.{closing_event, expiry_event, half_over, invoke_id, sending, taken_by}
+use Rattle.tcap_check.specs.Follows.{closing_event, expiry_event, invoking_half, invoke_id, sending, taken_by}
 
 -- ---- reasons
 
@@ -46,23 +47,11 @@ pub record CheckFault : Type 0 where
   pub reason : Reason
   pub entry : ℕ
 
+abbrev pub fault_at : Reason → ℕ → CheckFault
+fault_at reason entry = record { reason = reason; entry = entry }
+
 abbrev pub refused : {A : Type 0} → Reason → ℕ → Result A CheckFault
-refused reason entry = Err (record { reason = reason; entry = entry })
-
-infixl 1 ◌>>=◌
-
--- goes on with what was answered, up to the first refusal
-abbrev pub ◌>>=◌ : {A B : Type 0} → Result A CheckFault → (A → Result B CheckFault) → Result B CheckFault
-Ok x >>= more = more x
-Err fault >>= more = Err fault
-
--- goes on where it is so, and is refused else
-abbrev pub if_so : {A : Type 0} → Bool → Reason → ℕ → Result A CheckFault → Result A CheckFault
-if_so so reason entry more = cond so more (refused reason entry)
-
-abbrev pub or_refused : {A : Type 0} → Reason → ℕ → Option A → Result A CheckFault
-or_refused reason entry None = refused reason entry
-or_refused reason entry (Some x) = Ok x
+refused reason entry = Err (fault_at reason entry)
 
 -- ---- ranges, which are looked at before the first entry
 
@@ -73,21 +62,25 @@ fate_fits count entry (By reply) = nat_lt entry reply && nat_lt reply count
 fate_fits count entry Lost = true
 
 -- the first of these fates is that of this entry
-abbrev pub fates_fit : {A : Type 0} → ℕ → ℕ → List Fate → Result A CheckFault → Result A CheckFault
-fates_fit count entry [] more = more
-fates_fit count entry (fate ∷ fates) more = if_so (fate_fits count entry fate) FateRange entry (fates_fit count (entry + 1) fates more)
+abbrev pub fates_fit : ℕ → ℕ → List Fate → Result (Unit {0}) CheckFault
+fates_fit count entry [] = Ok tt
+fates_fit count entry (fate ∷ fates) = do
+  needs (fate_fits count entry fate) (fault_at FateRange entry)
+  fates_fit count (entry + 1) fates
 
 -- What is listed stands behind the entry that it names, and not behind the end.
-abbrev pub all_fit : {A : Type 0} → ℕ → List (ℕ × ℕ) → Result A CheckFault → Result A CheckFault
-all_fit count [] more = more
-all_fit count ((entry, gap) ∷ listed) more = if_so (nat_lt entry gap && nat_le gap count) FateRange entry (all_fit count listed more)
+abbrev pub all_fit : ℕ → List (ℕ × ℕ) → Result (Unit {0}) CheckFault
+all_fit count [] = Ok tt
+all_fit count ((entry, gap) ∷ listed) = do
+  needs (nat_lt entry gap && nat_le gap count) (fault_at FateRange entry)
+  all_fit count listed
 
 -- the fates, then the closings, then the expiries
-abbrev pub certificate_fits : {A : Type 0} → Certificate → Result A CheckFault → Result A CheckFault
-certificate_fits c more =
-    fates_fit (length c.fates) 0 c.fates
-    (all_fit (length c.fates) (map (λ x. (x.entry, x.gap)) c.close)
-    (all_fit (length c.fates) (map (λ x. (x.entry, x.gap)) c.expire) more))
+abbrev pub certificate_fits : Certificate → Result (Unit {0}) CheckFault
+certificate_fits c = do
+  fates_fit (length c.fates) 0 c.fates
+  all_fit (length c.fates) (map (λ x. (x.entry, x.gap)) c.close)
+  all_fit (length c.fates) (map (λ x. (x.entry, x.gap)) c.expire)
 
 -- ---- steps
 
@@ -103,9 +96,13 @@ nothing_replayed = record { events = []; world = empty }
 abbrev pub next_entry : Replay → ℕ
 next_entry r = length r.world.sent
 
--- one step more, where it may happen
+-- one step more, and the world behind it
+abbrev pub with_step : Event → Replay → World → Replay
+with_step event r world = record { events = r.events ++ event ∷ []; world = world }
+
+-- the same, where it may happen
 abbrev pub stepped : Table → Event → Replay → Option Replay
-stepped table event r = option_map (λ world. record { events = r.events ++ event ∷ []; world = world }) (after table event r.world)
+stepped table event r = option_map (with_step event r) (after table event r.world)
 
 abbrev pub if_lost : Option Fate → List ℕ → List ℕ
 if_lost (Some Lost) numbers = numbers
@@ -132,34 +129,35 @@ lost_from_both c r = lost_from_front c sides.B (lost_from_front c sides.A r)
 
 -- A message is lost as late as can be: right before what stands behind it is taken, or before a quiet mark.
 abbrev pub lost_before : Certificate → Event → Replay → Replay
-lost_before c (Delivers side number) r = lost_from_front c side r
+lost_before c (Receives side number) r = lost_from_front c (other side) r
 lost_before c (Replies side number) r = lost_from_front c (other side) r
 lost_before c Quiet r = lost_from_both c r
 lost_before c _ r = r
 
 -- a step, with the losses that it needs, or the reason for which it is refused at that entry
 abbrev pub happens : Table → Certificate → Event → Reason → ℕ → Replay → Result Replay CheckFault
-happens table c event reason entry r = or_refused reason entry (stepped table event (lost_before c event r))
+happens table c event reason entry r = ok_or (stepped table event (lost_before c event r)) (fault_at reason entry)
 
 -- ---- a gap
 
 abbrev pub closings_replayed : Table → Certificate → List Closing → Replay → Result Replay CheckFault
 closings_replayed table c [] r = Ok r
 closings_replayed table c (x ∷ more) r = do
-  event ← or_refused FateRange x.entry (closing_event r.world.sent x)
+  event ← ok_or (closing_event r.world.sent x) (fault_at FateRange x.entry)
   next ← happens table c event (HiddenRefused faults.CannotClose) x.entry r
   closings_replayed table c more next
 
 abbrev pub expiries_replayed : Table → Certificate → List Expiry → Replay → Result Replay CheckFault
 expiries_replayed table c [] r = Ok r
 expiries_replayed table c (x ∷ more) r = do
-  event ← or_refused FateRange x.entry (expiry_event r.world.sent x)
+  event ← ok_or (expiry_event r.world.sent x) (fault_at FateRange x.entry)
   next ← happens table c event (HiddenRefused faults.CannotExpire) x.entry r
   expiries_replayed table c more next
 
 -- the message of that number, where it is delivered in the gap
 abbrev pub delivery_replayed : Table → Certificate → ℕ → ℕ → Fate → Item → Replay → Result Replay CheckFault
-delivery_replayed table c gap number (Gap g) (Sent side message) r = cond (g == gap) (happens table c (Delivers side number) BadReply number r) (Ok r)
+delivery_replayed table c gap number (Gap g) (Sent side message) r =
+    cond (g == gap) (happens table c (Receives (other side) number) BadReply number r) (Ok r)
 delivery_replayed table c gap number _ _ r = Ok r
 
 -- the messages of these items that are, by number; the first item has this number
@@ -185,8 +183,9 @@ time_of Lost = 0
 
 -- an earlier message of the same end is delivered or taken later; the first of these fates is that of the first item
 abbrev pub overtakes : Side → ℕ → List Fate → List Item → Bool
-overtakes side time (fate ∷ fates) (Sent sender message ∷ items) = (is_side side sender && nat_lt time (time_of fate)) || overtakes side time fates items
-overtakes side time (fate ∷ fates) (Mark ∷ items) = overtakes side time fates items
+overtakes side time (fate ∷ fates) (Sent sender message ∷ items) = (is_side side sender && nat_lt time (time_of fate))
+    || overtakes side time fates items
+overtakes side time (fate ∷ fates) (Item.Quiet ∷ items) = overtakes side time fates items
 overtakes side time _ _ = false
 
 abbrev pub is_in_order : Certificate → Side → Fate → List Item → Bool
@@ -196,7 +195,7 @@ is_in_order c side fate items = not (overtakes side (time_of fate) c.fates items
 -- The provider of this end may answer the first of these messages by this Abort.
 abbrev pub may_reply : End → Message → List OnItsWay → Bool
 may_reply e abort [] = false
-may_reply e abort (first ∷ more) = refuses_begin e first.message abort || refuses_continue e first.message abort
+may_reply e abort (first ∷ more) = may_refuse e first.message abort
 
 abbrev pub or_same : Replay → Option Replay → Replay
 or_same r None = r
@@ -207,34 +206,41 @@ abbrev pub implied : Table → Side → HalfName → List ℤ → Replay → Rep
 implied table side name [] r = r
 implied table side name (id ∷ ids) r = implied table side name ids (or_same r (stepped table (Expires side name id) r))
 
--- What the Invokes of a message need that is sent over that half: that earlier invocations of their IDs on it have ended.
+-- What the Invokes of a message need that is sent over that half: that earlier invocations of their IDs on it have
+-- ended.
 abbrev pub implied_over : Table → Side → Message → Option HalfName → Replay → Replay
 implied_over table side message None r = r
 implied_over table side message (Some name) r = implied table side name (filter_map invoke_id (components_in message)) r
 
-abbrev pub sent_or_refused : ℕ → Option EndFault → Option Replay → Result Replay CheckFault
-sent_or_refused entry (Some fault) next = refused (SendRefused fault) entry
-sent_or_refused entry None next = or_refused BadReply entry next
+-- the step by which an end sends a message, or the reason against it
+abbrev pub sent_or_refused : Side → Message → Replay → Result End EndFault → Result Replay CheckFault
+sent_or_refused side message r (Ok e) = Ok
+    (with_step (Sends side message) r (joined side message (with_end side e r.world)))
+sent_or_refused side message r (Err reason) = refused (SendRefused reason) (next_entry r)
 
 -- a message that an end sends
 abbrev pub send_replayed : Table → Side → Message → Replay → Result Replay CheckFault
-send_replayed table side message r =
-    sent_or_refused (next_entry r) (send_fault table (end_at side r.world) message) (stepped table (Sends side message) r)
+send_replayed table side message r = sent_or_refused side message r (send table (end_at side r.world) message)
 
 -- an Abort by which the provider of an end answers the message of that number
 abbrev pub reply_replayed : Table → Certificate → Side → Message → ℕ → Replay → Result Replay CheckFault
-reply_replayed table c side abort number r =
-    if_so (may_reply (end_at side r.world) abort (channel_from (other side) (lost_from_front c (other side) r).world)) BadReply (next_entry r)
-    (happens table c (Replies side number) BadReply (next_entry r) r)
+reply_replayed table c side abort number r = do
+  needs (may_reply (end_at side r.world) abort waiting) (fault_at BadReply (next_entry r))
+  happens table c (Replies side number) BadReply (next_entry r) r
+  where
+    waiting : List OnItsWay
+    waiting = channel_from (other side) (lost_from_front c (other side) r).world
 
 -- a message that an end sends, or its provider, by that event
 abbrev pub message_by : Table → Certificate → Side → Message → Option Event → Replay → Result Replay CheckFault
-message_by table c side message (Some (Sends sender sent)) r = send_replayed table side message (implied_over table side message (half_over message) r)
+message_by table c side message (Some (Sends sender sent)) r =
+    send_replayed table side message (implied_over table side message (invoking_half message) r)
 message_by table c side message (Some (Replies replier number)) r = reply_replayed table c side message number r
 message_by table c side message _ r = refused BadReply (next_entry r)
 
 abbrev pub message_replayed : Table → Certificate → Side → Message → Replay → Result Replay CheckFault
-message_replayed table c side message r = message_by table c side message (sending c (next_entry r) (Sent side message)) r
+message_replayed table c side message r = message_by table c side message
+    (sending c (next_entry r) (Sent side message)) r
 
 abbrev pub is_gap : ℕ → Fate → Bool
 is_gap gap (Gap g) = g == gap
@@ -245,30 +251,33 @@ is_nothing [] = true
 is_nothing (number ∷ more) = false
 
 -- a quiet mark with this fate, which is the next gap; no message is taken by it
-abbrev pub mark_replayed : Table → Certificate → Fate → Replay → Result Replay CheckFault
-mark_replayed table c fate r =
-    if_so (is_gap (next_entry r + 1) fate) FateRange (next_entry r)
-    (gap_replayed table c r >>= λ behind.
-    if_so (is_nothing (taken_by (next_entry r) 0 c.fates)) NotQuiet (next_entry r) (happens table c Quiet NotQuiet (next_entry r) behind))
+abbrev pub quiet_replayed : Table → Certificate → Fate → Replay → Result Replay CheckFault
+quiet_replayed table c fate r = do
+  needs (is_gap (next_entry r + 1) fate) (fault_at FateRange (next_entry r))
+  behind ← gap_replayed table c r
+  needs (is_nothing (taken_by (next_entry r) 0 c.fates)) (fault_at NotQuiet (next_entry r))
+  happens table c Quiet NotQuiet (next_entry r) behind
 
 -- a message with this fate
 abbrev pub sent_replayed : Table → Certificate → Fate → Side → Message → Replay → Result Replay CheckFault
-sent_replayed table c fate side message r =
-    if_so (is_in_order c side fate r.world.sent) OutOfOrder (next_entry r) (gap_replayed table c r >>= message_replayed table c side message)
+sent_replayed table c fate side message r = do
+  needs (is_in_order c side fate r.world.sent) (fault_at OutOfOrder (next_entry r))
+  behind ← gap_replayed table c r
+  message_replayed table c side message behind
 
 -- The item that an entry is, or why it is no message.
 abbrev pub item_in : Option Side → Body → Result Item Fault
 item_in side (Bad fault) = Err fault
 item_in (Some side) (Good message) = Ok (Sent side message)
-item_in None (Good message) = Ok Mark
-item_in side QuietMark = Ok Mark
+item_in None (Good message) = Ok Item.Quiet
+item_in side QuietMark = Ok Item.Quiet
 
 abbrev pub item_of : Entry → Result Item Fault
 item_of entry = item_in entry.side entry.body
 
 abbrev pub item_replayed : Table → Certificate → Fate → Item → Replay → Result Replay CheckFault
 item_replayed table c fate (Sent side message) r = sent_replayed table c fate side message r
-item_replayed table c fate Mark r = mark_replayed table c fate r
+item_replayed table c fate Item.Quiet r = quiet_replayed table c fate r
 
 -- an entry with this fate, and the gap before it
 abbrev pub entry_replayed : Table → Certificate → Fate → Result Item Fault → Replay → Result Replay CheckFault
@@ -276,16 +285,20 @@ entry_replayed table c fate (Ok item) r = item_replayed table c fate item r
 entry_replayed table c fate (Err fault) r = refused (BadMessage fault) (next_entry r)
 
 abbrev pub entries_replayed : Table → Certificate → List Entry → Replay → Result Replay CheckFault
-entries_replayed table c [] r = if_so (next_entry r == length c.fates) FateCount (next_entry r) (gap_replayed table c r)
+entries_replayed table c [] r = do
+  needs (next_entry r == length c.fates) (fault_at FateCount (next_entry r))
+  gap_replayed table c r
 entries_replayed table c (entry ∷ entries) r = do
-  fate ← or_refused FateCount (next_entry r) (slice_get c.fates (next_entry r))
+  fate ← ok_or (slice_get c.fates (next_entry r)) (fault_at FateCount (next_entry r))
   next ← entry_replayed table c fate (item_of entry) r
   entries_replayed table c entries next
 
 -- The run that the certificate gives for these entries; what is still on its way behind the last gap is lost.
 abbrev pub replayed : Table → Certificate → List Entry → Result (List Event) CheckFault
-replayed table c entries =
-    certificate_fits c (entries_replayed table c entries nothing_replayed) >>= λ r. Ok (lost_from_both c r).events
+replayed table c entries = do
+  certificate_fits c
+  r ← entries_replayed table c entries nothing_replayed
+  Ok (lost_from_both c r).events
 
 -- how many steps it has
 abbrev pub moves_of : Table → Certificate → List Entry → Result ℕ CheckFault
@@ -295,4 +308,4 @@ moves_of table c entries = replayed table c entries >>= λ events. Ok (length ev
 
 abbrev pub entry_of : Item → Entry
 entry_of (Sent side message) = record { side = Some side; place = 0; body = Good message }
-entry_of Mark = record { side = None; place = 0; body = QuietMark }
+entry_of Item.Quiet = record { side = None; place = 0; body = QuietMark }

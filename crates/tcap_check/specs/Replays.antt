@@ -8,9 +8,10 @@ use Rattle.tcap_record.specs.declared.entry.End.TheVariants.{A, B}
 use Rattle.tcap_record.specs.declared.entry.Entry.{Entry}
 use Rattle.tcap_end.specs.declared.fault.EndFault.TheVariants as faults
 use Rattle.tcap_end.specs.Table.{Table}
-use Rattle.tcap_check.specs.World.{Item, Sent, Mark}
+use Rattle.tcap_check.specs.World.{Item, Sent}
+use Rattle.tcap_check.specs.Run.{provider_abort}
 use Rattle.tcap_check.specs.Certificate.{Certificate, Closing, Expiry, Fate, Gap, Lost, By}
-use Rattle.tcap_check.specs.Worked.{Worked, answer, begin, by_fates, crossing, end_to, id, invoke, lasting, late_reject, prearranged, provider_abort, table, two_entries}
+use Rattle.tcap_check.specs.Worked.{Worked, answer, begin, by_fates, crossing, end_to, id, invoke, lasting, late_reject, prearranged, table, two_entries}
 use Rattle.tcap_check.specs.Replayed.{FateCount, FateRange, OutOfOrder, BadReply, SendRefused, HiddenRefused, NotQuiet, BadMessage, Reason, entry_of, moves_of, refused, replayed}
 
 -- The certificate of a worked run gives that run.
@@ -81,7 +82,7 @@ comes_where_it_may_not = Refuses table (by_fates (Gap 1 ∷ Gap 2 ∷ Gap 4 ∷ 
 
 -- an active half that closes, which is lawful by prearrangement alone
 abbrev closed_unseen : List Item
-closed_unseen = Sent A (begin None None) ∷ Sent B (answer None None) ∷ Sent B (answer None None) ∷ Sent A (provider_abort 2 1) ∷ []
+closed_unseen = Sent A (begin None None) ∷ Sent B (answer None None) ∷ Sent B (answer None None) ∷ Sent A (provider_abort (id 2) 1) ∷ []
 
 abbrev closes_unseen : Certificate
 closes_unseen = closing (record { gap = 3; side = A; entry = 0 } ∷ []) (by_fates (Gap 1 ∷ Gap 2 ∷ By 3 ∷ Gap 4 ∷ []))
@@ -95,7 +96,7 @@ closes_with_leave = Gives prearranged closes_unseen closed_unseen 8
 -- Two Continues cross an End, and one Abort answers.
 abbrev two_cross : List Item
 two_cross = Sent A (begin None None) ∷ Sent B (answer None None) ∷ Sent A (end_to 2 None) ∷ Sent B (answer None None) ∷ Sent B (answer None None)
-    ∷ Sent A (provider_abort 2 1) ∷ []
+    ∷ Sent A (provider_abort (id 2) 1) ∷ []
 
 abbrev by_two : Fate → Fate → Certificate
 by_two first second = by_fates (Gap 1 ∷ Gap 2 ∷ Gap 5 ∷ first ∷ second ∷ Gap 6 ∷ [])
@@ -116,12 +117,13 @@ taken_by_a_message = Refuses table (by_fates (Gap 1 ∷ By 2 ∷ Gap 3 ∷ []))
 
 -- an Abort with the cause of the other reply
 abbrev pub reply_of_the_other_cause : Type 0
-reply_of_the_other_cause = Refuses table (by_fates (By 1 ∷ Gap 2 ∷ [])) (Sent A (begin None None) ∷ Sent B (provider_abort 1 1) ∷ []) BadReply 1
+reply_of_the_other_cause =
+    Refuses table (by_fates (By 1 ∷ Gap 2 ∷ [])) (Sent A (begin None None) ∷ Sent B (provider_abort (id 1) 1) ∷ []) BadReply 1
 
 -- ---- quiet marks
 
 abbrev dialogue_and_mark : List Item
-dialogue_and_mark = Sent A (begin None None) ∷ Sent B (answer None None) ∷ Sent A (end_to 2 None) ∷ Mark ∷ []
+dialogue_and_mark = Sent A (begin None None) ∷ Sent B (answer None None) ∷ Sent A (end_to 2 None) ∷ Item.Quiet ∷ []
 
 abbrev pub mark_before_a_message_comes : Type 0
 mark_before_a_message_comes = Refuses table (by_fates (Gap 1 ∷ Gap 2 ∷ Gap 4 ∷ Gap 4 ∷ [])) dialogue_and_mark NotQuiet 3
@@ -133,12 +135,13 @@ abbrev pub mark_when_all_is_quiet : Type 0
 mark_when_all_is_quiet = Gives table (by_fates (Gap 1 ∷ Gap 2 ∷ Gap 3 ∷ Gap 4 ∷ [])) dialogue_and_mark 7
 
 abbrev pub mark_with_an_open_half : Type 0
-mark_with_an_open_half = Refuses table (by_fates (Gap 1 ∷ Gap 2 ∷ [])) (Sent A (begin None None) ∷ Mark ∷ []) NotQuiet 1
+mark_with_an_open_half = Refuses table (by_fates (Gap 1 ∷ Gap 2 ∷ [])) (Sent A (begin None None) ∷ Item.Quiet ∷ []) NotQuiet 1
 
 -- a Begin that is lost and given up
 abbrev pub mark_behind_a_lost_begin : Type 0
 mark_behind_a_lost_begin =
-    Gives table (closing (record { gap = 1; side = A; entry = 0 } ∷ []) (by_fates (Lost ∷ Gap 2 ∷ []))) (Sent A (begin None None) ∷ Mark ∷ []) 4
+    Gives table (closing (record { gap = 1; side = A; entry = 0 } ∷ []) (by_fates (Lost ∷ Gap 2 ∷ [])))
+    (Sent A (begin None None) ∷ Item.Quiet ∷ []) 4
 
 -- ---- an entry that is no message
 

@@ -1,26 +1,33 @@
--- Runs of two ends over two channels (Q.774 3.2 and 3.3): one step after the other. A message is received by the other end, answered by
--- its provider, or lost.
-use Rattle.std.specs.Prelude.{◌≡◌, ℕ, ◌+◌, ℤ, List, [], ◌∷◌, ◌++◌, map, length, Option, Some, None, ◌==◌, ◌||◌, cond, option_map}
+-- Runs of two ends over two channels (Q.774 3.2 and 3.3): one step after the other. A message is received by the other
+-- end, answered by its provider, or lost.
+use Rattle.std.specs.Prelude.{◌≡◌, ℕ, ◌+◌, ℤ, Bool, List, [], ◌∷◌, ◌++◌, map, length, Option, Some, None, is_ok, ◌==◌, ◌||◌, cond, option_and_then, option_map}
+use Rattle.std.specs.Result.{result_ok}
 use Rattle.tcap_msg.specs.declared.message.AbortReason.TheVariants.{Cause}
 use Rattle.tcap_msg.specs.declared.message.Message.{Message}
 use Rattle.tcap_msg.specs.declared.message.Message.TheVariants.{Begin, Continue, Abort}
 use Rattle.tcap_record.specs.declared.entry.End.{End as Side}
 use Rattle.tcap_end.specs.declared.half.HalfName.{HalfName}
 use Rattle.tcap_end.specs.Table.{Table}
-use Rattle.tcap_end.specs.End.{End, quieted}
-use Rattle.tcap_end.specs.Message.{received_message, sent_message, then_so, where_so}
-use Rattle.tcap_end.specs.Reply.{refuses_begin, refuses_continue}
-use Rattle.tcap_end.specs.Hidden.{closed, expired}
-use Rattle.tcap_check.specs.World.{Item, OnItsWay, World, channel_from, empty, end_at, is_side, other, with_channel, with_end}
-use Rattle.tcap_check.specs.World.{Sent, Mark}
+use Rattle.tcap_end.specs.End.{End, quiet}
+use Rattle.tcap_end.specs.Message.{receive, send}
+use Rattle.tcap_end.specs.Reply.{refuse_begin, refuse_continue}
+use Rattle.tcap_end.specs.Hidden.{close, expire}
+use Rattle.tcap_check.specs.World.{Item, OnItsWay, Sent, World, channel_from, empty, end_at, is_side, other, with_channel, with_end}
 
--- What may happen. Where a message is taken from a channel, its number in the sent list is named, and the end that sent it; of a reply the
--- end whose provider answers.
+-- where the test passes
+abbrev pub where_so : {A : Type 0} → Bool → Option A → Option A
+where_so so step = cond so step None
+
+abbrev pub then_so : {A B : Type 0} → Option A → (A → Option B) → Option B
+then_so o step = option_and_then step o
+
+-- What may happen, with the end that acts; of a loss it is the end that sent the message. Where a message is taken from
+-- a channel, its number in the sent list is named.
 pub data Event : Type 0 where
   -- an end sends a message
   Sends : Side → Message → Event
-  -- the message of that number, which an end sent, is received by the other
-  Delivers : Side → ℕ → Event
+  -- an end receives the message of that number, which the other sent
+  Receives : Side → ℕ → Event
   -- the provider of an end answers the message of that number, which the other sent, by an Abort
   Replies : Side → ℕ → Event
   -- the message of that number, which an end sent, is lost
@@ -34,7 +41,8 @@ pub data Event : Type 0 where
 
 -- A message joins the end of its channel, and of the sent list.
 abbrev pub joined : Side → Message → World → World
-joined side message w = record (with_channel side (channel_from side w ++ on_its_way ∷ []) w) { sent = w.sent ++ Sent side message ∷ [] }
+joined side message w = record (with_channel side
+    (channel_from side w ++ on_its_way ∷ []) w) { sent = w.sent ++ Sent side message ∷ [] }
   where
     on_its_way : OnItsWay
     on_its_way = record { number = length w.sent; message = message }
@@ -44,37 +52,56 @@ abbrev pub head_taken : {A : Type 0} → ℕ → (Message → List OnItsWay → 
 head_taken number step [] = None
 head_taken number step (head ∷ more) = where_so (head.number == number) (step head.message more)
 
--- the Abort by which a provider answers a message that it does not deliver (Q.774 3.3, abnormal procedures)
-abbrev pub provider_abort : Message → Option Message
-provider_abort (Begin otid dialogue components) = Some (Abort otid (Some (Cause 4)))
-provider_abort (Continue otid dtid dialogue components) = Some (Abort otid (Some (Cause 1)))
-provider_abort _ = None
+-- an Abort of a provider to that transaction ID, with that cause
+abbrev pub provider_abort : List ℕ → ℕ → Message
+provider_abort dtid cause = Abort dtid (Some (Cause cause))
 
--- the same, where the provider of this end may answer so
+-- the one by which a provider answers a message that it does not deliver (Q.774 3.3, abnormal procedures)
+abbrev pub abort_for : Message → Option Message
+abort_for (Begin otid dialogue components) = Some (provider_abort otid 4)
+abort_for (Continue otid dtid dialogue components) = Some (provider_abort otid 1)
+abort_for _ = None
+
+-- whether the provider of this end may answer the message by this Abort
+abbrev pub may_refuse : End → Message → Message → Bool
+may_refuse e message abort = is_ok (refuse_begin e message abort) || is_ok (refuse_continue e message abort)
+
+-- the Abort by which it may answer the message, if it may
 abbrev pub reply_to : End → Message → Option Message
-reply_to e message =
-    then_so (provider_abort message) (λ abort. where_so (refuses_begin e message abort || refuses_continue e message abort) (Some abort))
+reply_to e message = then_so (abort_for message) (λ abort. where_so (may_refuse e message abort) (Some abort))
 
 -- Both ends are quiet, and nothing is on its way: no half and no used ID is left.
 abbrev pub after_quiet : World → Option World
 after_quiet w = by w.from_a w.from_b
   where
     by : List OnItsWay → List OnItsWay → Option World
-    by [] [] = then_so (quieted w.a) (λ a. option_map (λ b. record { a = a; b = b; from_a = []; from_b = []; sent = w.sent ++ Mark ∷ [] }) (quieted w.b))
+    by [] [] =
+        then_so (result_ok (quiet w.a))
+        (λ a. option_map (λ b. record { a = a; b = b; from_a = []; from_b = []; sent = w.sent ++ Item.Quiet ∷ [] })
+        (result_ok (quiet w.b)))
     by _ _ = None
 
 -- the world behind an event, where it may happen
 abbrev pub after : Table → Event → World → Option World
-after table (Event.Sends side message) w = option_map (λ e. joined side message (with_end side e w)) (sent_message table (end_at side w) message)
-after table (Event.Delivers side number) w =
-    head_taken number (λ message more. option_map (λ e. with_end (other side) e (with_channel side more w)) (received_message table (end_at (other side) w) message))
-    (channel_from side w)
-after table (Event.Replies side number) w =
-    head_taken number (λ message more. option_map (λ abort. joined side abort (with_channel (other side) more w)) (reply_to (end_at side w) message))
+after table (Event.Sends side message) w =
+    option_map (λ e. joined side message (with_end side e w)) (result_ok (send table (end_at side w) message))
+after table (Event.Receives side number) w =
+    head_taken number
+    (λ message more.
+    option_map (λ e. with_end side e (with_channel (other side) more w))
+    (result_ok (receive table (end_at side w) message)))
     (channel_from (other side) w)
-after table (Event.Loses side number) w = head_taken number (λ message more. Some (with_channel side more w)) (channel_from side w)
-after table (Event.Expires side name id) w = option_map (λ e. with_end side e w) (expired table (end_at side w) name id)
-after table (Event.Closes side name) w = option_map (λ e. with_end side e w) (closed table (end_at side w) name)
+after table (Event.Replies side number) w =
+    head_taken number
+    (λ message more. option_map (λ abort. joined side abort (with_channel (other side) more w))
+    (reply_to (end_at side w) message))
+    (channel_from (other side) w)
+after table (Event.Loses side number) w = head_taken number (λ message more. Some (with_channel side more w))
+    (channel_from side w)
+after table (Event.Expires side name id) w = option_map (λ e. with_end side e w)
+    (result_ok (expire table (end_at side w) name id))
+after table (Event.Closes side name) w = option_map (λ e. with_end side e w)
+    (result_ok (close table (end_at side w) name))
 after table Event.Quiet w = after_quiet w
 
 -- the world behind a run
@@ -90,22 +117,23 @@ Runs table events w = played table events empty ≡ Some w
 abbrev pub Adds : World → Event → List Item → Type 0
 Adds w (Sends side message) items = items ≡ Sent side message ∷ []
 Adds w (Replies side number) items =
-    (head : OnItsWay) × (more : List OnItsWay) × (abort : Message) × (channel_from (other side) w ≡ head ∷ more) × (head.number ≡ number)
-    × (provider_abort head.message ≡ Some abort) × (items ≡ Sent side abort ∷ [])
-Adds w Quiet items = items ≡ Mark ∷ []
+    (head : OnItsWay) × (more : List OnItsWay) × (abort : Message) × (channel_from (other side) w ≡ head ∷ more)
+    × (head.number ≡ number)
+    × (abort_for head.message ≡ Some abort) × (items ≡ Sent side abort ∷ [])
+Adds w Quiet items = items ≡ Item.Quiet ∷ []
 Adds w _ items = items ≡ []
 
 -- the number of the message that an event takes from an end's channel, if it takes one
-abbrev pub taken : Side → Event → List ℕ
-taken side (Delivers sender number) = cond (is_side side sender) (number ∷ []) []
-taken side (Replies replier number) = cond (is_side side (other replier)) (number ∷ []) []
-taken side (Loses sender number) = cond (is_side side sender) (number ∷ []) []
-taken side _ = []
+abbrev pub takes_from : Side → Event → List ℕ
+takes_from side (Receives receiver number) = cond (is_side side (other receiver)) (number ∷ []) []
+takes_from side (Replies replier number) = cond (is_side side (other replier)) (number ∷ []) []
+takes_from side (Loses sender number) = cond (is_side side sender) (number ∷ []) []
+takes_from side _ = []
 
 -- the numbers of the messages that were taken from it, one after the other
-abbrev pub taken_from : Side → List Event → List ℕ
-taken_from side [] = []
-taken_from side (event ∷ events) = taken side event ++ taken_from side events
+abbrev pub numbers_taken : Side → List Event → List ℕ
+numbers_taken side [] = []
+numbers_taken side (event ∷ events) = takes_from side event ++ numbers_taken side events
 
 abbrev pub numbers_of : List OnItsWay → List ℕ
 numbers_of messages = map (λ m. m.number) messages
@@ -115,7 +143,7 @@ abbrev pub numbers_sent : Side → ℕ → List Item → List ℕ
 numbers_sent side n [] = []
 numbers_sent side n (Sent sender message ∷ items) =
     cond (is_side side sender) (n ∷ numbers_sent side (n + 1) items) (numbers_sent side (n + 1) items)
-numbers_sent side n (Mark ∷ items) = numbers_sent side (n + 1) items
+numbers_sent side n (Item.Quiet ∷ items) = numbers_sent side (n + 1) items
 
 -- A run that sends these items, in this order, and nothing else.
 abbrev pub IsRunOf : List Item → Table → List Event → Type 0

@@ -7,14 +7,13 @@ use Rattle.tcap_parts.specs.declared.component.Component.TheVariants.{Invoke, Re
 use Rattle.tcap_parts.specs.declared.dialogue.Dialogue.{Dialogue}
 use Rattle.tcap_parts.specs.declared.dialogue.Dialogue.TheVariants.{Request, Response}
 use Rattle.tcap_parts.specs.declared.dialogue.Source.TheVariants.{User}
-use Rattle.tcap_msg.specs.declared.message.AbortReason.TheVariants.{Cause}
 use Rattle.tcap_msg.specs.declared.message.Message.{Message}
-use Rattle.tcap_msg.specs.declared.message.Message.TheVariants.{Unidirectional, Begin, Continue, End as EndMessage, Abort}
+use Rattle.tcap_msg.specs.declared.message.Message.TheVariants.{Unidirectional, Begin, Continue, End as EndMessage}
 use Rattle.tcap_record.specs.declared.entry.End.TheVariants.{A, B}
 use Rattle.tcap_end.specs.declared.half.HalfName.TheVariants.{Own, Peer}
 use Rattle.tcap_end.specs.Table.{Table, Operation}
-use Rattle.tcap_check.specs.World.{Item, Sent, Mark}
-use Rattle.tcap_check.specs.Run.{Event, Sends, Delivers, Replies, Loses, Expires, Closes, Quiet, IsRunOf}
+use Rattle.tcap_check.specs.World.{Item, Sent}
+use Rattle.tcap_check.specs.Run.{Event, Sends, Receives, Replies, Loses, Expires, Closes, Quiet, IsRunOf, provider_abort}
 use Rattle.tcap_check.specs.Certificate.{Certificate, Fate, Gap, Lost, By}
 use Rattle.tcap_check.specs.Follows.{Follows}
 
@@ -72,9 +71,6 @@ further component = Continue (id 1) (id 2) None (Some (component ∷ []))
 abbrev pub end_to : ℕ → Option (List Component) → Message
 end_to octet components = EndMessage (id octet) None components
 
-abbrev pub provider_abort : ℕ → ℕ → Message
-provider_abort octet cause = Abort (id octet) (Some (Cause cause))
-
 -- ---- runs
 
 -- A run of two ends, and a certificate for the items that it sends.
@@ -102,7 +98,7 @@ abbrev pub two_entries : Worked
 two_entries = record {
   items = Sent A (begin None (Some (invoke 45 ∷ []))) ∷ Sent B (end_to 1 (Some (result ∷ []))) ∷ [];
   certificate = by_fates (Gap 1 ∷ Gap 2 ∷ []);
-  events = Sends A (begin None (Some (invoke 45 ∷ []))) ∷ Delivers A 0 ∷ Sends B (end_to 1 (Some (result ∷ []))) ∷ Delivers B 1 ∷ [];
+  events = Sends A (begin None (Some (invoke 45 ∷ []))) ∷ Receives B 0 ∷ Sends B (end_to 1 (Some (result ∷ []))) ∷ Receives A 1 ∷ [];
 }
 
 abbrev request : Option Dialogue
@@ -116,17 +112,18 @@ abbrev pub three_entries : Worked
 three_entries = record {
   items = Sent A (begin request (Some (invoke 45 ∷ []))) ∷ Sent B (answer accepting (Some (result ∷ []))) ∷ Sent A (end_to 2 None) ∷ [];
   certificate = by_fates (Gap 1 ∷ Gap 2 ∷ Gap 3 ∷ []);
-  events = Sends A (begin request (Some (invoke 45 ∷ []))) ∷ Delivers A 0 ∷ Sends B (answer accepting (Some (result ∷ []))) ∷ Delivers B 1
-      ∷ Sends A (end_to 2 None) ∷ Delivers A 2 ∷ [];
+  events = Sends A (begin request (Some (invoke 45 ∷ []))) ∷ Receives B 0 ∷ Sends B (answer accepting (Some (result ∷ []))) ∷ Receives A 1
+      ∷ Sends A (end_to 2 None) ∷ Receives B 2 ∷ [];
 }
 
 -- A's End and B's Continue cross: A's provider answers the Continue by an Abort with cause 1.
 abbrev pub crossing : Worked
 crossing = record {
-  items = Sent A (begin None None) ∷ Sent B (answer None None) ∷ Sent A (end_to 2 None) ∷ Sent B (answer None None) ∷ Sent A (provider_abort 2 1) ∷ [];
+  items = Sent A (begin None None) ∷ Sent B (answer None None) ∷ Sent A (end_to 2 None) ∷ Sent B (answer None None)
+      ∷ Sent A (provider_abort (id 2) 1) ∷ [];
   certificate = by_fates (Gap 1 ∷ Gap 2 ∷ Gap 4 ∷ By 4 ∷ Gap 5 ∷ []);
-  events = Sends A (begin None None) ∷ Delivers A 0 ∷ Sends B (answer None None) ∷ Delivers B 1 ∷ Sends A (end_to 2 None)
-      ∷ Sends B (answer None None) ∷ Delivers A 2 ∷ Replies A 3 ∷ Delivers A 4 ∷ [];
+  events = Sends A (begin None None) ∷ Receives B 0 ∷ Sends B (answer None None) ∷ Receives A 1 ∷ Sends A (end_to 2 None)
+      ∷ Sends B (answer None None) ∷ Receives B 2 ∷ Replies A 3 ∷ Receives B 4 ∷ [];
 }
 
 -- A's invocation ends by its timer before the result comes, so A rejects the result.
@@ -135,8 +132,8 @@ late_reject = record {
   items = Sent A (begin None (Some (invoke 45 ∷ []))) ∷ Sent B (answer None (Some (result ∷ [])))
       ∷ Sent A (end_to 2 (Some (rejects_result 0 ∷ []))) ∷ [];
   certificate = record (by_fates (Gap 1 ∷ Gap 2 ∷ Gap 3 ∷ [])) { expire = record { gap = 2; side = A; entry = 0; component = 0 } ∷ [] };
-  events = Sends A (begin None (Some (invoke 45 ∷ []))) ∷ Delivers A 0 ∷ Sends B (answer None (Some (result ∷ [])))
-      ∷ Expires A (Own (id 1)) (pos 1) ∷ Delivers B 1 ∷ Sends A (end_to 2 (Some (rejects_result 0 ∷ []))) ∷ Delivers A 2 ∷ [];
+  events = Sends A (begin None (Some (invoke 45 ∷ []))) ∷ Receives B 0 ∷ Sends B (answer None (Some (result ∷ [])))
+      ∷ Expires A (Own (id 1)) (pos 1) ∷ Receives A 1 ∷ Sends A (end_to 2 (Some (rejects_result 0 ∷ []))) ∷ Receives B 2 ∷ [];
 }
 
 -- B's result comes late: A's invocation has ended, its ID was used again, for an operation that reports no success, and A rejects the result.
@@ -145,25 +142,25 @@ delayed = record {
   items = Sent A (begin None (Some (invoke 45 ∷ []))) ∷ Sent B (answer None None) ∷ Sent B (answer None (Some (result ∷ [])))
       ∷ Sent A (further (invoke 46)) ∷ Sent A (further (rejects_result 1)) ∷ [];
   certificate = by_fates (Gap 1 ∷ Gap 2 ∷ Gap 4 ∷ Gap 4 ∷ Gap 5 ∷ []);
-  events = Sends A (begin None (Some (invoke 45 ∷ []))) ∷ Delivers A 0 ∷ Sends B (answer None None) ∷ Delivers B 1
-      ∷ Sends B (answer None (Some (result ∷ []))) ∷ Expires A (Own (id 1)) (pos 1) ∷ Sends A (further (invoke 46)) ∷ Delivers B 2
-      ∷ Delivers A 3 ∷ Sends A (further (rejects_result 1)) ∷ Delivers A 4 ∷ [];
+  events = Sends A (begin None (Some (invoke 45 ∷ []))) ∷ Receives B 0 ∷ Sends B (answer None None) ∷ Receives A 1
+      ∷ Sends B (answer None (Some (result ∷ []))) ∷ Expires A (Own (id 1)) (pos 1) ∷ Sends A (further (invoke 46)) ∷ Receives A 2
+      ∷ Receives B 3 ∷ Sends A (further (rejects_result 1)) ∷ Receives B 4 ∷ [];
 }
 
 -- A's half closes unseen: its provider answers B's Continue by an Abort with cause 1.
 abbrev pub closed_half : Worked
 closed_half = record {
-  items = Sent A (begin None None) ∷ Sent B (answer None None) ∷ Sent A (provider_abort 2 1) ∷ [];
+  items = Sent A (begin None None) ∷ Sent B (answer None None) ∷ Sent A (provider_abort (id 2) 1) ∷ [];
   certificate = record (by_fates (Gap 1 ∷ By 2 ∷ Gap 3 ∷ [])) { close = record { gap = 2; side = A; entry = 0 } ∷ [] };
-  events = Sends A (begin None None) ∷ Delivers A 0 ∷ Sends B (answer None None) ∷ Closes A (Own (id 1)) ∷ Replies A 1 ∷ Delivers A 2 ∷ [];
+  events = Sends A (begin None None) ∷ Receives B 0 ∷ Sends B (answer None None) ∷ Closes A (Own (id 1)) ∷ Replies A 1 ∷ Receives B 2 ∷ [];
 }
 
 -- B's provider answers A's Begin by an Abort with cause 4.
 abbrev pub refused_begin : Worked
 refused_begin = record {
-  items = Sent A (begin None (Some (invoke 45 ∷ []))) ∷ Sent B (provider_abort 1 4) ∷ [];
+  items = Sent A (begin None (Some (invoke 45 ∷ []))) ∷ Sent B (provider_abort (id 1) 4) ∷ [];
   certificate = by_fates (By 1 ∷ Gap 2 ∷ []);
-  events = Sends A (begin None (Some (invoke 45 ∷ []))) ∷ Replies B 0 ∷ Delivers B 1 ∷ [];
+  events = Sends A (begin None (Some (invoke 45 ∷ []))) ∷ Replies B 0 ∷ Receives A 1 ∷ [];
 }
 
 abbrev pub lost_begin : Worked
@@ -176,22 +173,22 @@ lost_begin = record {
 -- Behind a quiet mark a transaction ID is used again, as A's own and as B's peer's.
 abbrev pub over_a_mark : Worked
 over_a_mark = record {
-  items = Sent A (begin None (Some (invoke 45 ∷ []))) ∷ Sent B (end_to 1 (Some (result ∷ []))) ∷ Mark
+  items = Sent A (begin None (Some (invoke 45 ∷ []))) ∷ Sent B (end_to 1 (Some (result ∷ []))) ∷ Item.Quiet
       ∷ Sent A (begin None (Some (invoke 45 ∷ []))) ∷ Sent B (end_to 1 (Some (result ∷ []))) ∷ [];
   certificate = by_fates (Gap 1 ∷ Gap 2 ∷ Gap 3 ∷ Gap 4 ∷ Gap 5 ∷ []);
-  events = Sends A (begin None (Some (invoke 45 ∷ []))) ∷ Delivers A 0 ∷ Sends B (end_to 1 (Some (result ∷ []))) ∷ Delivers B 1 ∷ Quiet
-      ∷ Sends A (begin None (Some (invoke 45 ∷ []))) ∷ Delivers A 3 ∷ Sends B (end_to 1 (Some (result ∷ []))) ∷ Delivers B 4 ∷ [];
+  events = Sends A (begin None (Some (invoke 45 ∷ []))) ∷ Receives B 0 ∷ Sends B (end_to 1 (Some (result ∷ []))) ∷ Receives A 1 ∷ Quiet
+      ∷ Sends A (begin None (Some (invoke 45 ∷ []))) ∷ Receives B 3 ∷ Sends B (end_to 1 (Some (result ∷ []))) ∷ Receives A 4 ∷ [];
 }
 
 -- Behind it both are, A's own and B's.
 abbrev pub both_again : Worked
 both_again = record {
-  items = Sent A (begin None None) ∷ Sent B (answer None None) ∷ Sent A (end_to 2 None) ∷ Mark
+  items = Sent A (begin None None) ∷ Sent B (answer None None) ∷ Sent A (end_to 2 None) ∷ Item.Quiet
       ∷ Sent A (begin None None) ∷ Sent B (answer None None) ∷ Sent A (end_to 2 None) ∷ [];
   certificate = by_fates (Gap 1 ∷ Gap 2 ∷ Gap 3 ∷ Gap 4 ∷ Gap 5 ∷ Gap 6 ∷ Gap 7 ∷ []);
-  events = Sends A (begin None None) ∷ Delivers A 0 ∷ Sends B (answer None None) ∷ Delivers B 1 ∷ Sends A (end_to 2 None) ∷ Delivers A 2
-      ∷ Quiet ∷ Sends A (begin None None) ∷ Delivers A 4 ∷ Sends B (answer None None) ∷ Delivers B 5 ∷ Sends A (end_to 2 None)
-      ∷ Delivers A 6 ∷ [];
+  events = Sends A (begin None None) ∷ Receives B 0 ∷ Sends B (answer None None) ∷ Receives A 1 ∷ Sends A (end_to 2 None) ∷ Receives B 2
+      ∷ Quiet ∷ Sends A (begin None None) ∷ Receives B 4 ∷ Sends B (answer None None) ∷ Receives A 5 ∷ Sends A (end_to 2 None)
+      ∷ Receives B 6 ∷ [];
 }
 
 -- Two messages are on their way, and both come.
@@ -199,7 +196,7 @@ abbrev pub in_a_row : Worked
 in_a_row = record {
   items = Sent A (begin None None) ∷ Sent A (Begin (id 3) None None) ∷ [];
   certificate = by_fates (Gap 2 ∷ Gap 2 ∷ []);
-  events = Sends A (begin None None) ∷ Sends A (Begin (id 3) None None) ∷ Delivers A 0 ∷ Delivers A 1 ∷ [];
+  events = Sends A (begin None None) ∷ Sends A (Begin (id 3) None None) ∷ Receives B 0 ∷ Receives B 1 ∷ [];
 }
 
 -- B's End invokes an ID again: an expiry in the half with that peer is implied.
@@ -207,17 +204,17 @@ abbrev pub end_implies : Worked
 end_implies = record {
   items = Sent A (begin None None) ∷ Sent B (answer None (Some (invoke 45 ∷ []))) ∷ Sent B (end_to 1 (Some (invoke 45 ∷ []))) ∷ [];
   certificate = by_fates (Gap 1 ∷ Gap 2 ∷ Gap 3 ∷ []);
-  events = Sends A (begin None None) ∷ Delivers A 0 ∷ Sends B (answer None (Some (invoke 45 ∷ []))) ∷ Delivers B 1
-      ∷ Expires B (Peer (id 1)) (pos 1) ∷ Sends B (end_to 1 (Some (invoke 45 ∷ []))) ∷ Delivers B 2 ∷ [];
+  events = Sends A (begin None None) ∷ Receives B 0 ∷ Sends B (answer None (Some (invoke 45 ∷ []))) ∷ Receives A 1
+      ∷ Expires B (Peer (id 1)) (pos 1) ∷ Sends B (end_to 1 (Some (invoke 45 ∷ []))) ∷ Receives A 2 ∷ [];
 }
 
 -- Both ends close by prearrangement, A's half by its own ID, B's by its peer's. A Unidirectional is sent between.
 abbrev pub both_close : Worked
 both_close = record {
-  items = Sent A (begin None None) ∷ Sent B (answer None None) ∷ Sent B (Unidirectional None (invoke 48 ∷ [])) ∷ Mark ∷ [];
+  items = Sent A (begin None None) ∷ Sent B (answer None None) ∷ Sent B (Unidirectional None (invoke 48 ∷ [])) ∷ Item.Quiet ∷ [];
   certificate = record (by_fates (Gap 1 ∷ Gap 2 ∷ Gap 3 ∷ Gap 4 ∷ [])) {
     close = record { gap = 3; side = A; entry = 0 } ∷ record { gap = 3; side = B; entry = 0 } ∷ [];
   };
-  events = Sends A (begin None None) ∷ Delivers A 0 ∷ Sends B (answer None None) ∷ Delivers B 1
-      ∷ Sends B (Unidirectional None (invoke 48 ∷ [])) ∷ Closes A (Own (id 1)) ∷ Closes B (Peer (id 1)) ∷ Delivers B 2 ∷ Quiet ∷ [];
+  events = Sends A (begin None None) ∷ Receives B 0 ∷ Sends B (answer None None) ∷ Receives A 1
+      ∷ Sends B (Unidirectional None (invoke 48 ∷ [])) ∷ Closes A (Own (id 1)) ∷ Closes B (Peer (id 1)) ∷ Receives A 2 ∷ Quiet ∷ [];
 }

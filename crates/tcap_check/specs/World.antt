@@ -8,14 +8,15 @@ use Rattle.tcap_end.specs.End.{End, nothing}
 -- What a record lists: a message that an end sent, or a quiet mark.
 pub data Item : Type 0 where
   Sent : Side → Message → Item
-  Mark : Item
+  Quiet : Item
 
 -- A message on its way, with its number in the sent list, counted from 0.
 pub record OnItsWay : Type 0 where
   pub number : ℕ
   pub message : Message
 
--- Both ends; what is on its way from each to the other, from the oldest on; and what was sent so far, with the quiet marks.
+-- Both ends; what is on its way from each to the other, from the oldest on; and what was sent so far, with the quiet
+-- marks.
 pub record World : Type 0 where
   pub a : End
   pub b : End

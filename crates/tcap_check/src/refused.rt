@@ -1,5 +1,5 @@
-//! Worked refusals: events that are no step behind a run, and runs that a certificate does not describe. Each function says by its
-//! contract alone what holds of the definitions.
+//! Worked refusals: events that are no step behind a run, and runs that a certificate does not describe. Each function
+//! says by its contract alone what holds of the definitions.
 
 ghost use Rattle.tcap_check.specs.Refused as refused;
 ghost use Rattle.tcap_check.specs.Refused.{IsNotDescribed};

@@ -1,5 +1,5 @@
-//! Worked replays: the run that a certificate gives for a record, or why it gives none. Each function says by its contract alone what
-//! holds of the definitions.
+//! Worked replays: the run that a certificate gives for a record, or why it gives none. Each function says by its
+//! contract alone what holds of the definitions.
 
 ghost use Rattle.tcap_check.specs.Worked as worked;
 ghost use Rattle.tcap_check.specs.Replays as replays;

@@ -1,5 +1,5 @@
-//! Worked runs of two ends, each with the certificate that describes it. Each function says by its contract alone what holds of the
-//! definitions.
+//! Worked runs of two ends, each with the certificate that describes it. Each function says by its contract alone what
+//! holds of the definitions.
 
 ghost use Rattle.tcap_check.specs.Worked as worked;
 ghost use Rattle.tcap_check.specs.Certificate.{IsPrompt};

@@ -15,10 +15,10 @@ use Rattle.tcap_end.specs.declared.halves.Place.{Place}
 use Rattle.tcap_end.specs.declared.halves.Place.TheVariants.{Open, Closed}
 use Rattle.tcap_end.specs.Table.{octets_cmp}
 use Rattle.tcap_end.specs.Half.{Half}
-use Rattle.tcap_end.specs.HalfState.{half_of}
+use Rattle.tcap_end.specs.HalfState.{half_of, other_id}
 use Rattle.tcap_end.specs.End.{End, put}
 use Rattle.tcap_end.specs.Sound.{Has, Rises, halves_of}
-use Rattle.tcap_end.specs.Halves.{Indexes, IsAt, IsHeld, IsNew, IsOpen, end_of, half_at, half_in, halves_at, other_id, places_of, spot}
+use Rattle.tcap_end.specs.Halves.{Indexes, IsAt, IsHeld, IsNew, IsOpen, end_of, half_at, half_in, halves_at, kept_half, places_of}
 use Rattle.tcap_end.proofs.MapLaws.{found_inserted, found_other, kept_at, rises_inserted}
 use Rattle.tcap_end.proofs.FoundLaws.{octets_total}
 use Rattle.tcap_end.proofs.FindLaws.{half_there, has_there}
@@ -67,7 +67,7 @@ halves_inserted slab slot key place (e ∷ es) = by (octets_cmp key e.0) refl (h
     by Greater is rest = ap (λ hs. (e.0, half_at slab slot e.0 e.1) ∷ hs) rest
 
 -- A half that is had has a place.
-had_at : (s : Halves) (slot : Slot) (key : List ℕ) (h : Half) → Has (end_of s) (spot slot key h)
+had_at : (s : Halves) (slot : Slot) (key : List ℕ) (h : Half) → Has (end_of s) (kept_half slot key h)
     → (p : Place) × IsAt slot key p s × (half_at s.slab slot key p ≡ h)
 had_at s slot key h had = by (kept_at octets_cmp (places_of slot s) key) refl (sym (half_there s slot key) ∙ had)
   where
@@ -95,8 +95,8 @@ open_stays s next slot key k stays state = (state.0, stays k state.0 state.1, st
 pub record Same (s next : Halves) : Type 0 where
   pub slab : Stays s.slab next.slab
   pub places : (slot : Slot) → places_of slot next ≡ places_of slot s
-  pub chosen : next.chosen.entries ≡ s.chosen.entries
-  pub learned : next.learned.entries ≡ s.learned.entries
+  pub by_own : next.by_own.entries ≡ s.by_own.entries
+  pub by_peer : next.by_peer.entries ≡ s.by_peer.entries
 
 module _ {s next : Halves} (held : IsHeld s) (c : Same s next) where
   halves_are : (slot : Slot) → halves_of slot (end_of next) ≡ halves_of slot (end_of s)
@@ -114,8 +114,8 @@ module _ {s next : Halves} (held : IsHeld s) (c : Same s next) where
     places = λ slot key k there.
         let was = subst (λ (es : List (List ℕ × Place)). kept_at octets_cmp es key ≡ Some (Open k)) (c.places slot) there in
         open_stays s next slot key k c.slab (held.places slot key k was);
-    chosen = index (λ h. h.own) s.chosen.entries next.chosen.entries Accepted c.chosen held.chosen;
-    learned = index (λ h. h.peer) s.learned.entries next.learned.entries Begun c.learned held.learned;
+    by_own = index (λ h. h.own) s.by_own.entries next.by_own.entries Accepted c.by_own held.by_own;
+    by_peer = index (λ h. h.peer) s.by_peer.entries next.by_peer.entries Begun c.by_peer held.by_peer;
   }
     where
       rises : (slot : Slot) → Rises octets_cmp (places_of slot next)
@@ -135,8 +135,8 @@ pub record Adds (key : List ℕ) (m : ℕ) (h : HalfState) (s next : Halves) : T
   pub under : get next.slab m ≡ Some h
   pub here : places_of h.slot next ≡ insert_entry octets_cmp (places_of h.slot s) key (Open m)
   pub there : (other : Slot) → other ≢ h.slot → places_of other next ≡ places_of other s
-  pub chosen : next.chosen.entries ≡ s.chosen.entries
-  pub learned : next.learned.entries ≡ s.learned.entries
+  pub by_own : next.by_own.entries ≡ s.by_own.entries
+  pub by_peer : next.by_peer.entries ≡ s.by_peer.entries
 
 module _ {s next : Halves} {key : List ℕ} {m : ℕ} {h : HalfState} (held : IsHeld s) (new : IsNew key h s) (c : Adds key m h s next) where
   halves_here : halves_of h.slot (end_of next) ≡ insert_entry octets_cmp (halves_of h.slot (end_of s)) key (half_of h)
@@ -186,17 +186,17 @@ module _ {s next : Halves} {key : List ℕ} {m : ℕ} {h : HalfState} (held : Is
       by (inr apart) = subst (λ (es : List (List ℕ × Place)). kept_at octets_cmp es q ≡ Some p) (sym (c.there other apart)) found
 
   -- A half that is had is the new one, or was had.
-  had_was : (other : Slot) (q : List ℕ) (g : Half) → Has (end_of next) (spot other q g)
-      → (IsAdded other q × (g ≡ half_of h)) ⊎ Has (end_of s) (spot other q g)
+  had_was : (other : Slot) (q : List ℕ) (g : Half) → Has (end_of next) (kept_half other q g)
+      → (IsAdded other q × (g ≡ half_of h)) ⊎ Has (end_of s) (kept_half other q g)
   had_was other q g had = let at = had_at next other q g had in by at.0 at.2 (place_was other q at.0 at.1)
     where
       by : (p : Place) → half_at next.slab other q p ≡ g → (IsAdded other q × (p ≡ Open m)) ⊎ IsAt other q p s
-          → (IsAdded other q × (g ≡ half_of h)) ⊎ Has (end_of s) (spot other q g)
+          → (IsAdded other q × (g ≡ half_of h)) ⊎ Has (end_of s) (kept_half other q g)
       by p half (inl now) = inl (now.0, sym half ∙ ap (half_at next.slab other q) now.1 ∙ ap half_in c.under)
       by p half (inr was) = inr (has_there s other q p was ∙ ap Some (sym (half_stays held next.slab c.slab other q p was) ∙ half))
 
   -- A half that was had is.
-  had_is : (other : Slot) (q : List ℕ) (g : Half) → Has (end_of s) (spot other q g) → Has (end_of next) (spot other q g)
+  had_is : (other : Slot) (q : List ℕ) (g : Half) → Has (end_of s) (kept_half other q g) → Has (end_of next) (kept_half other q g)
   had_is other q g had =
       let at = had_at s other q g had in
       has_there next other q at.0 (place_is other q at.0 at.1)
@@ -208,8 +208,8 @@ module _ {s next : Halves} {key : List ℕ} {m : ℕ} {h : HalfState} (held : Is
     begun = rises Begun;
     accepted = rises Accepted;
     places = λ other q k found. open_at other q k (place_was other q (Open k) found);
-    chosen = index (λ g. g.own) s.chosen.entries next.chosen.entries Accepted (alone Accepted) c.chosen held.chosen;
-    learned = index (λ g. g.peer) s.learned.entries next.learned.entries Begun (alone Begun) c.learned held.learned;
+    by_own = index (λ g. g.own) s.by_own.entries next.by_own.entries Accepted (alone Accepted) c.by_own held.by_own;
+    by_peer = index (λ g. g.peer) s.by_peer.entries next.by_peer.entries Begun (alone Begun) c.by_peer held.by_peer;
   }
     where
       rises : (slot : Slot) → Rises octets_cmp (places_of slot next)
@@ -248,8 +248,8 @@ module _ {s next : Halves} {key : List ℕ} {m : ℕ} {h : HalfState} (held : Is
             ((serves id q).1 (before_it now.0 now.2 (had_was at q now.0 now.1))),
       )
         where
-          before_it : (g : Half) → of g ≡ Some id → (IsAdded at q × (g ≡ half_of h)) ⊎ Has (end_of s) (spot at q g)
-              → (g : Half) × Has (end_of s) (spot at q g) × (of g ≡ Some id)
+          before_it : (g : Half) → of g ≡ Some id → (IsAdded at q × (g ≡ half_of h)) ⊎ Has (end_of s) (kept_half at q g)
+              → (g : Half) × Has (end_of s) (kept_half at q g) × (of g ≡ Some id)
           before_it g its (inl new_one) = let bad = sym its ∙ ap of new_one.1 ∙ none new_one.0.0 in cc
           before_it g its (inr was) = (g, was, its)
 
@@ -257,12 +257,12 @@ module _ {s next : Halves} {key : List ℕ} {m : ℕ} {h : HalfState} (held : Is
 
 -- The slab's room grew, and it took no half.
 pub grown : (s : Halves) (t : Slab HalfState) (n : ℕ) → t ≡ record s.slab { capacity = n } → Same s (record s { slab = t })
-grown s t n is = record { slab = stays_grown s.slab t n is; places = over_slab s t; chosen = refl; learned = refl }
+grown s t n is = record { slab = stays_grown s.slab t n is; places = over_slab s t; by_own = refl; by_peer = refl }
 
 module _ (s next : Halves) (t : Slab HalfState) (key : List ℕ) (m : ℕ) (h : HalfState)
     (free : get s.slab m ≡ None) (taken : Updates s.slab t m (Some h))
     (begun : h.slot ≢ Begun → next.begun ≡ s.begun) (accepted : h.slot ≢ Accepted → next.accepted ≡ s.accepted)
-    (others : (next.slab ≡ t) × (next.chosen ≡ s.chosen) × (next.learned ≡ s.learned)) where
+    (others : (next.slab ≡ t) × (next.by_own ≡ s.by_own) × (next.by_peer ≡ s.by_peer)) where
   -- It took the half, and the place was put.
   pub adds : places_of h.slot next ≡ insert_entry octets_cmp (places_of h.slot (record s { slab = t })) key (Open m) → Adds key m h s next
   adds put = record {
@@ -270,8 +270,8 @@ module _ (s next : Halves) (t : Slab HalfState) (key : List ℕ) (m : ℕ) (h : 
     under = ap (λ (x : Slab HalfState). get x m) others.0 ∙ taken.changed;
     here = put ∙ ap (λ es. insert_entry octets_cmp es key (Open m)) (over_slab s t h.slot);
     there = elsewhere s next h.slot begun accepted;
-    chosen = ap (λ (index : BTreeMap (List ℕ) (List ℕ)). index.entries) others.1;
-    learned = ap (λ (index : BTreeMap (List ℕ) (List ℕ)). index.entries) others.2;
+    by_own = ap (λ (index : BTreeMap (List ℕ) (List ℕ)). index.entries) others.1;
+    by_peer = ap (λ (index : BTreeMap (List ℕ) (List ℕ)). index.entries) others.2;
   }
 
   -- The place was not put, and the number was freed.
@@ -280,8 +280,8 @@ module _ (s next : Halves) (t : Slab HalfState) (key : List ℕ) (m : ℕ) (h : 
   freed u free_again kept = record {
     slab = stays_freed s.slab m free t u (Some h) taken (subst (λ (x : Slab HalfState). Updates x u m None) others.0 free_again);
     places = places h.slot begun accepted (kept ∙ over_slab s t h.slot);
-    chosen = ap (λ (index : BTreeMap (List ℕ) (List ℕ)). index.entries) others.1;
-    learned = ap (λ (index : BTreeMap (List ℕ) (List ℕ)). index.entries) others.2;
+    by_own = ap (λ (index : BTreeMap (List ℕ) (List ℕ)). index.entries) others.1;
+    by_peer = ap (λ (index : BTreeMap (List ℕ) (List ℕ)). index.entries) others.2;
   }
     where
       places : (slot : Slot) → (slot ≢ Begun → next.begun ≡ s.begun) → (slot ≢ Accepted → next.accepted ≡ s.accepted)

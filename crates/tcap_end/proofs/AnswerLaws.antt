@@ -1,5 +1,5 @@
 -- An open half goes on under its number and gets an ID, from which an index leads on to it: all is kept as it should be.
-use Rattle.std.proofs.Common.{◌≡◌, ◌≢◌, ℕ, true, false, cond, List, [], ◌∷◌, Option, Some, None, Result, Ok, Err, OnOk, OnErr, ◌⊎◌, inl, inr, refl, sym, ap, subst, ◌∙◌}
+use Rattle.std.proofs.Common.{◌≡◌, ◌≢◌, ℕ, false, cond, List, [], ◌∷◌, Option, Some, None, Result, Ok, Err, OnOk, ◌⊎◌, inl, inr, refl, sym, ap, subst, ◌∙◌}
 use Rattle.std.specs.declared.cmp.Ordering.{Ordering}
 use Rattle.std.specs.declared.cmp.Ordering.TheVariants.{Less, Equal, Greater}
 use Rattle.std.specs.Result.{is_err}
@@ -9,34 +9,38 @@ use Rattle.std.specs.Ordering.{is_eq, match_ordering}
 use Rattle.std.proofs.lemmas.Bool.{cases_eq}
 use Rattle.std.proofs.lemmas.Cmp.{tied_itself}
 use Rattle.std.proofs.lemmas.Map.Lookups.{exact_bytes}
-use Rattle.slab.specs.Slab.{Updates, get, with_value}
+use Rattle.slab.specs.Slab.{Slab, Updates, get, with_value}
 use Rattle.slab.proofs.SlabLemmas.{Updates-with_value}
+use Rattle.tcap_parts.specs.declared.component.Component.{Component}
 use Rattle.tcap_end.specs.declared.half.Slot.{Slot}
 use Rattle.tcap_end.specs.declared.half.Slot.TheVariants.{Begun, Accepted}
+use Rattle.tcap_end.specs.declared.half_components.Way.{Way}
+use Rattle.tcap_end.specs.declared.half_components.Way.TheVariants.{Out, In}
 use Rattle.tcap_end.specs.declared.half_state.HalfState.{HalfState}
 use Rattle.tcap_end.specs.declared.halves.Halves.{Halves}
 use Rattle.tcap_end.specs.declared.halves.Place.{Place}
 use Rattle.tcap_end.specs.declared.halves.Place.TheVariants.{Open}
-use Rattle.tcap_end.specs.Table.{octets_cmp}
+use Rattle.tcap_end.specs.Table.{Table, octets_cmp}
 use Rattle.tcap_end.specs.Half.{Half, is_closed}
-use Rattle.tcap_end.specs.HalfState.{half_of}
-use Rattle.tcap_end.specs.Message.{answered, learned}
-use Rattle.tcap_end.specs.End.{End, Found, put}
+use Rattle.tcap_end.specs.HalfState.{half_of, other_id}
+use Rattle.tcap_end.specs.Message.{active_half, receive_components}
+use Rattle.tcap_end.specs.Ways.{components_by}
+use Rattle.tcap_end.specs.End.{End, KeptHalf, put}
 use Rattle.tcap_end.specs.Sound.{Has, IsKept, halves_of}
-use Rattle.tcap_end.specs.Halves.{Indexes, IsAt, IsHeld, IsOpen, end_of, other_id, places_of, spot}
+use Rattle.tcap_end.specs.Halves.{AllPlaced, Indexes, IsAt, IsHeld, IsOpen, end_of, index_of, kept_half, places_of}
 use Rattle.tcap_end.proofs.MapLaws.{found_inserted, found_new, found_other, kept_at}
 use Rattle.tcap_end.proofs.FoundLaws.{octets_total}
-use Rattle.tcap_end.proofs.HalfLaws.{Follows, follows_self}
-use Rattle.tcap_end.proofs.PlacedLaws.{has_open, indexes_put, kept_by, one_place, slots_eq}
-use Rattle.tcap_end.proofs.ChangeLaws.{end_on, going_on, held_on}
+use Rattle.tcap_end.proofs.HalfLaws.{Follows}
+use Rattle.tcap_end.proofs.AnsweringLaws.{ok_same}
+use Rattle.tcap_end.proofs.ComponentLaws.{all_receives, all_sends}
+use Rattle.tcap_end.proofs.WayLaws.{receives_in, sends_out}
+use Rattle.tcap_end.proofs.PlacedLaws.{entries_are, has_open, indexes_put, kept_by, one_place, over_slab, slots_eq}
+use Rattle.tcap_end.proofs.ChangeLaws.{end_on, going_on}
+use Rattle.tcap_end.proofs.AllPlacedLaws.{placed_same}
 
 -- ---- results and entries
 
 -- what holds on the result's side
-pub on_err : {T E P : Type 0} (r : Result T E) → is_err r ≡ true → OnErr r P → P
-on_err (Ok _) is holds = cc
-on_err (Err _) is holds = holds
-
 pub on_ok : {T E P : Type 0} (r : Result T E) → is_err r ≡ false → OnOk r P → P
 on_ok (Ok _) is holds = holds
 on_ok (Err _) is holds = cc
@@ -62,12 +66,12 @@ taken_out k v (e ∷ es) none = by (octets_cmp k e.0) refl none (taken_out k v e
 
 -- It leads on from no ID that no half has.
 pub not_led : (of : Half → Option (List ℕ)) (index : List (List ℕ × List ℕ)) (e : End) (slot : Slot) (id : List ℕ)
-    → ((f : Found) → Has e f → of f.half ≢ Some id) → Indexes index slot of e → kept_at octets_cmp index id ≡ None
+    → ((f : KeptHalf) → Has e f → of f.half ≢ Some id) → Indexes index slot of e → kept_at octets_cmp index id ≡ None
 not_led of index e slot id unused serves = by (kept_at octets_cmp index id) refl
   where
     by : (o : Option (List ℕ)) → kept_at octets_cmp index id ≡ o → kept_at octets_cmp index id ≡ None
     by None is = is
-    by (Some key) is = let it = (serves id key).0 is in absurd (unused (spot slot key it.0) it.1 it.2)
+    by (Some key) is = let it = (serves id key).0 is in absurd (unused (kept_half slot key it.0) it.1 it.2)
 
 put_here : (e : End) (slot : Slot) (key : List ℕ) (g : Half)
     → halves_of slot (put e slot key g) ≡ insert_entry octets_cmp (halves_of slot e) key g
@@ -75,33 +79,33 @@ put_here e Begun key g = refl
 put_here e Accepted key g = refl
 
 module _ (of : Half → Option (List ℕ)) (index : List (List ℕ × List ℕ)) (e : End) (slot : Slot) (key id : List ℕ) (h g : Half)
-    (had : Has e (spot slot key h)) (unknown : of h ≡ None) (gained : of g ≡ Some id)
-    (unused : (f : Found) → Has e f → of f.half ≢ Some id) (serves : Indexes index slot of e) where
+    (had : Has e (kept_half slot key h)) (unknown : of h ≡ None) (gained : of g ≡ Some id)
+    (unused : (f : KeptHalf) → Has e f → of f.half ≢ Some id) (serves : Indexes index slot of e) where
   -- A half with that ID is kept there.
   abbrev Leads : List ℕ → List ℕ → Type 0
-  Leads q p = (x : Half) × Has (put e slot key g) (spot slot p x) × (of x ≡ Some q)
+  Leads q p = (x : Half) × Has (put e slot key g) (kept_half slot p x) × (of x ≡ Some q)
 
-  stays : (q p : List ℕ) (x : Half) → Has e (spot slot p x) → of x ≡ Some q → Has (put e slot key g) (spot slot p x)
+  stays : (q p : List ℕ) (x : Half) → Has e (kept_half slot p x) → of x ≡ Some q → Has (put e slot key g) (kept_half slot p x)
   stays q p x there its =
       subst (λ (hs : List (List ℕ × Half)). kept_at octets_cmp hs p ≡ Some x) (sym (put_here e slot key g))
       (found_other octets_total exact_bytes p key g x (halves_of slot e) apart there)
     where
       apart : p ≢ key
       apart is =
-          let same = subst (λ (y : List ℕ). Has e (spot slot y x)) is there in
+          let same = subst (λ (y : List ℕ). Has e (kept_half slot y x)) is there in
           let halves : x ≡ h = cc in
           let bad = sym its ∙ ap of halves ∙ unknown in cc
 
   leads : (q p : List ℕ) → kept_at octets_cmp (insert_entry octets_cmp index id key) q ≡ Some p → Leads q p
   leads q p found = by (found_inserted octets_total exact_bytes q id key p index found)
     where
-      here : Has (put e slot key g) (spot slot key g)
+      here : Has (put e slot key g) (kept_half slot key g)
       here = subst (λ (hs : List (List ℕ × Half)). kept_at octets_cmp hs key ≡ Some g) (sym (put_here e slot key g))
           (found_new octets_total key g (halves_of slot e))
 
       by : ((q ≡ id) × (p ≡ key)) ⊎ (kept_at octets_cmp index q ≡ Some p) → Leads q p
       by (inl new) =
-          (g, subst (λ (y : List ℕ). Has (put e slot key g) (spot slot y g)) (sym new.1) here, gained ∙ ap Some (sym new.0))
+          (g, subst (λ (y : List ℕ). Has (put e slot key g) (kept_half slot y g)) (sym new.1) here, gained ∙ ap Some (sym new.0))
       by (inr was) = let it = (serves q p).0 was in (it.0, stays q p it.0 it.1 it.2, it.2)
 
   led : (q p : List ℕ) → Leads q p → kept_at octets_cmp (insert_entry octets_cmp index id key) q ≡ Some p
@@ -117,63 +121,116 @@ module _ (of : Half → Option (List ℕ)) (index : List (List ℕ × List ℕ))
           subst (λ (y : List ℕ). kept_at octets_cmp (insert_entry octets_cmp index id key) y ≡ Some p) (sym ids)
           (found_new octets_total id key index ∙ ap Some (sym new.0))
       by (inr was) =
-          found_other octets_total exact_bytes q id key p index (λ is. unused (spot slot p there.0) was (there.2 ∙ ap Some is))
+          found_other octets_total exact_bytes q id key p index (λ is. unused (kept_half slot p there.0) was (there.2 ∙ ap Some is))
           ((serves q p).1 (there.0, was, there.2))
 
   -- With an entry for the ID it serves where the half is put that gained it.
-  pub index_gains : Indexes (insert_entry octets_cmp index id key) slot of (put e slot key g)
+  index_gains : Indexes (insert_entry octets_cmp index id key) slot of (put e slot key g)
   index_gains q p = (leads q p, led q p)
 
--- ---- halves with other indexes
+-- ---- components
 
-abbrev pub indexed : Halves → BTreeMap (List ℕ) (List ℕ) → BTreeMap (List ℕ) (List ℕ) → Halves
-indexed s chosen learned = record s { chosen = chosen; learned = learned }
+-- Components that go one way leave the phase, the IDs and the dialogue.
+pub steps_follow : (way : Way) (table : Table) (components : List Component) (h g : Half) → components_by way table h components ≡ Ok g
+    → Follows h g
+steps_follow Out table components h g made = (all_sends table components h g (sym (sends_out table h components) ∙ made)).follows
+steps_follow In table components h g made =
+    let same = ok_same (receive_components table h components) g (sym (receives_in table h components) ∙ made) in
+    subst (λ (x : Half). Follows h x) same (all_receives table components h).follows
 
--- the index of the halves in a slot
-abbrev pub index_of : Slot → Halves → List (List ℕ × List ℕ)
-index_of Begun s = s.learned.entries
-index_of Accepted s = s.chosen.entries
+-- ---- halves with another index
 
-serves_of : (s : Halves) (slot : Slot) → IsHeld s → Indexes (index_of slot s) slot (λ h. other_id slot h) (end_of s)
-serves_of s Begun held = held.learned
-serves_of s Accepted held = held.chosen
+pub over_index : (s : Halves) (slab : Slab HalfState) (slot : Slot) → index_of slot (record s { slab = slab }) ≡ index_of slot s
+over_index s slab Begun = refl
+over_index s slab Accepted = refl
 
-placed : (s t : Halves) → t.begun ≡ s.begun → t.accepted ≡ s.accepted → (slot : Slot) → places_of slot t ≡ places_of slot s
-placed s t begun accepted Begun = ap (λ m. m.entries) begun
-placed s t begun accepted Accepted = ap (λ m. m.entries) accepted
+pub serves_of : (s : Halves) (slot : Slot) → IsHeld s → Indexes (index_of slot s) slot (λ h. other_id slot h) (end_of s)
+serves_of s Begun held = held.by_peer
+serves_of s Accepted held = held.by_own
 
--- The places are the same.
-pub at_before : (s : Halves) (chosen learned : BTreeMap (List ℕ) (List ℕ)) (slot : Slot) (key : List ℕ) (place : Place)
-    → IsAt slot key place (indexed s chosen learned) → IsAt slot key place s
-at_before s chosen learned slot key place is =
-    subst (λ (es : List (List ℕ × Place)). kept_at octets_cmp es key ≡ Some place) (placed s (indexed s chosen learned) refl refl slot) is
+-- The halves are the same, but that this is the index of those in a slot.
+pub record Reindexed (slot : Slot) (index : List (List ℕ × List ℕ)) (s t : Halves) : Type 0 where
+  pub halves : (t.slab ≡ s.slab) × (t.begun ≡ s.begun) × (t.accepted ≡ s.accepted)
+  pub here : index_of slot t ≡ index
+  pub there : (at : Slot) → at ≢ slot → index_of at t ≡ index_of at s
 
--- Indexes with the same entries serve.
-pub held_indexed : (s : Halves) (chosen learned : BTreeMap (List ℕ) (List ℕ)) → IsHeld s
-    → chosen.entries ≡ s.chosen.entries → learned.entries ≡ s.learned.entries → IsHeld (indexed s chosen learned)
-held_indexed s chosen learned held same_chosen same_learned = record {
-  begun = held.begun;
-  accepted = held.accepted;
-  places = λ slot key j is. held.places slot key j (at_before s chosen learned slot key (Open j) is);
-  chosen = subst (λ (es : List (List ℕ × List ℕ)). Indexes es Accepted (λ h. h.own) (end_of s)) (sym same_chosen) held.chosen;
-  learned = subst (λ (es : List (List ℕ × List ℕ)). Indexes es Begun (λ h. h.peer) (end_of s)) (sym same_learned) held.learned;
+pub reindexed : (s t : Halves) (slot : Slot) (index : List (List ℕ × List ℕ)) → index_of slot t ≡ index
+    → (slot ≢ Accepted → t.by_own ≡ s.by_own) → (slot ≢ Begun → t.by_peer ≡ s.by_peer)
+    → (t.slab ≡ s.slab) × (t.begun ≡ s.begun) × (t.accepted ≡ s.accepted) → Reindexed slot index s t
+reindexed s t slot index here by_own by_peer halves = record { halves = halves; here = here; there = there }
+  where
+    there : (at : Slot) → at ≢ slot → index_of at t ≡ index_of at s
+    there Begun apart = ap (λ (m : BTreeMap (List ℕ) (List ℕ)). m.entries) (by_peer (λ is. apart (sym is)))
+    there Accepted apart = ap (λ (m : BTreeMap (List ℕ) (List ℕ)). m.entries) (by_own (λ is. apart (sym is)))
+
+-- another index behind that one
+pub reindexed_then : {s t u : Halves} {slot : Slot} {index after : List (List ℕ × List ℕ)} → Reindexed slot index s t
+    → Reindexed slot after t u → Reindexed slot after s u
+reindexed_then r next = record {
+  halves = (next.halves.0 ∙ r.halves.0, next.halves.1 ∙ r.halves.1, next.halves.2 ∙ r.halves.2);
+  here = next.here;
+  there = λ at apart. next.there at apart ∙ r.there at apart;
 }
 
--- So they do where the half under a number is as it was.
-pub held_back : (s : Halves) (slot : Slot) (key : List ℕ) (k : ℕ) (h g : HalfState) (chosen learned : BTreeMap (List ℕ) (List ℕ))
-    → IsHeld s → IsAt slot key (Open k) s → get s.slab k ≡ Some h → g.slot ≡ h.slot → half_of g ≡ half_of h
-    → chosen.entries ≡ s.chosen.entries → learned.entries ≡ s.learned.entries → IsHeld (indexed (going_on s k g) chosen learned)
-held_back s slot key k h g chosen learned held is was slots same =
-    held_indexed (going_on s k g) chosen learned
-    (held_on s slot key k h held is was g slots (subst (λ (x : Half). Follows (half_of h) x) (sym same) (follows_self (half_of h))))
+module _ {slot : Slot} {index : List (List ℕ × List ℕ)} {s t : Halves} (r : Reindexed slot index s t) where
+  pub same_end : end_of t ≡ end_of s
+  same_end = rw (r.halves.0, r.halves.1, r.halves.2) refl
+
+  same_places : (at : Slot) → places_of at t ≡ places_of at s
+  same_places Begun = entries_are r.halves.1
+  same_places Accepted = entries_are r.halves.2
+
+  pub at_before : (at : Slot) (key : List ℕ) (place : Place) → IsAt at key place t → IsAt at key place s
+  at_before at key place is = subst (λ (es : List (List ℕ × Place)). kept_at octets_cmp es key ≡ Some place) (same_places at) is
+
+  pub under_before : (k : ℕ) (h : HalfState) → get t.slab k ≡ Some h → get s.slab k ≡ Some h
+  under_before k h under = ap (λ slab. get slab k) (sym r.halves.0) ∙ under
+
+  -- Every number leads from a place still.
+  pub placed_too : AllPlaced s → AllPlaced t
+  placed_too = placed_same s t same_places (λ k h taken. (h, under_before k h taken, refl))
+
+  -- So it is where a half goes on.
+  pub reindexed_on : (k : ℕ) (g : HalfState) → Reindexed slot index (going_on s k g) (going_on t k g)
+  reindexed_on k g = record {
+    halves = (ap (λ slab. with_value slab k g) r.halves.0, r.halves.1, r.halves.2);
+    here = over_index t (with_value t.slab k g) slot ∙ r.here;
+    there = λ at apart.
+        over_index t (with_value t.slab k g) at ∙ r.there at apart ∙ sym (over_index s (with_value s.slab k g) at);
+  }
+
+  -- With the entries that the index had, all is kept as it should be.
+  pub held_too : IsHeld s → index ≡ index_of slot s → IsHeld t
+  held_too held same = record {
+    begun = rw r.halves.1 held.begun;
+    accepted = rw r.halves.2 held.accepted;
+    places = λ at key j is.
+        let old = held.places at key j (at_before at key (Open j) is) in
+        (old.0, ap (λ slab. get slab j) r.halves.0 ∙ old.1, old.2, old.3, old.4);
+    by_own = serves Accepted;
+    by_peer = serves Begun;
+  }
+    where
+      entries : (at : Slot) → (at ≡ slot) ⊎ (at ≢ slot) → index_of at t ≡ index_of at s
+      entries at (inl is) = subst (λ (x : Slot). index_of x t ≡ index_of x s) (sym is) (r.here ∙ same)
+      entries at (inr apart) = r.there at apart
+
+      serves : (at : Slot) → Indexes (index_of at t) at (λ h. other_id at h) (end_of t)
+      serves at = rw (entries at (slots_eq at slot), same_end) (serves_of s at held)
 
 -- ---- an open half gets an ID
 
 -- It is open, kept by the ID that it was kept by, and has the other one.
-pub record Gains (slot : Slot) (id : List ℕ) (h g : Half) : Type 0 where
-  pub open_half : is_closed g.phase ≡ false
-  pub kept : (key : List ℕ) → IsKept slot key h → IsKept slot key g
-  pub gained : other_id slot g ≡ Some id
+record Gains (slot : Slot) (id : List ℕ) (h g : Half) : Type 0 where
+  open_half : is_closed g.phase ≡ false
+  kept : (key : List ℕ) → IsKept slot key h → IsKept slot key g
+  gained : other_id slot g ≡ Some id
+
+active_gains : (slot : Slot) (id : List ℕ) (h g : Half) → Follows (active_half slot id h) g → Gains slot id h g
+active_gains Begun id h g follows =
+    record { open_half = ap is_closed follows.phase; kept = λ q by_own. follows.own ∙ by_own; gained = follows.peer }
+active_gains Accepted id h g follows =
+    record { open_half = ap is_closed follows.phase; kept = λ q by_peer. follows.peer ∙ by_peer; gained = follows.own }
 
 -- The ID that a half is kept by is the other one of the other slot.
 kept_id : (at slot : Slot) (key : List ℕ) (h g : Half) → at ≢ slot → IsKept slot key h → IsKept slot key g → other_id at g ≡ other_id at h
@@ -182,22 +239,29 @@ kept_id Begun Accepted key h g apart kept too = too ∙ sym kept
 kept_id Accepted Begun key h g apart kept too = too ∙ sym kept
 kept_id Accepted Accepted key h g apart kept too = absurd (apart refl)
 
-module _ (s : Halves) (slot : Slot) (key id : List ℕ) (k : ℕ) (h g : HalfState) (chosen learned : BTreeMap (List ℕ) (List ℕ))
-    (held : IsHeld s) (is : IsAt slot key (Open k) s) (was : get s.slab k ≡ Some h)
-    (slots : g.slot ≡ h.slot) (gains : Gains slot id (half_of h) (half_of g)) where
-  abbrev next : Halves
-  next = indexed (going_on s k g) chosen learned
+-- An open half is in the slot that it is kept in.
+pub slot_of : (s : Halves) (slot : Slot) (key : List ℕ) (k : ℕ) (h : HalfState) → IsHeld s → IsAt slot key (Open k) s
+    → get s.slab k ≡ Some h → h.slot ≡ slot
+slot_of s slot key k h held is was = by (held.places slot key k is)
+  where
+    by : IsOpen slot key k s → h.slot ≡ slot
+    by there = let same : there.0 ≡ h = cc in ap (λ (x : HalfState). x.slot) (sym same) ∙ there.2
 
-  updates : Updates s.slab (with_value s.slab k g) k (Some g)
-  updates = Updates-with_value s.slab k g (rw was refl)
+module _ (s next : Halves) (slot : Slot) (key id : List ℕ) (k : ℕ) (h g : HalfState)
+    (held : IsHeld s) (is : IsAt slot key (Open k) s) (was : get s.slab k ≡ Some h)
+    (slots : g.slot ≡ h.slot) (follows : Follows (active_half slot id (half_of h)) (half_of g))
+    (r : Reindexed slot (insert_entry octets_cmp (index_of slot s) id key) (going_on s k g) next) where
+  gains : Gains slot id (half_of h) (half_of g)
+  gains = active_gains slot id (half_of h) (half_of g) follows
+
+  updates : Updates s.slab next.slab k (Some g)
+  updates = rw r.halves.0 (Updates-with_value s.slab k g (rw was refl))
 
   by_key : IsKept slot key (half_of h)
   by_key = kept_by s slot key k h held is was
 
-  here : IsOpen slot key k s → IsOpen slot key k next
-  here there =
-      let same : there.0 ≡ h = cc in
-      (g, updates.changed, slots ∙ ap (λ (x : HalfState). x.slot) (sym same) ∙ there.2, gains.open_half, gains.kept key by_key)
+  here : IsOpen slot key k next
+  here = (g, updates.changed, slots ∙ slot_of s slot key k h held is was, gains.open_half, gains.kept key by_key)
 
   open_at : (other : Slot) (q : List ℕ) (j : ℕ) → IsAt other q (Open j) s → IsOpen other q j next
   open_at other q j there = by (cases_eq j k)
@@ -207,75 +271,35 @@ module _ (s : Halves) (slot : Slot) (key id : List ℕ) (k : ℕ) (h g : HalfSta
           let one = one_place s slot other key q k held is (subst (λ (n : ℕ). IsAt other q (Open n) s) j_is there) in
           subst (λ (x : Slot). IsOpen x q j next) (sym one.0)
           (subst (λ (x : List ℕ). IsOpen slot x j next) (sym one.1)
-          (subst (λ (n : ℕ). IsOpen slot key n next) (sym j_is) (here (held.places slot key k is))))
+          (subst (λ (n : ℕ). IsOpen slot key n next) (sym j_is) here))
       by (inr apart) = let old = held.places other q j there in (old.0, updates.others j apart ∙ old.1, old.2, old.3, old.4)
 
   -- All is kept as it should be where the index has an entry for the ID, which no half had.
-  pub held_gains : ((x : Half) → Has (end_of s) (spot slot key x) → other_id slot x ≡ None)
-      → ((f : Found) → Has (end_of s) f → other_id slot f.half ≢ Some id)
-      → index_of slot next ≡ insert_entry octets_cmp (index_of slot s) id key
-      → ((other : Slot) → other ≢ slot → index_of other next ≡ index_of other s) → IsHeld next
-  held_gains unknown unused index_is others = record {
-    begun = held.begun;
-    accepted = held.accepted;
+  pub held_gains : ((x : Half) → Has (end_of s) (kept_half slot key x) → other_id slot x ≡ None)
+      → ((f : KeptHalf) → Has (end_of s) f → other_id slot f.half ≢ Some id) → IsHeld next
+  held_gains unknown unused = record {
+    begun = rw r.halves.1 held.begun;
+    accepted = rw r.halves.2 held.accepted;
     places = λ other q j found. open_at other q j
-        (subst (λ (es : List (List ℕ × Place)). kept_at octets_cmp es q ≡ Some (Open j)) (placed s next refl refl other) found);
-    chosen = index Accepted;
-    learned = index Begun;
+        (subst (λ (es : List (List ℕ × Place)). kept_at octets_cmp es q ≡ Some (Open j))
+        (same_places r other ∙ over_slab s (with_value s.slab k g) other) found);
+    by_own = serves Accepted (slots_eq Accepted slot);
+    by_peer = serves Begun (slots_eq Begun slot);
   }
     where
-      had : Has (end_of s) (spot slot key (half_of h))
+      had : Has (end_of s) (kept_half slot key (half_of h))
       had = has_open s slot key k h is was
 
-      Serves : Slot → List (List ℕ × List ℕ) → Type 0
-      Serves at es = Indexes es at (λ (x : Half). other_id at x) (put (end_of s) slot key (half_of g))
+      next_is : end_of next ≡ put (end_of s) slot key (half_of g)
+      next_is = same_end r ∙ end_on s slot key k h held is was g
 
-      serves : (at : Slot) → (at ≡ slot) ⊎ (at ≢ slot) → Serves at (index_of at next)
+      serves : (at : Slot) → (at ≡ slot) ⊎ (at ≢ slot) → Indexes (index_of at next) at (λ x. other_id at x) (end_of next)
       serves at (inl same) =
-          let new = index_gains (λ (x : Half). other_id slot x) (index_of slot s) (end_of s) slot key id (half_of h) (half_of g)
-          had (unknown (half_of h) had) gains.gained unused (serves_of s slot held) in
-          subst (λ (x : Slot). Serves x (index_of x next)) (sym same)
-          (subst (λ (es : List (List ℕ × List ℕ)). Serves slot es) (sym index_is) new)
+          subst (λ (x : Slot). Indexes (index_of x next) x (λ y. other_id x y) (end_of next)) (sym same)
+          (rw (r.here, next_is)
+          (index_gains (λ (x : Half). other_id slot x) (index_of slot s) (end_of s) slot key id (half_of h) (half_of g)
+          had (unknown (half_of h) had) gains.gained unused (serves_of s slot held)))
       serves at (inr apart) =
-          subst (λ (es : List (List ℕ × List ℕ)). Serves at es) (sym (others at apart))
+          rw (r.there at apart ∙ over_index s (with_value s.slab k g) at, next_is)
           (indexes_put (λ (x : Half). other_id at x) (index_of at s) (end_of s) slot at key (half_of h) (half_of g) had
           (kept_id at slot key (half_of h) (half_of g) apart by_key (gains.kept key by_key)) (serves_of s at held))
-
-      index : (at : Slot) → Indexes (index_of at next) at (λ (x : Half). other_id at x) (end_of next)
-      index at =
-          subst (λ (e : End). Indexes (index_of at next) at (λ (x : Half). other_id at x) e)
-          (sym (end_on s slot key k h held is was g)) (serves at (slots_eq at slot))
-
--- one that began by receiving, and chose an own ID
-pub held_answered : (s : Halves) (slot : Slot) (key id : List ℕ) (k : ℕ) (h g : HalfState) (chosen : BTreeMap (List ℕ) (List ℕ))
-    → slot ≡ Accepted → IsHeld s → IsAt slot key (Open k) s → get s.slab k ≡ Some h → g.slot ≡ h.slot
-    → Follows (answered id (half_of h)) (half_of g)
-    → ((x : Half) → Has (end_of s) (spot slot key x) → x.own ≡ None) → ((f : Found) → Has (end_of s) f → f.half.own ≢ Some id)
-    → chosen.entries ≡ insert_entry octets_cmp s.chosen.entries id key → IsHeld (indexed (going_on s k g) chosen s.learned)
-held_answered s Begun key id k h g chosen slot_is held is was slots follows unknown unused entries = cc
-held_answered s Accepted key id k h g chosen slot_is held is was slots follows unknown unused entries =
-    held_gains s Accepted key id k h g chosen s.learned held is was slots gains unknown unused entries others
-  where
-    gains : Gains Accepted id (half_of h) (half_of g)
-    gains = record { open_half = ap is_closed follows.phase; kept = λ q by_peer. follows.peer ∙ by_peer; gained = follows.own }
-
-    others : (other : Slot) → other ≢ Accepted → index_of other (indexed (going_on s k g) chosen s.learned) ≡ index_of other s
-    others Begun apart = refl
-    others Accepted apart = absurd (apart refl)
-
--- one that began by sending, and learned its peer's
-pub held_learned : (s : Halves) (slot : Slot) (key id : List ℕ) (k : ℕ) (h g : HalfState) (index : BTreeMap (List ℕ) (List ℕ))
-    → slot ≡ Begun → IsHeld s → IsAt slot key (Open k) s → get s.slab k ≡ Some h → g.slot ≡ h.slot
-    → Follows (learned id (half_of h)) (half_of g)
-    → ((x : Half) → Has (end_of s) (spot slot key x) → x.peer ≡ None) → ((f : Found) → Has (end_of s) f → f.half.peer ≢ Some id)
-    → index.entries ≡ insert_entry octets_cmp s.learned.entries id key → IsHeld (indexed (going_on s k g) s.chosen index)
-held_learned s Begun key id k h g index slot_is held is was slots follows unknown unused entries =
-    held_gains s Begun key id k h g s.chosen index held is was slots gains unknown unused entries others
-  where
-    gains : Gains Begun id (half_of h) (half_of g)
-    gains = record { open_half = ap is_closed follows.phase; kept = λ q by_own. follows.own ∙ by_own; gained = follows.peer }
-
-    others : (other : Slot) → other ≢ Begun → index_of other (indexed (going_on s k g) s.chosen index) ≡ index_of other s
-    others Begun apart = absurd (apart refl)
-    others Accepted apart = refl
-held_learned s Accepted key id k h g index slot_is held is was slots follows unknown unused entries = cc

@@ -8,15 +8,15 @@ use Rattle.std.specs.Map.{lookup}
 use Rattle.std.specs.BTreeMap.{insert_entry, is_at}
 use Rattle.std.proofs.lemmas.Option.{none-some}
 use Rattle.std.proofs.Math.Seq.{take-append_seam}
-use Rattle.tcap_end.specs.Half.{added, listed, listed_by, taken, with_listed, without_oldest}
+use Rattle.tcap_end.specs.Half.{listed, listed_by, one_fits, with_listed, with_newest, without_oldest, without_oldest_of}
 use Rattle.tcap_end.specs.declared.lists.Lists.{Lists}
 use Rattle.tcap_end.specs.Lists.{HasList, keep, kept_lists, one_less, put_at, taken_at}
 use Rattle.tcap_end.specs.Places.{place_of}
 use Rattle.tcap_parts.specs.declared.code.Code.{Code}
-use Rattle.tcap_end.specs.declared.half.Mark.TheVariants as marks
-use Rattle.tcap_end.specs.declared.outs.Invoked.{Invoked}
+use Rattle.tcap_end.specs.declared.half.InvocationState.TheVariants as states
+use Rattle.tcap_end.specs.declared.outs.OwnInvocation.{OwnInvocation}
 use Rattle.tcap_end.specs.declared.outs.Outs.{Outs}
-use Rattle.tcap_end.specs.Outs.{HasPlace, kept_outs, marked, with_mark, with_out}
+use Rattle.tcap_end.specs.Outs.{HasPlace, kept_outs, in_state, with_state, with_out}
 use Rattle.tcap_end.proofs.KeepLaws.{given_back, given_twice, listed_keep, listed_with, remove_absent}
 use Rattle.tcap_end.proofs.MapLaws.{found_new, insert_again, insert_twice, rises_inserted}
 use Rattle.tcap_end.proofs.OutLaws.{puts, stands}
@@ -50,15 +50,11 @@ place_some {A} fits (item ∷ items) at e = by (fits item) (place_of fits items)
     by false (Some n) e rest = let there = rest n refl in
         rw (sym (ap (λ o. unwrap_or o 0) e)) (there.0, omega (arith, there.1), ap (λ more. item ∷ more) there.2)
 
--- What is taken of an ID's list is the item at that place.
+-- The oldest of an ID's list that fits is the item at that place.
 pub taken_some : {A : Type 0} (id : ℤ) (fits : A → Bool) (m : List (ℤ × List A)) (at : ℕ) → place_of fits (listed id m) ≡ Some at
-    → taken id fits m ≡ Some (taken_at id at m)
-taken_some id fits m at e = let there = place_some fits (listed id m) at e in rw (there.0, there.2) refl
-
--- Nothing is taken of it.
-pub taken_none : {A : Type 0} (id : ℤ) (fits : A → Bool) (m : List (ℤ × List A)) → place_of fits (listed id m) ≡ None
-    → taken id fits m ≡ None
-taken_none id fits m e = rw (place_none fits (listed id m) e) refl
+    → (one_fits id fits m ≡ true) × (at < length (listed id m)) × (without_oldest_of id fits m ≡ taken_at id at m)
+taken_some id fits m at e =
+    let there = place_some fits (listed id m) at e in (there.0, there.1, ap (λ items. with_listed id items m) there.2)
 
 -- ---- lists and places that are there
 
@@ -71,12 +67,12 @@ has_list {A} id l at within = by (lookup (is_at (int_cmp id)) l.lists.entries) (
     by (Some items) e = refl
 
 -- An ID of an invocation has a place.
-pub has_place : (id : ℤ) (o : Outs) (i : Invoked) → lookup (is_at (int_cmp id)) (kept_outs o) ≡ Some i → HasPlace id o
+pub has_place : (id : ℤ) (o : Outs) (i : OwnInvocation) → lookup (is_at (int_cmp id)) (kept_outs o) ≡ Some i → HasPlace id o
 has_place id o i there =
     by (lookup (is_at (int_cmp id)) o.places.entries)
     (stands id o.places.entries (lookup (is_at (int_cmp id)) o.places.entries) o.ordered refl)
   where
-    by : (found : Option (Option Invoked)) → lookup (is_at (int_cmp id)) (kept_outs o) ≡ option_and_then (λ place. place) found
+    by : (found : Option (Option OwnInvocation)) → lookup (is_at (int_cmp id)) (kept_outs o) ≡ option_and_then (λ place. place) found
         → IsSome found
     by None e = absurd (none-some i (sym e ∙ there))
     by (Some place) e = refl
@@ -103,7 +99,7 @@ put_again {A} id at l within =
     ∙ given_back id l
 
 -- The newest item is taken away again.
-pub less_again : {A : Type 0} (id : ℤ) (item : A) (l : Lists A) → one_less id (added id item (kept_lists l)) ≡ kept_lists l
+pub less_again : {A : Type 0} (id : ℤ) (item : A) (l : Lists A) → one_less id (with_newest id item (kept_lists l)) ≡ kept_lists l
 less_again {A} id item l =
     let items : List A = listed id (kept_lists l) in
     let more : List A = items ++ item ∷ [] in
@@ -119,45 +115,45 @@ less_again {A} id item l =
 -- ---- own invocations that change in turn
 
 -- Of two changes of an invocation the second counts.
-pub out_twice : (id : ℤ) (a b : Option Invoked) (o : Outs) → with_out id b (with_out id a (kept_outs o)) ≡ with_out id b (kept_outs o)
+pub out_twice : (id : ℤ) (a b : Option OwnInvocation) (o : Outs) → with_out id b (with_out id a (kept_outs o)) ≡ with_out id b (kept_outs o)
 out_twice id a b o =
-    let es : List (ℤ × Option Invoked) = o.places.entries in
+    let es : List (ℤ × Option OwnInvocation) = o.places.entries in
     ap (with_out id b) (sym (puts id a es o.ordered))
     ∙ sym (puts id b (insert_entry int_cmp es id a) (rises_inserted int_cmp_total es id a o.ordered))
     ∙ ap (keep (λ place. place)) (insert_twice int_cmp_total id a b es)
     ∙ puts id b es o.ordered
 
 -- what stands under an ID that was changed
-pub out_there : (id : ℤ) (x : Option Invoked) (o : Outs) → lookup (is_at (int_cmp id)) (with_out id x (kept_outs o)) ≡ x
+pub out_there : (id : ℤ) (x : Option OwnInvocation) (o : Outs) → lookup (is_at (int_cmp id)) (with_out id x (kept_outs o)) ≡ x
 out_there id x o =
-    let es : List (ℤ × Option Invoked) = o.places.entries in
+    let es : List (ℤ × Option OwnInvocation) = o.places.entries in
     ap (lookup (is_at (int_cmp id))) (sym (puts id x es o.ordered))
     ∙ stands id (insert_entry int_cmp es id x) (Some x) (rises_inserted int_cmp_total es id x o.ordered) (found_new int_cmp_total id x es)
 
 -- What stood there is put there again.
-pub out_again : (id : ℤ) (x : Option Invoked) (o : Outs)
+pub out_again : (id : ℤ) (x : Option OwnInvocation) (o : Outs)
     → with_out id (lookup (is_at (int_cmp id)) (kept_outs o)) (with_out id x (kept_outs o)) ≡ kept_outs o
 out_again id x o =
     out_twice id x (lookup (is_at (int_cmp id)) (kept_outs o)) o
     ∙ by (lookup (is_at (int_cmp id)) o.places.entries) refl
     (stands id o.places.entries (lookup (is_at (int_cmp id)) o.places.entries) o.ordered refl)
   where
-    by : (found : Option (Option Invoked)) → lookup (is_at (int_cmp id)) o.places.entries ≡ found
+    by : (found : Option (Option OwnInvocation)) → lookup (is_at (int_cmp id)) o.places.entries ≡ found
         → lookup (is_at (int_cmp id)) (kept_outs o) ≡ option_and_then (λ place. place) found
         → with_out id (lookup (is_at (int_cmp id)) (kept_outs o)) (kept_outs o) ≡ kept_outs o
     by None is e = rw e (remove_absent id (kept_outs o) e)
     by (Some None) is e = rw e (remove_absent id (kept_outs o) e)
-    by (Some (Some invoked)) is e =
-        rw e (sym (puts id (Some invoked) o.places.entries o.ordered)
-        ∙ ap (keep (λ place. place)) (insert_again int_cmp_total id (Some invoked) o.places.entries o.ordered is))
+    by (Some (Some own_invocation)) is e =
+        rw e (sym (puts id (Some own_invocation) o.places.entries o.ordered)
+        ∙ ap (keep (λ place. place)) (insert_again int_cmp_total id (Some own_invocation) o.places.entries o.ordered is))
 
 -- An invocation that was sent waits, and is as one that was sent again.
-pub mark_again : (id : ℤ) (code : Code) (o : Outs)
-    → lookup (is_at (int_cmp id)) (kept_outs o) ≡ Some (record { code = code; mark = marks.Sent })
-    → with_mark id marks.Sent (with_mark id marks.Wait (kept_outs o)) ≡ kept_outs o
-mark_again id code o there =
-    let waits : Option Invoked = marked marks.Wait (lookup (is_at (int_cmp id)) (kept_outs o)) in
-    ap (λ now. with_out id (marked marks.Sent now) (with_out id waits (kept_outs o))) (out_there id waits o)
+pub state_again : (id : ℤ) (code : Code) (o : Outs)
+    → lookup (is_at (int_cmp id)) (kept_outs o) ≡ Some (record { code = code; state = states.OperationSent })
+    → with_state id states.OperationSent (with_state id states.WaitForReject (kept_outs o)) ≡ kept_outs o
+state_again id code o there =
+    let waits : Option OwnInvocation = in_state states.WaitForReject (lookup (is_at (int_cmp id)) (kept_outs o)) in
+    ap (λ now. with_out id (in_state states.OperationSent now) (with_out id waits (kept_outs o))) (out_there id waits o)
     ∙ ap (λ now. with_out id now (with_out id waits (kept_outs o)))
-    (ap (λ was. marked marks.Sent (marked marks.Wait was)) there ∙ sym there)
+    (ap (λ was. in_state states.OperationSent (in_state states.WaitForReject was)) there ∙ sym there)
     ∙ out_again id waits o

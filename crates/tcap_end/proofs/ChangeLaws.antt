@@ -1,10 +1,11 @@
 -- What is under a number changes, and the place that leads to it: what the end is then, and that it is kept as an end is.
-use Rattle.std.proofs.Common.{◌≡◌, ◌≢◌, ℕ, false, List, Option, Some, None, ◌⊎◌, inl, inr, refl, sym, ap, subst, ◌∙◌}
+use Rattle.std.proofs.Common.{◌≡◌, ◌≢◌, ℕ, false, List, Option, Some, None, Result, Ok, Err, ◌⊎◌, inl, inr, refl, sym, ap, subst, ◌∙◌}
 use Rattle.std.specs.BTreeMap.{BTreeMap, insert_entry}
 use Rattle.std.proofs.lemmas.Bool.{cases_eq}
 use Rattle.std.proofs.lemmas.Map.Lookups.{exact_bytes}
 use Rattle.slab.specs.Slab.{Slab, Updates, get, with_value}
 use Rattle.slab.proofs.SlabLemmas.{Updates-with_value}
+use Rattle.tcap_end.specs.declared.fault.EndFault.{EndFault}
 use Rattle.tcap_end.specs.declared.half.Phase.TheVariants as phases
 use Rattle.tcap_end.specs.declared.half.Standing.TheVariants as standings
 use Rattle.tcap_end.specs.declared.half.Slot.{Slot}
@@ -13,12 +14,13 @@ use Rattle.tcap_end.specs.declared.half_state.HalfState.{HalfState}
 use Rattle.tcap_end.specs.declared.halves.Halves.{Halves}
 use Rattle.tcap_end.specs.declared.halves.Place.{Place}
 use Rattle.tcap_end.specs.declared.halves.Place.TheVariants.{Open, Closed}
+use Rattle.tcap_end.specs.Step.{AnswersInMemory, ◌>>=◌}
 use Rattle.tcap_end.specs.Table.{octets_cmp}
 use Rattle.tcap_end.specs.Half.{Half, closed_half, fresh, is_closed}
 use Rattle.tcap_end.specs.HalfState.{half_of}
 use Rattle.tcap_end.specs.End.{End, put}
 use Rattle.tcap_end.specs.Sound.{Has, IsKept, Rises, halves_of}
-use Rattle.tcap_end.specs.Halves.{Becomes, Indexes, IsAt, IsHeld, IsOpen, closed_at, end_of, half_at, half_in, halves_at, places_of, spot}
+use Rattle.tcap_end.specs.Halves.{AnswersOver, Becomes, Indexes, IsAt, IsHeld, IsOpen, closed_at, end_of, half_at, half_in, halves_at, places_of, kept_half}
 use Rattle.tcap_end.proofs.MapLaws.{found_inserted, found_new, insert_again, keys_eq, kept_at, rises_inserted}
 use Rattle.tcap_end.proofs.FoundLaws.{octets_total}
 use Rattle.tcap_end.proofs.HalfLaws.{Follows}
@@ -31,8 +33,8 @@ pub record Changes (slot : Slot) (key : List ℕ) (k : ℕ) (place : Place) (und
   pub slab : Updates s.slab next.slab k under
   pub here : places_of slot next ≡ insert_entry octets_cmp (places_of slot s) key place
   pub there : (other : Slot) → other ≢ slot → places_of other next ≡ places_of other s
-  pub chosen : next.chosen.entries ≡ s.chosen.entries
-  pub learned : next.learned.entries ≡ s.learned.entries
+  pub by_own : next.by_own.entries ≡ s.by_own.entries
+  pub by_peer : next.by_peer.entries ≡ s.by_peer.entries
 
 -- A place that leads elsewhere keeps its half.
 half_stays : (s t : Slab HalfState) (k : ℕ) (under : Option HalfState) (slot : Slot) (q : List ℕ) (p : Place)
@@ -112,15 +114,15 @@ module _ {s next : Halves} {slot : Slot} {key : List ℕ} {k : ℕ} {place : Pla
           )
 
   -- Where the new place has the IDs of the half that was there, and leads to an open half if to any, all is kept as it should be.
-  pub held_changed : (h : Half) → Has (end_of s) (spot slot key h)
+  pub held_changed : (h : Half) → Has (end_of s) (kept_half slot key h)
       → (half_at next.slab slot key place).own ≡ h.own → (half_at next.slab slot key place).peer ≡ h.peer
       → ((j : ℕ) → place ≡ Open j → IsOpen slot key j next) → IsHeld next
   held_changed h had own peer opens = record {
     begun = next_rises Begun;
     accepted = next_rises Accepted;
     places = λ other q j found. open_at other q j (place_was other q (Open j) found);
-    chosen = index (λ h. h.own) s.chosen.entries next.chosen.entries Accepted own c.chosen held.chosen;
-    learned = index (λ h. h.peer) s.learned.entries next.learned.entries Begun peer c.learned held.learned;
+    by_own = index (λ h. h.own) s.by_own.entries next.by_own.entries Accepted own c.by_own held.by_own;
+    by_peer = index (λ h. h.peer) s.by_peer.entries next.by_peer.entries Begun peer c.by_peer held.by_peer;
   }
     where
       open_at : (other : Slot) (q : List ℕ) (j : ℕ) → IsNew other q (Open j) ⊎ WasElsewhere other q (Open j) → IsOpen other q j next
@@ -158,8 +160,8 @@ module _ (s : Halves) (slot : Slot) (key : List ℕ) (k : ℕ) (h : HalfState)
     slab = Updates-with_value s.slab k g (rw was refl);
     here = places_stay s k g slot ∙ sym (insert_again octets_total key (Open k) (places_of slot s) (places_rise s slot held) is);
     there = λ other apart. places_stay s k g other;
-    chosen = refl;
-    learned = refl;
+    by_own = refl;
+    by_peer = refl;
   }
 
   -- It is put into the end.
@@ -186,10 +188,20 @@ module _ (s : Halves) (slot : Slot) (key : List ℕ) (k : ℕ) (h : HalfState)
       stays at q (Open j) = by at q j (cases_eq j k)
       stays at q (Closed other) = refl
 
-  -- It becomes what the step makes of it.
-  pub becomes_on : (g : HalfState) (step : Half → Option Half) → step (half_of h) ≡ Some (half_of g)
-      → Becomes slot key step s (going_on s k g)
-  becomes_on g step made x had = (half_of g, ap step (the_open s slot key k x h is was had) ∙ made, end_on g)
+  -- It becomes what was made of it.
+  pub becomes_on : (g : HalfState) (change : Half → Half) → half_of g ≡ change (half_of h) → Becomes slot key change s (going_on s k g)
+  becomes_on g change made x had =
+      end_on g ∙ ap (put (end_of s) slot key) (made ∙ ap change (sym (the_open s slot key k x h is was had)))
+
+  -- A call over it answers what the step answers that makes another of it.
+  pub answers_on : (g : HalfState) (step : Half → Result Half EndFault) (result : Result (Unit {0}) EndFault)
+      → AnswersInMemory (step (half_of h)) result (half_of g) → AnswersOver slot key step result s (going_on s k g)
+  answers_on g step result answers x had = rw (the_open s slot key k x h is was had, end_on g) (by result answers)
+    where
+      by : (r : Result (Unit {0}) EndFault) → AnswersInMemory (step (half_of h)) r (half_of g)
+          → AnswersInMemory (step (half_of h) >>= λ y. Ok (put (end_of s) slot key y)) r (put (end_of s) slot key (half_of g))
+      by (Ok done) made = rw made refl
+      by (Err reason) refused = λ apart. rw (refused apart) refl
 
   -- All is kept as it should be.
   pub held_on : (g : HalfState) → g.slot ≡ h.slot → Follows (half_of h) (half_of g) → IsHeld (going_on s k g)
@@ -223,7 +235,7 @@ module _ (s : Halves) (slot : Slot) (key : List ℕ) (k : ℕ) (h : HalfState)
 
 -- The half closes, and all is kept as it should be.
 pub record Closes (slot : Slot) (key : List ℕ) (s next : Halves) : Type 0 where
-  pub closed : Becomes slot key (λ h. Some (closed_half h)) s next
+  pub closed : Becomes slot key closed_half s next
   pub held : IsHeld next
 
 -- Its number is freed, and its place has its other ID.
@@ -233,7 +245,7 @@ closes : (s next : Halves) (slot : Slot) (key : List ℕ) (k : ℕ) (h : HalfSta
 closes s next slot key k h other held is was c same = record {
   closed = λ x had.
       let halves = the_open s slot key k x h is was had in
-      (closed_half x, refl, end_changed held is c ∙ ap (put (end_of s) slot key) (same ∙ ap closed_half (sym halves)));
+      end_changed held is c ∙ ap (put (end_of s) slot key) (same ∙ ap closed_half (sym halves));
   held = held_changed held is c (half_of h) (has_open s slot key k h is was)
       (ap (λ (x : Half). x.own) same) (ap (λ (x : Half). x.peer) same) (λ j is_open. cc);
 }
@@ -258,7 +270,7 @@ closes_begun s next slab begun slot key k h held is was freed slot_is entries ne
 
     closed : Closes Begun key s after
     closed = closes s after Begun key k h h.peer held at_begun was
-        (record { slab = freed; here = entries; there = there; chosen = refl; learned = refl })
+        (record { slab = freed; here = entries; there = there; by_own = refl; by_peer = refl })
         (ap (λ own. fresh phases.Closed own h.peer standings.Without) (sym (kept_by s Begun key k h held at_begun was)))
 
 -- one that began by receiving
@@ -281,5 +293,5 @@ closes_accepted s next slab accepted slot key k h held is was freed slot_is entr
 
     closed : Closes Accepted key s after
     closed = closes s after Accepted key k h h.own held at_accepted was
-        (record { slab = freed; here = entries; there = there; chosen = refl; learned = refl })
+        (record { slab = freed; here = entries; there = there; by_own = refl; by_peer = refl })
         (ap (λ peer. fresh phases.Closed h.own peer standings.Without) (sym (kept_by s Accepted key k h held at_accepted was)))

@@ -1,5 +1,5 @@
 -- What a component that is sent or received leaves as it is in a half.
-use Rattle.std.proofs.Common.{◌≡◌, ◌≢◌, ℕ, ℤ, Bool, true, false, cond, List, [], ◌∷◌, Option, Some, None, option_map, refl}
+use Rattle.std.proofs.Common.{◌≡◌, ◌≢◌, ℕ, ℤ, Bool, true, false, cond, List, [], ◌∷◌, Option, Some, None, Result, Ok, is_none, is_some, refl}
 use Rattle.std.specs.List.{list_any}
 use Rattle.std.specs.BTreeMap.{insert_entry, is_at}
 use Rattle.std.specs.Ordering.{int_cmp}
@@ -9,11 +9,15 @@ use Rattle.tcap_parts.specs.declared.problem.Problem.{Problem}
 use Rattle.tcap_parts.specs.declared.problem.Problem.TheVariants as problems
 use Rattle.tcap_parts.specs.declared.component.Component.{Component}
 use Rattle.tcap_parts.specs.declared.component.Component.TheVariants.{Invoke, ReturnResult, ReturnError, Reject}
-use Rattle.tcap_end.specs.declared.half.Mark.TheVariants as marks
-use Rattle.tcap_end.specs.Table.{Table}
-use Rattle.tcap_end.specs.Half.{Answer, Half, Invocation, listed, taken, with_listed, without_oldest}
-use Rattle.tcap_end.specs.Component.{outstanding_class, received_component, received_error, received_result, sent_component, sent_reject, with_grant, with_inn, with_grants, wait_for_reject}
-use Rattle.tcap_end.specs.Message.{received_components, sent_components, then_so}
+use Rattle.tcap_end.specs.declared.fault.EndFault.{EndFault}
+use Rattle.tcap_end.specs.declared.fault.EndFault.TheVariants as faults
+use Rattle.tcap_end.specs.declared.half.InvocationState.TheVariants as states
+use Rattle.tcap_end.specs.declared.outs.OwnInvocation.{OwnInvocation}
+use Rattle.tcap_end.specs.Table.{Table, operation_of}
+use Rattle.tcap_end.specs.Half.{Answer, Half, Invocation, listed, one_fits, with_listed, without_oldest, without_oldest_of}
+use Rattle.tcap_end.specs.Component.{allows, allows_for, answer_problems, answered_operation, may_answer, may_link, own_invocation, receive_answer, receive_component, send_answer, send_component, send_invoke, send_reject, with_grant, wait_for_reject}
+use Rattle.tcap_end.specs.Message.{receive_components, send_components}
+use Rattle.tcap_end.proofs.AnsweringLaws.{needs_ok, then_ok}
 use Rattle.tcap_end.proofs.HalfLaws.{Follows, IsListed, follows_grants, follows_inn, follows_out, follows_self, follows_then}
 use Rattle.tcap_end.proofs.MapLaws.{all_inserted, all_removed, rises_inserted, rises_removed}
 
@@ -30,21 +34,12 @@ list_kept id (first ∷ more) items is = (
 )
 
 -- What is taken leaves such a list.
-taken_kept : {A : Type 0} (id : ℤ) (fits : A → Bool) (items left : List (ℤ × List A))
-    → taken id fits items ≡ Some left → IsListed items → IsListed left
-taken_kept {A = A} id fits items left took is = by (list_any fits (listed id items)) took
-  where
-    others : List (ℤ × List A)
-    others = with_listed id (without_oldest fits (listed id items)) items
+taken_kept : {A : Type 0} (id : ℤ) (fits : A → Bool) (items : List (ℤ × List A)) → IsListed items → IsListed (without_oldest_of id fits items)
+taken_kept id fits items is = list_kept id (without_oldest fits (listed id items)) items is
 
-    by : (b : Bool) → cond b (Some others) None ≡ Some left → IsListed left
-    by true took = let same : others ≡ left = cc in rw (← same) (list_kept id (without_oldest fits (listed id items)) items is)
-    by false took = cc
-
--- Nothing is taken of none.
-taken_none : {A : Type 0} {P : Type 0} (id : ℤ) (fits : A → Bool) (items left : List (ℤ × List A))
-    → taken id fits items ≡ Some left → items ≡ [] → P
-taken_none id fits items left took none = let bad = rw none at took in cc
+-- Nothing fits of none.
+none_fits : {A : Type 0} {P : Type 0} (id : ℤ) (fits : A → Bool) (items : List (ℤ × List A)) → one_fits id fits items ≡ true → items ≡ [] → P
+none_fits id fits items one none = let bad = rw none at one in cc
 
 -- ---- sending
 
@@ -57,67 +52,83 @@ pub record Sends (h g : Half) : Type 0 where
 sends_self : (h : Half) → Sends h h
 sends_self h = record { follows = follows_self h; inn = λ none. none; grants = λ none. none }
 
--- A half that some items are taken from, where what is left of them makes such a half.
-takes : {A : Type 0} (h g : Half) (without : List (ℤ × List A) → Half) (o : Option (List (ℤ × List A)))
-    → ((left : List (ℤ × List A)) → o ≡ Some left → Sends h (without left)) → option_map without o ≡ Some g → Sends h g
-takes h g without None sends is = cc
-takes h g without (Some left) sends is = let same : without left ≡ g = cc in rw (← same) (sends left refl)
-
-takes_inn : (h g : Half) (id : ℤ) (fits : Invocation → Bool) → with_inn h (taken id fits h.inn) ≡ Some g → Sends h g
-takes_inn h g id fits is = takes h g (λ inn. record h { inn = inn }) (taken id fits h.inn) (λ inn took. record {
-  follows = follows_inn h inn (taken_kept id fits h.inn inn took);
-  inn = λ none. taken_none id fits h.inn inn took none;
+takes_inn : (h : Half) (id : ℤ) (fits : Invocation → Bool) → one_fits id fits h.inn ≡ true
+    → Sends h (record h { inn = without_oldest_of id fits h.inn })
+takes_inn h id fits one = record {
+  follows = follows_inn h _ (taken_kept id fits h.inn);
+  inn = none_fits id fits h.inn one;
   grants = λ none. none;
-}) is
+}
 
-takes_grants : (h g : Half) (id : ℤ) (fits : Answer → Bool) → with_grants h (taken id fits h.grants) ≡ Some g → Sends h g
-takes_grants h g id fits is = takes h g (λ grants. record h { grants = grants }) (taken id fits h.grants) (λ grants took. record {
-  follows = follows_grants h grants (taken_kept id fits h.grants grants took);
+takes_grants : (h : Half) (id : ℤ) (fits : Answer → Bool) → one_fits id fits h.grants ≡ true
+    → Sends h (record h { grants = without_oldest_of id fits h.grants })
+takes_grants h id fits one = record {
+  follows = follows_grants h _ (taken_kept id fits h.grants);
   inn = λ none. none;
-  grants = λ none. taken_none id fits h.grants grants took none;
-}) is
+  grants = none_fits id fits h.grants one;
+}
 
-where_sends : (h x g : Half) (b : Bool) → Sends h x → cond b (Some x) None ≡ Some g → Sends h g
-where_sends h x g true sends is = let same : x ≡ g = cc in rw (← same) sends
-where_sends h x g false sends is = cc
+-- It is such a half where the step was Ok.
+sends_this : (h x g : Half) → Sends h x → (let r : Result Half EndFault = Ok x in r) ≡ Ok g → Sends h g
+sends_this h x g sends is = let same : x ≡ g = cc in rw (← same) sends
 
-reject_sends : (h g : Half) (id : Option ℤ) (problem : Problem) → sent_reject h id problem ≡ Some g → Sends h g
+reject_sends : (h g : Half) (id : Option ℤ) (problem : Problem) → send_reject h id problem ≡ Ok g → Sends h g
 reject_sends h g None problem is = cc
 reject_sends h g (Some id) (problems.General n) is = cc
-reject_sends h g (Some id) (problems.Invoke n) is = takes_inn h g id _ is
-reject_sends h g (Some id) (problems.ReturnResult n) is = takes_grants h g id _ is
-reject_sends h g (Some id) (problems.ReturnError n) is = takes_grants h g id _ is
+reject_sends h g (Some id) (problems.Invoke n) is =
+    let step = needs_ok _ _ _ g is in sends_this h _ g (takes_inn h id (allows n) step.0) step.1
+reject_sends h g (Some id) (problems.ReturnResult n) is =
+    let step = needs_ok _ _ _ g is in sends_this h _ g (takes_grants h id (allows_for true n) step.0) step.1
+reject_sends h g (Some id) (problems.ReturnError n) is =
+    let step = needs_ok _ _ _ g is in sends_this h _ g (takes_grants h id (allows_for false n) step.0) step.1
 
-component_sends : (table : Table) (h g : Half) (c : Component) → sent_component table h c ≡ Some g → Sends h g
-component_sends table h g (Invoke id linked code parameter) is = where_sends h _ g _ invokes is
-  where
-    invokes : Sends h (record h { out = insert_entry int_cmp h.out id (record { code = code; mark = marks.Sent }) })
-    invokes = record {
-      follows = follows_out h _ (rises_inserted int_cmp_total h.out id _);
+invoke_sends : (table : Table) (h g : Half) (id : ℤ) (linked : Option ℤ) (code : Code) → send_invoke table h id linked code ≡ Ok g → Sends h g
+invoke_sends table h g id linked code is =
+    let known = needs_ok (is_some (operation_of table code)) faults.UnknownOperation _ g is in
+    let free = needs_ok (is_none (own_invocation h id)) faults.InvokeIdBusy _ g known.1 in
+    let may = needs_ok (may_link table h linked code) faults.BadLink _ g free.1 in
+    sends_this h (record h { out = insert_entry int_cmp h.out id made }) g (record {
+      follows = follows_out h _ (rises_inserted int_cmp_total h.out id made);
       inn = λ none. none;
       grants = λ none. none;
-    }
-component_sends table h g (ReturnResult true id body) is = takes_inn h g id _ is
-component_sends table h g (ReturnResult false id body) is = where_sends h h g _ (sends_self h) is
-component_sends table h g (ReturnError id code parameter) is = takes_inn h g id _ is
+    }) may.1
+  where
+    made : OwnInvocation
+    made = record { code = code; state = states.OperationSent }
+
+answer_sends : (table : Table) (h g : Half) (is_result last : Bool) (id : ℤ) (named : Option Code)
+    → send_answer table h is_result last id named ≡ Ok g → Sends h g
+answer_sends table h g is_result last id named is =
+    let some = needs_ok (one_fits id (λ item. true) h.inn) faults.NothingToAnswer _ g is in
+    let class = needs_ok (one_fits id (may_answer table is_result None) h.inn) faults.ClassForbids _ g some.1 in
+    let fits = needs_ok (one_fits id (may_answer table is_result named) h.inn) faults.WrongOperation _ g class.1 in
+    by last (takes_inn h id (may_answer table is_result named) fits.0) fits.1
+  where
+    left : Half
+    left = record h { inn = without_oldest_of id (may_answer table is_result named) h.inn }
+
+    by : (b : Bool) → Sends h left → (let r : Result Half EndFault = Ok (cond b left h) in r) ≡ Ok g → Sends h g
+    by true sends is = sends_this h left g sends is
+    by false sends is = sends_this h h g (sends_self h) is
+
+component_sends : (table : Table) (h g : Half) (c : Component) → send_component table h c ≡ Ok g → Sends h g
+component_sends table h g (Invoke id linked code parameter) is = invoke_sends table h g id linked code is
+component_sends table h g (ReturnResult last id body) is = answer_sends table h g true last id _ is
+component_sends table h g (ReturnError id code parameter) is = answer_sends table h g false true id None is
 component_sends table h g (Reject id problem) is = reject_sends h g id problem is
 
 -- Components are sent.
-pub all_sends : (table : Table) (components : List Component) (h g : Half) → sent_components table h components ≡ Some g → Sends h g
-all_sends table [] h g is = let same : h ≡ g = cc in rw (← same) (sends_self h)
-all_sends table (component ∷ more) h g is = by (sent_component table h component) refl is (λ next. all_sends table more next g)
-  where
-    by : (o : Option Half) → sent_component table h component ≡ o → then_so o (λ next. sent_components table next more) ≡ Some g
-        → ((next : Half) → sent_components table next more ≡ Some g → Sends next g) → Sends h g
-    by None one is rest = cc
-    by (Some next) one is rest =
-        let first = component_sends table h next component one in
-        let second = rest next is in
-        record {
-          follows = follows_then h next g first.follows second.follows;
-          inn = λ none. second.inn (first.inn none);
-          grants = λ none. second.grants (first.grants none);
-        }
+pub all_sends : (table : Table) (components : List Component) (h g : Half) → send_components table h components ≡ Ok g → Sends h g
+all_sends table [] h g is = sends_this h h g (sends_self h) is
+all_sends table (component ∷ more) h g is =
+    let (next, one, rest) = then_ok (send_component table h component) (λ next. send_components table next more) g is in
+    let first = component_sends table h next component one in
+    let second = all_sends table more next g rest in
+    record {
+      follows = follows_then h next g first.follows second.follows;
+      inn = λ none. second.inn (first.inn none);
+      grants = λ none. second.grants (first.grants none);
+    }
 
 -- ---- receiving
 
@@ -139,31 +150,25 @@ either_follows : (b : Bool) (h x y : Half) → Follows h x → Follows h y → F
 either_follows true h x y first second = first
 either_follows false h x y first second = second
 
-result_follows : (h : Half) (last : Bool) (id : ℤ) (o : Option (Code × ℕ)) → Follows h (received_result h last id o)
-result_follows h last id None = granted h id true (0 ∷ [])
-result_follows h last id (Some (code, class)) =
+answer_follows : (h : Half) (is_result last : Bool) (id : ℤ) (o : Option (Code × ℕ)) → Follows h (receive_answer h is_result last id o)
+answer_follows h is_result last id None = granted h id is_result (0 ∷ [])
+answer_follows h is_result last id (Some (code, class)) =
     let reported = either_follows last h (wait_for_reject h id code) h (waits h id code) (follows_self h) in
-    either_follows _ h _ _ (follows_then h _ _ reported (granted _ id true (2 ∷ []))) (granted h id true (1 ∷ []))
-
-error_follows : (h : Half) (id : ℤ) (o : Option (Code × ℕ)) → Follows h (received_error h id o)
-error_follows h id None = granted h id false (0 ∷ [])
-error_follows h id (Some (code, class)) =
-    let reported = follows_then h _ _ (waits h id code) (granted (wait_for_reject h id code) id false (2 ∷ 3 ∷ 4 ∷ [])) in
-    either_follows _ h _ _ reported (granted h id false (1 ∷ []))
+    either_follows _ h _ _ (follows_then h _ _ reported (granted _ id is_result (answer_problems is_result))) (granted h id is_result (1 ∷ []))
 
 -- An answer is for no invocation of a half that has none.
-unanswered : (table : Table) (h : Half) (id : ℤ) → h.out ≡ [] → outstanding_class table h id ≡ None
+unanswered : (table : Table) (h : Half) (id : ℤ) → h.out ≡ [] → answered_operation table h id ≡ None
 unanswered table h id none = rw none refl
 
-component_receives : (table : Table) (h : Half) (c : Component) → Receives h (received_component table h c)
+component_receives : (table : Table) (h : Half) (c : Component) → Receives h (receive_component table h c)
 component_receives table h (Invoke id linked code parameter) =
     record { follows = follows_inn h _ (list_kept id _ h.inn); out = λ none. none }
 component_receives table h (ReturnResult last id body) = record {
-  follows = result_follows h last id (outstanding_class table h id);
+  follows = answer_follows h true last id (answered_operation table h id);
   out = λ none. rw (unanswered table h id none) none;
 }
 component_receives table h (ReturnError id code parameter) = record {
-  follows = error_follows h id (outstanding_class table h id);
+  follows = answer_follows h false true id (answered_operation table h id);
   out = λ none. rw (unanswered table h id none) none;
 }
 component_receives table h (Reject None problem) = receives_self h
@@ -174,9 +179,9 @@ component_receives table h (Reject (Some id) (problems.ReturnResult n)) = receiv
 component_receives table h (Reject (Some id) (problems.ReturnError n)) = receives_self h
 
 -- Components are received.
-pub all_receives : (table : Table) (components : List Component) (h : Half) → Receives h (received_components table h components)
+pub all_receives : (table : Table) (components : List Component) (h : Half) → Receives h (receive_components table h components)
 all_receives table [] h = receives_self h
 all_receives table (component ∷ more) h =
     let first = component_receives table h component in
-    let second = all_receives table more (received_component table h component) in
+    let second = all_receives table more (receive_component table h component) in
     record { follows = follows_then h _ _ first.follows second.follows; out = λ none. second.out (first.out none) }

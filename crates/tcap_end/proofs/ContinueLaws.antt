@@ -1,5 +1,5 @@
--- What receiving a Continue, an End or an Abort does over the half that was found.
-use Rattle.std.proofs.Common.{◌≡◌, ◌≢◌, List, ℕ, true, false, Option, Some, None, is_none, refl, subst}
+-- What receiving a Begin does, and receiving a Continue, an End or an Abort over the half that was found.
+use Rattle.std.proofs.Common.{◌≡◌, ◌≢◌, List, ℕ, true, false, Option, Some, None, Ok, Err, is_none, refl, subst}
 use Rattle.tcap_parts.specs.declared.component.Component.{Component}
 use Rattle.tcap_parts.specs.declared.dialogue.Dialogue.{Dialogue}
 use Rattle.tcap_end.specs.declared.fault.EndFault.TheVariants as faults
@@ -7,75 +7,91 @@ use Rattle.tcap_end.specs.declared.half.Phase.{Phase}
 use Rattle.tcap_end.specs.declared.half.Phase.TheVariants as phases
 use Rattle.tcap_end.specs.declared.half.Slot.{Slot}
 use Rattle.tcap_end.specs.declared.half.Slot.TheVariants.{Begun, Accepted}
-use Rattle.tcap_end.specs.End.{End, Found, is_id, put, with_peer}
-use Rattle.tcap_end.specs.Half.{closed_half, is_closed}
-use Rattle.tcap_end.specs.Message.{is_answered, learned, received_components, received_continue, received_end}
-use Rattle.tcap_end.specs.Refusal.{received_fault, received_phase_fault}
+use Rattle.tcap_end.specs.declared.half_components.Way.TheVariants.{In}
+use Rattle.tcap_end.specs.Step.{◌>>=◌}
+use Rattle.tcap_end.specs.Dialogue.{answers_request, first_standing}
+use Rattle.tcap_end.specs.End.{End, KeptHalf, is_id, put, with_own, with_peer}
+use Rattle.tcap_end.specs.Half.{Half, closed_half, fresh, is_closed}
+use Rattle.tcap_end.specs.Message.{active_half, receive_begin, receive_continue, receive_end, receive_over}
 use Rattle.tcap_end.specs.Sound.{FitsPhase, Has, IsEnd, IsKept}
 use Rattle.tcap_end.specs.Table.{Table}
+use Rattle.tcap_end.specs.Ways.{components_by, way_of}
+use Rattle.tcap_end.proofs.WayLaws.{receives_in}
+
+-- ---- a Begin
+
+-- No half has its ID.
+pub begin_comes : {half : Half} (table : Table) (e : End) (otid : List ℕ) (dialogue : Option Dialogue) (components : List Component)
+    → with_peer e otid ≡ None → half ≡ fresh phases.Received None (Some otid) (first_standing dialogue)
+    → receive_begin table e otid dialogue components ≡ (components_by In table half components >>= λ g. Ok (put e Accepted otid g))
+begin_comes {half} table e otid dialogue components none same = rw (receives_in table half components, same, none) refl
 
 -- ---- a Continue
 
 -- A half whose Begin was sent knows no peer, and began by sending.
-pub sent_peer : (e : End) (f : Found) → IsEnd e → Has e f → f.half.phase ≡ phases.Sent → f.half.peer ≡ None
+pub sent_peer : (e : End) (f : KeptHalf) → IsEnd e → Has e f → f.half.phase ≡ phases.Sent → f.half.peer ≡ None
 sent_peer e f sound had is = (subst (λ (p : Phase). FitsPhase p f.half) is (sound.halves f had).phase).1
 
-pub sent_begun : (e : End) (f : Found) → IsEnd e → Has e f → f.half.phase ≡ phases.Sent → f.slot ≡ Begun
+pub sent_begun : (e : End) (f : KeptHalf) → IsEnd e → Has e f → f.half.phase ≡ phases.Sent → f.slot ≡ Begun
 sent_begun e f sound had is = by f.slot (sound.kept f had)
   where
     by : (slot : Slot) → IsKept slot f.key f.half → slot ≡ Begun
     by Begun kept = refl
     by Accepted kept = let none = sent_peer e f sound had is in cc
 
-module _ {o : Option Found} {f : Found} (e : End) (otid : List ℕ) (dialogue : Option Dialogue) (is : o ≡ Some f) where
+module _ {f : KeptHalf} (table : Table) (e : End) (otid dtid : List ℕ) (dialogue : Option Dialogue) (components : List Component)
+    (is : with_own e dtid ≡ Some f) where
   -- The half is closed, or in another phase.
-  pub over_closed : is_closed f.half.phase ≡ true → received_fault e otid dialogue o ≡ Some faults.NoTransaction
+  pub over_closed : is_closed f.half.phase ≡ true → receive_continue table e otid dtid dialogue components ≡ Err faults.NoTransaction
   over_closed shut = rw is (by f.half.phase shut)
     where
-      by : (p : Phase) → is_closed p ≡ true → received_phase_fault e otid dialogue f p ≡ Some faults.NoTransaction
+      by : (p : Phase) → is_closed p ≡ true → receive_over table e otid dialogue components f p ≡ Err faults.NoTransaction
       by phases.Sent shut = cc
       by phases.Received shut = cc
       by phases.Active shut = cc
       by phases.Closed shut = refl
 
-  pub over_other : f.half.phase ≢ phases.Sent → f.half.phase ≢ phases.Active → received_fault e otid dialogue o ≡ Some faults.NoTransaction
+  pub over_other : f.half.phase ≢ phases.Sent → f.half.phase ≢ phases.Active
+      → receive_continue table e otid dtid dialogue components ≡ Err faults.NoTransaction
   over_other not_sent not_active = rw is (by f.half.phase not_sent not_active)
     where
-      by : (p : Phase) → p ≢ phases.Sent → p ≢ phases.Active → received_phase_fault e otid dialogue f p ≡ Some faults.NoTransaction
+      by : (p : Phase) → p ≢ phases.Sent → p ≢ phases.Active
+          → receive_over table e otid dialogue components f p ≡ Err faults.NoTransaction
       by phases.Sent not_sent not_active = absurd (not_sent refl)
       by phases.Received not_sent not_active = refl
       by phases.Active not_sent not_active = absurd (not_active refl)
       by phases.Closed not_sent not_active = refl
 
-  -- The Begin is not answered, by an ID that was used, or with a dialogue portion that does not answer.
-  pub over_used : f.half.phase ≡ phases.Sent → is_none (with_peer e otid) ≡ false → received_fault e otid dialogue o ≡ Some faults.IdUsed
+  -- The Begin is not answered, by an ID that was used, or with a dialogue portion that does not answer; else it is.
+  pub over_used : f.half.phase ≡ phases.Sent → is_none (with_peer e otid) ≡ false
+      → receive_continue table e otid dtid dialogue components ≡ Err faults.IdUsed
   over_used sent used = rw (is, sent, used) refl
 
-  pub over_unanswered : f.half.phase ≡ phases.Sent → with_peer e otid ≡ None → is_answered f.half.standing dialogue ≡ false
-      → received_fault e otid dialogue o ≡ Some faults.WrongDialogue
+  pub over_unanswered : f.half.phase ≡ phases.Sent → with_peer e otid ≡ None → answers_request f.half.standing dialogue ≡ false
+      → receive_continue table e otid dtid dialogue components ≡ Err faults.WrongDialogue
   over_unanswered sent none not_answered = rw (is, sent, none, not_answered) refl
 
-  -- It comes from another peer.
+  pub over_first : f.half.phase ≡ phases.Sent → with_peer e otid ≡ None → answers_request f.half.standing dialogue ≡ true → f.slot ≡ Begun
+      → receive_continue table e otid dtid dialogue components
+      ≡ (components_by (way_of f.slot) table (active_half f.slot otid f.half) components >>= λ g. Ok (put e f.slot f.key g))
+  over_first sent none answered at =
+      rw (is, at, receives_in table (active_half Begun otid f.half) components, sent, none, answered) refl
+
+  -- It comes from another peer; else the half goes on.
   pub over_another : f.half.phase ≡ phases.Active → is_id otid f.half.peer ≡ false
-      → received_fault e otid dialogue o ≡ Some faults.NoTransaction
+      → receive_continue table e otid dtid dialogue components ≡ Err faults.NoTransaction
   over_another active other = rw (is, active, other) refl
 
-  -- The Begin is answered, or the half goes on.
-  pub over_first : (table : Table) (components : List Component) → f.half.phase ≡ phases.Sent → with_peer e otid ≡ None
-      → is_answered f.half.standing dialogue ≡ true
-      → received_continue table e otid dialogue components o
-      ≡ Some (put e f.slot f.key (received_components table (learned otid f.half) components))
-  over_first table components sent none answered = rw (is, sent, none, answered) refl
-
-  pub over_next : (table : Table) (components : List Component) → f.half.phase ≡ phases.Active → is_id otid f.half.peer ≡ true
-      → received_continue table e otid dialogue components o ≡ Some (put e f.slot f.key (received_components table f.half components))
-  over_next table components active peer = rw (is, active, peer) refl
+  pub over_next : f.half.phase ≡ phases.Active → is_id otid f.half.peer ≡ true
+      → receive_continue table e otid dtid dialogue components
+      ≡ (components_by In table f.half components >>= λ g. Ok (put e f.slot f.key g))
+  over_next active peer = rw (is, receives_in table f.half components, active, peer) refl
 
 -- ---- an End or an Abort
 
-pub end_closes : {o : Option Found} {f : Found} (e : End) → o ≡ Some f → is_closed f.half.phase ≡ false
-    → received_end e o ≡ put e f.slot f.key (closed_half f.half)
+pub end_closes : {o : Option KeptHalf} {f : KeptHalf} (e : End) → o ≡ Some f → is_closed f.half.phase ≡ false
+    → receive_end e o ≡ put e f.slot f.key (closed_half f.half)
 end_closes e is is_open = rw (is, is_open) refl
 
-pub end_dropped : {o : Option Found} {f : Found} (e : End) → o ≡ Some f → is_closed f.half.phase ≡ true → received_end e o ≡ e
+pub end_dropped : {o : Option KeptHalf} {f : KeptHalf} (e : End) → o ≡ Some f → is_closed f.half.phase ≡ true → receive_end e o ≡ e
 end_dropped e is shut = rw (is, shut) refl

@@ -1,14 +1,17 @@
 -- A half that is put into an end keeps what holds of every end, and each closed half where it is.
-use Rattle.std.proofs.Common.{◌≡◌, ◌≢◌, ℕ, Bool, true, false, cond, ◌&&◌, List, Option, Some, None, ◌⊎◌, inl, inr, refl, sym, ap, ◌∙◌}
+use Rattle.std.proofs.Common.{◌≡◌, ◌≢◌, ℕ, Bool, true, false, cond, ◌&&◌, List, Option, Some, None, Ok, ◌⊎◌, inl, inr, refl, sym, ap, ◌∙◌}
 use Rattle.std.specs.List.Sorted.{IsStrictlySortedBy}
 use Rattle.std.proofs.lemmas.Map.Lookups.{exact_bytes}
+use Rattle.tcap_end.specs.declared.fault.EndFault.{EndFault}
+use Rattle.tcap_end.specs.declared.fault.EndFault.TheVariants as faults
 use Rattle.tcap_end.specs.declared.half.Phase.TheVariants as phases
 use Rattle.tcap_end.specs.declared.half.Slot.{Slot}
 use Rattle.tcap_end.specs.declared.half.Slot.TheVariants.{Begun, Accepted}
 use Rattle.tcap_end.specs.Table.{octets_cmp}
 use Rattle.tcap_end.specs.Half.{Half, is_closed}
-use Rattle.tcap_end.specs.End.{End, Found, all_closed, nothing, put, quieted, with_own, with_peer}
+use Rattle.tcap_end.specs.End.{End, KeptHalf, all_closed, nothing, put, quiet, with_own, with_peer}
 use Rattle.tcap_end.specs.Sound.{Has, IsEnd, IsHalf, IsKept, IsSame, Rises, halves_of}
+use Rattle.tcap_end.proofs.AnsweringLaws.{needs_ok, ok_same}
 use Rattle.tcap_end.proofs.MapLaws.{found_inserted, found_other, rises_inserted}
 use Rattle.tcap_end.proofs.FoundLaws.{half_at, none_own, none_peer, octets_total}
 
@@ -31,21 +34,20 @@ nothing_sound = record {
 }
 
 -- It holds behind a quiet mark.
-pub quiet_sound : (e next : End) → quieted e ≡ Some next → IsEnd next
-quiet_sound e next is = by (all_closed e.begun && all_closed e.accepted) is
-  where
-    by : (b : Bool) → cond b (Some nothing) None ≡ Some next → IsEnd next
-    by true is = let same : nothing ≡ next = cc in rw (← same) nothing_sound
-    by false is = cc
+pub quiet_sound : (e next : End) → quiet e ≡ Ok next → IsEnd next
+quiet_sound e next is =
+    let step = needs_ok _ faults.StillOpen _ next is in
+    let same = ok_same {F = EndFault} nothing next step.1 in
+    rw (← same) nothing_sound
 
 -- ---- which halves a put leaves
 
 -- the half is that one, kept there
-abbrev pub IsThere : Slot → List ℕ → Half → Found → Type 0
+abbrev pub IsThere : Slot → List ℕ → Half → KeptHalf → Type 0
 IsThere slot key h f = (f.slot ≡ slot) × (f.key ≡ key) × (f.half ≡ h)
 
 -- A half behind a put is the new one, or was had.
-pub put_has : (e : End) (slot : Slot) (key : List ℕ) (h : Half) (f : Found)
+pub put_has : (e : End) (slot : Slot) (key : List ℕ) (h : Half) (f : KeptHalf)
     → Has (put e slot key h) f → IsThere slot key h f ⊎ Has e f
 put_has e slot key h f had = at slot f.slot f.key f.half had
   where
@@ -62,7 +64,7 @@ put_has e slot key h f had = at slot f.slot f.key f.half had
     at Accepted Accepted q w found = by Accepted e.accepted q w (found_inserted octets_total exact_bytes q key h w e.accepted found)
 
 -- A half that was had elsewhere still is.
-pub put_other : (e : End) (slot : Slot) (key : List ℕ) (h : Half) (f : Found)
+pub put_other : (e : End) (slot : Slot) (key : List ℕ) (h : Half) (f : KeptHalf)
     → (f.slot ≡ slot → f.key ≢ key) → Has e f → Has (put e slot key h) f
 put_other e slot key h f apart had = at slot f.slot apart had
   where
@@ -85,12 +87,12 @@ put_accepted e Accepted key h sound = rises_inserted octets_total e.accepted key
 
 -- No two halves have one ID of this kind.
 abbrev AreAlone : (Half → Option (List ℕ)) → End → Type 0
-AreAlone of e = (f g : Found) (id : List ℕ) → Has e f → Has e g → of f.half ≡ Some id → of g.half ≡ Some id → IsSame f g
+AreAlone of e = (f g : KeptHalf) (id : List ℕ) → Has e f → Has e g → of f.half ≡ Some id → of g.half ≡ Some id → IsSame f g
 
 -- No half but the one at that place has the new one's.
 abbrev IsAlone : (Half → Option (List ℕ)) → End → Slot → List ℕ → Half → Type 0
 IsAlone of e slot key h =
-    (g : Found) (id : List ℕ) → Has e g → of h ≡ Some id → of g.half ≡ Some id → (g.slot ≡ slot) × (g.key ≡ key)
+    (g : KeptHalf) (id : List ℕ) → Has e g → of h ≡ Some id → of g.half ≡ Some id → (g.slot ≡ slot) × (g.key ≡ key)
 
 put_alone : (of : Half → Option (List ℕ)) (e : End) (slot : Slot) (key : List ℕ) (h : Half)
     → AreAlone of e → IsAlone of e slot key h → AreAlone of (put e slot key h)
@@ -103,7 +105,7 @@ put_alone of e slot key h old alone f g id in_f in_g of_f of_g = by (put_has e s
     by (inr a) (inr b) = old f g id a b of_f of_g
 
 -- a half that keeps the ID of the one at its place
-alone_kept : (of : Half → Option (List ℕ)) (e : End) (f : Found) (h : Half)
+alone_kept : (of : Half → Option (List ℕ)) (e : End) (f : KeptHalf) (h : Half)
     → AreAlone of e → Has e f → of h ≡ of f.half → IsAlone of e f.slot f.key h
 alone_kept of e f h old had same g id in_g of_h of_g = let r = old g f id in_g had of_g (sym same ∙ of_h) in (r.0, r.1)
 
@@ -134,18 +136,18 @@ put_sound e slot key h sound half kept own peer = record {
   one_peer = put_alone (λ h. h.peer) e slot key h sound.one_peer peer;
 }
   where
-    is_half : (f : Found) → IsThere slot key h f ⊎ Has e f → IsHalf f.half
+    is_half : (f : KeptHalf) → IsThere slot key h f ⊎ Has e f → IsHalf f.half
     is_half f (inl new) = rw (new.2) half
     is_half f (inr old) = sound.halves f old
 
-    is_kept : (f : Found) → IsThere slot key h f ⊎ Has e f → IsKept f.slot f.key f.half
+    is_kept : (f : KeptHalf) → IsThere slot key h f ⊎ Has e f → IsKept f.slot f.key f.half
     is_kept f (inl new) = rw (new.0, new.1, new.2) kept
     is_kept f (inr old) = sound.kept f old
 
 -- What holds of every end holds behind the step, and a closed half stays as it is.
 pub record Goes (e next : End) : Type 0 where
   pub sound : IsEnd next
-  pub stays : (f : Found) → Has e f → f.half.phase ≡ phases.Closed → Has next f
+  pub stays : (f : KeptHalf) → Has e f → f.half.phase ≡ phases.Closed → Has next f
 
 pub goes_nowhere : (e : End) → IsEnd e → Goes e e
 goes_nowhere e sound = record { sound = sound; stays = λ f had is. had }
@@ -153,7 +155,7 @@ goes_nowhere e sound = record { sound = sound; stays = λ f had is. had }
 -- A half is put where no closed one is.
 put_goes : (e : End) (slot : Slot) (key : List ℕ) (h : Half) → IsEnd e → IsHalf h → IsKept slot key h
     → IsAlone (λ h. h.own) e slot key h → IsAlone (λ h. h.peer) e slot key h
-    → ((g : Found) → Has e g → g.half.phase ≡ phases.Closed → g.slot ≡ slot → g.key ≢ key) → Goes e (put e slot key h)
+    → ((g : KeptHalf) → Has e g → g.half.phase ≡ phases.Closed → g.slot ≡ slot → g.key ≢ key) → Goes e (put e slot key h)
 put_goes e slot key h sound half kept own peer apart = record {
   sound = put_sound e slot key h sound half kept own peer;
   stays = λ g in_g closed. put_other e slot key h g (apart g in_g closed) in_g;
@@ -162,20 +164,20 @@ put_goes e slot key h sound half kept own peer apart = record {
 -- ---- an open half is put back
 
 -- Where an open half is kept no closed one is.
-open_apart : (e : End) (f g : Found) → Has e f → is_closed f.half.phase ≡ false
+open_apart : (e : End) (f g : KeptHalf) → Has e f → is_closed f.half.phase ≡ false
     → Has e g → g.half.phase ≡ phases.Closed → g.slot ≡ f.slot → g.key ≢ f.key
 open_apart e f g in_f is_open in_g closed slots keys =
     let there : half_at (halves_of f.slot e) f.key ≡ Some g.half = rw (← slots, ← keys) in_g in
     let same : f.half ≡ g.half = cc in
     let shut : is_closed f.half.phase ≡ true = rw (same, closed) refl in cc
 
-put_back : (e : End) (f : Found) (h : Half) → IsEnd e → Has e f → is_closed f.half.phase ≡ false → IsHalf h → IsKept f.slot f.key h
+put_back : (e : End) (f : KeptHalf) (h : Half) → IsEnd e → Has e f → is_closed f.half.phase ≡ false → IsHalf h → IsKept f.slot f.key h
     → IsAlone (λ h. h.own) e f.slot f.key h → IsAlone (λ h. h.peer) e f.slot f.key h → Goes e (put e f.slot f.key h)
 put_back e f h sound had is_open half kept own peer =
     put_goes e f.slot f.key h sound half kept own peer (λ g in_g closed. open_apart e f g had is_open in_g closed)
 
 -- with the IDs that it had
-pub put_open : (e : End) (f : Found) (h : Half) → IsEnd e → Has e f → is_closed f.half.phase ≡ false → IsHalf h
+pub put_open : (e : End) (f : KeptHalf) (h : Half) → IsEnd e → Has e f → is_closed f.half.phase ≡ false → IsHalf h
     → h.own ≡ f.half.own → h.peer ≡ f.half.peer → Goes e (put e f.slot f.key h)
 put_open e f h sound had is_open half own peer = put_back e f h sound had is_open half
     (kept f.slot (sound.kept f had))
@@ -186,7 +188,7 @@ put_open e f h sound had is_open half own peer = put_back e f h sound had is_ope
     kept Accepted by_peer = peer ∙ by_peer
 
 -- with an own ID that no half had
-pub put_answered : (e : End) (f : Found) (id : List ℕ) (h : Half) → IsEnd e → Has e f → is_closed f.half.phase ≡ false → IsHalf h
+pub put_answered : (e : End) (f : KeptHalf) (id : List ℕ) (h : Half) → IsEnd e → Has e f → is_closed f.half.phase ≡ false → IsHalf h
     → with_own e id ≡ None → f.half.own ≡ None → h.own ≡ Some id → h.peer ≡ f.half.peer → Goes e (put e f.slot f.key h)
 put_answered e f id h sound had is_open half none was own peer = put_back e f h sound had is_open half
     (kept f.slot (sound.kept f had))
@@ -197,7 +199,7 @@ put_answered e f id h sound had is_open half none was own peer = put_back e f h 
     kept Accepted by_peer = peer ∙ by_peer
 
 -- with a peer's ID that no half had
-pub put_learned : (e : End) (f : Found) (id : List ℕ) (h : Half) → IsEnd e → Has e f → is_closed f.half.phase ≡ false → IsHalf h
+pub put_learned : (e : End) (f : KeptHalf) (id : List ℕ) (h : Half) → IsEnd e → Has e f → is_closed f.half.phase ≡ false → IsHalf h
     → with_peer e id ≡ None → f.half.peer ≡ None → h.peer ≡ Some id → h.own ≡ f.half.own → Goes e (put e f.slot f.key h)
 put_learned e f id h sound had is_open half none was peer own = put_back e f h sound had is_open half
     (kept f.slot (sound.kept f had))

@@ -1,12 +1,17 @@
 -- What a call leaves of an end: what holds of every end holds of what a step makes of it, and of it as it was.
-use Rattle.std.proofs.Common.{◌≡◌, Option, Some, OnOk, OnErr}
-use Rattle.std.specs.declared.result.Result.{Result}
-use Rattle.std.specs.declared.result.Result.TheVariants.{Ok, Err}
+use Rattle.std.proofs.Common.{◌≡◌, Result, Ok, Err, OnErr}
 use Rattle.tcap_end.specs.declared.fault.EndFault.{EndFault}
 use Rattle.tcap_end.specs.End.{End}
 use Rattle.tcap_end.specs.Sound.{IsEnd}
+use Rattle.tcap_end.specs.Step.{Answers, AnswersInMemory}
 
-pub sound_after : (answer : Result Unit EndFault) (o : Option End) (e next : End) → IsEnd e
-    → ((made : End) → o ≡ Some made → IsEnd made) → OnOk answer (o ≡ Some next) → OnErr answer (next ≡ e) → IsEnd next
-sound_after (Ok _) o e next sound goes ok err = goes next ok
-sound_after (Err _) o e next sound goes ok err = rw err sound
+pub sound_after : (step : Result End EndFault) (answer : Result (Unit {0}) EndFault) (e next : End) → IsEnd e
+    → ((made : End) → step ≡ Ok made → IsEnd made) → AnswersInMemory step answer next → OnErr answer (next ≡ e) → IsEnd next
+sound_after step (Ok _) e next sound goes answers kept = goes next answers
+sound_after step (Err _) e next sound goes answers kept = rw kept sound
+
+-- A call that takes no memory answers so too.
+pub in_memory : (step : Result End EndFault) (answer : Result (Unit {0}) EndFault) (left : End) → Answers step answer left
+    → AnswersInMemory step answer left
+in_memory step (Ok _) left answers = answers
+in_memory step (Err _) left answers = λ apart. answers

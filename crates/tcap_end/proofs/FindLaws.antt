@@ -16,9 +16,9 @@ use Rattle.tcap_end.specs.declared.halves.Place.TheVariants.{Open, Closed}
 use Rattle.tcap_end.specs.Table.{octets_cmp}
 use Rattle.tcap_end.specs.Half.{Half, is_closed}
 use Rattle.tcap_end.specs.HalfState.{half_of}
-use Rattle.tcap_end.specs.End.{End, Found, first_half, found_half, is_id, with_own, with_peer}
+use Rattle.tcap_end.specs.End.{End, KeptHalf, first_half, half_where, is_id, with_own, with_peer}
 use Rattle.tcap_end.specs.Sound.{Has, IsEnd, IsKept, IsSame, halves_of}
-use Rattle.tcap_end.specs.Halves.{Indexes, IsAt, IsHeld, IsOpen, closed_at, end_of, half_at, half_in, halves_at, places_of, spot}
+use Rattle.tcap_end.specs.Halves.{Indexes, IsAt, IsHeld, IsOpen, closed_at, end_of, half_at, half_in, halves_at, places_of, kept_half}
 use Rattle.tcap_end.proofs.MapLaws.{kept_at}
 use Rattle.tcap_end.proofs.FoundLaws.{none_own, none_peer, own_has, peer_has}
 
@@ -44,23 +44,23 @@ half_there s Accepted key = halves_there s.slab Accepted key s.accepted.entries
 
 -- A place has its half.
 pub has_there : (s : Halves) (slot : Slot) (key : List ℕ) (place : Place)
-    → IsAt slot key place s → Has (end_of s) (spot slot key (half_at s.slab slot key place))
+    → IsAt slot key place s → Has (end_of s) (kept_half slot key (half_at s.slab slot key place))
 has_there s slot key place there = half_there s slot key ∙ ap (option_map (half_at s.slab slot key)) there
 
 -- A half that is had is that of its place.
 pub had_there : (s : Halves) (slot : Slot) (key : List ℕ) (place : Place) (h : Half)
-    → IsAt slot key place s → Has (end_of s) (spot slot key h) → h ≡ half_at s.slab slot key place
+    → IsAt slot key place s → Has (end_of s) (kept_half slot key h) → h ≡ half_at s.slab slot key place
 had_there s slot key place h there had = let one = sym had ∙ has_there s slot key place there in cc
 
 -- Where there is no place no half is had.
 pub none_there : {P : Type 0} (s : Halves) (slot : Slot) (key : List ℕ) (h : Half)
-    → kept_at octets_cmp (places_of slot s) key ≡ None → Has (end_of s) (spot slot key h) → P
+    → kept_at octets_cmp (places_of slot s) key ≡ None → Has (end_of s) (kept_half slot key h) → P
 none_there s slot key h none had =
     let bad = sym had ∙ half_there s slot key ∙ ap (option_map (half_at s.slab slot key)) none in cc
 
 -- what stands under the number of a place, of the half that is had there
 pub open_there : (s : Halves) (slot : Slot) (key : List ℕ) (k : ℕ) (h : Half) (r : Option (Bor HalfState)) → IsHeld s
-    → IsAt slot key (Open k) s → option_copied r ≡ get s.slab k → Has (end_of s) (spot slot key h)
+    → IsAt slot key (Open k) s → option_copied r ≡ get s.slab k → Has (end_of s) (kept_half slot key h)
     → MatchOption r (is_closed h.phase ≡ true) (λ half. (half_of half.now ≡ h) × (is_closed h.phase ≡ false))
 open_there s slot key k h r held there is had = by r (is ∙ state.1)
   where
@@ -80,17 +80,17 @@ closed_is Begun key other = refl
 closed_is Accepted key other = refl
 
 pub closed_there : (s : Halves) (slot : Slot) (key : List ℕ) (other : Option (List ℕ)) (h : Half)
-    → IsAt slot key (Closed other) s → Has (end_of s) (spot slot key h) → is_closed h.phase ≡ true
+    → IsAt slot key (Closed other) s → Has (end_of s) (kept_half slot key h) → is_closed h.phase ≡ true
 closed_there s slot key other h there had = rw (had_there s slot key (Closed other) h there had) (closed_is slot key other)
 
 -- ---- what is found passes
 
-first_passes : (passes : Half → Bool) (slot : Slot) (es : List (List ℕ × Half)) (f : Found)
+first_passes : (passes : Half → Bool) (slot : Slot) (es : List (List ℕ × Half)) (f : KeptHalf)
     → first_half passes slot es ≡ Some f → passes f.half ≡ true
 first_passes passes slot [] f is = cc
 first_passes passes slot ((key, half) ∷ es) f is = by (passes half) refl is (first_passes passes slot es f)
   where
-    first : Found
+    first : KeptHalf
     first = record { slot = slot; key = key; half = half }
 
     by : (b : Bool) → passes half ≡ b → cond b (Some first) (first_half passes slot es) ≡ Some f
@@ -98,10 +98,10 @@ first_passes passes slot ((key, half) ∷ es) f is = by (passes half) refl is (f
     by true so is rest = let same : first ≡ f = cc in rw (← same) so
     by false so is rest = rest is
 
-found_passes : (passes : Half → Bool) (e : End) (f : Found) → found_half passes e ≡ Some f → passes f.half ≡ true
+found_passes : (passes : Half → Bool) (e : End) (f : KeptHalf) → half_where passes e ≡ Some f → passes f.half ≡ true
 found_passes passes e f is = by (first_half passes Begun e.begun) refl
   where
-    by : (o : Option Found) → first_half passes Begun e.begun ≡ o → passes f.half ≡ true
+    by : (o : Option KeptHalf) → first_half passes Begun e.begun ≡ o → passes f.half ≡ true
     by None none = first_passes passes Accepted e.accepted f (rw none at is)
     by (Some g) some = first_passes passes Begun e.begun f (let same = rw some at is in some ∙ same)
 
@@ -112,25 +112,25 @@ same_id id (Some other) is = ap Some (sym ((bytes_eq-Decides id other).0 is))
 -- ---- the half that has an ID
 
 -- Of an ID that one half has at most, what is found: the half that has it, or none.
-pub record Finds (id_in : Half → Option (List ℕ)) (e : End) (id : List ℕ) (found : Option Found) : Type 0 where
-  had : (g : Found) → found ≡ Some g → Has e g × (id_in g.half ≡ Some id)
-  one : (f : Found) → Has e f → id_in f.half ≡ Some id → (h : Half) × (found ≡ Some (spot f.slot f.key h))
+pub record Finds (id_in : Half → Option (List ℕ)) (e : End) (id : List ℕ) (found : Option KeptHalf) : Type 0 where
+  had : (g : KeptHalf) → found ≡ Some g → Has e g × (id_in g.half ≡ Some id)
+  one : (f : KeptHalf) → Has e f → id_in f.half ≡ Some id → (h : Half) × (found ≡ Some (kept_half f.slot f.key h))
 
 module _ (id_in : Half → Option (List ℕ)) (e : End) (id : List ℕ) where
-  abbrev found : Option Found
-  found = found_half (λ h. is_id id (id_in h)) e
+  abbrev found : Option KeptHalf
+  found = half_where (λ h. is_id id (id_in h)) e
 
-  finds : ((g : Found) → found ≡ Some g → Has e g)
-      → ((f : Found) → found ≡ None → Has e f → id_in f.half ≡ Some id → true ≡ false)
-      → ((f g : Found) (id : List ℕ) → Has e f → Has e g → id_in f.half ≡ Some id → id_in g.half ≡ Some id → IsSame f g)
+  finds : ((g : KeptHalf) → found ≡ Some g → Has e g)
+      → ((f : KeptHalf) → found ≡ None → Has e f → id_in f.half ≡ Some id → true ≡ false)
+      → ((f g : KeptHalf) (id : List ℕ) → Has e f → Has e g → id_in f.half ≡ Some id → id_in g.half ≡ Some id → IsSame f g)
       → Finds id_in e id found
   finds has none unique = record { had = had; one = λ f there its. by f there its found refl }
     where
-      had : (g : Found) → found ≡ Some g → Has e g × (id_in g.half ≡ Some id)
+      had : (g : KeptHalf) → found ≡ Some g → Has e g × (id_in g.half ≡ Some id)
       had g is = (has g is, same_id id (id_in g.half) (found_passes (λ h. is_id id (id_in h)) e g is))
 
-      by : (f : Found) → Has e f → id_in f.half ≡ Some id → (o : Option Found) → found ≡ o
-          → (h : Half) × (found ≡ Some (spot f.slot f.key h))
+      by : (f : KeptHalf) → Has e f → id_in f.half ≡ Some id → (o : Option KeptHalf) → found ≡ o
+          → (h : Half) × (found ≡ Some (kept_half f.slot f.key h))
       by f there its None nothing = let bad = none f nothing there its in cc
       by f there its (Some g) some =
           let same = unique f g id there (has g some) its (had g some).1 in (g.half, some ∙ rw (same.0, same.1) refl)
@@ -144,28 +144,29 @@ peer_finds e id sound = finds (λ h. h.peer) e id (peer_has e id sound) (λ f. n
 -- ---- what the places and the indexes say
 
 -- A place by that ID: its half is found.
-pub at_place : (id_in : Half → Option (List ℕ)) (s : Halves) (slot : Slot) (id : List ℕ) (o : Option Found)
-    → Finds id_in (end_of s) id o → ((h : Half) → Has (end_of s) (spot slot id h) → id_in h ≡ Some id)
-    → is_some (kept_at octets_cmp (places_of slot s) id) ≡ true → (h : Half) × (o ≡ Some (spot slot id h))
+pub at_place : (id_in : Half → Option (List ℕ)) (s : Halves) (slot : Slot) (id : List ℕ) (o : Option KeptHalf)
+    → Finds id_in (end_of s) id o → ((h : Half) → Has (end_of s) (kept_half slot id h) → id_in h ≡ Some id)
+    → is_some (kept_at octets_cmp (places_of slot s) id) ≡ true → (h : Half) × (o ≡ Some (kept_half slot id h))
 at_place id_in s slot id o law kept some = by (kept_at octets_cmp (places_of slot s) id) refl some
   where
-    by : (p : Option Place) → kept_at octets_cmp (places_of slot s) id ≡ p → is_some p ≡ true → (h : Half) × (o ≡ Some (spot slot id h))
+    by : (p : Option Place) → kept_at octets_cmp (places_of slot s) id ≡ p → is_some p ≡ true
+        → (h : Half) × (o ≡ Some (kept_half slot id h))
     by None there is = cc
     by (Some place) there is =
         let had = has_there s slot id place there in
-        law.one (spot slot id (half_at s.slab slot id place)) had (kept (half_at s.slab slot id place) had)
+        law.one (kept_half slot id (half_at s.slab slot id place)) had (kept (half_at s.slab slot id place) had)
 
 -- An index leads on from that ID: the half there is found.
-pub led_on : (id_in : Half → Option (List ℕ)) (e : End) (slot : Slot) (id key : List ℕ) (o : Option Found) (index : List (List ℕ × List ℕ))
-    → Finds id_in e id o → Indexes index slot id_in e → kept_at octets_cmp index id ≡ Some key
-    → (h : Half) × (o ≡ Some (spot slot key h))
-led_on id_in e slot id key o index law leads is = let it = (leads id key).0 is in law.one (spot slot key it.0) it.1 it.2
+pub led_on : (id_in : Half → Option (List ℕ)) (e : End) (slot : Slot) (id key : List ℕ) (o : Option KeptHalf)
+    (index : List (List ℕ × List ℕ)) → Finds id_in e id o → Indexes index slot id_in e → kept_at octets_cmp index id ≡ Some key
+    → (h : Half) × (o ≡ Some (kept_half slot key h))
+led_on id_in e slot id key o index law leads is = let it = (leads id key).0 is in law.one (kept_half slot key it.0) it.1 it.2
 
 -- No place by that ID, and no index leads on from it: none is found.
-pub nowhere : (id_in : Half → Option (List ℕ)) (s : Halves) (slot other : Slot) (id : List ℕ) (o : Option Found)
+pub nowhere : (id_in : Half → Option (List ℕ)) (s : Halves) (slot other : Slot) (id : List ℕ) (o : Option KeptHalf)
     (index : List (List ℕ × List ℕ))
     → Finds id_in (end_of s) id o → Indexes index other id_in (end_of s)
-    → ((f : Found) → Has (end_of s) f → id_in f.half ≡ Some id → ((f.slot ≡ slot) × (f.key ≡ id)) ⊎ (f.slot ≡ other))
+    → ((f : KeptHalf) → Has (end_of s) f → id_in f.half ≡ Some id → ((f.slot ≡ slot) × (f.key ≡ id)) ⊎ (f.slot ≡ other))
     → is_some (kept_at octets_cmp (places_of slot s) id) ≡ false → kept_at octets_cmp index id ≡ None → o ≡ None
 nowhere id_in s slot other id o index law leads parts unkept unled = by o refl
   where
@@ -173,17 +174,17 @@ nowhere id_in s slot other id o index law leads parts unkept unled = by o refl
     no_place None is = refl
     no_place (Some place) is = cc
 
-    no_half : (f : Found) → Has (end_of s) f → id_in f.half ≡ Some id → ((f.slot ≡ slot) × (f.key ≡ id)) ⊎ (f.slot ≡ other) → o ≡ None
+    no_half : (f : KeptHalf) → Has (end_of s) f → id_in f.half ≡ Some id → ((f.slot ≡ slot) × (f.key ≡ id)) ⊎ (f.slot ≡ other) → o ≡ None
     no_half f had its (inl kept) =
         none_there s slot id f.half (no_place (kept_at octets_cmp (places_of slot s) id) unkept) (rw (kept.0, kept.1) at had)
     no_half f had its (inr led) = let bad = sym unled ∙ (leads id f.key).1 (f.half, rw led at had, its) in cc
 
-    by : (p : Option Found) → o ≡ p → o ≡ None
+    by : (p : Option KeptHalf) → o ≡ p → o ≡ None
     by None is = is
     by (Some f) is = let it = law.had f is in no_half f it.0 it.1 (parts f it.0 it.1)
 
 -- A half that has that own transaction ID is kept by it, or was accepted; one that has that peer's is kept by it, or began.
-pub own_parts : (e : End) (id : List ℕ) → IsEnd e → (f : Found) → Has e f → f.half.own ≡ Some id
+pub own_parts : (e : End) (id : List ℕ) → IsEnd e → (f : KeptHalf) → Has e f → f.half.own ≡ Some id
     → ((f.slot ≡ Begun) × (f.key ≡ id)) ⊎ (f.slot ≡ Accepted)
 own_parts e id sound f had own = by f.slot (sound.kept f had)
   where
@@ -191,7 +192,7 @@ own_parts e id sound f had own = by f.slot (sound.kept f had)
     by Begun kept = inl (refl, cc)
     by Accepted kept = inr refl
 
-pub peer_parts : (e : End) (id : List ℕ) → IsEnd e → (f : Found) → Has e f → f.half.peer ≡ Some id
+pub peer_parts : (e : End) (id : List ℕ) → IsEnd e → (f : KeptHalf) → Has e f → f.half.peer ≡ Some id
     → ((f.slot ≡ Accepted) × (f.key ≡ id)) ⊎ (f.slot ≡ Begun)
 peer_parts e id sound f had peer = by f.slot (sound.kept f had)
   where

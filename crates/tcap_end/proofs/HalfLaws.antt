@@ -9,9 +9,11 @@ use Rattle.tcap_end.specs.declared.half.Phase.{Phase}
 use Rattle.tcap_end.specs.declared.half.Phase.TheVariants as phases
 use Rattle.tcap_end.specs.declared.half.Standing.{Standing}
 use Rattle.tcap_end.specs.declared.half.Standing.TheVariants as standings
-use Rattle.tcap_end.specs.declared.outs.Invoked.{Invoked}
+use Rattle.tcap_end.specs.declared.outs.OwnInvocation.{OwnInvocation}
 use Rattle.tcap_end.specs.Half.{Answer, Half, Invocation, closed_half, fresh}
-use Rattle.tcap_end.specs.Message.{answered, asked_by, confirmed, is_active, is_received, is_request, learned}
+use Rattle.tcap_end.specs.Dialogue.{confirm, first_standing, is_request}
+use Rattle.tcap_end.specs.Message.{active_half, is_active, is_received}
+use Rattle.tcap_end.specs.declared.half.Slot.TheVariants.{Begun, Accepted}
 use Rattle.tcap_end.specs.Sound.{FitsPhase, HasItems, IsHalf, Rises}
 use Rattle.tcap_end.proofs.MapLaws.{rises_removed}
 
@@ -32,7 +34,7 @@ pub record Follows (h g : Half) : Type 0 where
   pub grants : IsListed h.grants → IsListed g.grants
 
 -- a step that changes the lists alone
-follows_lists : (h : Half) (out : List (ℤ × Invoked)) (inn : List (ℤ × List Invocation)) (grants : List (ℤ × List Answer))
+follows_lists : (h : Half) (out : List (ℤ × OwnInvocation)) (inn : List (ℤ × List Invocation)) (grants : List (ℤ × List Answer))
     → (Rises int_cmp h.out → Rises int_cmp out) → (IsListed h.inn → IsListed inn) → (IsListed h.grants → IsListed grants)
     → Follows h (record h { out = out; inn = inn; grants = grants })
 follows_lists h out inn grants of_out of_inn of_grants =
@@ -41,7 +43,7 @@ follows_lists h out inn grants of_out of_inn of_grants =
 pub follows_self : (h : Half) → Follows h h
 follows_self h = follows_lists h h.out h.inn h.grants (λ is. is) (λ is. is) (λ is. is)
 
-pub follows_out : (h : Half) (out : List (ℤ × Invoked)) → (Rises int_cmp h.out → Rises int_cmp out)
+pub follows_out : (h : Half) (out : List (ℤ × OwnInvocation)) → (Rises int_cmp h.out → Rises int_cmp out)
     → Follows h (record h { out = out })
 follows_out h out rises = follows_lists h out h.inn h.grants rises (λ is. is) (λ is. is)
 
@@ -102,7 +104,7 @@ asked_not_confirmed : (b : Bool) → cond b standings.Asked standings.Without �
 asked_not_confirmed true is = cc
 asked_not_confirmed false is = cc
 
-confirmed_not_asked : (standing : Standing) → confirmed standing ≢ standings.Asked
+confirmed_not_asked : (standing : Standing) → confirm standing ≢ standings.Asked
 confirmed_not_asked standings.Without is = cc
 confirmed_not_asked standings.Asked is = cc
 confirmed_not_asked standings.Confirmed is = cc
@@ -113,23 +115,23 @@ unfolding IsStrictlySortedBy
 fresh_half phase own peer standing fits = record { phase = fits; out = tt; inn = (tt, tt); grants = (tt, tt) }
 
 pub half_sent : (own : List ℕ) (dialogue : Option Dialogue)
-    → IsHalf (fresh phases.Sent (Some own) None (asked_by dialogue))
+    → IsHalf (fresh phases.Sent (Some own) None (first_standing dialogue))
 half_sent own dialogue = fresh_half _ _ _ _ (refl, refl, asked_not_confirmed (is_request dialogue), refl, refl)
 
 pub half_received : (peer : List ℕ) (dialogue : Option Dialogue)
-    → IsHalf (fresh phases.Received None (Some peer) (asked_by dialogue))
+    → IsHalf (fresh phases.Received None (Some peer) (first_standing dialogue))
 half_received peer dialogue = fresh_half _ _ _ _ (refl, refl, asked_not_confirmed (is_request dialogue), refl)
 
 pub half_closed : (h : Half) → IsHalf (closed_half h)
 half_closed h = fresh_half _ _ _ _ (refl, refl, refl, refl)
 
 -- Its Begin is answered by this end, or by its peer.
-pub half_answered : (own : List ℕ) (h : Half) → h.phase ≡ phases.Received → IsHalf h → IsHalf (answered own h)
+pub half_answered : (own : List ℕ) (h : Half) → h.phase ≡ phases.Received → IsHalf h → IsHalf (active_half Accepted own h)
 half_answered own h is half =
     let fits = rw is at half.phase in
     record { phase = (refl, fits.1, confirmed_not_asked h.standing); out = half.out; inn = half.inn; grants = half.grants }
 
-pub half_learned : (peer : List ℕ) (h : Half) → h.phase ≡ phases.Sent → IsHalf h → IsHalf (learned peer h)
+pub half_learned : (peer : List ℕ) (h : Half) → h.phase ≡ phases.Sent → IsHalf h → IsHalf (active_half Begun peer h)
 half_learned peer h is half =
     let fits = rw is at half.phase in
     record { phase = (fits.0, refl, confirmed_not_asked h.standing); out = half.out; inn = half.inn; grants = half.grants }

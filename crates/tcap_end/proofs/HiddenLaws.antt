@@ -1,20 +1,20 @@
 -- What happens unseen to the half that was found.
-use Rattle.std.proofs.Common.{◌≡◌, ℤ, true, false, Option, Some, None, IsSome, is_some, refl, sym, subst}
+use Rattle.std.proofs.Common.{◌≡◌, ℤ, true, false, Option, Some, None, Ok, Err, IsSome, refl, sym, subst}
 use Rattle.std.specs.Ordering.{int_cmp}
 use Rattle.std.specs.Map.{lookup, remove_entry}
 use Rattle.std.specs.BTreeMap.{is_at}
 use Rattle.tcap_end.specs.declared.fault.EndFault.TheVariants as faults
-use Rattle.tcap_end.specs.declared.half.Mark.TheVariants as marks
+use Rattle.tcap_end.specs.declared.half.HalfName.{HalfName}
+use Rattle.tcap_end.specs.declared.half.InvocationState.TheVariants as states
 use Rattle.tcap_end.specs.declared.half.Phase.{Phase}
 use Rattle.tcap_end.specs.declared.half.Phase.TheVariants as phases
-use Rattle.tcap_end.specs.declared.outs.Invoked.{Invoked}
+use Rattle.tcap_end.specs.declared.outs.OwnInvocation.{OwnInvocation}
 use Rattle.tcap_end.specs.declared.outs.Outs.{Outs}
-use Rattle.tcap_end.specs.Component.{invoked}
-use Rattle.tcap_end.specs.End.{End, Found, put}
+use Rattle.tcap_end.specs.Component.{own_invocation}
+use Rattle.tcap_end.specs.End.{End, KeptHalf, named, put}
 use Rattle.tcap_end.specs.Half.{Half, closed_half, is_closed}
-use Rattle.tcap_end.specs.Hidden.{closed_in, expired_in, may_close, may_expire}
+use Rattle.tcap_end.specs.Hidden.{close, expire, may_close, may_expire, without_invocation}
 use Rattle.tcap_end.specs.Outs.{HasPlace, kept_outs}
-use Rattle.tcap_end.specs.Refusal.{unless_so}
 use Rattle.tcap_end.specs.Table.{Table, expires_of}
 use Rattle.tcap_end.proofs.BackLaws.{has_place}
 use Rattle.tcap_end.proofs.MapLaws.{rises_removed}
@@ -28,19 +28,16 @@ closed_never table phases.Received is = cc
 closed_never table phases.Active is = cc
 closed_never table phases.Closed is = refl
 
--- The half may not close.
-pub stays_open : {o : Option Found} {f : Found} (table : Table) (e : End) → o ≡ Some f → may_close table f.half.phase ≡ false
-    → unless_so (is_some (closed_in table e o)) faults.CannotClose ≡ Some faults.CannotClose
-stays_open table e is may_not = rw (is, may_not) refl
+-- The half may not close, as one that is closed already; else it does.
+module _ {f : KeptHalf} (table : Table) (e : End) (name : HalfName) (is : named e name ≡ Some f) where
+  pub stays_open : may_close table f.half.phase ≡ false → close table e name ≡ Err faults.CannotClose
+  stays_open may_not = rw (is, may_not) refl
 
--- It is closed already.
-pub stays_closed : {o : Option Found} {f : Found} (table : Table) (e : End) → o ≡ Some f → is_closed f.half.phase ≡ true
-    → unless_so (is_some (closed_in table e o)) faults.CannotClose ≡ Some faults.CannotClose
-stays_closed {f = f} table e is shut = stays_open table e is (closed_never table f.half.phase shut)
+  pub stays_closed : is_closed f.half.phase ≡ true → close table e name ≡ Err faults.CannotClose
+  stays_closed shut = stays_open (closed_never table f.half.phase shut)
 
-pub half_closes : {o : Option Found} {f : Found} (table : Table) (e : End) → o ≡ Some f → may_close table f.half.phase ≡ true
-    → closed_in table e o ≡ Some (put e f.slot f.key (closed_half f.half))
-half_closes table e is may = rw (is, may) refl
+  pub half_closes : may_close table f.half.phase ≡ true → close table e name ≡ Ok (put e f.slot f.key (closed_half f.half))
+  half_closes may = rw (is, may) refl
 
 -- ---- an own invocation ends unseen
 
@@ -48,7 +45,7 @@ half_closes table e is may = rw (is, may) refl
 pub some_place : (id : ℤ) (o : Outs) → IsSome (lookup (is_at (int_cmp id)) (kept_outs o)) → HasPlace id o
 some_place id o there = by (lookup (is_at (int_cmp id)) (kept_outs o)) refl there
   where
-    by : (i : Option Invoked) → lookup (is_at (int_cmp id)) (kept_outs o) ≡ i → IsSome i → HasPlace id o
+    by : (i : Option OwnInvocation) → lookup (is_at (int_cmp id)) (kept_outs o) ≡ i → IsSome i → HasPlace id o
     by None is some = cc
     by (Some i) is some = has_place id o i is
 
@@ -59,27 +56,25 @@ forgets id h g is =
     (follows_out h (remove_entry (is_at (int_cmp id)) h.out) (rises_removed int_cmp (is_at (int_cmp id)) h.out))
 
 -- One that may end stands.
-pub expires_some : (table : Table) (i : Option Invoked) → may_expire table i ≡ true → IsSome i
+pub expires_some : (table : Table) (i : Option OwnInvocation) → may_expire table i ≡ true → IsSome i
 expires_some table None may = cc
 expires_some table (Some i) may = refl
 
-pub waits_may : (table : Table) (i : Invoked) → i.mark ≡ marks.Wait → may_expire table (Some i) ≡ true
+pub waits_may : (table : Table) (i : OwnInvocation) → i.state ≡ states.WaitForReject → may_expire table (Some i) ≡ true
 waits_may table i is = rw is refl
 
-pub sent_may : (table : Table) (i : Invoked) → i.mark ≡ marks.Sent → may_expire table (Some i) ≡ expires_of table i.code
+pub sent_may : (table : Table) (i : OwnInvocation) → i.state ≡ states.OperationSent → may_expire table (Some i) ≡ expires_of table i.code
 sent_may table i is = rw is refl
 
--- It does not end where the half is closed, or where it may not.
-pub closed_stays : {o : Option Found} {f : Found} (table : Table) (e : End) (id : ℤ) → o ≡ Some f → is_closed f.half.phase ≡ true
-    → unless_so (is_some (expired_in table e id o)) faults.CannotExpire ≡ Some faults.CannotExpire
-closed_stays table e id is shut = rw (is, shut) refl
+-- It does not end where the half is closed, or where it may not; else it does.
+module _ {f : KeptHalf} (table : Table) (e : End) (name : HalfName) (id : ℤ) (is : named e name ≡ Some f) where
+  pub closed_stays : is_closed f.half.phase ≡ true → expire table e name id ≡ Err faults.CannotExpire
+  closed_stays shut = rw (is, shut) refl
 
-pub invoked_stays : {o : Option Found} {f : Found} (table : Table) (e : End) (id : ℤ) → o ≡ Some f → is_closed f.half.phase ≡ false
-    → may_expire table (invoked f.half id) ≡ false
-    → unless_so (is_some (expired_in table e id o)) faults.CannotExpire ≡ Some faults.CannotExpire
-invoked_stays table e id is is_open may_not = rw (is, is_open, may_not) refl
+  pub invoked_stays : is_closed f.half.phase ≡ false → may_expire table (own_invocation f.half id) ≡ false
+      → expire table e name id ≡ Err faults.CannotExpire
+  invoked_stays is_open may_not = rw (is, is_open, may_not) refl
 
-pub invoked_ends : {o : Option Found} {f : Found} (table : Table) (e : End) (id : ℤ) → o ≡ Some f → is_closed f.half.phase ≡ false
-    → may_expire table (invoked f.half id) ≡ true
-    → expired_in table e id o ≡ Some (put e f.slot f.key (record f.half { out = remove_entry (is_at (int_cmp id)) f.half.out }))
-invoked_ends table e id is is_open may = rw (is, is_open, may) refl
+  pub invoked_ends : is_closed f.half.phase ≡ false → may_expire table (own_invocation f.half id) ≡ true
+      → expire table e name id ≡ Ok (put e f.slot f.key (without_invocation id f.half))
+  invoked_ends is_open may = rw (is, is_open, may) refl

@@ -1,5 +1,5 @@
+pub mod AnsweringLaws
 pub mod Rows
-pub mod RefusalLaws
 pub mod MapLaws
 pub mod FoundLaws
 pub mod HalfLaws
@@ -14,6 +14,7 @@ pub mod OutLaws
 pub mod PlaceLaws
 pub mod UndoLaws
 pub mod RoundLaws
+pub mod WayLaws
 pub mod BackLaws
 pub mod NoteLaws
 pub mod ReceivingLaws

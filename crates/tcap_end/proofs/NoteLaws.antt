@@ -5,7 +5,7 @@ use Rattle.tcap_end.specs.declared.half_state.Change.{Change}
 use Rattle.tcap_end.specs.declared.half_state.Change.TheVariants.{InnJoined, GrantJoined}
 use Rattle.tcap_end.specs.declared.lists.Lists.{Lists}
 use Rattle.tcap_end.specs.declared.outs.Outs.{Outs}
-use Rattle.tcap_end.specs.Half.{Answer, Half, Invocation, added}
+use Rattle.tcap_end.specs.Half.{Answer, Half, Invocation, with_newest}
 use Rattle.tcap_end.specs.Lists.{HasList, kept_lists, one_less}
 use Rattle.tcap_end.specs.Outs.{HasPlace}
 use Rattle.tcap_end.specs.HalfState.{CanUndo, IsUndone, Keeps, StillUndoes, half_of, undone}
@@ -54,7 +54,7 @@ module _ {A E : Type 0} (r : Result A E) (changes more : List Change) (h next : 
       still_noted r change changes more h (record h { out = out }) next back (keeps_out h out has) can ok err
 
   -- an invocation joined those of an ID
-  pub inn_noted : (id : ℤ) (item : Invocation) (inn : Lists Invocation) → kept_lists inn ≡ added id item (kept_lists h.inn)
+  pub inn_noted : (id : ℤ) (item : Invocation) (inn : Lists Invocation) → kept_lists inn ≡ with_newest id item (kept_lists h.inn)
       → ((other : ℤ) → HasList other h.inn → HasList other inn) → HasList id inn
       → OnOk r ((next ≡ record h { inn = inn }) × (more ≡ InnJoined id ∷ changes))
       → OnErr r (IsUndone (InnJoined id) (record h { inn = inn }) next × (more ≡ changes)) → StillUndoes changes h more next
@@ -63,7 +63,7 @@ module _ {A E : Type 0} (r : Result A E) (changes more : List Change) (h next : 
       (ap (λ inn. record (half_of h) { inn = inn }) (ap (one_less id) joined ∙ less_again id item h.inn)) (keeps_inn h inn has) can ok err
 
   -- an answer did
-  pub grant_noted : (id : ℤ) (item : Answer) (grants : Lists Answer) → kept_lists grants ≡ added id item (kept_lists h.grants)
+  pub grant_noted : (id : ℤ) (item : Answer) (grants : Lists Answer) → kept_lists grants ≡ with_newest id item (kept_lists h.grants)
       → ((other : ℤ) → HasList other h.grants → HasList other grants) → HasList id grants
       → OnOk r ((next ≡ record h { grants = grants }) × (more ≡ GrantJoined id ∷ changes))
       → OnErr r (IsUndone (GrantJoined id) (record h { grants = grants }) next × (more ≡ changes)) → StillUndoes changes h more next

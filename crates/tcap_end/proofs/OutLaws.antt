@@ -4,26 +4,26 @@ use Rattle.std.specs.Prelude.{option_and_then}
 use Rattle.std.specs.Ordering.{int_cmp}
 use Rattle.std.specs.Map.{lookup}
 use Rattle.std.specs.BTreeMap.{insert_entry, is_at}
-use Rattle.tcap_end.specs.declared.outs.Invoked.{Invoked}
+use Rattle.tcap_end.specs.declared.outs.OwnInvocation.{OwnInvocation}
 use Rattle.tcap_end.specs.Sound.{Rises}
 use Rattle.tcap_end.specs.Lists.{keep}
 use Rattle.tcap_end.specs.Outs.{with_out}
 use Rattle.tcap_end.proofs.KeepLaws.{insert_dropped, insert_keep, lookup_keep, remove_absent}
 
 -- what stands in the place of an ID, from what was looked up
-pub stands : (id : ℤ) (places : List (ℤ × Option Invoked)) (found : Option (Option Invoked)) → Rises int_cmp places
+pub stands : (id : ℤ) (places : List (ℤ × Option OwnInvocation)) (found : Option (Option OwnInvocation)) → Rises int_cmp places
     → lookup (is_at (int_cmp id)) places ≡ found
     → lookup (is_at (int_cmp id)) (keep (λ place. place) places) ≡ option_and_then (λ place. place) found
 stands id places found rises e = lookup_keep (λ place. place) id places rises ∙ ap (option_and_then (λ place. place)) e
 
 -- something, or nothing, is put there
-pub puts : (id : ℤ) (invoked : Option Invoked) (places : List (ℤ × Option Invoked)) → Rises int_cmp places
-    → keep (λ place. place) (insert_entry int_cmp places id invoked) ≡ with_out id invoked (keep (λ place. place) places)
+pub puts : (id : ℤ) (own_invocation : Option OwnInvocation) (places : List (ℤ × Option OwnInvocation)) → Rises int_cmp places
+    → keep (λ place. place) (insert_entry int_cmp places id own_invocation) ≡ with_out id own_invocation (keep (λ place. place) places)
 puts id None places rises = insert_dropped (λ place. place) id None places rises refl
-puts id (Some invoked) places rises = insert_keep (λ place. place) id (Some invoked) invoked places rises refl
+puts id (Some own_invocation) places rises = insert_keep (λ place. place) id (Some own_invocation) own_invocation places rises refl
 
 -- an empty place is made where there was none
-pub made : (id : ℤ) (places : List (ℤ × Option Invoked)) → Rises int_cmp places → is_some (lookup (is_at (int_cmp id)) places) ≡ false
+pub made : (id : ℤ) (places : List (ℤ × Option OwnInvocation)) → Rises int_cmp places → is_some (lookup (is_at (int_cmp id)) places) ≡ false
     → keep (λ place. place) (insert_entry int_cmp places id None) ≡ keep (λ place. place) places
 made id places rises absent =
     puts id None places rises ∙ remove_absent id (keep (λ place. place) places)

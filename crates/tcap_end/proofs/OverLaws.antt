@@ -1,4 +1,4 @@
--- A half that was found: whether it is open, what is kept of it, and what a step makes of the end.
+-- A half that was found: whether it is open, and what is kept of it; a new half.
 use Rattle.std.proofs.Common.{◌≡◌, List, ℕ, true, false, Option, Some, None, is_none, is_some, refl, sym, ap, subst, ◌∙◌}
 use Rattle.std.specs.Borrow.{Bor}
 use Rattle.std.specs.Option.{MatchOption}
@@ -11,11 +11,11 @@ use Rattle.tcap_end.specs.declared.half_state.HalfState.{HalfState}
 use Rattle.tcap_end.specs.declared.halves.Halves.{Halves}
 use Rattle.tcap_end.specs.declared.halves.Place.{Place}
 use Rattle.tcap_end.specs.declared.halves.Place.TheVariants.{Open, Closed}
-use Rattle.tcap_end.specs.declared.halves.Spot.{Spot}
-use Rattle.tcap_end.specs.End.{End, Found, named, put, with_own, with_peer}
+use Rattle.tcap_end.specs.declared.halves.HalfKey.{HalfKey}
+use Rattle.tcap_end.specs.End.{End, KeptHalf, named, with_own, with_peer}
 use Rattle.tcap_end.specs.Half.{Half, fresh, is_closed}
-use Rattle.tcap_end.specs.HalfState.{half_of}
-use Rattle.tcap_end.specs.Halves.{Becomes, HasOpen, IsNew, end_of, half_at, other_id, places_of, spot}
+use Rattle.tcap_end.specs.HalfState.{half_of, other_id}
+use Rattle.tcap_end.specs.Halves.{HasOpen, IsNew, end_of, half_at, kept_half, places_of}
 use Rattle.tcap_end.specs.Sound.{Has, IsEnd, IsKept}
 use Rattle.tcap_end.specs.Table.{octets_cmp}
 use Rattle.tcap_end.proofs.FindLaws.{closed_there, has_there, none_there}
@@ -26,7 +26,7 @@ use Rattle.tcap_end.proofs.HalfLaws.{Follows}
 -- ---- whether a half is open
 
 -- Where an open half is had an open one is kept.
-pub open_where : (s : Halves) (slot : Slot) (key : List ℕ) (h : Half) → Has (end_of s) (spot slot key h) → is_closed h.phase ≡ false
+pub open_where : (s : Halves) (slot : Slot) (key : List ℕ) (h : Half) → Has (end_of s) (kept_half slot key h) → is_closed h.phase ≡ false
     → HasOpen slot key s
 open_where s slot key h had is_open = by (kept_at octets_cmp (places_of slot s) key) refl
   where
@@ -50,84 +50,77 @@ shown_closed h (Some half) none shown = cc
 -- ---- whether a half was found
 
 -- a half was found there
-abbrev pub IsFound : Option Found → Spot → Type 0
-IsFound o found = (h : Half) × (o ≡ Some (spot found.slot found.key h))
+abbrev pub IsFound : Option KeptHalf → HalfKey → Type 0
+IsFound o found = (h : Half) × (o ≡ Some (kept_half found.slot found.key h))
 
 -- what a search says of the half that is found
-abbrev pub Tells : Option Found → Option Spot → Type 0
+abbrev pub Tells : Option KeptHalf → Option HalfKey → Type 0
 Tells o r = MatchOption r (o ≡ None) (IsFound o)
 
-pub told_none : (o : Option Found) (r : Option Spot) → is_some r ≡ false → Tells o r → o ≡ None
+pub told_none : (o : Option KeptHalf) (r : Option HalfKey) → is_some r ≡ false → Tells o r → o ≡ None
 told_none o None none told = told
 told_none o (Some found) none told = cc
 
-pub told_some : (o : Option Found) (r : Option Spot) → is_some r ≡ true → Tells o r → is_none o ≡ false
+pub told_some : (o : Option KeptHalf) (r : Option HalfKey) → is_some r ≡ true → Tells o r → is_none o ≡ false
 told_some o None some told = cc
 told_some o (Some found) some told = rw (told.1) refl
 
 -- The end has a half that was found by its own ID, by its peer's or by its name.
-pub own_there : (e : End) (id : List ℕ) (found : Spot) → IsEnd e → (it : IsFound (with_own e id) found)
-    → Has e (spot found.slot found.key it.0)
-own_there e id found sound it = own_has e id sound (spot found.slot found.key it.0) it.1
+pub own_there : (e : End) (id : List ℕ) (found : HalfKey) → IsEnd e → (it : IsFound (with_own e id) found)
+    → Has e (kept_half found.slot found.key it.0)
+own_there e id found sound it = own_has e id sound (kept_half found.slot found.key it.0) it.1
 
-pub peer_there : (e : End) (id : List ℕ) (found : Spot) → IsEnd e → (it : IsFound (with_peer e id) found)
-    → Has e (spot found.slot found.key it.0)
-peer_there e id found sound it = peer_has e id sound (spot found.slot found.key it.0) it.1
+pub peer_there : (e : End) (id : List ℕ) (found : HalfKey) → IsEnd e → (it : IsFound (with_peer e id) found)
+    → Has e (kept_half found.slot found.key it.0)
+peer_there e id found sound it = peer_has e id sound (kept_half found.slot found.key it.0) it.1
 
-pub named_there : (e : End) (name : HalfName) (found : Spot) → IsEnd e → (it : IsFound (named e name) found)
-    → Has e (spot found.slot found.key it.0)
-named_there e name found sound it = named_has e name sound (spot found.slot found.key it.0) it.1
+pub named_there : (e : End) (name : HalfName) (found : HalfKey) → IsEnd e → (it : IsFound (named e name) found)
+    → Has e (kept_half found.slot found.key it.0)
+named_there e name found sound it = named_has e name sound (kept_half found.slot found.key it.0) it.1
 
 -- ---- the open half that was found
 
-abbrev pub over_half : Spot → HalfState → Found
-over_half found half = spot found.slot found.key (half_of half)
+abbrev pub over_half : HalfKey → HalfState → KeptHalf
+over_half found half = kept_half found.slot found.key (half_of half)
 
 -- It is open, and this is kept of it.
-pub record Over (o : Option Found) (s : Halves) (found : Spot) (half : HalfState) : Type 0 where
+pub record Over (o : Option KeptHalf) (s : Halves) (found : HalfKey) (half : HalfState) : Type 0 where
   pub is : o ≡ Some (over_half found half)
   pub had : Has (end_of s) (over_half found half)
   pub is_open : is_closed half.phase ≡ false
   pub there : HasOpen found.slot found.key s
 
 -- what is kept of the half that is had there
-abbrev pub IsShown : Halves → Spot → HalfState → Type 0
+abbrev pub IsShown : Halves → HalfKey → HalfState → Type 0
 IsShown s found half =
-    (h : Half) → Has (end_of s) (spot found.slot found.key h) → (half_of half ≡ h) × (is_closed h.phase ≡ false)
+    (h : Half) → Has (end_of s) (kept_half found.slot found.key h) → (half_of half ≡ h) × (is_closed h.phase ≡ false)
 
-over : (o : Option Found) (s : Halves) (found : Spot) (half : HalfState) (it : IsFound o found)
-    → Has (end_of s) (spot found.slot found.key it.0) → IsShown s found half → Over o s found half
+over : (o : Option KeptHalf) (s : Halves) (found : HalfKey) (half : HalfState) (it : IsFound o found)
+    → Has (end_of s) (kept_half found.slot found.key it.0) → IsShown s found half → Over o s found half
 over o s found half it has shown = let same = shown it.0 has in record {
-  is = it.1 ∙ ap (λ (h : Half). Some (spot found.slot found.key h)) (sym same.0);
-  had = subst (λ (h : Half). Has (end_of s) (spot found.slot found.key h)) (sym same.0) has;
+  is = it.1 ∙ ap (λ (h : Half). Some (kept_half found.slot found.key h)) (sym same.0);
+  had = subst (λ (h : Half). Has (end_of s) (kept_half found.slot found.key h)) (sym same.0) has;
   is_open = ap (λ (h : Half). is_closed h.phase) same.0 ∙ same.1;
   there = open_where s found.slot found.key it.0 has same.1;
 }
 
-pub over_own : (s : Halves) (id : List ℕ) (found : Spot) (half : HalfState) → IsEnd (end_of s) → IsFound (with_own (end_of s) id) found
+pub over_own : (s : Halves) (id : List ℕ) (found : HalfKey) (half : HalfState) → IsEnd (end_of s) → IsFound (with_own (end_of s) id) found
     → IsShown s found half → Over (with_own (end_of s) id) s found half
 over_own s id found half sound it shown = over (with_own (end_of s) id) s found half it (own_there (end_of s) id found sound it) shown
 
-pub over_peer : (s : Halves) (id : List ℕ) (found : Spot) (half : HalfState) → IsEnd (end_of s) → IsFound (with_peer (end_of s) id) found
+pub over_peer : (s : Halves) (id : List ℕ) (found : HalfKey) (half : HalfState) → IsEnd (end_of s) → IsFound (with_peer (end_of s) id) found
     → IsShown s found half → Over (with_peer (end_of s) id) s found half
 over_peer s id found half sound it shown = over (with_peer (end_of s) id) s found half it (peer_there (end_of s) id found sound it) shown
 
-pub over_named : (s : Halves) (name : HalfName) (found : Spot) (half : HalfState) → IsEnd (end_of s) → IsFound (named (end_of s) name) found
-    → IsShown s found half → Over (named (end_of s) name) s found half
+pub over_named : (s : Halves) (name : HalfName) (found : HalfKey) (half : HalfState) → IsEnd (end_of s)
+    → IsFound (named (end_of s) name) found → IsShown s found half → Over (named (end_of s) name) s found half
 over_named s name found half sound it shown =
     over (named (end_of s) name) s found half it (named_there (end_of s) name found sound it) shown
-
--- What the end is where the half became another.
-pub becomes_this : (slot : Slot) (key : List ℕ) (step : Half → Option Half) (s next : Halves) (h g : Half) → Becomes slot key step s next
-    → Has (end_of s) (spot slot key h) → step h ≡ Some g → end_of next ≡ put (end_of s) slot key g
-becomes_this slot key step s next h g became had made =
-    let it = became h had in
-    let same : it.0 ≡ g = cc in it.2 ∙ ap (put (end_of s) slot key) same
 
 -- ---- a new half
 
 -- Where no half is had none is kept.
-none_placed : (s : Halves) (slot : Slot) (key : List ℕ) → ((h : Half) → Has (end_of s) (spot slot key h) → true ≡ false)
+none_placed : (s : Halves) (slot : Slot) (key : List ℕ) → ((h : Half) → Has (end_of s) (kept_half slot key h) → true ≡ false)
     → kept_at octets_cmp (places_of slot s) key ≡ None
 none_placed s slot key none = by (kept_at octets_cmp (places_of slot s) key) refl
   where
@@ -160,11 +153,12 @@ pub new_begun : (s : Halves) (key : List ℕ) (h : HalfState) (standing : Standi
     → h.slot ≡ Begun → Follows (fresh phases.Sent (Some key) None standing) (half_of h) → IsNew key h s
 new_begun s key h standing sound none slot_is follows =
     new_half s Begun key h (fresh phases.Sent (Some key) None standing) follows slot_is refl refl refl
-    (none_placed s Begun key (λ x had. none_own (end_of s) key (spot Begun key x) none had (sound.kept (spot Begun key x) had)))
+    (none_placed s Begun key (λ x had. none_own (end_of s) key (kept_half Begun key x) none had (sound.kept (kept_half Begun key x) had)))
 
 -- It began by receiving, with a peer's ID that no half has.
 pub new_accepted : (s : Halves) (key : List ℕ) (h : HalfState) (standing : Standing) → IsEnd (end_of s) → with_peer (end_of s) key ≡ None
     → h.slot ≡ Accepted → Follows (fresh phases.Received None (Some key) standing) (half_of h) → IsNew key h s
 new_accepted s key h standing sound none slot_is follows =
     new_half s Accepted key h (fresh phases.Received None (Some key) standing) follows slot_is refl refl refl
-    (none_placed s Accepted key (λ x had. none_peer (end_of s) key (spot Accepted key x) none had (sound.kept (spot Accepted key x) had)))
+    (none_placed s Accepted key
+    (λ x had. none_peer (end_of s) key (kept_half Accepted key x) none had (sound.kept (kept_half Accepted key x) had)))

@@ -18,7 +18,7 @@ use Rattle.tcap_end.specs.Half.{Half}
 use Rattle.tcap_end.specs.HalfState.{half_of}
 use Rattle.tcap_end.specs.End.{End, put}
 use Rattle.tcap_end.specs.Sound.{Has, IsKept, Rises, halves_of}
-use Rattle.tcap_end.specs.Halves.{Indexes, IsAt, IsHeld, IsOpen, end_of, half_at, half_in, halves_at, places_of, spot}
+use Rattle.tcap_end.specs.Halves.{Indexes, IsAt, IsHeld, IsOpen, end_of, half_at, half_in, halves_at, places_of, kept_half}
 use Rattle.tcap_end.proofs.MapLaws.{behind_first, below_first, found_first, found_inserted, found_later, found_new, found_other, keys_eq, kept_at, tied}
 use Rattle.tcap_end.proofs.FoundLaws.{octets_total}
 use Rattle.tcap_end.proofs.FindLaws.{had_there, has_there}
@@ -112,13 +112,13 @@ elsewhere s next slot begun accepted Accepted apart = entries_are (accepted (λ 
 
 -- the half under a number
 pub the_open : (s : Halves) (slot : Slot) (key : List ℕ) (k : ℕ) (h : Half) (was : HalfState) → IsAt slot key (Open k) s
-    → get s.slab k ≡ Some was → Has (end_of s) (spot slot key h) → h ≡ half_of was
+    → get s.slab k ≡ Some was → Has (end_of s) (kept_half slot key h) → h ≡ half_of was
 the_open s slot key k h was is under had = had_there s slot key (Open k) h is had ∙ ap half_in under
 
 pub has_open : (s : Halves) (slot : Slot) (key : List ℕ) (k : ℕ) (was : HalfState) → IsAt slot key (Open k) s
-    → get s.slab k ≡ Some was → Has (end_of s) (spot slot key (half_of was))
+    → get s.slab k ≡ Some was → Has (end_of s) (kept_half slot key (half_of was))
 has_open s slot key k was is under =
-    subst (λ (o : Option HalfState). Has (end_of s) (spot slot key (half_in o))) under (has_there s slot key (Open k) is)
+    subst (λ (o : Option HalfState). Has (end_of s) (kept_half slot key (half_in o))) under (has_there s slot key (Open k) is)
 
 -- It is kept by its ID.
 pub kept_by : (s : Halves) (slot : Slot) (key : List ℕ) (k : ℕ) (h : HalfState) → IsHeld s → IsAt slot key (Open k) s
@@ -159,7 +159,7 @@ put_is Accepted key g e next here there =
 
 -- Where an end has a half with an ID, the other has one there.
 abbrev Alike : Slot → (Half → Option (List ℕ)) → End → End → Type 0
-Alike place of e next = (q : List ℕ) (x : Half) → Has e (spot place q x) → (y : Half) × Has next (spot place q y) × (of y ≡ of x)
+Alike place of e next = (q : List ℕ) (x : Half) → Has e (kept_half place q x) → (y : Half) × Has next (kept_half place q y) × (of y ≡ of x)
 
 alike_put : (of : Half → Option (List ℕ)) (es : List (List ℕ × Half)) (key : List ℕ) (h g : Half)
     → kept_at octets_cmp es key ≡ Some h → of g ≡ of h → (q : List ℕ) (x : Half) → kept_at octets_cmp es q ≡ Some x
@@ -186,14 +186,14 @@ alike_back of es key h g had same q x found = by (found_inserted octets_total ex
     by (inr old) = (x, old, refl)
 
 put_alike : (of : Half → Option (List ℕ)) (e : End) (slot place : Slot) (key : List ℕ) (h g : Half)
-    → Has e (spot slot key h) → of g ≡ of h → Alike place of e (put e slot key g)
+    → Has e (kept_half slot key h) → of g ≡ of h → Alike place of e (put e slot key g)
 put_alike of e Begun Begun key h g had same q x found = alike_put of e.begun key h g had same q x found
 put_alike of e Begun Accepted key h g had same q x found = (x, found, refl)
 put_alike of e Accepted Begun key h g had same q x found = (x, found, refl)
 put_alike of e Accepted Accepted key h g had same q x found = alike_put of e.accepted key h g had same q x found
 
 alike_before : (of : Half → Option (List ℕ)) (e : End) (slot place : Slot) (key : List ℕ) (h g : Half)
-    → Has e (spot slot key h) → of g ≡ of h → Alike place of (put e slot key g) e
+    → Has e (kept_half slot key h) → of g ≡ of h → Alike place of (put e slot key g) e
 alike_before of e Begun Begun key h g had same q x found = alike_back of e.begun key h g had same q x found
 alike_before of e Begun Accepted key h g had same q x found = (x, found, refl)
 alike_before of e Accepted Begun key h g had same q x found = (x, found, refl)
@@ -201,7 +201,7 @@ alike_before of e Accepted Accepted key h g had same q x found = alike_back of e
 
 -- An index serves where a half is put that has the ID of the one at its place.
 pub indexes_put : (of : Half → Option (List ℕ)) (index : List (List ℕ × List ℕ)) (e : End) (slot place : Slot) (key : List ℕ) (h g : Half)
-    → Has e (spot slot key h) → of g ≡ of h → Indexes index place of e → Indexes index place of (put e slot key g)
+    → Has e (kept_half slot key h) → of g ≡ of h → Indexes index place of e → Indexes index place of (put e slot key g)
 indexes_put of index e slot place key h g had same serves id q = (
   λ found.
       let was = (serves id q).0 found in

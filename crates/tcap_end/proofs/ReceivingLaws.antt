@@ -1,4 +1,4 @@
--- What is found by an ID that was received, and what an answer does.
+-- What an ID that was received is for, and what an answer does.
 use Rattle.std.proofs.Common.{◌≡◌, ℕ, ℤ, Bool, true, false, cond, List, [], ◌∷◌, ◌++◌, length, Option, Some, None, is_some, refl, sym, ap, ◌∙◌}
 use Rattle.std.specs.Prelude.{IsSome, not, ◌==◌, option_map}
 use Rattle.std.specs.Borrow.{Bor}
@@ -9,67 +9,69 @@ use Rattle.std.specs.Ordering.{int_cmp}
 use Rattle.std.specs.Map.{lookup, remove_entry}
 use Rattle.std.specs.BTreeMap.{is_at}
 use Rattle.tcap_parts.specs.declared.code.Code.{Code}
-use Rattle.tcap_end.specs.declared.half.Mark.{Mark}
-use Rattle.tcap_end.specs.declared.half.Mark.TheVariants as marks
-use Rattle.tcap_end.specs.declared.outs.Invoked.{Invoked}
+use Rattle.tcap_end.specs.declared.half.InvocationState.{InvocationState}
+use Rattle.tcap_end.specs.declared.half.InvocationState.TheVariants as states
+use Rattle.tcap_end.specs.declared.outs.OwnInvocation.{OwnInvocation}
 use Rattle.tcap_end.specs.declared.outs.Outs.{Outs}
-use Rattle.tcap_end.specs.declared.received.Found.TheVariants as finds
-use Rattle.tcap_end.specs.declared.received.Found.{Found}
+use Rattle.tcap_end.specs.declared.received.Target.TheVariants as targets
+use Rattle.tcap_end.specs.declared.received.Target.{Target}
 use Rattle.tcap_end.specs.declared.received.Link.{Link}
 use Rattle.tcap_end.specs.Table.{Table, class_of, linked_of}
 use Rattle.tcap_end.specs.TableReading.{is_linked}
-use Rattle.tcap_end.specs.Half.{Half, Invocation, is_one_of}
-use Rattle.tcap_end.specs.Component.{id_problems, link_problems, link_problems_of, links, outstanding, outstanding_class, sent_of, wait_for_reject, with_grant}
-use Rattle.tcap_end.specs.Received.{answer_problems, found_by, invoke_problems, link_numbers, received_answer}
-use Rattle.tcap_end.specs.Outs.{HasPlace, kept_outs, with_mark}
-use Rattle.tcap_end.proofs.BackLaws.{has_place, mark_again}
+use Rattle.tcap_end.specs.Half.{Half, Invocation}
+use Rattle.tcap_end.specs.Class.{reports}
+use Rattle.tcap_end.specs.Component.{answer_problems, answered_operation, id_problems, link_problems, link_problems_of, links, operation_sent, operation_sent_by, receive_answer, wait_for_reject, with_grant}
+use Rattle.tcap_end.specs.Received.{invoke_problems, link_numbers, target_of, target_problems}
+use Rattle.tcap_end.specs.Outs.{HasPlace, kept_outs, with_state}
+use Rattle.tcap_end.proofs.BackLaws.{has_place, state_again}
 use Rattle.tcap_end.proofs.KeepLaws.{remove_absent}
 
 -- ---- own invocations that wait for their last answer
 
-pub sent : (o : Option Invoked) (code : Code) → sent_of o ≡ Some code → o ≡ Some (record { code = code; mark = marks.Sent })
+pub sent : (o : Option OwnInvocation) (code : Code) → operation_sent_by o ≡ Some code
+    → o ≡ Some (record { code = code; state = states.OperationSent })
 sent None code is = cc
-sent (Some i) code is = by i.mark refl is
+sent (Some i) code is = by i.state refl is
   where
-    by : (mark : Mark) → i.mark ≡ mark → sent_of (Some (record { code = i.code; mark = mark })) ≡ Some code
-        → Some i ≡ Some (record { code = code; mark = marks.Sent })
-    by marks.Sent e is = let same : i.code ≡ code = cc in rw (← e, ← same) refl
-    by marks.Wait e is = cc
+    by : (state : InvocationState) → i.state ≡ state → operation_sent_by (Some (record { code = i.code; state = state })) ≡ Some code
+        → Some i ≡ Some (record { code = code; state = states.OperationSent })
+    by states.OperationSent e is = let same : i.code ≡ code = cc in rw (← e, ← same) refl
+    by states.WaitForReject e is = cc
 
-pub is_sent : (i : Invoked) → i.mark ≡ marks.Sent → Some i.code ≡ sent_of (Some i)
+pub is_sent : (i : OwnInvocation) → i.state ≡ states.OperationSent → Some i.code ≡ operation_sent_by (Some i)
 is_sent i is = rw is refl
 
-pub is_waiting : (i : Invoked) → i.mark ≡ marks.Wait → None ≡ sent_of (Some i)
+pub is_waiting : (i : OwnInvocation) → i.state ≡ states.WaitForReject → None ≡ operation_sent_by (Some i)
 is_waiting i is = rw is refl
 
 -- One that is there has a place.
-pub sent_place : (id : ℤ) (o : Outs) → IsSome (sent_of (lookup (is_at (int_cmp id)) (kept_outs o))) → HasPlace id o
+pub sent_place : (id : ℤ) (o : Outs) → IsSome (operation_sent_by (lookup (is_at (int_cmp id)) (kept_outs o))) → HasPlace id o
 sent_place id o there = by (lookup (is_at (int_cmp id)) (kept_outs o)) refl there
   where
-    by : (i : Option Invoked) → lookup (is_at (int_cmp id)) (kept_outs o) ≡ i → IsSome (sent_of i) → HasPlace id o
+    by : (i : Option OwnInvocation) → lookup (is_at (int_cmp id)) (kept_outs o) ≡ i → IsSome (operation_sent_by i) → HasPlace id o
     by None is there = cc
     by (Some i) is there = has_place id o i is
 
--- It may be marked as one whose last answer came, and marked back.
-pub waits_back : (id : ℤ) (o : Outs) → IsSome (sent_of (lookup (is_at (int_cmp id)) (kept_outs o)))
-    → with_mark id marks.Sent (with_mark id marks.Wait (kept_outs o)) ≡ kept_outs o
-waits_back id o there = by (sent_of (lookup (is_at (int_cmp id)) (kept_outs o))) refl there
+-- It may be put in the state of one whose last answer came, and back.
+pub waits_back : (id : ℤ) (o : Outs) → IsSome (operation_sent_by (lookup (is_at (int_cmp id)) (kept_outs o)))
+    → with_state id states.OperationSent (with_state id states.WaitForReject (kept_outs o)) ≡ kept_outs o
+waits_back id o there = by (operation_sent_by (lookup (is_at (int_cmp id)) (kept_outs o))) refl there
   where
-    by : (c : Option Code) → sent_of (lookup (is_at (int_cmp id)) (kept_outs o)) ≡ c → IsSome c
-        → with_mark id marks.Sent (with_mark id marks.Wait (kept_outs o)) ≡ kept_outs o
+    by : (c : Option Code) → operation_sent_by (lookup (is_at (int_cmp id)) (kept_outs o)) ≡ c → IsSome c
+        → with_state id states.OperationSent (with_state id states.WaitForReject (kept_outs o)) ≡ kept_outs o
     by None is there = cc
-    by (Some code) is there = mark_again id code o (sent (lookup (is_at (int_cmp id)) (kept_outs o)) code is)
+    by (Some code) is there = state_again id code o (sent (lookup (is_at (int_cmp id)) (kept_outs o)) code is)
 
 -- ---- what was got of own invocations
 
 -- One that was got has a place.
-pub got_place : (id : ℤ) (o : Outs) (got : Option (Bor Invoked)) → option_copied got ≡ lookup (is_at (int_cmp id)) (kept_outs o)
+pub got_place : (id : ℤ) (o : Outs) (got : Option (Bor OwnInvocation)) → option_copied got ≡ lookup (is_at (int_cmp id)) (kept_outs o)
     → is_some got ≡ true → HasPlace id o
 got_place id o None is some = cc
 got_place id o (Some i) is some = has_place id o i.now (sym is)
 
 -- None is removed where none was got.
-pub got_none : (id : ℤ) (o : Outs) (got : Option (Bor Invoked)) → option_copied got ≡ lookup (is_at (int_cmp id)) (kept_outs o)
+pub got_none : (id : ℤ) (o : Outs) (got : Option (Bor OwnInvocation)) → option_copied got ≡ lookup (is_at (int_cmp id)) (kept_outs o)
     → is_some got ≡ false → remove_entry (is_at (int_cmp id)) (kept_outs o) ≡ kept_outs o
 got_none id o None is none = remove_absent id (kept_outs o) (sym is)
 got_none id o (Some i) is none = cc
@@ -92,10 +94,10 @@ kept_item code meant duplicate link ids links is_code are_ids are_links = rw (is
 -- ---- links
 
 module _ (table : Table) (h : Half) (id : ℤ) (code : Code) where
-  pub link_unknown : outstanding h id ≡ None → 5 ∷ [] ≡ link_problems table h (Some id) code
+  pub link_unknown : operation_sent h id ≡ None → 5 ∷ [] ≡ link_problems table h (Some id) code
   link_unknown is = rw is refl
 
-  pub link_alone : (to : Code) → outstanding h id ≡ Some to → false ≡ is_linked (linked_of table to)
+  pub link_alone : (to : Code) → operation_sent h id ≡ Some to → false ≡ is_linked (linked_of table to)
       → 6 ∷ [] ≡ link_problems table h (Some id) code
   link_alone to is none = rw is (by (linked_of table to) refl none)
     where
@@ -103,7 +105,7 @@ module _ (table : Table) (h : Half) (id : ℤ) (code : Code) where
       by [] e none = rw e refl
       by (first ∷ more) e none = cc
 
-  pub link_many : (to : Code) (fits : Bool) → outstanding h id ≡ Some to → true ≡ is_linked (linked_of table to)
+  pub link_many : (to : Code) (fits : Bool) → operation_sent h id ≡ Some to → true ≡ is_linked (linked_of table to)
       → fits ≡ links table to code
       → cond fits [] (7 ∷ []) ≡ link_problems table h (Some id) code
   link_many to fits is some e_fits = rw is (by (linked_of table to) refl some)
@@ -113,110 +115,96 @@ module _ (table : Table) (h : Half) (id : ℤ) (code : Code) where
       by [] e some = cc
       by (first ∷ more) e some = rw (e, ← e_fits) refl
 
--- ---- what an answer finds
+-- ---- what an answer is for
 
 module _ (table : Table) (h : Half) (is_result : Bool) (id : ℤ) where
-  pub found_none : outstanding h id ≡ None → finds.Nothing ≡ found_by is_result (outstanding_class table h id)
-  found_none is = rw is refl
+  pub target_none : operation_sent h id ≡ None → targets.Nothing ≡ target_of is_result (answered_operation table h id)
+  target_none is = rw is refl
 
-  pub found_unknown : (code : Code) → outstanding h id ≡ Some code → class_of table code ≡ None
-      → finds.Nothing ≡ found_by is_result (outstanding_class table h id)
-  found_unknown code is none = rw (is, none) refl
+  pub target_unknown : (code : Code) → operation_sent h id ≡ Some code → class_of table code ≡ None
+      → targets.Nothing ≡ target_of is_result (answered_operation table h id)
+  target_unknown code is none = rw (is, none) refl
 
-  pub found_class : (code : Code) (class : ℕ) → outstanding h id ≡ Some code → class_of table code ≡ Some class
-      → cond (is_one_of class (cond is_result (1 ∷ 3 ∷ []) (1 ∷ 2 ∷ []))) finds.Invocation finds.OtherClass
-      ≡ found_by is_result (outstanding_class table h id)
-  found_class code class is some = rw (is, some) refl
+  pub target_class : (code : Code) (class : ℕ) → operation_sent h id ≡ Some code → class_of table code ≡ Some class
+      → cond (reports is_result class) targets.Invocation targets.OtherClass
+      ≡ target_of is_result (answered_operation table h id)
+  target_class code class is some = rw (is, some) refl
 
 -- ---- what an answer does
 
-chosen_first : {A : Type 0} (b : Bool) (x y : A) → cond b finds.Invocation finds.OtherClass ≡ finds.Invocation → cond b x y ≡ x
+chosen_first : {A : Type 0} (b : Bool) (x y : A) → cond b targets.Invocation targets.OtherClass ≡ targets.Invocation → cond b x y ≡ x
 chosen_first true x y is = refl
 chosen_first false x y is = cc
 
--- It is the last one to an invocation.
-last_answer : (h : Half) (is_result : Bool) (id : ℤ) (code : Code) (class : ℕ) → found_by is_result (Some (code, class)) ≡ finds.Invocation
-    → received_answer h is_result true id (Some (code, class))
-    ≡ with_grant (wait_for_reject h id code) id is_result (answer_problems is_result finds.Invocation)
-last_answer h true id code class is = chosen_first (is_one_of class (1 ∷ 3 ∷ [])) _ _ is
-last_answer h false id code class is = chosen_first (is_one_of class (1 ∷ 2 ∷ [])) _ _ is
-
-pub answered_last : (table : Table) (h : Half) (is_result : Bool) (id : ℤ)
-    → found_by is_result (outstanding_class table h id) ≡ finds.Invocation
-    → (code : Code) × (outstanding h id ≡ Some code)
-    × (received_answer h is_result true id (outstanding_class table h id)
-    ≡ with_grant (wait_for_reject h id code) id is_result (answer_problems is_result finds.Invocation))
-answered_last table h is_result id is = by (outstanding h id) refl is
+-- It is for an invocation, and the last one to it.
+answered_last : (table : Table) (h : Half) (is_result : Bool) (id : ℤ)
+    → target_of is_result (answered_operation table h id) ≡ targets.Invocation
+    → (code : Code) × (operation_sent h id ≡ Some code)
+    × (receive_answer h is_result true id (answered_operation table h id)
+    ≡ with_grant (wait_for_reject h id code) id is_result (answer_problems is_result))
+answered_last table h is_result id is = by (operation_sent h id) refl is
   where
-    by_class : (code : Code) (class : Option ℕ) → class_of table code ≡ class → outstanding h id ≡ Some code
-        → found_by is_result (option_map (λ class. (code, class)) class) ≡ finds.Invocation
-        → (received_answer h is_result true id (outstanding_class table h id)
-        ≡ with_grant (wait_for_reject h id code) id is_result (answer_problems is_result finds.Invocation))
+    by_class : (code : Code) (class : Option ℕ) → class_of table code ≡ class → operation_sent h id ≡ Some code
+        → target_of is_result (option_map (λ class. (code, class)) class) ≡ targets.Invocation
+        → (receive_answer h is_result true id (answered_operation table h id)
+        ≡ with_grant (wait_for_reject h id code) id is_result (answer_problems is_result))
     by_class code None e there is = cc
-    by_class code (Some class) e there is = rw (there, e) (last_answer h is_result id code class is)
+    by_class code (Some class) e there is = rw (there, e) (chosen_first (reports is_result class) _ _ is)
 
-    by : (o : Option Code) → outstanding h id ≡ o → found_by is_result (outstanding_class table h id) ≡ finds.Invocation
-        → (code : Code) × (outstanding h id ≡ Some code)
-        × (received_answer h is_result true id (outstanding_class table h id)
-        ≡ with_grant (wait_for_reject h id code) id is_result (answer_problems is_result finds.Invocation))
+    by : (o : Option Code) → operation_sent h id ≡ o → target_of is_result (answered_operation table h id) ≡ targets.Invocation
+        → (code : Code) × (operation_sent h id ≡ Some code)
+        × (receive_answer h is_result true id (answered_operation table h id)
+        ≡ with_grant (wait_for_reject h id code) id is_result (answer_problems is_result))
     by None e is = let bad = rw e at is in cc
     by (Some code) e is = (code, e, by_class code (class_of table code) refl e (rw e at is))
 
--- It is not, or is for none that it may answer.
-not_first : {A : Type 0} (b : Bool) (x : A) (y : Found → A) → x ≡ y finds.Invocation
-    → cond b x (y finds.OtherClass) ≡ y (cond b finds.Invocation finds.OtherClass)
-not_first true x y same = same
-not_first false x y same = refl
+-- It is not the last one, or is for none that it may answer.
+not_last : {A : Type 0} (b : Bool) (x : A) (y : Target → A) → x ≡ y targets.Invocation
+    → cond b x (y targets.OtherClass) ≡ y (cond b targets.Invocation targets.OtherClass)
+not_last true x y same = same
+not_last false x y same = refl
 
-not_found : {A : Type 0} (b : Bool) (x : A) (y : Found → A) → (cond b finds.Invocation finds.OtherClass ≡ finds.Invocation → ⊥)
-    → cond b x (y finds.OtherClass) ≡ y (cond b finds.Invocation finds.OtherClass)
+not_found : {A : Type 0} (b : Bool) (x : A) (y : Target → A) → (cond b targets.Invocation targets.OtherClass ≡ targets.Invocation → ⊥)
+    → cond b x (y targets.OtherClass) ≡ y (cond b targets.Invocation targets.OtherClass)
 not_found true x y other = absurd (other refl)
 not_found false x y other = refl
 
-pub answered_not_last : (h : Half) (id : ℤ) (o : Option (Code × ℕ))
-    → received_answer h true false id o ≡ with_grant h id true (answer_problems true (found_by true o))
-answered_not_last h id None = refl
-answered_not_last h id (Some (code, class)) =
-    not_first (is_one_of class (1 ∷ 3 ∷ [])) _ (λ found. with_grant h id true (answer_problems true found)) refl
+answered_not_last : (h : Half) (is_result : Bool) (id : ℤ) (o : Option (Code × ℕ))
+    → receive_answer h is_result false id o ≡ with_grant h id is_result (target_problems is_result (target_of is_result o))
+answered_not_last h is_result id None = refl
+answered_not_last h is_result id (Some (code, class)) =
+    not_last (reports is_result class) _ (λ target. with_grant h id is_result (target_problems is_result target)) refl
 
-pub answered_none : (h : Half) (is_result last : Bool) (id : ℤ) (o : Option (Code × ℕ)) → (found_by is_result o ≡ finds.Invocation → ⊥)
-    → received_answer h is_result last id o ≡ with_grant h id is_result (answer_problems is_result (found_by is_result o))
-answered_none h true last id None other = refl
-answered_none h false last id None other = refl
-answered_none h true last id (Some (code, class)) other =
-    not_found (is_one_of class (1 ∷ 3 ∷ [])) _ (λ found. with_grant h id true (answer_problems true found)) other
-answered_none h false last id (Some (code, class)) other =
-    not_found (is_one_of class (1 ∷ 2 ∷ [])) _ (λ found. with_grant h id false (answer_problems false found)) other
+answered_none : (h : Half) (is_result last : Bool) (id : ℤ) (o : Option (Code × ℕ)) → (target_of is_result o ≡ targets.Invocation → ⊥)
+    → receive_answer h is_result last id o ≡ with_grant h id is_result (target_problems is_result (target_of is_result o))
+answered_none h is_result last id None other = refl
+answered_none h is_result last id (Some (code, class)) other =
+    not_found (reports is_result class) _ (λ target. with_grant h id is_result (target_problems is_result target)) other
 
 -- ---- an answer joined those of its ID
 
-module _ (table : Table) (h now : Half) (is_result last : Bool) (id : ℤ) (found : Found)
-    (is_found : found ≡ found_by is_result (outstanding_class table h id))
-    (joined : now ≡ with_grant h id is_result (answer_problems is_result found)) where
+module _ (table : Table) (h now : Half) (is_result last : Bool) (id : ℤ) (target : Target)
+    (is_target : target ≡ target_of is_result (answered_operation table h id))
+    (joined : now ≡ with_grant h id is_result (target_problems is_result target)) where
   -- It is the last one to an invocation, which then waits for a Reject.
-  pub then_waits : (next : Half) → last ≡ true → found ≡ finds.Invocation
-      → ((code : Code) → outstanding now id ≡ Some code → next ≡ wait_for_reject now id code)
-      → next ≡ received_answer h is_result last id (outstanding_class table h id)
+  pub then_waits : (next : Half) → last ≡ true → target ≡ targets.Invocation
+      → ((code : Code) → operation_sent now id ≡ Some code → next ≡ wait_for_reject now id code)
+      → next ≡ receive_answer h is_result last id (answered_operation table h id)
   then_waits next is_last is waits =
-      let (code, there, received) = answered_last table h is_result id (sym is_found ∙ is) in
-      waits code (ap (λ h. outstanding h id) joined ∙ there)
+      let (code, there, received) = answered_last table h is_result id (sym is_target ∙ is) in
+      waits code (ap (λ h. operation_sent h id) joined ∙ there)
       ∙ ap (λ h. wait_for_reject h id code) joined
-      ∙ ap (λ found. with_grant (wait_for_reject h id code) id is_result (answer_problems is_result found)) is
+      ∙ ap (λ target. with_grant (wait_for_reject h id code) id is_result (target_problems is_result target)) is
       ∙ rw is_last (sym received)
 
   -- It is not the last one.
-  pub then_more : last ≡ false → (is_result ≡ false → last ≡ true)
-      → now ≡ received_answer h is_result last id (outstanding_class table h id)
-  then_more more ends = joined ∙ ap (λ found. with_grant h id is_result (answer_problems is_result found)) is_found ∙ by is_result ends
-    where
-      by : (b : Bool) → (b ≡ false → last ≡ true)
-          → with_grant h id b (answer_problems b (found_by b (outstanding_class table h id)))
-          ≡ received_answer h b last id (outstanding_class table h id)
-      by true ends = rw more (sym (answered_not_last h id (outstanding_class table h id)))
-      by false ends = let bad = sym more ∙ ends refl in cc
+  pub then_more : last ≡ false → now ≡ receive_answer h is_result last id (answered_operation table h id)
+  then_more more =
+      joined ∙ ap (λ target. with_grant h id is_result (target_problems is_result target)) is_target
+      ∙ rw more (sym (answered_not_last h is_result id (answered_operation table h id)))
 
   -- It is for no invocation that it may answer.
-  pub then_none : (found ≡ finds.Invocation → ⊥) → now ≡ received_answer h is_result last id (outstanding_class table h id)
+  pub then_none : (target ≡ targets.Invocation → ⊥) → now ≡ receive_answer h is_result last id (answered_operation table h id)
   then_none other =
-      joined ∙ ap (λ found. with_grant h id is_result (answer_problems is_result found)) is_found
-      ∙ sym (answered_none h is_result last id (outstanding_class table h id) (λ is. other (is_found ∙ is)))
+      joined ∙ ap (λ target. with_grant h id is_result (target_problems is_result target)) is_target
+      ∙ sym (answered_none h is_result last id (answered_operation table h id) (λ is. other (is_target ∙ is)))

@@ -1,5 +1,5 @@
--- The worked lists of calls, computed on the definitions: what each call answers, 0 where the step exists.
-use Rattle.std.proofs.Common.{◌≡◌, ℕ, ℤ, pos, Bool, true, false, List, [], ◌∷◌, Option, Some, None, refl}
+-- The worked lists of calls, computed on the definitions: what each call answers, 0 where it is Ok.
+use Rattle.std.proofs.Common.{◌≡◌, ℕ, ℤ, pos, Bool, true, false, List, [], ◌∷◌, Option, Some, None, Result, Ok, Err, refl}
 use Rattle.tcap_parts.specs.declared.code.Code.TheVariants.{Local}
 use Rattle.tcap_parts.specs.declared.problem.Problem.TheVariants as problems
 use Rattle.tcap_parts.specs.declared.component.Component.{Component}
@@ -14,12 +14,12 @@ use Rattle.tcap_end.specs.declared.fault.EndFault.{EndFault}
 use Rattle.tcap_end.specs.Table.{Table, Operation}
 use Rattle.tcap_end.specs.declared.half.HalfName.{HalfName}
 use Rattle.tcap_end.specs.declared.half.HalfName.TheVariants as names
-use Rattle.tcap_end.specs.End.{End, nothing, quieted}
-use Rattle.tcap_end.specs.Message.{where_so, sent_message, received_message}
-use Rattle.tcap_end.specs.Reply.{refuses_begin, refuses_continue}
-use Rattle.tcap_end.specs.Hidden.{expired, closed}
+use Rattle.tcap_end.specs.Step.{◌>>◌}
+use Rattle.tcap_end.specs.End.{End, nothing, quiet}
+use Rattle.tcap_end.specs.Message.{send as send_message, receive as receive_message}
+use Rattle.tcap_end.specs.Reply.{refuse_begin as refuses_begin, refuse_continue as refuses_continue}
+use Rattle.tcap_end.specs.Hidden.{expire, close}
 use Rattle.tcap_end.specs.Fault.{fault_number}
-use Rattle.tcap_end.specs.Refusal.{send_fault, receive_fault, expire_fault, close_fault, quiet_fault, refuse_begin_fault, refuse_continue_fault}
 
 abbrev operation : ℕ → Bool → Operation
 operation class expires = record { class = class; linked = []; expires = expires }
@@ -36,33 +36,31 @@ table_with expires prearranged = record {
 abbrev table : Table
 table = table_with true false
 
--- what a call answers, and the end behind it
-record Call : Type 0 where
-  fault : End → Option EndFault
-  step : End → Option End
+-- what a call does to an end: the one behind it, or the reason
+abbrev Call : Type 0
+Call = End → Result End EndFault
 
 abbrev send : Message → Call
-send m = record { fault = λ e. send_fault table e m; step = λ e. sent_message table e m }
+send m e = send_message table e m
 
 abbrev receive : Message → Call
-receive m = record { fault = λ e. receive_fault e m; step = λ e. received_message table e m }
+receive m e = receive_message table e m
 
 abbrev expire_with : Table → HalfName → ℤ → Call
-expire_with t name id = record { fault = λ e. expire_fault t e name id; step = λ e. expired t e name id }
+expire_with t name id e = expire t e name id
 
 abbrev close_with : Table → HalfName → Call
-close_with t name = record { fault = λ e. close_fault t e name; step = λ e. closed t e name }
+close_with t name e = close t e name
+
+-- No end changes by a reply of its provider.
+abbrev replies : (End → Message → Message → Result (Unit {0}) EndFault) → Message → Message → Call
+replies refuse m abort e = refuse e m abort >> Ok e
 
 abbrev refuse_begin : Message → Message → Call
-refuse_begin begin abort =
-    record { fault = λ e. refuse_begin_fault e begin abort; step = λ e. where_so (refuses_begin e begin abort) (Some e) }
+refuse_begin = replies refuses_begin
 
 abbrev refuse_continue : Message → Message → Call
-refuse_continue continue abort =
-    record { fault = λ e. refuse_continue_fault e continue abort; step = λ e. where_so (refuses_continue e continue abort) (Some e) }
-
-abbrev quiet : Call
-quiet = record { fault = quiet_fault; step = quieted }
+refuse_continue = replies refuses_continue
 
 abbrev own : ℕ → HalfName
 own id = names.Own (id ∷ [])
@@ -70,15 +68,14 @@ own id = names.Own (id ∷ [])
 abbrev peer : ℕ → HalfName
 peer id = names.Peer (id ∷ [])
 
--- what the calls answer, one after the other; 1000 where a step and its refusal are both there, or neither
+-- what the calls answer, one after the other
 abbrev play : End → List Call → List ℕ
 play e [] = []
-play e (call ∷ calls) = by (call.fault e) (call.step e) (play e calls) (λ next. play next calls)
+play e (call ∷ calls) = by (call e) (play e calls) (λ next. play next calls)
   where
-    by : Option EndFault → Option End → List ℕ → (End → List ℕ) → List ℕ
-    by (Some fault) None stays goes = fault_number fault ∷ stays
-    by None (Some next) stays goes = 0 ∷ goes next
-    by _ _ stays goes = 1000 ∷ []
+    by : Result End EndFault → List ℕ → (End → List ℕ) → List ℕ
+    by (Err reason) stays goes = fault_number reason ∷ stays
+    by (Ok next) stays goes = 0 ∷ goes next
 
 abbrev context : List ℕ
 context = 4 ∷ 0 ∷ 0 ∷ 1 ∷ 0 ∷ 19 ∷ 2 ∷ []

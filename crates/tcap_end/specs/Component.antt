@@ -1,5 +1,6 @@
--- What sending and receiving a component does to a half (Q.774 3.2, invocations; Q.771, operation classes).
-use Rattle.std.specs.Prelude.{ℕ, ℤ, Bool, true, false, List, [], ◌∷◌, ◌++◌, Option, Some, None, is_some, is_none, ◌&&◌, not, cond, option_map}
+-- What sending and receiving a component does to a half (Q.774 3.2, invocations; Q.771, operation classes). Sending one
+-- answers the half behind it, or the first reason against it.
+use Rattle.std.specs.Prelude.{ℕ, ℤ, Bool, true, false, List, [], ◌∷◌, ◌++◌, Option, Some, None, Result, Ok, Err, is_some, is_none, ok_or, ◌==◌, ◌&&◌, not, cond, option_map}
 use Rattle.std.specs.Ordering.{int_cmp}
 use Rattle.std.specs.List.{list_any}
 use Rattle.std.specs.Map.{lookup, remove_entry}
@@ -10,25 +11,15 @@ use Rattle.tcap_parts.specs.declared.problem.Problem.TheVariants as problems
 use Rattle.tcap_parts.specs.declared.component.ResultBody.{ResultBody}
 use Rattle.tcap_parts.specs.declared.component.Component.{Component}
 use Rattle.tcap_parts.specs.declared.component.Component.TheVariants.{Invoke, ReturnResult, ReturnError, Reject}
-use Rattle.tcap_end.specs.declared.half.Mark.{Mark}
-use Rattle.tcap_end.specs.declared.half.Mark.TheVariants as marks
+use Rattle.tcap_end.specs.declared.fault.EndFault.{EndFault}
+use Rattle.tcap_end.specs.declared.fault.EndFault.TheVariants as faults
+use Rattle.tcap_end.specs.declared.half.InvocationState.{InvocationState}
+use Rattle.tcap_end.specs.declared.half.InvocationState.TheVariants as states
+use Rattle.tcap_end.specs.declared.outs.OwnInvocation.{OwnInvocation}
+use Rattle.tcap_end.specs.Step.{needs, ◌>>◌, ◌>>=◌}
+use Rattle.tcap_end.specs.Class.{of_class, reports}
 use Rattle.tcap_end.specs.Table.{Table, class_of, code_cmp, linked_of, operation_of}
-use Rattle.tcap_end.specs.declared.outs.Invoked.{Invoked}
-use Rattle.tcap_end.specs.Half.{Half, Invocation, Answer, listed, added, taken, is_one_of}
-
--- ---- classes (Q.771): 1 reports success and failure, 2 failure alone, 3 success alone, 4 neither
-
-abbrev pub is_class : List ℕ → Option ℕ → Bool
-is_class classes None = false
-is_class classes (Some class) = is_one_of class classes
-
--- whether success is reported of the operation
-abbrev pub reports_success : Table → Code → Bool
-reports_success table code = is_class (1 ∷ 3 ∷ []) (class_of table code)
-
--- whether failure is
-abbrev pub reports_failure : Table → Code → Bool
-reports_failure table code = is_class (1 ∷ 2 ∷ []) (class_of table code)
+use Rattle.tcap_end.specs.Half.{Half, Invocation, Answer, is_one_of, listed, one_fits, with_newest, without_oldest_of}
 
 -- whether they are one code
 abbrev pub is_code : Code → Code → Bool
@@ -38,71 +29,90 @@ is_code code other = is_at (code_cmp code) other
 abbrev pub links : Table → Code → Code → Bool
 links table code linked = is_some (lookup (is_at (code_cmp linked)) (linked_of table code))
 
--- ---- sending (Q.774 3.2; problems: Q.773 4.2.2)
+-- the own invocation of that ID
+abbrev pub own_invocation : Half → ℤ → Option OwnInvocation
+own_invocation h id = lookup (is_at (int_cmp id)) h.out
 
--- an own invocation of that ID
-abbrev pub invoked : Half → ℤ → Option Invoked
-invoked h id = lookup (is_at (int_cmp id)) h.out
+-- ---- sending (Q.774 3.2; problems: Q.773 4.2.2)
 
 -- A linked ID names an invocation that was received, to which the operation may be linked.
 abbrev pub may_link : Table → Half → Option ℤ → Code → Bool
 may_link table h None code = true
-may_link table h (Some id) code = list_any (λ item. links table item.code code) (listed id h.inn)
+may_link table h (Some id) code = one_fits id (λ item. links table item.code code) h.inn
 
-abbrev pub of_operation : Option ResultBody → Code → Bool
-of_operation None code = true
-of_operation (Some body) code = is_code body.code code
+abbrev pub send_invoke : Table → Half → ℤ → Option ℤ → Code → Result Half EndFault
+send_invoke table h id linked code = do
+  needs (is_some (operation_of table code)) faults.UnknownOperation
+  needs (is_none (own_invocation h id)) faults.InvokeIdBusy
+  needs (may_link table h linked code) faults.BadLink
+  Ok (record h { out = insert_entry int_cmp h.out id (record { code = code; state = states.OperationSent }) })
 
--- the invocation that a Return Result answers: one of a class that reports success, and of the operation that it names
-abbrev pub answered_by_result : Table → Option ResultBody → Invocation → Bool
-answered_by_result table body item = reports_success table item.code && of_operation body item.code
+-- whether success of an operation is reported (true), or failure (false)
+abbrev pub class_reports : Table → Bool → Code → Bool
+class_reports table is_result code = of_class (reports is_result) (class_of table code)
 
--- the one that a Return Error answers
-abbrev pub answered_by_error : Table → Invocation → Bool
-answered_by_error table item = reports_failure table item.code
+-- whether that operation is named, or none
+abbrev pub names : Option Code → Code → Bool
+names None code = true
+names (Some named) code = is_code named code
 
-abbrev pub with_inn : Half → Option (List (ℤ × List Invocation)) → Option Half
-with_inn h = option_map (λ items. record h { inn = items })
+-- whether a Return Result, or a Return Error, which names this operation or none, may answer an invocation
+abbrev pub may_answer : Table → Bool → Option Code → Invocation → Bool
+may_answer table is_result named item = class_reports table is_result item.code && names named item.code
 
-abbrev pub with_grants : Half → Option (List (ℤ × List Answer)) → Option Half
-with_grants h = option_map (λ items. record h { grants = items })
+-- A Return Result, or a Return Error, takes the oldest invocation that it may answer; one that is not the last leaves
+-- it.
+abbrev pub send_answer : Table → Half → Bool → Bool → ℤ → Option Code → Result Half EndFault
+send_answer table h is_result last id named = do
+  needs (one_fits id (λ item. true) h.inn) faults.NothingToAnswer
+  needs (one_fits id (may_answer table is_result None) h.inn) faults.ClassForbids
+  needs (one_fits id (may_answer table is_result named) h.inn) faults.WrongOperation
+  Ok (cond last (record h { inn = without_oldest_of id (may_answer table is_result named) h.inn }) h)
 
--- the answer of that kind that a Reject of this problem refuses
-abbrev pub refused_by : Bool → ℕ → Answer → Bool
-refused_by is_result problem answer = (cond is_result answer.is_result (not answer.is_result)) && is_one_of problem answer.problems
+-- whether a Reject with that invoke problem may reject an invocation
+abbrev pub allows : ℕ → Invocation → Bool
+allows problem item = is_one_of problem item.problems
 
--- what a Reject takes: the oldest that allows its problem; general problems, and no ID, take nothing
-abbrev pub sent_reject : Half → Option ℤ → Problem → Option Half
-sent_reject h None problem = None
-sent_reject h (Some id) (problems.General n) = None
-sent_reject h (Some id) (problems.Invoke n) = with_inn h (taken id (λ item. is_one_of n item.problems) h.inn)
-sent_reject h (Some id) (problems.ReturnResult n) = with_grants h (taken id (refused_by true n) h.grants)
-sent_reject h (Some id) (problems.ReturnError n) = with_grants h (taken id (refused_by false n) h.grants)
+-- whether one with that problem of a Return Result, or of a Return Error, may reject an answer
+abbrev pub allows_for : Bool → ℕ → Answer → Bool
+allows_for is_result problem answer = cond is_result answer.is_result (not answer.is_result)
+    && is_one_of problem answer.problems
 
--- the half after a component was sent, where it may be
-abbrev pub sent_component : Table → Half → Component → Option Half
-sent_component table h (Invoke id linked code parameter) =
-    cond (is_some (operation_of table code) && is_none (invoked h id) && may_link table h linked code)
-    (Some (record h { out = insert_entry int_cmp h.out id (record { code = code; mark = marks.Sent }) }))
-    None
-sent_component table h (ReturnResult true id body) = with_inn h (taken id (answered_by_result table body) h.inn)
-sent_component table h (ReturnResult false id body) = cond (list_any (answered_by_result table body) (listed id h.inn)) (Some h) None
-sent_component table h (ReturnError id code parameter) = with_inn h (taken id (answered_by_error table) h.inn)
-sent_component table h (Reject id problem) = sent_reject h id problem
+-- A Reject takes the oldest that allows its problem. General problems, and no ID, reject nothing.
+abbrev pub send_reject : Half → Option ℤ → Problem → Result Half EndFault
+send_reject h None problem = Err faults.RejectNotAllowed
+send_reject h (Some id) (problems.General n) = Err faults.RejectNotAllowed
+send_reject h (Some id) (problems.Invoke n) = do
+  needs (one_fits id (allows n) h.inn) faults.RejectNotAllowed
+  Ok (record h { inn = without_oldest_of id (allows n) h.inn })
+send_reject h (Some id) (problems.ReturnResult n) = do
+  needs (one_fits id (allows_for true n) h.grants) faults.RejectNotAllowed
+  Ok (record h { grants = without_oldest_of id (allows_for true n) h.grants })
+send_reject h (Some id) (problems.ReturnError n) = do
+  needs (one_fits id (allows_for false n) h.grants) faults.RejectNotAllowed
+  Ok (record h { grants = without_oldest_of id (allows_for false n) h.grants })
+
+-- A component is sent. A Return Error names no operation: its error code is free.
+abbrev pub send_component : Table → Half → Component → Result Half EndFault
+send_component table h (Invoke id linked code parameter) = send_invoke table h id linked code
+send_component table h (ReturnResult last id body) = send_answer table h true last id
+    (option_map (λ body. body.code) body)
+send_component table h (ReturnError id code parameter) = send_answer table h false true id None
+send_component table h (Reject id problem) = send_reject h id problem
 
 -- ---- receiving (Q.774 3.2; problems: Q.773 4.2.2)
 
--- the operation of an own invocation whose last answer did not come: it is in Operation Sent, not in Wait for Reject
-abbrev pub sent_of : Option Invoked → Option Code
-sent_of None = None
-sent_of (Some i) = cond (is_sent i.mark) (Some i.code) None
+-- the operation of an own invocation in Operation Sent; none in Wait for Reject, where its last answer came
+abbrev pub operation_sent_by : Option OwnInvocation → Option Code
+operation_sent_by None = None
+operation_sent_by (Some own) = cond (is_sent own.state) (Some own.code) None
   where
-    is_sent : Mark → Bool
-    is_sent marks.Sent = true
-    is_sent marks.Wait = false
+    is_sent : InvocationState → Bool
+    is_sent states.OperationSent = true
+    is_sent states.WaitForReject = false
 
-abbrev pub outstanding : Half → ℤ → Option Code
-outstanding h id = sent_of (invoked h id)
+abbrev pub operation_sent : Half → ℤ → Option Code
+operation_sent h id = operation_sent_by (own_invocation h id)
 
 -- by which problems of a link an Invoke may be rejected: unrecognizedLinkedID (5), linkedResponseUnexpected (6),
 -- unexpectedLinkedOperation (7)
@@ -116,61 +126,72 @@ link_problems_of table code (Some to) = by_list (linked_of table to)
 
 abbrev pub link_problems : Table → Half → Option ℤ → Code → List ℕ
 link_problems table h None code = []
-link_problems table h (Some id) code = link_problems_of table code (outstanding h id)
+link_problems table h (Some id) code = link_problems_of table code (operation_sent h id)
 
--- by which it may where the ID is that of another: duplicateInvokeID (0)
+-- duplicateInvokeID (0), where another invocation has the ID
 abbrev pub id_problems : List Invocation → List ℕ
 id_problems [] = []
 id_problems (first ∷ more) = 0 ∷ []
 
 abbrev pub with_grant : Half → ℤ → Bool → List ℕ → Half
-with_grant h id is_result problems = record h { grants = added id (record { is_result = is_result; problems = problems }) h.grants }
+with_grant h id is_result problems = record h {
+  grants = with_newest id
+      (record { is_result = is_result; problems = problems }) h.grants;
+}
 
 -- its last answer came: it is in Wait for Reject
 abbrev pub wait_for_reject : Half → ℤ → Code → Half
-wait_for_reject h id code = record h { out = insert_entry int_cmp h.out id (record { code = code; mark = marks.Wait }) }
+wait_for_reject h id code = record h {
+  out = insert_entry int_cmp h.out id
+      (record { code = code; state = states.WaitForReject });
+}
 
--- What a Return Result does, by the operation that it answers and its class, where there is one: returnResultUnexpected (1) where
--- the class reports no success, mistypedParameter (2) where it does, unrecognizedInvokeID (0) where there is none.
-abbrev pub received_result : Half → Bool → ℤ → Option (Code × ℕ) → Half
-received_result h last id None = with_grant h id true (0 ∷ [])
-received_result h last id (Some (code, class)) =
-    cond (is_one_of class (1 ∷ 3 ∷ []))
-    (with_grant (cond last (wait_for_reject h id code) h) id true (2 ∷ []))
-    (with_grant h id true (1 ∷ []))
+-- By which problems an answer may be rejected that its invocation's class allows: mistypedParameter (2) of a Return
+-- Result; unrecognizedError, unexpectedError and mistypedParameter (2 to 4) of a Return Error.
+abbrev pub answer_problems : Bool → List ℕ
+answer_problems true = 2 ∷ []
+answer_problems false = 2 ∷ 3 ∷ 4 ∷ []
 
--- What a Return Error does: returnErrorUnexpected (1) where the class reports no failure; unrecognizedError, unexpectedError and
--- mistypedParameter (2 to 4) where it does; unrecognizedInvokeID (0) where there is none.
-abbrev pub received_error : Half → ℤ → Option (Code × ℕ) → Half
-received_error h id None = with_grant h id false (0 ∷ [])
-received_error h id (Some (code, class)) =
-    cond (is_one_of class (1 ∷ 2 ∷ []))
-    (with_grant (wait_for_reject h id code) id false (2 ∷ 3 ∷ 4 ∷ []))
-    (with_grant h id false (1 ∷ []))
+-- What an answer does to an invocation of an operation of this class. Where the class reports this kind of answer, the
+-- last one turns the invocation to Wait for Reject; else the answer may be rejected by returnResultUnexpected or
+-- returnErrorUnexpected (1).
+abbrev pub receive_for_class : Half → Bool → Bool → ℤ → Code → ℕ → Half
+receive_for_class h is_result last id code class =
+    cond (reports is_result class)
+    (with_grant (cond last (wait_for_reject h id code) h) id is_result (answer_problems is_result))
+    (with_grant h id is_result (1 ∷ []))
 
--- the operation that an answer with that ID is for, and its class, where the table has it
-abbrev pub outstanding_class : Table → Half → ℤ → Option (Code × ℕ)
-outstanding_class table h id = by_code (outstanding h id)
+-- the operation in Operation Sent that an answer with that ID is for, and its class, where the table has it
+abbrev pub answered_operation : Table → Half → ℤ → Option (Code × ℕ)
+answered_operation table h id = by_code (operation_sent h id)
   where
     by_code : Option Code → Option (Code × ℕ)
     by_code None = None
     by_code (Some code) = option_map (λ class. (code, class)) (class_of table code)
 
-abbrev pub received_reject : Half → Option ℤ → Problem → Half
-received_reject h (Some id) (problems.Invoke n) = record h { out = remove_entry (is_at (int_cmp id)) h.out }
-received_reject h _ _ = h
+-- What a Return Result, or a Return Error, does. One for no invocation in Operation Sent, or for one whose operation
+-- the table lacks, may be rejected by unrecognizedInvokeID (0).
+abbrev pub receive_answer : Half → Bool → Bool → ℤ → Option (Code × ℕ) → Half
+receive_answer h is_result last id None = with_grant h id is_result (0 ∷ [])
+receive_answer h is_result last id (Some (code, class)) = receive_for_class h is_result last id code class
 
--- The half after a component was received. An Invoke may be rejected by unrecognizedOperation, mistypedParameter,
--- resourceLimitation and initiatingRelease (1 to 4) too. What an answer does that its class does not allow, or that comes for an
--- ID that is not in Operation Sent, is this profile's choice.
-abbrev pub received_component : Table → Half → Component → Half
-received_component table h (Invoke id linked code parameter) =
+-- An invoke problem ends the own invocation; another Reject changes nothing.
+abbrev pub receive_reject : Half → Option ℤ → Problem → Half
+receive_reject h (Some id) (problems.Invoke n) = record h { out = remove_entry (is_at (int_cmp id)) h.out }
+receive_reject h _ _ = h
+
+-- A component is received, and never refused. An Invoke may be rejected by unrecognizedOperation, mistypedParameter,
+-- resourceLimitation and initiatingRelease (1 to 4) too. What an answer does that its class does not allow, or that
+-- comes for an ID that is not in Operation Sent, is this profile's choice.
+abbrev pub receive_component : Table → Half → Component → Half
+receive_component table h (Invoke id linked code parameter) =
     record h {
-      inn = added id (record {
+      inn = with_newest id (record {
         code = code;
         problems = id_problems (listed id h.inn) ++ 1 ∷ 2 ∷ 3 ∷ 4 ∷ [] ++ link_problems table h linked code;
       }) h.inn;
     }
-received_component table h (ReturnResult last id body) = received_result h last id (outstanding_class table h id)
-received_component table h (ReturnError id code parameter) = received_error h id (outstanding_class table h id)
-received_component table h (Reject id problem) = received_reject h id problem
+receive_component table h (ReturnResult last id body) = receive_answer h true last id (answered_operation table h id)
+receive_component table h (ReturnError id code parameter) = receive_answer h false true id
+    (answered_operation table h id)
+receive_component table h (Reject id problem) = receive_reject h id problem

@@ -9,7 +9,7 @@ use Rattle.tcap_end.specs.declared.half.Phase.{Phase}
 use Rattle.tcap_end.specs.declared.half.Phase.TheVariants as phases
 use Rattle.tcap_end.specs.declared.half.Standing.{Standing}
 use Rattle.tcap_end.specs.declared.half.Standing.TheVariants as standings
-use Rattle.tcap_end.specs.declared.outs.Invoked.{Invoked}
+use Rattle.tcap_end.specs.declared.outs.OwnInvocation.{OwnInvocation}
 
 -- an invocation that was received: its operation, and the invoke problems by which it may be rejected
 pub record Invocation : Type 0 where
@@ -28,7 +28,7 @@ pub record Half : Type 0 where
   pub own : Option (List ℕ)
   pub peer : Option (List ℕ)
   pub standing : Standing
-  pub out : List (ℤ × Invoked)
+  pub out : List (ℤ × OwnInvocation)
   pub inn : List (ℤ × List Invocation)
   pub grants : List (ℤ × List Answer)
 
@@ -60,18 +60,21 @@ with_listed id [] items = remove_entry (is_at (int_cmp id)) items
 with_listed id (first ∷ more) items = insert_entry int_cmp items id (first ∷ more)
 
 -- one item more, the newest
-abbrev pub added : {A : Type 0} → ℤ → A → List (ℤ × List A) → List (ℤ × List A)
-added id item items = with_listed id (listed id items ++ item ∷ []) items
+abbrev pub with_newest : {A : Type 0} → ℤ → A → List (ℤ × List A) → List (ℤ × List A)
+with_newest id item items = with_listed id (listed id items ++ item ∷ []) items
+
+-- whether an item of that ID fits
+abbrev pub one_fits : {A : Type 0} → ℤ → (A → Bool) → List (ℤ × List A) → Bool
+one_fits id fits items = list_any fits (listed id items)
 
 -- the items without the oldest that fits
 abbrev pub without_oldest : {A : Type 0} → (A → Bool) → List A → List A
 without_oldest fits [] = []
 without_oldest fits (item ∷ items) = cond (fits item) items (item ∷ without_oldest fits items)
 
--- the oldest item of that ID that fits is taken, where one fits
-abbrev pub taken : {A : Type 0} → ℤ → (A → Bool) → List (ℤ × List A) → Option (List (ℤ × List A))
-taken id fits items =
-    cond (list_any fits (listed id items)) (Some (with_listed id (without_oldest fits (listed id items)) items)) None
+-- the same without the oldest item of that ID that fits
+abbrev pub without_oldest_of : {A : Type 0} → ℤ → (A → Bool) → List (ℤ × List A) → List (ℤ × List A)
+without_oldest_of id fits items = with_listed id (without_oldest fits (listed id items)) items
 
 -- whether a number is one of these
 abbrev pub is_one_of : ℕ → List ℕ → Bool

@@ -1,12 +1,14 @@
 -- What the state of a half is, and what it means to take changes back.
-use Rattle.std.specs.Prelude.{◌≡◌, ℕ, ℤ, ◌+◌, ◌<◌, ◌≤◌, ◌^◌, List, [], ◌∷◌, length}
+use Rattle.std.specs.Prelude.{◌≡◌, ℕ, ℤ, ◌+◌, ◌<◌, ◌≤◌, ◌^◌, List, [], ◌∷◌, Option, length}
 use Rattle.tcap_end.specs.declared.half_state.HalfState.{HalfState}
 use Rattle.tcap_end.specs.declared.half_state.Change.{Change}
 use Rattle.tcap_end.specs.declared.half_state.Change.TheVariants.{Out, Waits, InnTaken, GrantTaken, InnJoined, GrantJoined}
-use Rattle.tcap_end.specs.declared.half.Mark.TheVariants as marks
+use Rattle.tcap_end.specs.declared.half.InvocationState.TheVariants as states
+use Rattle.tcap_end.specs.declared.half.Slot.{Slot}
+use Rattle.tcap_end.specs.declared.half.Slot.TheVariants.{Begun, Accepted}
 use Rattle.tcap_end.specs.Half.{Half, listed}
 use Rattle.tcap_end.specs.Lists.{HasList, kept_lists, one_less, put_at, taken_at}
-use Rattle.tcap_end.specs.Outs.{HasPlace, kept_outs, with_mark, with_out}
+use Rattle.tcap_end.specs.Outs.{HasPlace, kept_outs, with_state, with_out}
 
 abbrev pub half_of : HalfState → Half
 half_of h = record {
@@ -29,7 +31,7 @@ pub record Keeps (h next : HalfState) : Type 0 where
 -- the half before a change
 abbrev pub undone : Change → Half → Half
 undone (Out id was) h = record h { out = with_out id was h.out }
-undone (Waits id) h = record h { out = with_mark id marks.Sent h.out }
+undone (Waits id) h = record h { out = with_state id states.OperationSent h.out }
 undone (InnTaken id at item) h = record h { inn = put_at id at item h.inn }
 undone (GrantTaken id at item) h = record h { grants = put_at id at item h.grants }
 undone (InnJoined id) h = record h { inn = one_less id h.inn }
@@ -55,7 +57,8 @@ IsUndone change h next = (half_of next ≡ undone change (half_of h)) × Keeps h
 -- The changes, the last one first, can be taken back, and lead to that half.
 abbrev pub Undoes : List Change → HalfState → Half → Type 0
 Undoes [] h start = half_of h ≡ start
-Undoes (change ∷ changes) h start = CanUndo change h × ((next : HalfState) → IsUndone change h next → Undoes changes next start)
+Undoes (change ∷ changes) h start = CanUndo change h
+    × ((next : HalfState) → IsUndone change h next → Undoes changes next start)
 
 -- Whatever these changes took back before, those take back now.
 abbrev pub StillUndoes : List Change → HalfState → List Change → HalfState → Type 0
@@ -67,3 +70,13 @@ without_inn id at h = record h { inn = taken_at id at h.inn }
 
 abbrev pub without_grant : ℤ → ℕ → Half → Half
 without_grant id at h = record h { grants = taken_at id at h.grants }
+
+-- the transaction ID that a half in that slot is not kept by
+abbrev pub other_id : Slot → Half → Option (List ℕ)
+other_id Begun h = h.peer
+other_id Accepted h = h.own
+
+-- the half with that one
+abbrev pub with_other_id : Slot → Option (List ℕ) → Half → Half
+with_other_id Begun id h = record h { peer = id }
+with_other_id Accepted id h = record h { own = id }

@@ -1,8 +1,9 @@
 -- What an end is, as it is kept: open halves under numbers, closed ones by their IDs alone.
-use Rattle.std.specs.Prelude.{◌≡◌, ◌↔◌, ℕ, false, List, [], ◌∷◌, Option, Some, None}
+use Rattle.std.specs.Prelude.{◌≡◌, ◌↔◌, ℕ, false, List, [], ◌∷◌, Option, Some, None, Result, Ok}
 use Rattle.std.specs.Map.{lookup}
 use Rattle.std.specs.BTreeMap.{is_at}
 use Rattle.slab.specs.Slab.{Slab, get}
+use Rattle.tcap_end.specs.declared.fault.EndFault.{EndFault}
 use Rattle.tcap_end.specs.declared.half.Phase.TheVariants as phases
 use Rattle.tcap_end.specs.declared.half.Standing.TheVariants as standings
 use Rattle.tcap_end.specs.declared.half.Slot.{Slot}
@@ -13,8 +14,9 @@ use Rattle.tcap_end.specs.declared.halves.Place.{Place}
 use Rattle.tcap_end.specs.declared.halves.Place.TheVariants.{Open, Closed}
 use Rattle.tcap_end.specs.Table.{octets_cmp}
 use Rattle.tcap_end.specs.Half.{Half, fresh, is_closed}
-use Rattle.tcap_end.specs.HalfState.{half_of}
-use Rattle.tcap_end.specs.End.{End, Found, put}
+use Rattle.tcap_end.specs.Step.{AnswersInMemory, ◌>>=◌}
+use Rattle.tcap_end.specs.HalfState.{half_of, other_id}
+use Rattle.tcap_end.specs.End.{End, KeptHalf, put}
 use Rattle.tcap_end.specs.Sound.{Has, IsKept, Rises}
 
 -- the half under a number; where none is, a closed one without IDs stands for it
@@ -49,37 +51,46 @@ IsAt slot key place s = lookup (is_at (octets_cmp key)) (places_of slot s) ≡ S
 -- There is an open half under that number, which is kept there.
 abbrev pub IsOpen : Slot → List ℕ → ℕ → Halves → Type 0
 IsOpen slot key k s =
-    (h : HalfState) × (get s.slab k ≡ Some h) × (h.slot ≡ slot) × (is_closed h.phase ≡ false) × IsKept slot key (half_of h)
+    (h : HalfState) × (get s.slab k ≡ Some h) × (h.slot ≡ slot) × (is_closed h.phase ≡ false)
+    × IsKept slot key (half_of h)
 
-abbrev pub spot : Slot → List ℕ → Half → Found
-spot slot key h = record { slot = slot; key = key; half = h }
+abbrev pub kept_half : Slot → List ℕ → Half → KeptHalf
+kept_half slot key h = record { slot = slot; key = key; half = h }
 
 -- An index leads from an ID to where a half with that ID is kept, from each such ID, and from no other.
 abbrev pub Indexes : List (List ℕ × List ℕ) → Slot → (Half → Option (List ℕ)) → End → Type 0
 Indexes index slot id_in e = (id key : List ℕ)
-    → (lookup (is_at (octets_cmp id)) index ≡ Some key) ↔ ((h : Half) × Has e (spot slot key h) × (id_in h ≡ Some id))
+    → (lookup (is_at (octets_cmp id)) index ≡ Some key)
+    ↔ ((h : Half) × Has e (kept_half slot key h) × (id_in h ≡ Some id))
 
 -- What holds of an end as it is kept.
 pub record IsHeld (s : Halves) : Type 0 where
   pub begun : Rises octets_cmp s.begun.entries
   pub accepted : Rises octets_cmp s.accepted.entries
   pub places : (slot : Slot) (key : List ℕ) (k : ℕ) → IsAt slot key (Open k) s → IsOpen slot key k s
-  pub chosen : Indexes s.chosen.entries Accepted (λ h. h.own) (end_of s)
-  pub learned : Indexes s.learned.entries Begun (λ h. h.peer) (end_of s)
+  pub by_own : Indexes s.by_own.entries Accepted (λ h. h.own) (end_of s)
+  pub by_peer : Indexes s.by_peer.entries Begun (λ h. h.peer) (end_of s)
 
 -- An open half is kept there.
 abbrev pub HasOpen : Slot → List ℕ → Halves → Type 0
 HasOpen slot key s = (k : ℕ) × IsAt slot key (Open k) s
 
--- The half that was kept there was made into another, where this makes one of it; nothing else changed.
-abbrev pub Becomes : Slot → List ℕ → (Half → Option Half) → Halves → Halves → Type 0
-Becomes slot key step s next = (h : Half) → Has (end_of s) (spot slot key h)
-    → (g : Half) × (step h ≡ Some g) × (end_of next ≡ put (end_of s) slot key g)
+-- The half that was kept there was made into this one of it; nothing else changed.
+abbrev pub Becomes : Slot → List ℕ → (Half → Half) → Halves → Halves → Type 0
+Becomes slot key change s next = (h : Half) → Has (end_of s) (kept_half slot key h)
+    → end_of next ≡ put (end_of s) slot key (change h)
 
--- the transaction ID that a half in that slot is not kept by
-abbrev pub other_id : Slot → Half → Option (List ℕ)
-other_id Begun h = h.peer
-other_id Accepted h = h.own
+-- A call over the half that is kept there answers what the step answers that makes another of it, unless memory ran
+-- out; on Ok that one is kept there, and nothing else changed.
+abbrev pub AnswersOver : Slot → List ℕ → (Half → Result Half EndFault) → Result (Unit {0}) EndFault → Halves → Halves
+    → Type 0
+AnswersOver slot key step result s next = (h : Half) → Has (end_of s) (kept_half slot key h)
+    → AnswersInMemory (step h >>= λ g. Ok (put (end_of s) slot key g)) result (end_of next)
+
+-- the index of the halves in a slot, from the IDs that they are not kept by
+abbrev pub index_of : Slot → Halves → List (List ℕ × List ℕ)
+index_of Begun s = s.by_peer.entries
+index_of Accepted s = s.by_own.entries
 
 -- A half that is not kept yet: it is open, knows the ID alone by which it is to be kept, and none is kept by it there.
 pub record IsNew (key : List ℕ) (h : HalfState) (s : Halves) : Type 0 where

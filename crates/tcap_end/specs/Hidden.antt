@@ -1,49 +1,53 @@
 -- What happens to an end unseen (Q.774 3.2 and 3.3): an invocation ends, a half closes.
-use Rattle.std.specs.Prelude.{ℤ, Bool, true, false, Option, Some, None, ◌&&◌, not}
+use Rattle.std.specs.Prelude.{ℤ, Bool, true, false, Option, Some, None, Result, Ok, not, ok_or}
 use Rattle.std.specs.Ordering.{int_cmp}
 use Rattle.std.specs.Map.{remove_entry}
 use Rattle.std.specs.BTreeMap.{is_at}
+use Rattle.tcap_end.specs.declared.fault.EndFault.{EndFault}
+use Rattle.tcap_end.specs.declared.fault.EndFault.TheVariants as faults
 use Rattle.tcap_end.specs.declared.half.HalfName.{HalfName}
+use Rattle.tcap_end.specs.declared.half.InvocationState.{InvocationState}
+use Rattle.tcap_end.specs.declared.half.InvocationState.TheVariants as states
 use Rattle.tcap_end.specs.declared.half.Phase.{Phase}
 use Rattle.tcap_end.specs.declared.half.Phase.TheVariants as phases
-use Rattle.tcap_end.specs.declared.half.Mark.{Mark}
-use Rattle.tcap_end.specs.declared.half.Mark.TheVariants as marks
+use Rattle.tcap_end.specs.declared.outs.OwnInvocation.{OwnInvocation}
+use Rattle.tcap_end.specs.Step.{needs, ◌>>◌, ◌>>=◌}
 use Rattle.tcap_end.specs.Table.{Table, expires_of}
-use Rattle.tcap_end.specs.declared.outs.Invoked.{Invoked}
-use Rattle.tcap_end.specs.Half.{closed_half, is_closed}
-use Rattle.tcap_end.specs.Component.{invoked}
-use Rattle.tcap_end.specs.End.{End, Found, named, put}
-use Rattle.tcap_end.specs.Message.{where_so}
+use Rattle.tcap_end.specs.Half.{Half, closed_half, is_closed}
+use Rattle.tcap_end.specs.Component.{own_invocation}
+use Rattle.tcap_end.specs.End.{End, named, put}
 
-abbrev pub may_expire : Table → Option Invoked → Bool
+-- whether an own invocation may end unseen
+abbrev pub may_expire : Table → Option OwnInvocation → Bool
 may_expire table None = false
-may_expire table (Some i) = by_mark i.mark
+may_expire table (Some own) = by_state own.state
   where
-    by_mark : Mark → Bool
-    by_mark marks.Wait = true
-    by_mark marks.Sent = expires_of table i.code
+    by_state : InvocationState → Bool
+    by_state states.WaitForReject = true
+    by_state states.OperationSent = expires_of table own.code
 
-abbrev pub expired_in : Table → End → ℤ → Option Found → Option End
-expired_in table e id None = None
-expired_in table e id (Some found) =
-    where_so (not (is_closed found.half.phase) && may_expire table (invoked found.half id))
-    (Some (put e found.slot found.key (record found.half { out = remove_entry (is_at (int_cmp id)) found.half.out })))
+-- the half without its own invocation of that ID
+abbrev pub without_invocation : ℤ → Half → Half
+without_invocation id h = record h { out = remove_entry (is_at (int_cmp id)) h.out }
 
--- An own invocation ends unseen (Q.774 3.2): its timer runs out or the user cancels it, where the table says that this may be in the record;
--- or, where its last answer came, its ID is free again.
-abbrev pub expired : Table → End → HalfName → ℤ → Option End
-expired table e name id = expired_in table e id (named e name)
+-- An own invocation ends unseen (Q.774 3.2): its timer runs out or the user cancels it, where the table says that this
+-- may be in the record; or, where its last answer came, its ID is free again.
+abbrev pub expire : Table → End → HalfName → ℤ → Result End EndFault
+expire table e name id = do
+  kept ← ok_or (named e name) faults.CannotExpire
+  needs (not (is_closed kept.half.phase)) faults.CannotExpire
+  needs (may_expire table (own_invocation kept.half id)) faults.CannotExpire
+  Ok (put e kept.slot kept.key (without_invocation id kept.half))
 
+-- whether a half in that phase may close unseen
 abbrev pub may_close : Table → Phase → Bool
 may_close table phases.Sent = true
 may_close table phases.Closed = false
 may_close table _ = table.prearranged
 
-abbrev pub closed_in : Table → End → Option Found → Option End
-closed_in table e None = None
-closed_in table e (Some found) =
-    where_so (may_close table found.half.phase) (Some (put e found.slot found.key (closed_half found.half)))
-
 -- A half closes unseen (Q.774 3.3): its Begin is given up, or this end closes it by prearrangement.
-abbrev pub closed : Table → End → HalfName → Option End
-closed table e name = closed_in table e (named e name)
+abbrev pub close : Table → End → HalfName → Result End EndFault
+close table e name = do
+  kept ← ok_or (named e name) faults.CannotClose
+  needs (may_close table kept.half.phase) faults.CannotClose
+  Ok (put e kept.slot kept.key (closed_half kept.half))

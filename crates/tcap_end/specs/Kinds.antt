@@ -1,5 +1,5 @@
--- A message by its parts, and what a call answers.
-use Rattle.std.specs.Prelude.{Option, Some, None, Result, Ok, Err}
+-- A message by its parts.
+use Rattle.std.specs.Prelude.{Option, Some, None}
 use Rattle.tcap_parts.specs.declared.dialogue.Dialogue.{Dialogue}
 use Rattle.tcap_msg.specs.declared.message.AbortReason.{AbortReason}
 use Rattle.tcap_msg.specs.declared.message.AbortReason.TheVariants.{Dialogue as ByDialogue}
@@ -8,8 +8,3 @@ use Rattle.tcap_msg.specs.declared.message.AbortReason.TheVariants.{Dialogue as 
 abbrev pub reason_of_dialogue : Option Dialogue → Option AbortReason
 reason_of_dialogue None = None
 reason_of_dialogue (Some dialogue) = Some (ByDialogue dialogue)
-
--- what a call answers that takes no memory, by why it is refused
-abbrev pub result_of : {A : Type 0} → Option A → Result (Unit {0}) A
-result_of None = Ok tt
-result_of (Some fault) = Err fault

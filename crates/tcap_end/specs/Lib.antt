@@ -6,7 +6,10 @@ pub mod Message
 pub mod Reply
 pub mod Hidden
 pub mod Fault
-pub mod Refusal
+pub mod Step
+pub mod Class
+pub mod Dialogue
+pub mod Ways
 pub mod Sound
 pub mod CodeMap
 pub mod TableText

@@ -1,131 +1,58 @@
--- What sending and receiving a message does to an end (Q.774 3.2 component sub-layer, with the dialogues; 3.3 transaction
--- sub-layer).
-use Rattle.std.specs.Prelude.{ℕ, ℤ, Bool, true, false, List, [], ◌∷◌, Option, Some, None, is_some, is_none, ◌==◌, ◌&&◌, ◌||◌, not, cond, option_map, nat_lt}
+-- What sending and receiving a message does to an end (Q.774 3.2 component sub-layer; 3.3 transaction sub-layer): the
+-- end behind it, or the first reason against it, in the order of the half, the dialogue portion, and the components one
+-- after the other. Of a Continue whose originating ID is a half's own, the phase is looked at before the peer.
+use Rattle.std.specs.Prelude.{ℕ, ℤ, Bool, true, false, List, [], ◌∷◌, Option, Some, None, Result, Ok, Err, is_some, is_none, ok_or, not, cond}
 use Rattle.std.specs.List.{list_any}
 use Rattle.std.specs.Ordering.{int_cmp, is_eq}
 use Rattle.tcap_parts.specs.declared.component.Component.{Component}
 use Rattle.tcap_parts.specs.declared.component.Component.TheVariants.{Invoke}
 use Rattle.tcap_parts.specs.declared.dialogue.Dialogue.{Dialogue}
-use Rattle.tcap_parts.specs.declared.dialogue.Dialogue.TheVariants.{Request, Response, Abort as AbortPdu, Uni}
-use Rattle.tcap_parts.specs.declared.dialogue.Source.TheVariants.{User, Provider}
 use Rattle.tcap_msg.specs.declared.message.AbortReason.{AbortReason}
 use Rattle.tcap_msg.specs.declared.message.Message.{Message}
 use Rattle.tcap_msg.specs.declared.message.Message.TheVariants.{Unidirectional, Begin, Continue, End as EndMessage, Abort}
 use Rattle.tcap_msg.specs.Parts.{items_of, reason_dialogue, reason_cause}
+use Rattle.tcap_end.specs.declared.fault.EndFault.{EndFault}
+use Rattle.tcap_end.specs.declared.fault.EndFault.TheVariants as faults
 use Rattle.tcap_end.specs.declared.half.Phase.{Phase}
 use Rattle.tcap_end.specs.declared.half.Phase.TheVariants as phases
-use Rattle.tcap_end.specs.declared.half.Standing.{Standing}
-use Rattle.tcap_end.specs.declared.half.Standing.TheVariants as standings
+use Rattle.tcap_end.specs.declared.half.Slot.{Slot}
 use Rattle.tcap_end.specs.declared.half.Slot.TheVariants.{Begun, Accepted}
+use Rattle.tcap_end.specs.Step.{needs, ◌>>◌, ◌>>=◌}
+use Rattle.tcap_end.specs.Class.{reports_neither}
 use Rattle.tcap_end.specs.Table.{Table, class_of}
 use Rattle.tcap_end.specs.Half.{Half, fresh, closed_half, is_closed}
-use Rattle.tcap_end.specs.Component.{sent_component, received_component}
-use Rattle.tcap_end.specs.End.{End, Found, is_id, with_own, with_peer, put}
-
--- where the test passes
-abbrev pub where_so : {A : Type 0} → Bool → Option A → Option A
-where_so so step = cond so step None
-
-abbrev pub then_so : {A B : Type 0} → Option A → (A → Option B) → Option B
-then_so None f = None
-then_so (Some x) f = f x
-
--- ---- dialogue portions (Q.774 3.2, dialogues)
-
-abbrev pub is_request : Option Dialogue → Bool
-is_request (Some (Request context info)) = true
-is_request _ = false
-
--- a response that takes the dialogue: result 0, accepted, and diagnostic 0 of either source
-abbrev pub accepts : Option Dialogue → Bool
-accepts (Some (Response context result (User n) info)) = (result == 0) && (n == 0)
-accepts (Some (Response context result (Provider n) info)) = (result == 0) && (n == 0)
-accepts _ = false
-
-abbrev pub is_response : Option Dialogue → Bool
-is_response (Some (Response context result diagnostic info)) = true
-is_response _ = false
-
--- a response that refuses it: result 1, and a diagnostic of the user from 0 to 2
-abbrev pub rejects : Option Dialogue → Bool
-rejects (Some (Response context result (User n) info)) = (result == 1) && nat_lt n 3
-rejects _ = false
-
--- a dialogue abort of the user, source 0
-abbrev pub user_aborts : Option Dialogue → Bool
-user_aborts (Some (AbortPdu source info)) = source == 0
-user_aborts _ = false
-
-abbrev pub is_uni : Option Dialogue → Bool
-is_uni (Some (Uni context info)) = true
-is_uni _ = false
-
--- how a dialogue stands that begins with this portion
-abbrev pub asked_by : Option Dialogue → Standing
-asked_by dialogue = cond (is_request dialogue) standings.Asked standings.Without
-
-abbrev pub confirmed : Standing → Standing
-confirmed standings.Asked = standings.Confirmed
-confirmed standing = standing
-
--- whether a Begin may carry it
-abbrev pub may_begin : Option Dialogue → Bool
-may_begin dialogue = is_none dialogue || is_request dialogue
-
--- whether a Unidirectional may
-abbrev pub may_be_uni : Option Dialogue → Bool
-may_be_uni dialogue = is_none dialogue || is_uni dialogue
-
--- whether a Continue or an End of a half in that phase may
-abbrev pub may_go_on : Phase → Standing → Option Dialogue → Bool
-may_go_on phases.Received standings.Asked dialogue = accepts dialogue
-may_go_on phase standing dialogue = is_none dialogue
-
--- whether an Abort without a cause may
-abbrev pub may_abort : Phase → Standing → Option Dialogue → Bool
-may_abort phases.Received standings.Asked dialogue = is_none dialogue || rejects dialogue || user_aborts dialogue
-may_abort phase standings.Confirmed dialogue = is_none dialogue || user_aborts dialogue
-may_abort phase standing dialogue = is_none dialogue
+use Rattle.tcap_end.specs.Component.{send_component, receive_component}
+use Rattle.tcap_end.specs.Dialogue.{answers_request, confirm, first_standing, may_abort, may_be_uni, may_begin, may_go_on}
+use Rattle.tcap_end.specs.End.{End, KeptHalf, is_id, with_own, with_peer, put}
 
 -- ---- components, one after the other (Q.774 3.2)
 
-abbrev pub sent_components : Table → Half → List Component → Option Half
-sent_components table h [] = Some h
-sent_components table h (component ∷ more) = then_so (sent_component table h component) (λ next. sent_components table next more)
+abbrev pub send_components : Table → Half → List Component → Result Half EndFault
+send_components table h [] = Ok h
+send_components table h (component ∷ more) = do
+  next ← send_component table h component
+  send_components table next more
 
-abbrev pub received_components : Table → Half → List Component → Half
-received_components table h [] = h
-received_components table h (component ∷ more) = received_components table (received_component table h component) more
-
-abbrev pub is_class_4 : Option ℕ → Bool
-is_class_4 None = false
-is_class_4 (Some class) = class == 4
+abbrev pub receive_components : Table → Half → List Component → Half
+receive_components table h [] = h
+receive_components table h (component ∷ more) = receive_components table (receive_component table h component) more
 
 abbrev pub has_id : ℤ → List ℤ → Bool
 has_id id ids = list_any (λ other. is_eq (int_cmp id other)) ids
 
--- A Unidirectional (Q.774 3.2; Q.771, class 4) carries Invokes of class 4, of the table, without linked IDs, and each with an ID that none before
--- it has.
-abbrev pub invokes_class_4 : Table → List ℤ → List Component → Bool
-invokes_class_4 table ids [] = true
-invokes_class_4 table ids (Invoke id linked code parameter ∷ more) =
-    is_class_4 (class_of table code) && not (has_id id ids) && is_none linked && invokes_class_4 table (id ∷ ids) more
-invokes_class_4 table ids (_ ∷ more) = false
+-- A Unidirectional (Q.774 3.2; Q.771, class 4) carries Invokes of operations of the table, of class 4, each with an ID
+-- that none before it in the message has, and without linked IDs. These are the IDs of those before.
+abbrev pub send_uni_components : Table → List ℤ → List Component → Result (Unit {0}) EndFault
+send_uni_components table ids [] = Ok tt
+send_uni_components table ids (Invoke id linked code parameter ∷ more) = do
+  class ← ok_or (class_of table code) faults.UnknownOperation
+  needs (reports_neither class) faults.UniNotClass4
+  needs (not (has_id id ids)) faults.InvokeIdBusy
+  needs (is_none linked) faults.BadLink
+  send_uni_components table (id ∷ ids) more
+send_uni_components table ids (_ ∷ more) = Err faults.NothingToAnswer
 
--- ---- sending (Q.774 3.3)
-
--- an own transaction ID that was used
-abbrev pub is_used : End → List ℕ → Bool
-is_used e id = is_some (with_own e id)
-
--- the half is put back as this leaves it
-abbrev pub put_back : End → Found → (Half → Half) → Option Half → Option End
-put_back e found last h = option_map (λ half. put e found.slot found.key (last half)) h
-
-abbrev pub sent_begin : Table → End → List ℕ → Option Dialogue → List Component → Option End
-sent_begin table e otid dialogue components =
-    where_so (not (is_used e otid) && may_begin dialogue)
-    (option_map (put e Begun otid) (sent_components table (fresh phases.Sent (Some otid) None (asked_by dialogue)) components))
+-- ---- halves
 
 abbrev pub is_active : Phase → Bool
 is_active phases.Active = true
@@ -135,87 +62,114 @@ abbrev pub is_received : Phase → Bool
 is_received phases.Received = true
 is_received _ = false
 
--- a half whose Begin is answered, with an own ID
-abbrev pub answered : List ℕ → Half → Half
-answered otid h = record h { phase = phases.Active; own = Some otid; standing = confirmed h.standing }
+-- A half whose Begin is answered by a Continue is active, and has the ID that it lacked: one that began by sending
+-- learns its peer's, one that began by receiving chooses its own.
+abbrev pub active_half : Slot → List ℕ → Half → Half
+active_half Begun id h = record h { phase = phases.Active; peer = Some id; standing = confirm h.standing }
+active_half Accepted id h = record h { phase = phases.Active; own = Some id; standing = confirm h.standing }
+
+-- ---- sending (Q.774 3.3)
+
+abbrev pub send_begin : Table → End → List ℕ → Option Dialogue → List Component → Result End EndFault
+send_begin table e otid dialogue components = do
+  needs (is_none (with_own e otid)) faults.IdUsed
+  needs (may_begin dialogue) faults.WrongDialogue
+  half ← send_components table (fresh phases.Sent (Some otid) None (first_standing dialogue)) components
+  Ok (put e Begun otid half)
 
 -- A Continue whose originating ID is no half's own answers a Begin, and chooses that ID.
-abbrev pub sent_answer : Table → End → List ℕ → Option Dialogue → List Component → Option Found → Option End
-sent_answer table e otid dialogue components None = None
-sent_answer table e otid dialogue components (Some found) =
-    where_so (is_received found.half.phase && may_go_on found.half.phase found.half.standing dialogue)
-    (put_back e found (λ h. h) (sent_components table (answered otid found.half) components))
+abbrev pub send_first_continue : Table → End → List ℕ → List ℕ → Option Dialogue → List Component → Result End EndFault
+send_first_continue table e otid dtid dialogue components = do
+  kept ← ok_or (with_peer e dtid) faults.NoTransaction
+  needs (is_received kept.half.phase) faults.WrongPhase
+  needs (may_go_on kept.half.phase kept.half.standing dialogue) faults.WrongDialogue
+  half ← send_components table (active_half Accepted otid kept.half) components
+  Ok (put e kept.slot kept.key half)
 
 -- Else it goes on with the active half that has these IDs.
-abbrev pub sent_continue : Table → End → List ℕ → List ℕ → Option Dialogue → List Component → Option Found → Option End
-sent_continue table e otid dtid dialogue components None = sent_answer table e otid dialogue components (with_peer e dtid)
-sent_continue table e otid dtid dialogue components (Some found) =
-    where_so (is_active found.half.phase && is_id dtid found.half.peer && may_go_on found.half.phase found.half.standing dialogue)
-    (put_back e found (λ h. h) (sent_components table found.half components))
+abbrev pub send_next_continue : Table → End → List ℕ → Option Dialogue → List Component → KeptHalf → Result End EndFault
+send_next_continue table e dtid dialogue components kept = do
+  needs (is_active kept.half.phase) faults.WrongPhase
+  needs (is_id dtid kept.half.peer) faults.NoTransaction
+  needs (may_go_on kept.half.phase kept.half.standing dialogue) faults.WrongDialogue
+  half ← send_components table kept.half components
+  Ok (put e kept.slot kept.key half)
 
-abbrev pub sent_end : Table → End → Option Dialogue → List Component → Option Found → Option End
-sent_end table e dialogue components None = None
-sent_end table e dialogue components (Some found) =
-    where_so (not (is_closed found.half.phase) && may_go_on found.half.phase found.half.standing dialogue)
-    (put_back e found closed_half (sent_components table found.half components))
+-- A Continue, by the half whose own ID is its originating ID, where there is one.
+abbrev pub send_continue : Table → End → List ℕ → List ℕ → Option Dialogue → List Component → Option KeptHalf
+    → Result End EndFault
+send_continue table e otid dtid dialogue components None = send_first_continue table e otid dtid dialogue components
+send_continue table e otid dtid dialogue components
+    (Some kept) = send_next_continue table e dtid dialogue components kept
+
+abbrev pub send_end : Table → End → List ℕ → Option Dialogue → List Component → Result End EndFault
+send_end table e dtid dialogue components = do
+  kept ← ok_or (with_peer e dtid) faults.NoTransaction
+  needs (not (is_closed kept.half.phase)) faults.WrongPhase
+  needs (may_go_on kept.half.phase kept.half.standing dialogue) faults.WrongDialogue
+  half ← send_components table kept.half components
+  Ok (put e kept.slot kept.key (closed_half half))
 
 -- An Abort with a cause is the provider's.
-abbrev pub sent_abort : End → Option AbortReason → Option Found → Option End
-sent_abort e reason None = None
-sent_abort e reason (Some found) =
-    where_so (is_none (reason_cause reason) && not (is_closed found.half.phase)
-    && may_abort found.half.phase found.half.standing (reason_dialogue reason))
-    (Some (put e found.slot found.key (closed_half found.half)))
+abbrev pub send_abort : End → List ℕ → Option AbortReason → Result End EndFault
+send_abort e dtid reason = do
+  needs (is_none (reason_cause reason)) faults.WrongPhase
+  kept ← ok_or (with_peer e dtid) faults.NoTransaction
+  needs (not (is_closed kept.half.phase)) faults.WrongPhase
+  needs (may_abort kept.half.phase kept.half.standing (reason_dialogue reason)) faults.WrongDialogue
+  Ok (put e kept.slot kept.key (closed_half kept.half))
 
--- the end after a message was sent, where it may be
-abbrev pub sent_message : Table → End → Message → Option End
-sent_message table e (Unidirectional dialogue components) = where_so (may_be_uni dialogue && invokes_class_4 table [] components) (Some e)
-sent_message table e (Begin otid dialogue components) = sent_begin table e otid dialogue (items_of components)
-sent_message table e (Continue otid dtid dialogue components) =
-    sent_continue table e otid dtid dialogue (items_of components) (with_own e otid)
-sent_message table e (EndMessage dtid dialogue components) = sent_end table e dialogue (items_of components) (with_peer e dtid)
-sent_message table e (Abort dtid reason) = sent_abort e reason (with_peer e dtid)
+abbrev pub send_uni : Table → End → Option Dialogue → List Component → Result End EndFault
+send_uni table e dialogue components = do
+  needs (may_be_uni dialogue) faults.WrongDialogue
+  send_uni_components table [] components
+  Ok e
+
+-- A message is sent.
+abbrev pub send : Table → End → Message → Result End EndFault
+send table e (Unidirectional dialogue components) = send_uni table e dialogue components
+send table e (Begin otid dialogue components) = send_begin table e otid dialogue (items_of components)
+send table e (Continue otid dtid dialogue components) =
+    send_continue table e otid dtid dialogue (items_of components) (with_own e otid)
+send table e (EndMessage dtid dialogue components) = send_end table e dtid dialogue (items_of components)
+send table e (Abort dtid reason) = send_abort e dtid reason
 
 -- ---- receiving (Q.774 3.3)
 
-abbrev pub received_begin : Table → End → List ℕ → Option Dialogue → List Component → Option End
-received_begin table e otid dialogue components =
-    where_so (is_none (with_peer e otid))
-    (Some (put e Accepted otid (received_components table (fresh phases.Received None (Some otid) (asked_by dialogue)) components)))
+abbrev pub receive_begin : Table → End → List ℕ → Option Dialogue → List Component → Result End EndFault
+receive_begin table e otid dialogue components = do
+  needs (is_none (with_peer e otid)) faults.IdUsed
+  Ok (put e Accepted otid
+      (receive_components table (fresh phases.Received None (Some otid) (first_standing dialogue)) components))
 
--- whether a Continue answers a dialogue that was asked for: any dialogue response does; the abnormal procedures are left out
-abbrev pub is_answered : Standing → Option Dialogue → Bool
-is_answered standings.Asked dialogue = is_response dialogue
-is_answered _ dialogue = true
+-- A Continue answers the Begin of a half in Sent, which learns its peer's ID, or goes on with an active one. One from
+-- another peer is refused, this profile's choice.
+abbrev pub receive_over : Table → End → List ℕ → Option Dialogue → List Component → KeptHalf → Phase
+    → Result End EndFault
+receive_over table e otid dialogue components kept phases.Sent = do
+  needs (is_none (with_peer e otid)) faults.IdUsed
+  needs (answers_request kept.half.standing dialogue) faults.WrongDialogue
+  Ok (put e kept.slot kept.key (receive_components table (active_half Begun otid kept.half) components))
+receive_over table e otid dialogue components kept phases.Active = do
+  needs (is_id otid kept.half.peer) faults.NoTransaction
+  Ok (put e kept.slot kept.key (receive_components table kept.half components))
+receive_over table e otid dialogue components kept _ = Err faults.NoTransaction
 
--- a half whose Begin was answered, with its peer's ID
-abbrev pub learned : List ℕ → Half → Half
-learned otid h = record h { phase = phases.Active; peer = Some otid; standing = confirmed h.standing }
-
-abbrev pub received_by_phase : Table → End → List ℕ → Option Dialogue → List Component → Found → Phase → Option End
-received_by_phase table e otid dialogue components found phases.Sent =
-    where_so (is_none (with_peer e otid) && is_answered found.half.standing dialogue)
-    (Some (put e found.slot found.key (received_components table (learned otid found.half) components)))
-received_by_phase table e otid dialogue components found phases.Active =
-    where_so (is_id otid found.half.peer) (Some (put e found.slot found.key (received_components table found.half components)))
-received_by_phase table e otid dialogue components found _ = None
-
--- A Continue answers a Begin, whose half learns its peer's ID, or goes on with an active half. One from another peer is refused, this
--- profile's choice.
-abbrev pub received_continue : Table → End → List ℕ → Option Dialogue → List Component → Option Found → Option End
-received_continue table e otid dialogue components None = None
-received_continue table e otid dialogue components (Some found) = received_by_phase table e otid dialogue components found found.half.phase
+abbrev pub receive_continue : Table → End → List ℕ → List ℕ → Option Dialogue → List Component → Result End EndFault
+receive_continue table e otid dtid dialogue components = do
+  kept ← ok_or (with_own e dtid) faults.NoTransaction
+  receive_over table e otid dialogue components kept kept.half.phase
 
 -- An End or an Abort closes the open half that has its destination ID; where there is none it is dropped.
-abbrev pub received_end : End → Option Found → End
-received_end e None = e
-received_end e (Some found) = cond (is_closed found.half.phase) e (put e found.slot found.key (closed_half found.half))
+abbrev pub receive_end : End → Option KeptHalf → End
+receive_end e None = e
+receive_end e (Some kept) = cond (is_closed kept.half.phase) e (put e kept.slot kept.key (closed_half kept.half))
 
--- the end after a message was received, where it can be
-abbrev pub received_message : Table → End → Message → Option End
-received_message table e (Unidirectional dialogue components) = Some e
-received_message table e (Begin otid dialogue components) = received_begin table e otid dialogue (items_of components)
-received_message table e (Continue otid dtid dialogue components) =
-    received_continue table e otid dialogue (items_of components) (with_own e dtid)
-received_message table e (EndMessage dtid dialogue components) = Some (received_end e (with_own e dtid))
-received_message table e (Abort dtid reason) = Some (received_end e (with_own e dtid))
+-- A message is received.
+abbrev pub receive : Table → End → Message → Result End EndFault
+receive table e (Unidirectional dialogue components) = Ok e
+receive table e (Begin otid dialogue components) = receive_begin table e otid dialogue (items_of components)
+receive table e (Continue otid dtid dialogue components) = receive_continue table e otid dtid dialogue
+    (items_of components)
+receive table e (EndMessage dtid dialogue components) = Ok (receive_end e (with_own e dtid))
+receive table e (Abort dtid reason) = Ok (receive_end e (with_own e dtid))

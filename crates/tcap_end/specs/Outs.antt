@@ -3,12 +3,12 @@ use Rattle.std.specs.Prelude.{ℤ, List, Option, Some, None, IsSome}
 use Rattle.std.specs.Ordering.{int_cmp}
 use Rattle.std.specs.Map.{lookup, remove_entry}
 use Rattle.std.specs.BTreeMap.{insert_entry, is_at}
-use Rattle.tcap_end.specs.declared.half.Mark.{Mark}
-use Rattle.tcap_end.specs.declared.outs.Invoked.{Invoked}
+use Rattle.tcap_end.specs.declared.half.InvocationState.{InvocationState}
+use Rattle.tcap_end.specs.declared.outs.OwnInvocation.{OwnInvocation}
 use Rattle.tcap_end.specs.declared.outs.Outs.{Outs}
 use Rattle.tcap_end.specs.Lists.{keep}
 
-abbrev pub kept_outs : Outs → List (ℤ × Invoked)
+abbrev pub kept_outs : Outs → List (ℤ × OwnInvocation)
 kept_outs o = keep (λ place. place) o.places.entries
 
 -- There is a place for that ID, and maybe nothing stands there.
@@ -16,14 +16,14 @@ abbrev pub HasPlace : ℤ → Outs → Type 0
 HasPlace id o = IsSome (lookup (is_at (int_cmp id)) o.places.entries)
 
 -- the same with that invocation, or none, under an ID
-abbrev pub with_out : ℤ → Option Invoked → List (ℤ × Invoked) → List (ℤ × Invoked)
+abbrev pub with_out : ℤ → Option OwnInvocation → List (ℤ × OwnInvocation) → List (ℤ × OwnInvocation)
 with_out id None outs = remove_entry (is_at (int_cmp id)) outs
-with_out id (Some invoked) outs = insert_entry int_cmp outs id invoked
+with_out id (Some own) outs = insert_entry int_cmp outs id own
 
-abbrev pub marked : Mark → Option Invoked → Option Invoked
-marked mark None = None
-marked mark (Some invoked) = Some (record invoked { mark = mark })
+abbrev pub in_state : InvocationState → Option OwnInvocation → Option OwnInvocation
+in_state state None = None
+in_state state (Some own) = Some (record own { state = state })
 
--- the same with that mark of the invocation under an ID
-abbrev pub with_mark : ℤ → Mark → List (ℤ × Invoked) → List (ℤ × Invoked)
-with_mark id mark outs = with_out id (marked mark (lookup (is_at (int_cmp id)) outs)) outs
+-- the same with the invocation under an ID in that state
+abbrev pub with_state : ℤ → InvocationState → List (ℤ × OwnInvocation) → List (ℤ × OwnInvocation)
+with_state id state outs = with_out id (in_state state (lookup (is_at (int_cmp id)) outs)) outs

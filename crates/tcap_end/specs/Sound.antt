@@ -13,7 +13,7 @@ use Rattle.tcap_end.specs.declared.half.Slot.{Slot}
 use Rattle.tcap_end.specs.declared.half.Slot.TheVariants.{Begun, Accepted}
 use Rattle.tcap_end.specs.Table.{octets_cmp}
 use Rattle.tcap_end.specs.Half.{Half}
-use Rattle.tcap_end.specs.End.{End, Found}
+use Rattle.tcap_end.specs.End.{End, KeptHalf}
 
 -- The keys rise.
 abbrev pub Rises : {K A : Type 0} → (K → K → Ordering) → List (K × A) → Type 0
@@ -25,7 +25,8 @@ HasItems items = AllByRecursion (λ e. e.1 ≢ []) items
 
 -- What a half has in each phase.
 abbrev pub FitsPhase : Phase → Half → Type 0
-FitsPhase phases.Sent h = IsSome h.own × (h.peer ≡ None) × (h.standing ≢ standings.Confirmed) × (h.inn ≡ []) × (h.grants ≡ [])
+FitsPhase phases.Sent h = IsSome h.own × (h.peer ≡ None) × (h.standing ≢ standings.Confirmed) × (h.inn ≡ [])
+    × (h.grants ≡ [])
 FitsPhase phases.Received h = (h.own ≡ None) × IsSome h.peer × (h.standing ≢ standings.Confirmed) × (h.out ≡ [])
 FitsPhase phases.Active h = IsSome h.own × IsSome h.peer × (h.standing ≢ standings.Asked)
 FitsPhase phases.Closed h = (h.standing ≡ standings.Without) × (h.out ≡ []) × (h.inn ≡ []) × (h.grants ≡ [])
@@ -41,7 +42,7 @@ halves_of Begun e = e.begun
 halves_of Accepted e = e.accepted
 
 -- The end has that half, kept there.
-abbrev pub Has : End → Found → Type 0
+abbrev pub Has : End → KeptHalf → Type 0
 Has e found = lookup (is_at (octets_cmp found.key)) (halves_of found.slot e) ≡ Some found.half
 
 -- A half is kept by its own transaction ID, or by its peer's.
@@ -49,14 +50,16 @@ abbrev pub IsKept : Slot → List ℕ → Half → Type 0
 IsKept Begun key h = h.own ≡ Some key
 IsKept Accepted key h = h.peer ≡ Some key
 
-abbrev pub IsSame : Found → Found → Type 0
+abbrev pub IsSame : KeptHalf → KeptHalf → Type 0
 IsSame f g = (f.slot ≡ g.slot) × (f.key ≡ g.key)
 
 pub record IsEnd (e : End) : Type 0 where
   pub begun : Rises octets_cmp e.begun
   pub accepted : Rises octets_cmp e.accepted
-  pub halves : (f : Found) → Has e f → IsHalf f.half
-  pub kept : (f : Found) → Has e f → IsKept f.slot f.key f.half
+  pub halves : (f : KeptHalf) → Has e f → IsHalf f.half
+  pub kept : (f : KeptHalf) → Has e f → IsKept f.slot f.key f.half
   -- No two halves have one own transaction ID, nor one peer's.
-  pub one_own : (f g : Found) (id : List ℕ) → Has e f → Has e g → f.half.own ≡ Some id → g.half.own ≡ Some id → IsSame f g
-  pub one_peer : (f g : Found) (id : List ℕ) → Has e f → Has e g → f.half.peer ≡ Some id → g.half.peer ≡ Some id → IsSame f g
+  pub one_own : (f g : KeptHalf) (id : List ℕ) → Has e f → Has e g
+      → f.half.own ≡ Some id → g.half.own ≡ Some id → IsSame f g
+  pub one_peer : (f g : KeptHalf) (id : List ℕ) → Has e f → Has e g
+      → f.half.peer ≡ Some id → g.half.peer ≡ Some id → IsSame f g

@@ -77,7 +77,8 @@ linked_in (Some _) = None
 
 -- ---- rows
 
--- a row: its code, its class, which may be any whole number yet, its linked operations, and whether its timer may run out
+-- a row: its code, its class, which may be any whole number yet, its linked operations, and whether its timer may run
+-- out
 pub record Row : Type 0 where
   pub code : Code
   pub class : ℤ
@@ -95,7 +96,8 @@ row_from _ _ _ _ = None
 abbrev pub row_in_members : Members → Option Row
 row_in_members members =
     cond (has_only row_keys members)
-    (row_from (option_and_then code_in (get_member (codes "code") members)) (option_and_then whole_in (get_member (codes "class") members))
+    (row_from (option_and_then code_in (get_member (codes "code") members))
+    (option_and_then whole_in (get_member (codes "class") members))
     (linked_in (get_member (codes "linked") members)) (flag_in true (get_member (codes "expires") members)))
     None
 
@@ -128,7 +130,8 @@ then_ok (Ok x) f = f x
 -- the operations with those of the rows from that number on, or the first fault of these
 abbrev pub operations_in : ℕ → List (Code × Operation) → Items → Result (List (Code × Operation)) TableFault
 operations_in place found no_items = Ok found
-operations_in place found (item d more) = then_ok (with_row place found (row_in d)) (λ next. operations_in (suc place) next more)
+operations_in place found (item d more) = then_ok (with_row place found (row_in d))
+    (λ next. operations_in (suc place) next more)
 
 -- ---- tables
 
@@ -138,7 +141,8 @@ table_keys = codes "operations" ∷ codes "prearranged" ∷ []
 abbrev pub table_by : Option Data → Option Bool → Result Table TableFault
 table_by (Some (array rows)) (Some prearranged) =
     cond (nat_le (count_items rows) rows_limit)
-    (then_ok (operations_in 0 [] rows) (λ operations. Ok (record { operations = operations; prearranged = prearranged })))
+    (then_ok (operations_in 0 [] rows) (λ operations. Ok
+    (record { operations = operations; prearranged = prearranged })))
     (Err (table_fault reasons.TooManyRows 0))
 table_by _ _ = Err (table_fault reasons.TableShape 0)
 

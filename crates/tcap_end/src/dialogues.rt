@@ -2,11 +2,11 @@
 
 ghost use Rattle.std.specs.Prelude.{◌≡◌, option_map};
 ghost use Rattle.tcap_parts.specs.DialogueMeaning.{dialogue_of};
-ghost use Rattle.tcap_end.specs.Message.{
-  accepts,
-  asked_by,
-  confirmed,
-  is_answered,
+ghost use Rattle.tcap_end.specs.Dialogue.{
+  accepts_dialogue,
+  first_standing,
+  confirm,
+  answers_request,
   is_request,
   is_response,
   is_uni,
@@ -14,8 +14,8 @@ ghost use Rattle.tcap_end.specs.Message.{
   may_be_uni,
   may_begin,
   may_go_on,
-  rejects,
-  user_aborts,
+  refuses_dialogue,
+  is_user_abort,
 };
 
 use crate::half::{Phase, Standing};
@@ -36,8 +36,8 @@ fn is_response(dialogue: Option<DialogueView>) -> bool
 }
 
 /// Whether it is a response that takes the dialogue.
-fn accepts(dialogue: Option<DialogueView>) -> bool
-    ensures { result ≡ accepts (option_map dialogue_of dialogue.entry) }
+fn accepts_dialogue(dialogue: Option<DialogueView>) -> bool
+    ensures { result ≡ accepts_dialogue (option_map dialogue_of dialogue.entry) }
 {
     match dialogue {
         Some(
@@ -54,8 +54,8 @@ fn accepts(dialogue: Option<DialogueView>) -> bool
 }
 
 /// Whether it is a response that refuses it, by the user.
-fn rejects(dialogue: Option<DialogueView>) -> bool
-    ensures { result ≡ rejects (option_map dialogue_of dialogue.entry) }
+fn refuses_dialogue(dialogue: Option<DialogueView>) -> bool
+    ensures { result ≡ refuses_dialogue (option_map dialogue_of dialogue.entry) }
 {
     match dialogue {
         Some(
@@ -70,8 +70,8 @@ fn rejects(dialogue: Option<DialogueView>) -> bool
 }
 
 /// Whether it is a dialogue abort of the user.
-fn user_aborts(dialogue: Option<DialogueView>) -> bool
-    ensures { result ≡ user_aborts (option_map dialogue_of dialogue.entry) }
+fn is_user_abort(dialogue: Option<DialogueView>) -> bool
+    ensures { result ≡ is_user_abort (option_map dialogue_of dialogue.entry) }
 {
     match dialogue {
         Some(DialogueView::Abort { source, .. }) => source.number == 0,
@@ -94,8 +94,8 @@ pub(crate) fn may_be_uni(dialogue: Option<DialogueView>) -> bool
 }
 
 /// How the dialogue of a half stands that begins with this portion.
-pub(crate) fn asked_by(dialogue: Option<DialogueView>) -> Standing
-    ensures { result ≡ asked_by (option_map dialogue_of dialogue.entry) }
+pub(crate) fn first_standing(dialogue: Option<DialogueView>) -> Standing
+    ensures { result ≡ first_standing (option_map dialogue_of dialogue.entry) }
 {
     if is_request(dialogue) {
         Standing::Asked
@@ -109,7 +109,7 @@ pub(crate) fn may_go_on(phase: Phase, standing: Standing, dialogue: Option<Dialo
     ensures { result ≡ may_go_on phase standing (option_map dialogue_of dialogue.entry) }
 {
     match (phase, standing) {
-        (Phase::Received, Standing::Asked) => accepts(dialogue),
+        (Phase::Received, Standing::Asked) => accepts_dialogue(dialogue),
         _ => dialogue.is_none(),
     }
 }
@@ -120,23 +120,24 @@ pub(crate) fn may_abort(phase: Phase, standing: Standing, dialogue: Option<Dialo
 {
     dialogue.is_none()
         || match (phase, standing) {
-            (Phase::Received, Standing::Asked) => rejects(dialogue) || user_aborts(dialogue),
-            (_, Standing::Confirmed) => user_aborts(dialogue),
+            (Phase::Received, Standing::Asked) => refuses_dialogue(dialogue)
+                || is_user_abort(dialogue),
+            (_, Standing::Confirmed) => is_user_abort(dialogue),
             _ => false,
         }
 }
 
 /// Whether a Continue with it answers a dialogue that stands so.
-pub(crate) fn is_answered(standing: Standing, dialogue: Option<DialogueView>) -> bool
-    ensures { result ≡ is_answered standing (option_map dialogue_of dialogue.entry) }
+pub(crate) fn answers_request(standing: Standing, dialogue: Option<DialogueView>) -> bool
+    ensures { result ≡ answers_request standing (option_map dialogue_of dialogue.entry) }
 {
     standing != Standing::Asked || is_response(dialogue)
 }
 
 impl Standing {
     /// How a dialogue stands once its request was answered.
-    pub(crate) fn confirmed(self) -> Standing
-        ensures { result ≡ confirmed self }
+    pub(crate) fn confirm(self) -> Standing
+        ensures { result ≡ confirm self }
     {
         match self {
             Standing::Asked => Standing::Confirmed,

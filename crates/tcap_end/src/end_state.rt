@@ -1,24 +1,17 @@
 //! One end, as it runs.
 
-ghost use Rattle.std.specs.Prelude.{◌≡◌, ◌≢◌, Some, Err, IsSome, OnOk, OnErr, IfErr};
+ghost use Rattle.std.specs.Prelude.{◌≡◌, ◌≢◌, Err, IsSome, OnErr};
 ghost use Rattle.tcap_msg.specs.declared.kind.Kind.TheVariants as Kind;
 ghost use Rattle.tcap_msg.specs.Parts.{kind_in, otid_in};
 ghost use Rattle.tcap_end.specs.declared.fault.EndFault.TheVariants as EndFault;
-ghost use Rattle.tcap_end.specs.End.{nothing, quieted};
-ghost use Rattle.tcap_end.specs.Kinds.{result_of};
+ghost use Rattle.tcap_end.specs.Step.{Answers, AnswersInMemory};
+ghost use Rattle.tcap_end.specs.End.{nothing, quiet};
+ghost use Rattle.tcap_end.specs.Message.{receive, send};
+ghost use Rattle.tcap_end.specs.Reply.{refuse_begin, refuse_continue};
+ghost use Rattle.tcap_end.specs.Hidden.{close, expire};
 ghost use Rattle.tcap_end.specs.Sound.{IsEnd};
-ghost use Rattle.tcap_end.specs.Hidden.{closed, expired};
-ghost use Rattle.tcap_end.specs.Message.{received_message, sent_message};
-ghost use Rattle.tcap_end.specs.Refusal.{
-  close_fault,
-  expire_fault,
-  quiet_fault,
-  receive_fault,
-  refuse_begin_fault,
-  refuse_continue_fault,
-  send_fault,
-};
 
+use crate::end_replies::{refuse_begin, refuse_continue};
 use crate::fault::EndFault;
 use crate::half::HalfName;
 use crate::halves::Halves;
@@ -27,9 +20,9 @@ use std::alloc::Global;
 use std::marker::Model;
 use tcap_msg::MessageParts;
 
-/// One end of TCAP dialogues: the halves of its transactions (Q.774 3.3) with their invocations (Q.774 3.2). It says of each
-/// message whether a lawful end may send it there, and takes what the peer sent. What it stands for is an end of which the
-/// laws speak (`laws::is_end`).
+/// One end of TCAP dialogues: the halves of its transactions (Q.774 3.3) with their invocations (Q.774 3.2). It says of
+/// each message whether a lawful end may send it there, and takes what the peer sent. What it stands for is an end of
+/// which the laws speak (`laws::is_end`).
 #[derive(Debug, Drop)]
 pub struct EndState {
     alloc: Global,
@@ -59,79 +52,69 @@ impl EndState {
         }
     }
 
-    /// Sends a message (Q.774 3.2 and 3.3), by the table of operations. On Ok the end is as it is once the message was sent. Else
-    /// it is as it was, and the answer is the first fault in the order of the half (`IdUsed`, `NoTransaction`, `WrongPhase`), the
-    /// dialogue portion (`WrongDialogue`), and the components one after the other (`UnknownOperation` to `RejectNotAllowed`, and
-    /// `UniNotClass4`); or `Memory`, which an Abort never meets. An Abort with a cause is the provider's: `WrongPhase`.
+    /// Sends a message (Q.774 3.2 and 3.3), by the table of operations. On Ok the end is as it is once the message was
+    /// sent. Else it is as it was, and the answer is the first fault in the order of the half (one of `IdUsed`,
+    /// `NoTransaction`, `WrongPhase`), the dialogue portion (`WrongDialogue`), and the components one after the other
+    /// (`UnknownOperation` to `RejectNotAllowed`, and `UniNotClass4`); or `Memory`, which an Abort never meets. An
+    /// Abort with a cause is the provider's: `WrongPhase`.
     pub fn send<M: MessageParts>(&mut self, table: &Table, message: &M) -> Result<(), EndFault>
-        ensures sent { OnOk result (sent_message table.now self.old (M.meaning message.now) ≡ Some self.new) }
-        ensures refused { IfErr result (λ fault. fault ≢ EndFault.Memory
-            → send_fault table.now self.old (M.meaning message.now) ≡ Some fault) }
+        ensures step { AnswersInMemory (send table.now self.old (M.meaning message.now)) result self.new }
         ensures kept { OnErr result (self.new ≡ self.old) }
         ensures aborts { kind_in (M.meaning message.now) ≡ Kind.Abort → result ≢ Err EndFault.Memory }
     {
         self.halves.send(self.alloc, table, message)
     }
 
-    /// Receives a message (Q.774 3.2 and 3.3), by the table of operations. On Ok the end is as it is once the message was received.
-    /// Else it is as it was, and the answer is `NoTransaction`, `IdUsed` or `WrongDialogue`, where the message cannot be received; or
-    /// `Memory`. What has no originating ID, an End, an Abort or a Unidirectional, is never refused and takes no memory.
+    /// Receives a message (Q.774 3.2 and 3.3), by the table of operations. On Ok the end is as it is once the message
+    /// was received. Else it is as it was, and the answer is `NoTransaction`, `IdUsed` or `WrongDialogue`, where the
+    /// message cannot be received; or `Memory`. What has no originating ID, an End, an Abort or a Unidirectional, is
+    /// never refused and takes no memory.
     pub fn receive<M: MessageParts>(&mut self, table: &Table, message: &M) -> Result<(), EndFault>
-        ensures received { OnOk result (received_message table.now self.old (M.meaning message.now) ≡ Some self.new) }
-        ensures refused { IfErr result (λ fault. fault ≢ EndFault.Memory → receive_fault self.old (M.meaning message.now) ≡ Some fault) }
+        ensures step { AnswersInMemory (receive table.now self.old (M.meaning message.now)) result self.new }
         ensures kept { OnErr result (self.new ≡ self.old) }
         ensures only { OnErr result (IsSome (otid_in (M.meaning message.now))) }
     {
         self.halves.receive(self.alloc, table, message)
     }
 
-    /// Whether the provider may answer a Begin, which then never reaches the end, by this Abort (Q.774 3.3): cause 4, to its
+    /// Whether the provider may answer a Begin by this Abort in place of the end (Q.774 3.3): cause 4, to its
     /// originating ID, where no half has that ID as its peer's. `NoTransaction` where it may not.
     pub fn refuse_begin<B: MessageParts, A: MessageParts>(
         &self,
         begin: &B,
         abort: &A,
     ) -> Result<(), EndFault>
-        ensures { result ≡ result_of (refuse_begin_fault self.now (B.meaning begin.now) (A.meaning abort.now)) }
+        ensures { result ≡ refuse_begin self.now (B.meaning begin.now) (A.meaning abort.now) }
     {
-        if self.halves.refuses_begin(begin, abort) {
-            Ok(())
-        } else {
-            Err(EndFault::NoTransaction)
-        }
+        refuse_begin(&self.halves, begin, abort)
     }
 
-    /// Whether the provider may answer a Continue by this Abort (Q.774 3.3): cause 1, to its originating ID, where no open half has
-    /// its destination ID. `NoTransaction` where it may not.
+    /// Whether the provider may answer a Continue by this Abort (Q.774 3.3): cause 1, to its originating ID, where no
+    /// open half has its destination ID as its own. `NoTransaction` where it may not.
     pub fn refuse_continue<C: MessageParts, A: MessageParts>(
         &self,
         continued: &C,
         abort: &A,
     ) -> Result<(), EndFault>
-        ensures { result ≡ result_of (refuse_continue_fault self.now (C.meaning continued.now) (A.meaning abort.now)) }
+        ensures { result ≡ refuse_continue self.now (C.meaning continued.now) (A.meaning abort.now) }
     {
-        if self.halves.refuses_continue(continued, abort) {
-            Ok(())
-        } else {
-            Err(EndFault::NoTransaction)
-        }
+        refuse_continue(&self.halves, continued, abort)
     }
 
-    /// Ends an own invocation unseen (Q.774 3.2): its timer ran out or the user cancelled it, where the table says that this may be;
-    /// or its last answer came, and its ID is free again. `CannotExpire` where none of this may be. It takes no memory.
+    /// Ends an own invocation unseen (Q.774 3.2): its timer ran out or the user cancelled it, where the table says that
+    /// this may be; or its last answer came, and its ID is free again. `CannotExpire` where none of this may be: the
+    /// end is as it was then. It takes no memory.
     pub fn expire(&mut self, table: &Table, name: HalfName, invoke: i8) -> Result<(), EndFault>
-        ensures expired { OnOk result (expired table.now self.old name invoke ≡ Some self.new) }
-        ensures refused { IfErr result (λ fault. expire_fault table.now self.old name invoke ≡ Some fault) }
+        ensures step { Answers (expire table.now self.old name invoke) result self.new }
         ensures kept { OnErr result (self.new ≡ self.old) }
     {
         self.halves.expire(table, name, invoke)
     }
 
-    /// Closes a half unseen (Q.774 3.3): its Begin is given up, or it ends by prearrangement, where the table says that this may be.
-    /// `CannotClose` where it may not. It takes no memory.
+    /// Closes a half unseen (Q.774 3.3): its Begin is given up, or it ends by prearrangement, where the table says that
+    /// this may be. `CannotClose` where it may not: the end is as it was then. It takes no memory.
     pub fn close(&mut self, table: &Table, name: HalfName) -> Result<(), EndFault>
-        ensures closed { OnOk result (closed table.now self.old name ≡ Some self.new) }
-        ensures refused { IfErr result (λ fault. close_fault table.now self.old name ≡ Some fault) }
+        ensures step { Answers (close table.now self.old name) result self.new }
         ensures kept { OnErr result (self.new ≡ self.old) }
     {
         self.halves.close_named(table, name)
@@ -144,10 +127,10 @@ impl EndState {
         let _ = self.halves.all_closed();
     }
 
-    /// A quiet mark: where all halves are closed, no half and no used ID is left. `StillOpen` where one is open. It takes no memory.
+    /// A quiet mark: where all halves are closed, no half and no used ID is left. `StillOpen` where one is open: the
+    /// end is as it was then. It takes no memory.
     pub fn quiet(&mut self) -> Result<(), EndFault>
-        ensures quieted { OnOk result (quieted self.old ≡ Some self.new) }
-        ensures refused { IfErr result (λ fault. quiet_fault self.old ≡ Some fault) }
+        ensures step { Answers (quiet self.old) result self.new }
         ensures kept { OnErr result (self.new ≡ self.old) }
     {
         if !self.halves.all_closed() {

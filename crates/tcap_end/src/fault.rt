@@ -9,7 +9,7 @@ use std::alloc::AllocError;
 /// Why an end does not take a step.
 #[derive(Clone, Copy, Debug, PartialEq, Eq)]
 pub enum EndFault {
-    /// No half fits, or what the provider replies does not.
+    /// No half fits, or the provider may not reply so.
     NoTransaction,
     /// The transaction ID is used.
     IdUsed,
@@ -23,11 +23,11 @@ pub enum EndFault {
     InvokeIdBusy,
     /// There is no such invocation to answer, or a Unidirectional carries something else than Invokes.
     NothingToAnswer,
-    /// The operation's class does not allow that answer.
+    /// The operation's class does not allow that answer, or the table lacks the operation.
     ClassForbids,
     /// The answer is for another operation.
     WrongOperation,
-    /// The linked ID names no invocation to which this operation may be linked.
+    /// The linked ID names no invocation that was received to which this operation may be linked.
     BadLink,
     /// Nothing that was received may be rejected so.
     RejectNotAllowed,
@@ -35,7 +35,7 @@ pub enum EndFault {
     CannotExpire,
     /// The half may not close.
     CannotClose,
-    /// A Unidirectional carries operations of class 4 alone.
+    /// An operation in a Unidirectional is not of class 4.
     UniNotClass4,
     /// A half is open.
     StillOpen,

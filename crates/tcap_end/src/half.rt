@@ -26,13 +26,13 @@ pub enum Standing {
     Confirmed,
 }
 
-/// What an invocation waits for (Q.774 3.2).
+/// The state of an own invocation (Q.774 3.2).
 #[derive(Clone, Copy, Debug, PartialEq, Eq)]
-pub enum Mark {
-    /// It was sent, and its last answer did not come (Operation Sent).
-    Sent,
-    /// Its last answer came: its invoke ID is kept until it may be used again (Wait for Reject).
-    Wait,
+pub enum InvocationState {
+    /// It was sent, and its last answer did not come.
+    OperationSent,
+    /// Its last answer came: its invoke ID is kept until it may be used again.
+    WaitForReject,
 }
 
 /// By what a half began; it is kept with those that began so.

@@ -1,13 +1,16 @@
-//! The state of a half, and taking back what changed in it.
+//! What is kept of an open half, what of it may end unseen, and taking back what changed in it.
 
 ghost use Rattle.std.specs.Prelude.{◌≡◌, ◌∷◌, OnErr, OnOk};
 ghost use Rattle.tcap_end.specs.Half.{Half, fresh};
+ghost use Rattle.tcap_end.specs.Component.{own_invocation};
+ghost use Rattle.tcap_end.specs.Hidden.{may_expire};
 ghost use Rattle.tcap_end.specs.HalfState.{CanUndo, IsUndone, Undoes, half_of};
 
-use crate::half::{Mark, Phase, Slot, Standing};
+use crate::half::{InvocationState, Phase, Slot, Standing};
 use crate::lists::Lists;
-use crate::outs::{Invoked, Outs};
+use crate::outs::{Outs, OwnInvocation};
 use crate::received::{Answer, Invocation};
+use crate::table::Table;
 use std::alloc::{AllocError, Global};
 use std::collections::LinkedList;
 use tcap_msg::TransactionId;
@@ -31,7 +34,7 @@ pub(crate) enum Change {
     /// Another own invocation, or none, stood under an ID.
     Out {
         id: i8,
-        was: Option<Invoked>,
+        was: Option<OwnInvocation>,
     },
     /// An invocation that was received was taken from a place of an ID's list.
     InnTaken {
@@ -78,6 +81,19 @@ impl HalfState {
         }
     }
 
+    /// Whether the own invocation of that ID may end unseen.
+    pub(crate) fn may_expire(&self, table: &Table, id: i8) -> bool
+        ensures { result ≡ may_expire table.now (own_invocation (half_of self.now) id) }
+    {
+        match self.out.get(id) {
+            Some(own) => match own.state {
+                InvocationState::WaitForReject => true,
+                InvocationState::OperationSent => table.expires(own.code.view()),
+            },
+            None => false,
+        }
+    }
+
     /// Takes back a change, the last one.
     fn undo(&mut self, change: Change)
         requires can { CanUndo change self.old }
@@ -87,7 +103,7 @@ impl HalfState {
             Change::Out { id, was } => {
                 self.out.put(id, was);
             }
-            Change::Waits(id) => self.out.mark(id, Mark::Sent),
+            Change::Waits(id) => self.out.set_state(id, InvocationState::OperationSent),
             Change::InnTaken { id, at, item } => self.inn.put_back(id, at, item),
             Change::GrantTaken { id, at, item } => self.grants.put_back(id, at, item),
             Change::InnJoined(id) => self.inn.pop(id),

@@ -1,25 +1,25 @@
 //! The halves of an end, found by their transaction IDs.
 
-ghost use Rattle.std.specs.Prelude.{◌≡◌, ◌≢◌, ◌&&◌, true, false, Some, None, IsSome, MatchOption, OnOk, OnErr, IfErr};
-ghost use Rattle.std.specs.Ordering.{int_cmp};
+ghost use Rattle.std.specs.Prelude.{◌≡◌, ◌≢◌, ◌&&◌, false, true, Some, None, IsSome, MatchOption, OnOk, OnErr};
 ghost use Rattle.std.specs.Map.{remove_entry};
 ghost use Rattle.std.specs.BTreeMap.{insert_entry, is_at};
 ghost use Rattle.tcap_parts.specs.Meaning.{components_left};
-ghost use Rattle.tcap_end.specs.declared.fault.EndFault.TheVariants as EndFault;
 ghost use Rattle.tcap_end.specs.declared.half.Slot.TheVariants as Slot;
 ghost use Rattle.tcap_end.specs.declared.halves.Place.TheVariants as Place;
 ghost use Rattle.tcap_end.specs.Table.{octets_cmp};
 ghost use Rattle.tcap_end.specs.Half.{Half, closed_half, is_closed};
-ghost use Rattle.tcap_end.specs.HalfState.{half_of};
-ghost use Rattle.tcap_end.specs.Component.{invoked};
-ghost use Rattle.tcap_end.specs.Message.{answered, learned, received_components, sent_components};
-ghost use Rattle.tcap_end.specs.Refusal.{components_fault};
-ghost use Rattle.tcap_end.specs.End.{Found, all_closed, is_id, nothing, put, with_own, with_peer};
+ghost use Rattle.tcap_end.specs.HalfState.{half_of, other_id};
+ghost use Rattle.tcap_end.specs.Component.{own_invocation};
+ghost use Rattle.tcap_end.specs.Hidden.{without_invocation};
+ghost use Rattle.tcap_end.specs.Message.{active_half};
+ghost use Rattle.tcap_end.specs.Ways.{components_by, way_of};
+ghost use Rattle.tcap_end.specs.End.{KeptHalf, all_closed, is_id, nothing, put, with_own, with_peer};
 ghost use Rattle.tcap_end.specs.Sound.{Has, IsEnd};
-ghost use Rattle.tcap_end.specs.Halves.{AllPlaced, IsNew, Becomes, HasOpen, IsAt, IsHeld, end_of, places_of, spot};
+ghost use Rattle.tcap_end.specs.Halves.{AllPlaced, AnswersOver, Becomes, HasOpen, IsAt, IsHeld, IsNew, end_of, index_of, kept_half, places_of};
 
 use crate::fault::EndFault;
 use crate::half::Slot;
+use crate::half_components::Way;
 use crate::half_state::HalfState;
 use crate::table::Table;
 use slab::Slab;
@@ -46,15 +46,15 @@ pub(crate) struct Halves {
     pub(crate) begun: BTreeMap<TransactionId, Place>,
     /// Those that began by receiving one, by their peers'.
     pub(crate) accepted: BTreeMap<TransactionId, Place>,
-    /// From the own IDs that accepted halves chose to their peers'.
-    pub(crate) chosen: BTreeMap<TransactionId, TransactionId>,
-    /// From the peers' IDs that begun halves learned to their own.
-    pub(crate) learned: BTreeMap<TransactionId, TransactionId>,
+    /// From the own IDs of accepted halves to their peers'.
+    pub(crate) by_own: BTreeMap<TransactionId, TransactionId>,
+    /// From the peers' IDs of begun halves to their own.
+    pub(crate) by_peer: BTreeMap<TransactionId, TransactionId>,
 }
 
-/// Where a half is found: its slot, and the ID by which it is kept there.
+/// By what a half is kept: how it began, and its ID of that time.
 #[derive(Debug, Drop)]
-pub(crate) struct Spot {
+pub(crate) struct HalfKey {
     pub(crate) slot: Slot,
     pub(crate) key: TransactionId,
 }
@@ -80,48 +80,50 @@ impl Halves {
             slab: Slab::new(alloc),
             begun: BTreeMap::new(alloc),
             accepted: BTreeMap::new(alloc),
-            chosen: BTreeMap::new(alloc),
-            learned: BTreeMap::new(alloc),
+            by_own: BTreeMap::new(alloc),
+            by_peer: BTreeMap::new(alloc),
         }
     }
 
     /// Where the half with that own transaction ID is kept.
-    pub(crate) fn with_own(&self, id: TransactionIdView) -> Option<Spot>
+    pub(crate) fn with_own(&self, id: TransactionIdView) -> Option<HalfKey>
         requires held { IsHeld self.now }
         requires sound { IsEnd (end_of self.now) }
         ensures { MatchOption result (with_own (end_of self.now) id.entry.octets.now ≡ None)
-            (λ found. (h : Half) × (with_own (end_of self.now) id.entry.octets.now ≡ Some (spot found.slot found.key h))) }
+            (λ found. (h : Half) × (with_own (end_of self.now) id.entry.octets.now
+            ≡ Some (kept_half found.slot found.key h))) }
     {
         let key = id.to_transaction_id();
         if self.begun.contains_key(&key) {
-            return Some(Spot {
+            return Some(HalfKey {
                 slot: Slot::Begun,
                 key,
             });
         }
-        let peer = self.chosen.get(&key)?;
-        Some(Spot {
+        let peer = self.by_own.get(&key)?;
+        Some(HalfKey {
             slot: Slot::Accepted,
             key: peer.view().to_transaction_id(),
         })
     }
 
     /// Where the half with that peer's transaction ID is kept.
-    pub(crate) fn with_peer(&self, id: TransactionIdView) -> Option<Spot>
+    pub(crate) fn with_peer(&self, id: TransactionIdView) -> Option<HalfKey>
         requires held { IsHeld self.now }
         requires sound { IsEnd (end_of self.now) }
         ensures { MatchOption result (with_peer (end_of self.now) id.entry.octets.now ≡ None)
-            (λ found. (h : Half) × (with_peer (end_of self.now) id.entry.octets.now ≡ Some (spot found.slot found.key h))) }
+            (λ found. (h : Half) × (with_peer (end_of self.now) id.entry.octets.now
+            ≡ Some (kept_half found.slot found.key h))) }
     {
         let key = id.to_transaction_id();
         if self.accepted.contains_key(&key) {
-            return Some(Spot {
+            return Some(HalfKey {
                 slot: Slot::Accepted,
                 key,
             });
         }
-        let own = self.learned.get(&key)?;
-        Some(Spot {
+        let own = self.by_peer.get(&key)?;
+        Some(HalfKey {
             slot: Slot::Begun,
             key: own.view().to_transaction_id(),
         })
@@ -138,11 +140,12 @@ impl Halves {
     }
 
     /// The open half that is kept there; `None` where it is closed.
-    pub(crate) fn half(&self, found: &Spot) -> Option<&HalfState>
+    pub(crate) fn half(&self, found: &HalfKey) -> Option<&HalfState>
         requires held { IsHeld self.now }
-        requires there { (h : Half) × Has (end_of self.now) (spot found.now.slot found.now.key h) }
-        ensures { (h : Half) → Has (end_of self.now) (spot found.now.slot found.now.key h)
-            → MatchOption result (is_closed h.phase ≡ true) (λ half. (half_of half.now ≡ h) × (is_closed h.phase ≡ false)) }
+        requires there { (h : Half) × Has (end_of self.now) (kept_half found.now.slot found.now.key h) }
+        ensures { (h : Half) → Has (end_of self.now) (kept_half found.now.slot found.now.key h)
+            → MatchOption result (is_closed h.phase ≡ true)
+            (λ half. (half_of half.now ≡ h) × (is_closed h.phase ≡ false)) }
     {
         match self.places(found.slot).get(&found.key)? {
             Place::Open(number) => self.slab.get(*number),
@@ -151,7 +154,7 @@ impl Halves {
     }
 
     /// The number of the open half that is kept there.
-    fn number(&self, found: &Spot) -> usize
+    fn number(&self, found: &HalfKey) -> usize
         requires open { HasOpen found.now.slot found.now.key self.now }
         ensures { IsAt found.now.slot found.now.key (Place.Open result) self.now }
     {
@@ -161,21 +164,19 @@ impl Halves {
         }
     }
 
-    /// Sends components over the open half that is kept there.
-    pub(crate) fn send_over(
+    /// Sends or receives components over the open half that is kept there.
+    pub(crate) fn step_over(
         &mut self,
         alloc: Global,
         table: &Table,
-        found: &Spot,
+        found: &HalfKey,
+        way: Way,
         components: Components,
     ) -> Result<(), EndFault>
         requires held { IsHeld self.old }
         requires open { HasOpen found.now.slot found.now.key self.old }
-        ensures sent { OnOk result (Becomes found.now.slot found.now.key
-            (λ h. sent_components table.now h (components_left components.entry)) self.old self.new) }
-        ensures refused { IfErr result (λ fault. fault ≢ EndFault.Memory → (h : Half)
-            → Has (end_of self.old) (spot found.now.slot found.now.key h)
-            → components_fault table.now (components_left components.entry) h ≡ Some fault) }
+        ensures step { AnswersOver found.now.slot found.now.key
+            (λ h. components_by way table.now h (components_left components.entry)) result self.old self.new }
         ensures kept { OnErr result (end_of self.new ≡ end_of self.old) }
         ensures held { IsHeld self.new }
         ensures open { HasOpen found.now.slot found.now.key self.new }
@@ -183,41 +184,18 @@ impl Halves {
     {
         let number = self.number(found);
         match self.slab.get_mut(number) {
-            Some(half) => half.send_components(alloc, table, components),
-            None => unreachable!(),
-        }
-    }
-
-    /// Receives components over the open half that is kept there.
-    pub(crate) fn receive_over(
-        &mut self,
-        alloc: Global,
-        table: &Table,
-        found: &Spot,
-        components: Components,
-    ) -> Result<(), AllocError>
-        requires held { IsHeld self.old }
-        requires open { HasOpen found.now.slot found.now.key self.old }
-        ensures received { OnOk result (Becomes found.now.slot found.now.key
-            (λ h. Some (received_components table.now h (components_left components.entry))) self.old self.new) }
-        ensures kept { OnErr result (end_of self.new ≡ end_of self.old) }
-        ensures held { IsHeld self.new }
-        ensures placed { AllPlaced self.old → AllPlaced self.new }
-    {
-        let number = self.number(found);
-        match self.slab.get_mut(number) {
-            Some(half) => half.receive_components(alloc, table, components),
+            Some(half) => half.step_components(alloc, table, way, components),
             None => unreachable!(),
         }
     }
 
     /// Ends the own invocation of that ID in the open half that is kept there, which has one.
-    pub(crate) fn forget_over(&mut self, found: &Spot, id: i8)
+    pub(crate) fn forget_over(&mut self, found: &HalfKey, id: i8)
         requires held { IsHeld self.old }
         requires open { HasOpen found.now.slot found.now.key self.old }
-        requires invoked { (h : Half) → Has (end_of self.old) (spot found.now.slot found.now.key h) → IsSome (invoked h id) }
-        ensures forgotten { Becomes found.now.slot found.now.key
-            (λ h. Some (record h { out = remove_entry (is_at (int_cmp id)) h.out })) self.old self.new }
+        requires own_invocation { (h : Half) → Has (end_of self.old) (kept_half found.now.slot found.now.key h)
+            → IsSome (own_invocation h id) }
+        ensures forgotten { Becomes found.now.slot found.now.key (without_invocation id) self.old self.new }
         ensures held { IsHeld self.new }
         ensures placed { AllPlaced self.old → AllPlaced self.new }
     {
@@ -231,10 +209,10 @@ impl Halves {
     }
 
     /// Closes the open half that is kept there. It takes no memory.
-    pub(crate) fn close(&mut self, found: Spot)
+    pub(crate) fn close(&mut self, found: HalfKey)
         requires held { IsHeld self.old }
         requires open { HasOpen found.slot found.key self.old }
-        ensures closed { Becomes found.slot found.key (λ h. Some (closed_half h)) self.old self.new }
+        ensures closed { Becomes found.slot found.key closed_half self.old self.new }
         ensures held { IsHeld self.new }
         ensures placed { AllPlaced self.old → AllPlaced self.new }
     {
@@ -255,11 +233,13 @@ impl Halves {
 
     /// Puts a place by that ID.
     fn put_place(&mut self, slot: Slot, key: TransactionId, place: Place) -> Result<(), AllocError>
-        ensures put { OnOk result (places_of slot self.new ≡ insert_entry octets_cmp (places_of slot self.old) key place) }
+        ensures put { OnOk result (places_of slot self.new
+            ≡ insert_entry octets_cmp (places_of slot self.old) key place) }
         ensures kept { OnErr result (places_of slot self.new ≡ places_of slot self.old) }
         ensures begun { slot ≢ Slot.Begun → self.new.begun ≡ self.old.begun }
         ensures accepted { slot ≢ Slot.Accepted → self.new.accepted ≡ self.old.accepted }
-        ensures others { (self.new.slab ≡ self.old.slab) × (self.new.chosen ≡ self.old.chosen) × (self.new.learned ≡ self.old.learned) }
+        ensures others { (self.new.slab ≡ self.old.slab) × (self.new.by_own ≡ self.old.by_own)
+            × (self.new.by_peer ≡ self.old.by_peer) }
     {
         match slot {
             Slot::Begun => self.begun.insert(key, place)?,
@@ -288,83 +268,77 @@ impl Halves {
         }
     }
 
-    /// Sends the components of a Continue over the open half that is kept there, which chooses that own ID; no half has it.
-    pub(crate) fn answer_over(
+    /// Leads from the ID that a half is not kept by to the one that it is kept by.
+    fn put_index(
+        &mut self,
+        slot: Slot,
+        id: TransactionId,
+        key: TransactionId,
+    ) -> Result<(), AllocError>
+        ensures put { OnOk result (index_of slot self.new ≡ insert_entry octets_cmp (index_of slot self.old) id key) }
+        ensures kept { OnErr result (index_of slot self.new ≡ index_of slot self.old) }
+        ensures by_own { slot ≢ Slot.Accepted → self.new.by_own ≡ self.old.by_own }
+        ensures by_peer { slot ≢ Slot.Begun → self.new.by_peer ≡ self.old.by_peer }
+        ensures others { (self.new.slab ≡ self.old.slab) × (self.new.begun ≡ self.old.begun)
+            × (self.new.accepted ≡ self.old.accepted) }
+    {
+        match slot {
+            Slot::Begun => self.by_peer.insert(id, key)?,
+            Slot::Accepted => self.by_own.insert(id, key)?,
+        };
+        Ok(())
+    }
+
+    /// Leads on from that ID no more.
+    fn remove_index(&mut self, slot: Slot, id: &TransactionId)
+        ensures removed { index_of slot self.new ≡ remove_entry (is_at (octets_cmp id.now)) (index_of slot self.old) }
+        ensures by_own { slot ≢ Slot.Accepted → self.new.by_own ≡ self.old.by_own }
+        ensures by_peer { slot ≢ Slot.Begun → self.new.by_peer ≡ self.old.by_peer }
+        ensures others { (self.new.slab ≡ self.old.slab) × (self.new.begun ≡ self.old.begun)
+            × (self.new.accepted ≡ self.old.accepted) }
+    {
+        match slot {
+            Slot::Begun => self.by_peer.remove(id),
+            Slot::Accepted => self.by_own.remove(id),
+        };
+    }
+
+    /// Sends or receives the components of the Continue that answers the Begin of the open half that is kept there,
+    /// which gets this ID: one that began by sending its peer's, one that began by receiving an own. No half has it.
+    pub(crate) fn activate_over(
         &mut self,
         alloc: Global,
         table: &Table,
-        found: &Spot,
-        own: TransactionId,
+        found: &HalfKey,
+        id: TransactionId,
         components: Components,
     ) -> Result<(), EndFault>
         requires held { IsHeld self.old }
         requires open { HasOpen found.now.slot found.now.key self.old }
-        requires accepted { found.now.slot ≡ Slot.Accepted }
-        requires unknown { (h : Half) → Has (end_of self.old) (spot found.now.slot found.now.key h) → h.own ≡ None }
-        requires unused { (f : Found) → Has (end_of self.old) f → f.half.own ≢ Some own }
-        ensures sent { OnOk result (Becomes found.now.slot found.now.key
-            (λ h. sent_components table.now (answered own h) (components_left components.entry)) self.old self.new) }
-        ensures refused { IfErr result (λ fault. fault ≢ EndFault.Memory → (h : Half)
-            → Has (end_of self.old) (spot found.now.slot found.now.key h)
-            → components_fault table.now (components_left components.entry) (answered own h) ≡ Some fault) }
+        requires unknown { (h : Half) → Has (end_of self.old) (kept_half found.now.slot found.now.key h)
+            → other_id found.now.slot h ≡ None }
+        requires unused { (f : KeptHalf) → Has (end_of self.old) f → other_id found.now.slot f.half ≢ Some id }
+        ensures step { AnswersOver found.now.slot found.now.key
+            (λ h. components_by (way_of found.now.slot) table.now (active_half found.now.slot id h)
+            (components_left components.entry))
+            result self.old self.new }
         ensures kept { OnErr result (end_of self.new ≡ end_of self.old) }
         ensures held { IsHeld self.new }
         ensures placed { AllPlaced self.old → AllPlaced self.new }
     {
-        let index = own.view().to_transaction_id();
+        let index = id.view().to_transaction_id();
         let key = found.key.view().to_transaction_id();
-        if self.chosen.insert(index, key).is_err() {
-            return Err(EndFault::Memory);
-        }
-        let index = own.view().to_transaction_id();
+        self.put_index(found.slot, index, key)?;
+        let index = id.view().to_transaction_id();
         let number = self.number(found);
         let Some(half) = self.slab.get_mut(number) else {
             unreachable!()
         };
-        match half.answer(alloc, table, own, components) {
+        match half.activate(alloc, table, id, components) {
             Ok(()) => Ok(()),
             Err(fault) => {
-                self.chosen.remove(&index);
+                self.remove_index(found.slot, &index);
                 Err(fault)
-            }
-        }
-    }
-
-    /// Receives the components of a Continue over the open half that is kept there, which learns that peer's ID; no half has it.
-    pub(crate) fn learn_over(
-        &mut self,
-        alloc: Global,
-        table: &Table,
-        found: &Spot,
-        peer: TransactionId,
-        components: Components,
-    ) -> Result<(), AllocError>
-        requires held { IsHeld self.old }
-        requires open { HasOpen found.now.slot found.now.key self.old }
-        requires begun { found.now.slot ≡ Slot.Begun }
-        requires unknown { (h : Half) → Has (end_of self.old) (spot found.now.slot found.now.key h) → h.peer ≡ None }
-        requires unused { (f : Found) → Has (end_of self.old) f → f.half.peer ≢ Some peer }
-        ensures received { OnOk result (Becomes found.now.slot found.now.key
-            (λ h. Some (received_components table.now (learned peer h) (components_left components.entry))) self.old self.new) }
-        ensures kept { OnErr result (end_of self.new ≡ end_of self.old) }
-        ensures held { IsHeld self.new }
-        ensures placed { AllPlaced self.old → AllPlaced self.new }
-    {
-        let index = peer.view().to_transaction_id();
-        let key = found.key.view().to_transaction_id();
-        if self.learned.insert(index, key).is_err() {
-            return Err(AllocError);
-        }
-        let index = peer.view().to_transaction_id();
-        let number = self.number(found);
-        let Some(half) = self.slab.get_mut(number) else {
-            unreachable!()
-        };
-        match half.learn(alloc, table, peer, components) {
-            Ok(()) => Ok(()),
-            Err(failed) => {
-                self.learned.remove(&index);
-                Err(failed)
             }
         }
     }

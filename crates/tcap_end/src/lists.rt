@@ -8,13 +8,14 @@ ghost use Rattle.std.specs.List.Sorted.{IsStrictlySortedBy, IsStrictlySortedBy-p
 use std::alloc::{AllocError, Global};
 use std::collections::{BTreeMap, LinkedList};
 
-/// Lists of items by invoke IDs, each from the oldest item on. Items are joined at a list's end, taken from any place, and
-/// put back there; neither taking nor putting back can fail. An ID of which nothing is kept may have an empty list.
+/// Lists of items by invoke IDs, each from the oldest item on. Items are joined at a list's end, taken from any place,
+/// and put back there; neither taking nor putting back can fail. An ID of which nothing is kept may have an empty list.
 #[derive(Debug, Drop)]
 pub(crate) struct Lists<T> {
     lists: BTreeMap<i8, LinkedList<T>>,
     alloc: Global,
-    ghost ordered: { IsStrictlySortedBy int_cmp (keys_of lists.entries) } by { IsStrictlySortedBy-prop int_cmp (keys_of lists.entries) },
+    ghost ordered: { IsStrictlySortedBy int_cmp (keys_of lists.entries) } by { IsStrictlySortedBy-prop int_cmp
+        (keys_of lists.entries) },
 }
 
 /// Splits a list off at that place: what stands there and behind it.
@@ -42,7 +43,7 @@ fn join<T>(list: &mut LinkedList<T>, more: &mut LinkedList<T>)
 
 impl<T> Lists<T> {
     ghost use Rattle.std.specs.Prelude.{◌≡◌, [], MatchOption, IfOk, OnOk, OnErr};
-    ghost use Rattle.tcap_end.specs.Half.{listed, with_listed, added};
+    ghost use Rattle.tcap_end.specs.Half.{listed, with_listed, with_newest};
     ghost use Rattle.tcap_end.specs.Lists.{kept_lists};
 
     /// No items.
@@ -57,7 +58,8 @@ impl<T> Lists<T> {
 
     /// The items of an ID, where a list of it was made.
     pub(crate) fn get(&self, id: i8) -> Option<&LinkedList<T>>
-        ensures { MatchOption result (listed id (kept_lists self.now) ≡ []) (λ list. listed id (kept_lists self.now) ≡ list.now) }
+        ensures { MatchOption result (listed id (kept_lists self.now) ≡ [])
+            (λ list. listed id (kept_lists self.now) ≡ list.now) }
     {
         self.lists.get(&id)
     }
@@ -65,7 +67,7 @@ impl<T> Lists<T> {
 
 impl<T: Drop> Lists<T> {
     ghost use Rattle.std.specs.Prelude.{◌≡◌, ◌<◌, ◌≤◌, ◌+◌, ◌^◌, ℤ, ◌∷◌, ◌++◌, [], IfOk, OnOk, OnErr, length, take, drop, suc};
-    ghost use Rattle.tcap_end.specs.Half.{listed, with_listed, added};
+    ghost use Rattle.tcap_end.specs.Half.{listed, with_listed, with_newest};
     ghost use Rattle.tcap_end.specs.Lists.{HasList, kept_lists, one_less, put_at, taken_at};
 
     /// The list of an ID, which is left empty; it is made where there is none.
@@ -109,7 +111,7 @@ impl<T: Drop> Lists<T> {
 
     /// One item more of an ID, the newest.
     pub(crate) fn push(&mut self, id: i8, item: T) -> Result<(), AllocError>
-        ensures added { OnOk result (kept_lists self.new ≡ added id item (kept_lists self.old)) }
+        ensures added { OnOk result (kept_lists self.new ≡ with_newest id item (kept_lists self.old)) }
         ensures made { OnOk result (HasList id self.new) }
         ensures others { (other : ℤ) → HasList other self.old → HasList other self.new }
         ensures kept { OnErr result (kept_lists self.new ≡ kept_lists self.old) }

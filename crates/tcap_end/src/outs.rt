@@ -4,23 +4,25 @@ ghost use Rattle.std.specs.Ordering.{int_cmp};
 ghost use Rattle.std.specs.Map.{keys_of};
 ghost use Rattle.std.specs.List.Sorted.{IsStrictlySortedBy, IsStrictlySortedBy-prop};
 
-use crate::half::Mark;
+use crate::half::InvocationState;
 use std::alloc::{AllocError, Global};
 use std::collections::BTreeMap;
 use tcap_parts::Code;
 
 /// An own invocation: its operation, and what it waits for.
 #[derive(Debug, Drop)]
-pub(crate) struct Invoked {
+pub(crate) struct OwnInvocation {
     pub(crate) code: Code,
-    pub(crate) mark: Mark,
+    pub(crate) state: InvocationState,
 }
 
-/// Own invocations by their invoke IDs. Once there is a place for an ID, what stands there can be changed without memory.
+/// Own invocations by their invoke IDs. Once there is a place for an ID, what stands there can be changed without
+/// memory.
 #[derive(Debug, Drop)]
 pub(crate) struct Outs {
-    places: BTreeMap<i8, Option<Invoked>>,
-    ghost ordered: { IsStrictlySortedBy int_cmp (keys_of places.entries) } by { IsStrictlySortedBy-prop int_cmp (keys_of places.entries) },
+    places: BTreeMap<i8, Option<OwnInvocation>>,
+    ghost ordered: { IsStrictlySortedBy int_cmp (keys_of places.entries) } by { IsStrictlySortedBy-prop int_cmp
+        (keys_of places.entries) },
 }
 
 impl Outs {
@@ -28,7 +30,7 @@ impl Outs {
     ghost use Rattle.std.specs.Ordering.{int_cmp};
     ghost use Rattle.std.specs.Map.{lookup};
     ghost use Rattle.std.specs.BTreeMap.{is_at};
-    ghost use Rattle.tcap_end.specs.Outs.{HasPlace, kept_outs, with_mark, with_out};
+    ghost use Rattle.tcap_end.specs.Outs.{HasPlace, kept_outs, with_state, with_out};
 
     /// No invocations.
     pub(crate) fn new(alloc: Global) -> Outs
@@ -40,7 +42,7 @@ impl Outs {
     }
 
     /// The invocation of an ID.
-    pub(crate) fn get(&self, id: i8) -> Option<&Invoked>
+    pub(crate) fn get(&self, id: i8) -> Option<&OwnInvocation>
         ensures { option_copied result ≡ lookup (is_at (int_cmp id)) (kept_outs self.now) }
     {
         self.places.get(&id)?.as_ref()
@@ -59,26 +61,26 @@ impl Outs {
     }
 
     /// Puts an invocation, or none, in the place of an ID, and answers what stood there.
-    pub(crate) fn put(&mut self, id: i8, invoked: Option<Invoked>) -> Option<Invoked>
+    pub(crate) fn put(&mut self, id: i8, invocation: Option<OwnInvocation>) -> Option<OwnInvocation>
         requires made { HasPlace id self.old }
         ensures was { result ≡ lookup (is_at (int_cmp id)) (kept_outs self.old) }
-        ensures put { kept_outs self.new ≡ with_out id invoked (kept_outs self.old) }
+        ensures put { kept_outs self.new ≡ with_out id invocation (kept_outs self.old) }
         ensures others { (other : ℤ) → HasPlace other self.old → HasPlace other self.new }
     {
-        match self.places.insert(id, invoked) {
+        match self.places.insert(id, invocation) {
             Ok(Some(was)) => was,
             _ => unreachable!(),
         }
     }
 
-    /// Gives the invocation of an ID, where there is one, that mark.
-    pub(crate) fn mark(&mut self, id: i8, mark: Mark)
+    /// Gives the invocation of an ID, where there is one, that state.
+    pub(crate) fn set_state(&mut self, id: i8, state: InvocationState)
         requires made { HasPlace id self.old }
-        ensures marked { kept_outs self.new ≡ with_mark id mark (kept_outs self.old) }
+        ensures in_state { kept_outs self.new ≡ with_state id state (kept_outs self.old) }
         ensures others { (other : ℤ) → HasPlace other self.old → HasPlace other self.new }
     {
-        if let Some(Invoked { code, .. }) = self.put(id, None) {
-            self.put(id, Some(Invoked { code, mark }));
+        if let Some(OwnInvocation { code, .. }) = self.put(id, None) {
+            self.put(id, Some(OwnInvocation { code, state }));
         }
     }
 }

@@ -3,9 +3,10 @@
 ghost use Rattle.std.specs.Prelude.{◌≡◌, option_map};
 ghost use Rattle.std.specs.List.{list_any};
 ghost use Rattle.tcap_parts.specs.Meaning.{code_of};
-ghost use Rattle.tcap_end.specs.Component.{is_code, links, refused_by};
-ghost use Rattle.tcap_end.specs.Places.{allows, may_answer, place_of};
+ghost use Rattle.tcap_end.specs.Component.{allows, allows_for, is_code, links, may_answer};
+ghost use Rattle.tcap_end.specs.Places.{place_of};
 
+use crate::class::reports;
 use crate::received::{Answer, Invocation};
 use crate::table::Table;
 use std::collections::LinkedList;
@@ -27,12 +28,10 @@ fn may_answer(item: &Invocation, table: &Table, is_result: bool, named: Option<C
     ensures { result ≡ may_answer table.now is_result (option_map code_of named.entry) item.now }
 {
     let code = item.code.view();
-    let reports = if is_result {
-        table.reports_success(code)
-    } else {
-        table.reports_failure(code)
+    let Some(class) = table.class_of(code) else {
+        return false;
     };
-    reports
+    reports(is_result, class)
         && match named {
             Some(named) => is_code(named, code),
             None => true,
@@ -40,7 +39,7 @@ fn may_answer(item: &Invocation, table: &Table, is_result: bool, named: Option<C
 }
 
 /// Where the oldest invocation stands that a Return Result, or a Return Error, may answer.
-pub(crate) fn answered_at(
+pub(crate) fn first_answerable(
     list: &LinkedList<Invocation>,
     table: &Table,
     is_result: bool,
@@ -57,7 +56,7 @@ pub(crate) fn answered_at(
 }
 
 /// Where the oldest invocation stands that may be rejected by an invoke problem.
-pub(crate) fn rejected_at(list: &LinkedList<Invocation>, problem: u8) -> Option<usize>
+pub(crate) fn first_rejectable(list: &LinkedList<Invocation>, problem: u8) -> Option<usize>
     ensures { result ≡ place_of (allows problem) list.now }
 {
     for (at, item) in list.iter().enumerate() {
@@ -69,8 +68,12 @@ pub(crate) fn rejected_at(list: &LinkedList<Invocation>, problem: u8) -> Option<
 }
 
 /// Where the oldest answer stands that may be rejected by a problem of a Return Result, or of a Return Error.
-pub(crate) fn refused_at(list: &LinkedList<Answer>, is_result: bool, problem: u8) -> Option<usize>
-    ensures { result ≡ place_of (refused_by is_result problem) list.now }
+pub(crate) fn first_rejectable_answer(
+    list: &LinkedList<Answer>,
+    is_result: bool,
+    problem: u8,
+) -> Option<usize>
+    ensures { result ≡ place_of (allows_for is_result problem) list.now }
 {
     for (at, item) in list.iter().enumerate() {
         if item.allows(is_result, problem) {

@@ -36,10 +36,10 @@ impl Model for Invocation {
     ghost view = { λ a. record { code = a.code; problems = invoke_problems a.duplicate a.link } };
 }
 
-/// What an answer found.
+/// What an answer is for.
 #[derive(Clone, Copy, Debug, PartialEq, Eq)]
-pub(crate) enum Found {
-    /// No own invocation that waits for its last answer.
+pub(crate) enum Target {
+    /// No own invocation that waits for its last answer, or one whose operation the table lacks.
     Nothing,
     /// One of an operation whose class does not report so.
     OtherClass,
@@ -52,17 +52,17 @@ pub(crate) enum Found {
 pub(crate) struct Answer {
     /// Whether it was a Return Result.
     pub(crate) is_result: bool,
-    /// What it found.
-    pub(crate) found: Found,
+    /// What it is for.
+    pub(crate) target: Target,
 }
 
 impl Model for Answer {
     ghost use Rattle.tcap_end.specs.Half.{Answer as Meant};
-    ghost use Rattle.tcap_end.specs.Received.{answer_problems};
+    ghost use Rattle.tcap_end.specs.Received.{target_problems};
 
     ghost Value = { Meant };
 
-    ghost view = { λ a. record { is_result = a.is_result; problems = answer_problems a.is_result a.found } };
+    ghost view = { λ a. record { is_result = a.is_result; problems = target_problems a.is_result a.target } };
 }
 
 impl Invocation {
@@ -86,18 +86,18 @@ impl Invocation {
 
 impl Answer {
     ghost use Rattle.std.specs.Prelude.{◌≡◌};
-    ghost use Rattle.tcap_end.specs.Component.{refused_by};
+    ghost use Rattle.tcap_end.specs.Component.{allows_for};
 
     /// Whether it may be rejected by that problem of a Return Result, or of a Return Error.
     pub(crate) fn allows(&self, is_result: bool, problem: u8) -> bool
-        ensures { result ≡ refused_by is_result problem self.now }
+        ensures { result ≡ allows_for is_result problem self.now }
     {
         self.is_result == is_result
-            && match self.found {
-                Found::Nothing => problem == 0,
-                Found::OtherClass => problem == 1,
-                Found::Invocation if is_result => problem == 2,
-                Found::Invocation => matches!(problem, 2..=4),
+            && match self.target {
+                Target::Nothing => problem == 0,
+                Target::OtherClass => problem == 1,
+                Target::Invocation if is_result => problem == 2,
+                Target::Invocation => matches!(problem, 2..=4),
             }
     }
 }

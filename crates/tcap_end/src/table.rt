@@ -4,7 +4,7 @@ ghost use Rattle.std.specs.Prelude.{◌≡◌, ◌≢◌, ◌<◌, ◌≤◌, Er
 ghost use Rattle.tcap_parts.specs.Meaning.{code_of};
 ghost use Rattle.tcap_end.specs.Fault.{table_number_of};
 ghost use Rattle.tcap_end.specs.Table.{class_of, expires_of, linked_of, operation_of};
-ghost use Rattle.tcap_end.specs.Component.{reports_success, reports_failure, links};
+ghost use Rattle.tcap_end.specs.Component.{links};
 ghost use Rattle.tcap_end.specs.TableReading.{is_linked};
 ghost use Rattle.tcap_end.specs.declared.table.TableReason.{TableReason};
 ghost use Rattle.tcap_end.specs.TableText.{IsTableOf, table_fault};
@@ -32,8 +32,8 @@ pub enum TableReason {
     Memory,
 }
 
-/// A refusal of a table: the reason, and the number of the row in which it stands, from 0. For `NotJson`, `TooManyRows`,
-/// `Memory`, and `TableShape` of the whole the place is 0.
+/// A refusal of a table: the reason, and the number of the row in which it stands, from 0. For `NotJson`,
+/// `TooManyRows`, `Memory`, and `TableShape` of the whole the place is 0.
 #[derive(Clone, Copy, Debug, PartialEq, Eq)]
 pub struct TableFault {
     /// Why the table is refused.
@@ -69,8 +69,8 @@ impl TableReason {
     }
 }
 
-/// An operation: its class, the operations that may be linked to it, and whether an invocation of it may end in the record by
-/// its timer or by the user's cancelling.
+/// An operation: its class, the operations that may be linked to it, and whether an invocation of it may end in the
+/// record by its timer or by the user's cancelling.
 #[derive(Debug, Drop)]
 pub(crate) struct Operation {
     pub(crate) class: u8,
@@ -91,8 +91,8 @@ impl Model for Operation {
 }
 
 /// The operations that a test bench knows, each with its class (Q.771), the operations that may be linked to it, and
-/// whether an invocation of it may end in the record by its timer or by the user's cancelling; and whether transactions may
-/// end by prearrangement (Q.774 3.3). A lookup takes the logarithm of their count.
+/// whether an invocation of it may end in the record by its timer or by the user's cancelling; and whether transactions
+/// may end by prearrangement (Q.774 3.3). A lookup takes the logarithm of their count.
 #[derive(Debug, Drop)]
 pub struct Table {
     pub(crate) operations: CodeMap<Operation>,
@@ -110,8 +110,8 @@ impl Model for Table {
 
 impl Table {
     /// The table that a text of JSON is; FORMAT.md has its shape. The first fault where it is none: `NotJson`, then
-    /// `TableShape` of the whole, `TooManyRows`, and row by row `TableShape`, `BadClass`, `DoubleCode`. `Memory` where memory
-    /// ran out.
+    /// `TableShape` of the whole, `TooManyRows`, and row by row `TableShape`, `BadClass`, `DoubleCode`. `Memory` where
+    /// memory ran out.
     pub fn from_json(alloc: Global, octets: &[u8]) -> Result<Table, TableFault>
         ensures { result ≢ Err (table_fault TableReason.Memory 0) → IsTableOf octets.now result }
     {
@@ -138,20 +138,6 @@ impl Table {
         ensures { result ≡ is_some (operation_of self.now (code_of code.entry)) }
     {
         self.operation(code).is_some()
-    }
-
-    /// Whether success is reported of an operation (Q.771, classes 1 and 3).
-    pub(crate) fn reports_success(&self, code: CodeView) -> bool
-        ensures { result ≡ reports_success self.now (code_of code.entry) }
-    {
-        matches!(self.class_of(code), Some(1 | 3))
-    }
-
-    /// Whether failure is reported of an operation (Q.771, classes 1 and 2).
-    pub(crate) fn reports_failure(&self, code: CodeView) -> bool
-        ensures { result ≡ reports_failure self.now (code_of code.entry) }
-    {
-        matches!(self.class_of(code), Some(1 | 2))
     }
 
     /// Whether the second operation may be linked to the first.

@@ -190,7 +190,8 @@ fn add_row(
     place: usize,
     row: Option<Row>,
 ) -> Result<(), TableFault>
-    ensures added { OnOk result (with_row place (coded operations.old) (option_map row_of row) ≡ Ok (coded operations.new)) }
+    ensures added { OnOk result (with_row place (coded operations.old) (option_map row_of row)
+        ≡ Ok (coded operations.new)) }
     ensures refused { (f : TableFault) → result ≡ Err f → f ≢ table_fault TableReason.Memory 0
         → with_row place (coded operations.old) (option_map row_of row) ≡ Err f }
 {
@@ -214,7 +215,8 @@ fn add_row(
 
 /// The operations of the rows.
 fn operations_in(alloc: Global, rows: &[Value]) -> Result<CodeMap<Operation>, TableFault>
-    ensures { result ≢ Err (table_fault TableReason.Memory 0) → operations_of result ≡ operations_in 0 [] (items_view rows.now) }
+    ensures { result ≢ Err (table_fault TableReason.Memory 0)
+        → operations_of result ≡ operations_in 0 [] (items_view rows.now) }
 {
     let mut operations = CodeMap::new(alloc);
     for (place, value) in rows.iter().enumerate() {

@@ -6,16 +6,16 @@ use Rattle.tcap_end.specs.Hidden.{may_expire}
 use Rattle.tcap_end.proofs.HiddenLaws.{sent_may, waits_may}
 use Rattle.tcap_end.proofs.half_state.HalfState.may_expire.Goals as goal
 
-pub returns-in-Wait : goal.returns-in-Wait
-returns-in-Wait c =
+pub returns-in-WaitForReject : goal.returns-in-WaitForReject
+returns-in-WaitForReject c =
     let found = sym (rw (to_z-of_z w8 c.args.id c.ranges.id) at c.get.ensures) ∙ ap option_copied c.in-Some.is in
-    sym (ap (may_expire c.args.table.now) found ∙ waits_may c.args.table.now c.in-Some.invoked.now c.in-Wait.is)
+    sym (ap (may_expire c.args.table.now) found ∙ waits_may c.args.table.now c.in-Some.own.now c.in-WaitForReject.is)
 
-pub returns-in-Sent : goal.returns-in-Sent
-returns-in-Sent c =
+pub returns-in-OperationSent : goal.returns-in-OperationSent
+returns-in-OperationSent c =
     let found = sym (rw (to_z-of_z w8 c.args.id c.ranges.id) at c.get.ensures) ∙ ap option_copied c.in-Some.is in
     rw (c.expires.ensures, c.view.ensures)
-    (sym (ap (may_expire c.args.table.now) found ∙ sent_may c.args.table.now c.in-Some.invoked.now c.in-Sent.is))
+    (sym (ap (may_expire c.args.table.now) found ∙ sent_may c.args.table.now c.in-Some.own.now c.in-OperationSent.is))
 
 pub returns-in-None : goal.returns-in-None
 returns-in-None c =

@@ -1,7 +1,7 @@
 use mir.Syntax.{w8}
 use Rattle.std.proofs.Common.{ap, ◌∙◌}
 use Rattle.std.proofs.lemmas.Int.{to_z-of_z}
-use Rattle.tcap_end.specs.Half.{added}
+use Rattle.tcap_end.specs.Half.{with_newest}
 use Rattle.tcap_end.specs.Lists.{kept_lists}
 use Rattle.tcap_end.specs.HalfState.{half_of}
 use Rattle.tcap_end.proofs.NoteLaws.{half_noted, inn_noted, keeps_inn, still_same}
@@ -20,7 +20,7 @@ returns-clause-received c =
     (rw (to_z-of_z w8 id c.ranges.id) at c.note.ensures.noted)
     (ap (λ inn. record (half_of c.args.self.now) { inn = inn })
     ((rw (to_z-of_z w8 id c.ranges.id) at c.in_ok-push.ensures.added)
-    ∙ ap (λ item. added id item (kept_lists c.args.self.now.inn))
+    ∙ ap (λ item. with_newest id item (kept_lists c.args.self.now.inn))
     (kept_item _ _ c.is_duplicate.result c.link.result _ _ c.in_ok-to_code.ensures.made
     (rw (to_z-of_z w8 id c.ranges.id) at c.is_duplicate.ensures) c.link.ensures)))
 

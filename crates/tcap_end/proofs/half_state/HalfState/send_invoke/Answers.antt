@@ -3,8 +3,8 @@ use Rattle.std.proofs.Common.{Option, Some, false, true, refl, sym, ap, ◌∙�
 use Rattle.std.proofs.lemmas.Int.{to_z-of_z}
 use Rattle.tcap_end.specs.declared.half_state.HalfState.{HalfState}
 use Rattle.tcap_end.specs.declared.half_state.Change.TheVariants.{Out}
-use Rattle.tcap_end.specs.declared.half.Mark.TheVariants as marks
-use Rattle.tcap_end.specs.declared.outs.Invoked.{Invoked}
+use Rattle.tcap_end.specs.declared.half.InvocationState.TheVariants as states
+use Rattle.tcap_end.specs.declared.outs.OwnInvocation.{OwnInvocation}
 use Rattle.tcap_end.specs.HalfState.{StillUndoes, half_of}
 use Rattle.tcap_end.proofs.NoteLaws.{still_noted}
 use Rattle.tcap_end.proofs.SendLaws.{none_there, out_back}
@@ -12,16 +12,16 @@ use Rattle.tcap_end.proofs.UndoLaws.{undoes_too}
 use Rattle.tcap_end.proofs.half_state.HalfState.send_invoke.Goals as goal
 use Rattle.tcap_end.proofs.half_state.HalfState.send_invoke.Goals.{After-note}
 
-pub returns-then-is_some-clause-refused : goal.returns-then-is_some-clause-refused
-returns-then-is_some-clause-refused c = λ _.
+pub returns-then-is_some-clause-step : goal.returns-then-is_some-clause-step
+returns-then-is_some-clause-step c = λ _.
     rw (
       sym c.has.ensures ∙ c.if-not-has.false,
       none_there c.get.result _ true (rw (to_z-of_z w8 c.args.id c.ranges.id) at c.get.ensures) (sym c.is_some.ensures ∙ c.if-is_some.true),
     )
     refl
 
-pub returns-then-not-may_link-clause-refused : goal.returns-then-not-may_link-clause-refused
-returns-then-not-may_link-clause-refused c = λ _.
+pub returns-then-not-may_link-clause-step : goal.returns-then-not-may_link-clause-step
+returns-then-not-may_link-clause-step c = λ _.
     rw (
       sym c.has.ensures ∙ c.if-not-has.false,
       none_there c.get.result _ false (rw (to_z-of_z w8 c.args.id c.ranges.id) at c.get.ensures)
@@ -40,10 +40,10 @@ returns-in_err-make-clause-undoes c =
 undoes : (c : After-note) → StillUndoes c.args.changes.now c.args.self.now c.note.new.changes c.note.new.self
 undoes c =
     let h : HalfState = c.args.self.now in let put = c.put-was in let made = c.make.ensures in
-    let invoked : Option Invoked = Some (record { code = c.in_ok-code.code; mark = marks.Sent }) in
+    let own_invocation : Option OwnInvocation = Some (record { code = c.in_ok-code.code; state = states.OperationSent }) in
     still_noted c.note.result (Out _ put.result) c.args.changes.now c.note.new.changes h (record h { out = put.new.self }) c.note.new.self
     (ap (λ out. record (half_of h) { out = out })
-    (out_back _ put.result invoked h.out c.make.new.self put.new.self made.kept put.ensures.was put.ensures.put))
+    (out_back _ put.result own_invocation h.out c.make.new.self put.new.self made.kept put.ensures.was put.ensures.put))
     (record { slot = refl; out = λ id has. put.ensures.others id (made.others id has); inn = λ id has. has; grants = λ id has. has })
     (put.ensures.others _ c.in_ok-make.ensures.made)
     c.note.ensures.noted c.note.ensures.undone

@@ -6,8 +6,8 @@ put-requires c =
     let fits : SFits w8 c.in-Out.id = search rules in
     record { made = rw (to_z-of_z fits) (rw c.in-Out.is at c.requires.can) }
 
-pub mark-requires : goal.mark-requires
-mark-requires c =
+pub set_state-requires : goal.set_state-requires
+set_state-requires c =
     let fits : SFits w8 c.in-Waits.id = search rules in
     record { made = rw (to_z-of_z fits) (rw c.in-Waits.is at c.requires.can) }
 

@@ -1,22 +1,22 @@
 use mir.Syntax.{w8}
 use Rattle.std.proofs.Common.{ap, ◌∙◌}
 use Rattle.std.proofs.lemmas.Int.{to_z-of_z}
-use Rattle.tcap_end.specs.declared.half.Mark.TheVariants as marks
+use Rattle.tcap_end.specs.declared.half.InvocationState.TheVariants as states
 use Rattle.tcap_end.specs.declared.half_state.Change.TheVariants.{Waits}
 use Rattle.tcap_end.specs.HalfState.{half_of}
-use Rattle.tcap_end.specs.Outs.{with_mark}
+use Rattle.tcap_end.specs.Outs.{with_state}
 use Rattle.tcap_end.proofs.NoteLaws.{out_noted}
 use Rattle.tcap_end.proofs.ReceivingLaws.{sent_place, waits_back}
 use Rattle.tcap_end.proofs.half_state.HalfState.wait.Goals as goal
 
-pub mark-requires : goal.mark-requires
-mark-requires c = record { made = rw (to_z-of_z w8 c.args.id c.ranges.id) (sent_place c.args.id c.args.self.now.out c.requires.there) }
+pub set_state-requires : goal.set_state-requires
+set_state-requires c = record { made = rw (to_z-of_z w8 c.args.id c.ranges.id) (sent_place c.args.id c.args.self.now.out c.requires.there) }
 
 pub note-requires : goal.note-requires
 note-requires c =
     record {
       can = rw (to_z-of_z w8 c.args.id c.ranges.id)
-          (c.mark.ensures.others c.args.id (sent_place c.args.id c.args.self.now.out c.requires.there));
+          (c.set_state.ensures.others c.args.id (sent_place c.args.id c.args.self.now.out c.requires.there));
     }
 
 pub returns-clause-undoes : goal.returns-clause-undoes
@@ -24,8 +24,8 @@ returns-clause-undoes c =
     let id = c.args.id in
     let out = c.args.self.now.out in
     let there = c.requires.there in
-    out_noted c.note.result c.args.changes.now c.note.new.changes c.args.self.now c.note.new.self (Waits id) c.mark.new.self
+    out_noted c.note.result c.args.changes.now c.note.new.changes c.args.self.now c.note.new.self (Waits id) c.set_state.new.self
     (ap (λ outs. record (half_of c.args.self.now) { out = outs })
-    (ap (with_mark id marks.Sent) (rw (to_z-of_z w8 id c.ranges.id) at c.mark.ensures.marked) ∙ waits_back id out there))
-    c.mark.ensures.others (c.mark.ensures.others id (sent_place id out there))
+    (ap (with_state id states.OperationSent) (rw (to_z-of_z w8 id c.ranges.id) at c.set_state.ensures.in_state) ∙ waits_back id out there))
+    c.set_state.ensures.others (c.set_state.ensures.others id (sent_place id out there))
     (rw (to_z-of_z w8 id c.ranges.id) at c.note.ensures.noted) (rw (to_z-of_z w8 id c.ranges.id) at c.note.ensures.undone)

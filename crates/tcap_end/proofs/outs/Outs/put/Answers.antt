@@ -13,4 +13,4 @@ returns-clause-was c =
 pub returns-clause-put : goal.returns-clause-put
 returns-clause-put c =
     ap (keep (λ place. place)) (rw (to_z-of_z w8 c.args.id c.ranges.id) at c.in-Ok-Some.ensures.entries)
-    ∙ puts c.args.id c.args.invoked c.args.self.now.places.entries c.args.self.now.ordered
+    ∙ puts c.args.id c.args.invocation c.args.self.now.places.entries c.args.self.now.ordered

@@ -1,0 +1,10 @@
+-- what is left does to the half as it is what all do to it; the changes lead back to what was at first
+use Rattle.tcap_parts.specs.Meaning.{components_left}
+use Rattle.tcap_end.specs.HalfState.{half_of}
+use Rattle.tcap_end.proofs.RoundLaws.{Going, Keeps}
+use Rattle.tcap_end.proofs.half_state.HalfState.step_noted.Given as goal
+
+abbrev pub invariant-loop-component : goal.invariant-loop-component
+invariant-loop-component l =
+    Going l.way l.table (half_of l.fn.self) (components_left l.fn.components) (half_of l.self) (components_left l.component-iterator)
+    × Keeps l.fn.self l.fn.changes l.self l.changes

@@ -1,0 +1,16 @@
+-- Operation classes (Q.771): 1 reports success and failure, 2 failure alone, 3 success alone, 4 neither.
+use Rattle.std.specs.Prelude.{ℕ, Bool, false, List, [], ◌∷◌, Option, Some, None, ◌==◌, cond}
+use Rattle.tcap_end.specs.Half.{is_one_of}
+
+-- whether operations of that class report success, by a Return Result (true), or failure, by a Return Error (false)
+abbrev pub reports : Bool → ℕ → Bool
+reports is_result class = is_one_of class (cond is_result (1 ∷ 3 ∷ []) (1 ∷ 2 ∷ []))
+
+-- whether they report neither
+abbrev pub reports_neither : ℕ → Bool
+reports_neither class = class == 4
+
+-- whether the table has the operation, and its class passes the test
+abbrev pub of_class : (ℕ → Bool) → Option ℕ → Bool
+of_class is None = false
+of_class is (Some class) = is class

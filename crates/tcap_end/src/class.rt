@@ -1,0 +1,24 @@
+//! Which answers operations of a class have (Q.771).
+
+ghost use Rattle.std.specs.Prelude.{◌≡◌};
+ghost use Rattle.tcap_end.specs.Class.{reports, reports_neither};
+
+/// Whether operations of a class report success, by a Return Result, or failure, by a Return Error: 1 reports both, 2
+/// failure alone, 3 success alone, 4 neither.
+pub(crate) fn reports(is_result: bool, class: u8) -> bool
+    ensures { result ≡ reports is_result class }
+{
+    match class {
+        1 => true,
+        2 => !is_result,
+        3 => is_result,
+        _ => false,
+    }
+}
+
+/// Whether they report neither.
+pub(crate) fn reports_neither(class: u8) -> bool
+    ensures { result ≡ reports_neither class }
+{
+    class == 4
+}

@@ -1,0 +1,150 @@
+//! What an end does with a message that it receives (Q.774 3.2 and 3.3).
+
+ghost use Rattle.std.specs.Prelude.{◌≡◌, ◌≢◌, IsSome, Some, None, OnErr, option_map};
+ghost use Rattle.tcap_parts.specs.DialogueMeaning.{dialogue_of};
+ghost use Rattle.tcap_parts.specs.Meaning.{components_left};
+ghost use Rattle.tcap_msg.specs.Parts.{otid_in};
+ghost use Rattle.tcap_end.specs.Step.{AnswersInMemory};
+ghost use Rattle.tcap_end.specs.End.{with_own};
+ghost use Rattle.tcap_end.specs.Message.{receive, receive_begin, receive_continue, receive_end};
+ghost use Rattle.tcap_end.specs.Sound.{IsEnd};
+ghost use Rattle.tcap_end.specs.Halves.{AllPlaced, IsHeld, end_of};
+
+use crate::dialogues::{answers_request, first_standing};
+use crate::fault::EndFault;
+use crate::half::{Phase, Slot};
+use crate::half_components::Way;
+use crate::half_state::HalfState;
+use crate::halves::{Halves, is_id};
+use crate::table::Table;
+use std::alloc::Global;
+use tcap_msg::{Kind, MessageParts, TransactionIdView};
+use tcap_parts::{Components, DialogueView};
+
+impl Halves {
+    /// Receives a message.
+    pub(crate) fn receive<M: MessageParts>(
+        &mut self,
+        alloc: Global,
+        table: &Table,
+        message: &M,
+    ) -> Result<(), EndFault>
+        requires held { IsHeld self.old }
+        requires sound { IsEnd (end_of self.old) }
+        ensures step { AnswersInMemory (receive table.now (end_of self.old) (M.meaning message.now)) result
+            (end_of self.new) }
+        ensures kept { OnErr result (end_of self.new ≡ end_of self.old) }
+        ensures only { OnErr result (IsSome (otid_in (M.meaning message.now))) }
+        ensures held { IsHeld self.new }
+        ensures placed { AllPlaced self.old → AllPlaced self.new }
+    {
+        let dialogue = message.dialogue();
+        let components = message.components();
+        match (message.kind(), message.otid(), message.dtid()) {
+            (Kind::Unidirectional, _, _) => Ok(()),
+            (Kind::Begin, Some(otid), _) => {
+                self.receive_begin(alloc, table, otid, dialogue, components)
+            }
+            (Kind::Continue, Some(otid), Some(dtid)) => {
+                self.receive_continue(alloc, table, otid, dtid, dialogue, components)
+            }
+            (Kind::End | Kind::Abort, _, Some(dtid)) => {
+                self.receive_end(dtid);
+                Ok(())
+            }
+            // Each kind has its transaction IDs.
+            _ => unreachable!(),
+        }
+    }
+
+    /// Receives a Begin.
+    fn receive_begin(
+        &mut self,
+        alloc: Global,
+        table: &Table,
+        otid: TransactionIdView,
+        dialogue: Option<DialogueView>,
+        components: Components,
+    ) -> Result<(), EndFault>
+        requires held { IsHeld self.old }
+        requires sound { IsEnd (end_of self.old) }
+        ensures step { AnswersInMemory (receive_begin table.now (end_of self.old) otid.entry.octets.now
+            (option_map dialogue_of dialogue.entry) (components_left components.entry)) result (end_of self.new) }
+        ensures kept { OnErr result (end_of self.new ≡ end_of self.old) }
+        ensures held { IsHeld self.new }
+        ensures placed { AllPlaced self.old → AllPlaced self.new }
+    {
+        if self.with_peer(otid).is_some() {
+            return Err(EndFault::IdUsed);
+        }
+        let peer = Some(otid.to_transaction_id());
+        let standing = first_standing(dialogue);
+        let mut half = HalfState::new(alloc, Slot::Accepted, Phase::Received, None, peer, standing);
+        half.step_components(alloc, table, Way::In, components)?;
+        self.add(otid.to_transaction_id(), half)?;
+        Ok(())
+    }
+
+    /// Receives a Continue.
+    fn receive_continue(
+        &mut self,
+        alloc: Global,
+        table: &Table,
+        otid: TransactionIdView,
+        dtid: TransactionIdView,
+        dialogue: Option<DialogueView>,
+        components: Components,
+    ) -> Result<(), EndFault>
+        requires held { IsHeld self.old }
+        requires sound { IsEnd (end_of self.old) }
+        ensures step { AnswersInMemory (receive_continue table.now
+            (end_of self.old) otid.entry.octets.now dtid.entry.octets.now
+            (option_map dialogue_of dialogue.entry) (components_left components.entry)) result (end_of self.new) }
+        ensures kept { OnErr result (end_of self.new ≡ end_of self.old) }
+        ensures held { IsHeld self.new }
+        ensures placed { AllPlaced self.old → AllPlaced self.new }
+    {
+        let Some(found) = self.with_own(dtid) else {
+            return Err(EndFault::NoTransaction);
+        };
+        let Some(half) = self.half(&found) else {
+            return Err(EndFault::NoTransaction);
+        };
+        match half.phase {
+            Phase::Sent => {
+                let standing = half.standing;
+                if self.with_peer(otid).is_some() {
+                    return Err(EndFault::IdUsed);
+                }
+                if !answers_request(standing, dialogue) {
+                    return Err(EndFault::WrongDialogue);
+                }
+                self.activate_over(alloc, table, &found, otid.to_transaction_id(), components)
+            }
+            Phase::Active => {
+                if !is_id(otid, &half.peer) {
+                    return Err(EndFault::NoTransaction);
+                }
+                self.step_over(alloc, table, &found, Way::In, components)
+            }
+            _ => Err(EndFault::NoTransaction),
+        }
+    }
+
+    /// Receives an End or an Abort: the open half that has its destination ID is closed.
+    fn receive_end(&mut self, dtid: TransactionIdView)
+        requires held { IsHeld self.old }
+        requires sound { IsEnd (end_of self.old) }
+        ensures received { end_of self.new ≡ receive_end (end_of self.old)
+            (with_own (end_of self.old) dtid.entry.octets.now) }
+        ensures held { IsHeld self.new }
+        ensures placed { AllPlaced self.old → AllPlaced self.new }
+    {
+        let Some(found) = self.with_own(dtid) else {
+            return;
+        };
+        if self.half(&found).is_some() {
+            self.close(found);
+        }
+    }
+}

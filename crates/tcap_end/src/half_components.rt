@@ -1,0 +1,151 @@
+//! What the components of a message do to a half, one after the other; where one may not be sent, or memory ran out,
+//! the half is as it was.
+
+ghost use Rattle.std.specs.Prelude.{◌≡◌, OnErr};
+ghost use Rattle.tcap_parts.specs.Meaning.{component_of, components_left};
+ghost use Rattle.tcap_end.specs.Step.{AnswersInMemory};
+ghost use Rattle.tcap_end.specs.Message.{active_half};
+ghost use Rattle.tcap_end.specs.Ways.{component_by, components_by, way_of};
+ghost use Rattle.tcap_end.specs.HalfState.{StillUndoes, half_of, other_id, with_other_id};
+
+use crate::fault::EndFault;
+use crate::half::{Phase, Slot};
+use crate::half_state::{Change, HalfState};
+use crate::table::Table;
+use std::alloc::Global;
+use std::collections::LinkedList;
+use tcap_msg::TransactionId;
+use tcap_parts::{ComponentView, Components};
+
+/// Whether components go out or come in.
+#[derive(Clone, Copy, Debug, PartialEq, Eq)]
+pub(crate) enum Way {
+    Out,
+    In,
+}
+
+impl Slot {
+    /// Which way the Continue goes that answers the Begin of a half: to the one that sent it, from the one that
+    /// received it.
+    fn way(self) -> Way
+        ensures { result ≡ way_of self }
+    {
+        match self {
+            Slot::Begun => Way::In,
+            Slot::Accepted => Way::Out,
+        }
+    }
+}
+
+impl HalfState {
+    /// Sends or receives a component, and notes the changes.
+    fn step_component(
+        &mut self,
+        alloc: Global,
+        changes: &mut LinkedList<Change>,
+        table: &Table,
+        way: Way,
+        component: ComponentView,
+    ) -> Result<(), EndFault>
+        ensures step { AnswersInMemory (component_by way table.now (half_of self.old) (component_of component.entry))
+            result (half_of self.new) }
+        ensures undoes { StillUndoes changes.old self.old changes.new self.new }
+        ensures slot { self.new.slot ≡ self.old.slot }
+    {
+        match way {
+            Way::Out => self.send_component(alloc, changes, table, component),
+            Way::In => {
+                self.receive_component(alloc, changes, table, component)?;
+                Ok(())
+            }
+        }
+    }
+
+    /// Sends or receives components, and notes the changes.
+    fn step_noted(
+        &mut self,
+        alloc: Global,
+        changes: &mut LinkedList<Change>,
+        table: &Table,
+        way: Way,
+        components: Components,
+    ) -> Result<(), EndFault>
+        ensures step { AnswersInMemory (components_by way table.now (half_of self.old)
+            (components_left components.entry))
+            result (half_of self.new) }
+        ensures undoes { StillUndoes changes.old self.old changes.new self.new }
+        ensures slot { self.new.slot ≡ self.old.slot }
+    {
+        for component in components {
+            self.step_component(alloc, changes, table, way, component)?;
+        }
+        Ok(())
+    }
+
+    /// Sends or receives components. The first fault where one may not be sent; the half is as it was then, and where
+    /// memory ran out.
+    pub(crate) fn step_components(
+        &mut self,
+        alloc: Global,
+        table: &Table,
+        way: Way,
+        components: Components,
+    ) -> Result<(), EndFault>
+        ensures step { AnswersInMemory (components_by way table.now (half_of self.old)
+            (components_left components.entry))
+            result (half_of self.new) }
+        ensures kept { OnErr result (half_of self.new ≡ half_of self.old) }
+        ensures slot { self.new.slot ≡ self.old.slot }
+    {
+        let mut changes = LinkedList::new(alloc);
+        match self.step_noted(alloc, &mut changes, table, way, components) {
+            Ok(()) => Ok(()),
+            Err(fault) => {
+                self.undo_all(changes);
+                Err(fault)
+            }
+        }
+    }
+
+    /// Gives the half the ID that it is not kept by, or takes it away; what it was.
+    fn put_other_id(&mut self, id: Option<TransactionId>) -> Option<TransactionId>
+        ensures put { half_of self.new ≡ with_other_id self.old.slot id (half_of self.old) }
+        ensures was { result ≡ other_id self.old.slot (half_of self.old) }
+        ensures slot { self.new.slot ≡ self.old.slot }
+    {
+        match self.slot {
+            Slot::Begun => std::mem::replace(&mut self.peer, id),
+            Slot::Accepted => std::mem::replace(&mut self.own, id),
+        }
+    }
+
+    /// Sends or receives the components of the Continue that answers the half's Begin: the half is active then, with
+    /// this ID.
+    pub(crate) fn activate(
+        &mut self,
+        alloc: Global,
+        table: &Table,
+        id: TransactionId,
+        components: Components,
+    ) -> Result<(), EndFault>
+        ensures step { AnswersInMemory (components_by (way_of self.old.slot) table.now
+            (active_half self.old.slot id (half_of self.old))
+            (components_left components.entry)) result (half_of self.new) }
+        ensures kept { OnErr result (half_of self.new ≡ half_of self.old) }
+        ensures slot { self.new.slot ≡ self.old.slot }
+    {
+        let (phase, standing) = (self.phase, self.standing);
+        let was = self.put_other_id(Some(id));
+        self.phase = Phase::Active;
+        self.standing = standing.confirm();
+        match self.step_components(alloc, table, self.slot.way(), components) {
+            Ok(()) => Ok(()),
+            Err(fault) => {
+                self.phase = phase;
+                self.put_other_id(was);
+                self.standing = standing;
+                Err(fault)
+            }
+        }
+    }
+}

@@ -1,0 +1,212 @@
+//! What receiving a component does to a half (Q.774 3.2, component sub-layer; Q.771, operation classes).
+
+ghost use Rattle.std.specs.Prelude.{◌≡◌, Some, OnOk, IsSome, true, false, option_map, cond, [], ◌∷◌};
+ghost use Rattle.tcap_parts.specs.declared.code.Code.{Code};
+ghost use Rattle.tcap_parts.specs.declared.component.Component.TheVariants as Component;
+ghost use Rattle.tcap_parts.specs.Meaning.{code_of, component_of, problem_of};
+ghost use Rattle.tcap_end.specs.Half.{listed};
+ghost use Rattle.tcap_end.specs.Component.{
+  answered_operation,
+  id_problems,
+  link_problems,
+  operation_sent,
+  receive_answer,
+  receive_component,
+  receive_reject,
+  wait_for_reject,
+  with_grant,
+};
+ghost use Rattle.tcap_end.specs.HalfState.{StillUndoes, half_of};
+ghost use Rattle.tcap_end.specs.Received.{link_numbers, target_of, target_problems};
+
+use crate::class::reports;
+use crate::half::InvocationState;
+use crate::half_state::{Change, HalfState};
+use crate::received::{Answer, Invocation, Link, Target};
+use crate::table::Table;
+use std::alloc::{AllocError, Global};
+use std::collections::LinkedList;
+use tcap_parts::{CodeView, ComponentView, ProblemView};
+
+impl HalfState {
+    /// The operation of an own invocation whose last answer did not come.
+    fn operation_sent(&self, id: i8) -> Option<CodeView<'_>>
+        ensures { option_map code_of result ≡ operation_sent (half_of self.now) id }
+    {
+        let own = self.out.get(id)?;
+        match own.state {
+            InvocationState::OperationSent => Some(own.code.view()),
+            InvocationState::WaitForReject => None,
+        }
+    }
+
+    /// What is wrong with the link of an Invoke.
+    fn link(&self, table: &Table, linked: Option<i8>, code: CodeView) -> Link
+        ensures { link_numbers result ≡ link_problems table.now (half_of self.now) linked (code_of code.entry) }
+    {
+        let Some(linked) = linked else {
+            return Link::Fine;
+        };
+        let Some(to) = self.operation_sent(linked) else {
+            return Link::Unrecognized;
+        };
+        if !table.links_some(to) {
+            Link::Unexpected
+        } else if table.links(to, code) {
+            Link::Fine
+        } else {
+            Link::Other
+        }
+    }
+
+    /// Whether an invocation with that ID was received.
+    fn is_duplicate(&self, id: i8) -> bool
+        ensures { cond result (0 ∷ []) [] ≡ id_problems (listed id (half_of self.now).inn) }
+    {
+        match self.inn.get(id) {
+            Some(list) => !list.is_empty(),
+            None => false,
+        }
+    }
+
+    /// What a Return Result, or a Return Error, is for.
+    fn target(&self, table: &Table, is_result: bool, id: i8) -> Target
+        ensures { result ≡ target_of is_result (answered_operation table.now (half_of self.now) id) }
+    {
+        let Some(code) = self.operation_sent(id) else {
+            return Target::Nothing;
+        };
+        match table.class_of(code) {
+            None => Target::Nothing,
+            Some(class) if reports(is_result, class) => Target::Invocation,
+            Some(_) => Target::OtherClass,
+        }
+    }
+
+    /// Receives an Invoke.
+    fn receive_invoke(
+        &mut self,
+        alloc: Global,
+        changes: &mut LinkedList<Change>,
+        table: &Table,
+        id: i8,
+        linked: Option<i8>,
+        code: CodeView,
+    ) -> Result<(), AllocError>
+        ensures received { OnOk result (half_of self.new
+            ≡ receive_component table.now (half_of self.old) (Component.Invoke id linked (code_of code.entry) None)) }
+        ensures undoes { StillUndoes changes.old self.old changes.new self.new }
+        ensures slot { self.new.slot ≡ self.old.slot }
+    {
+        let item = Invocation {
+            code: code.to_code(alloc)?,
+            duplicate: self.is_duplicate(id),
+            link: self.link(table, linked, code),
+        };
+        self.inn.push(id, item)?;
+        self.note(changes, Change::InnJoined(id))
+    }
+
+    /// An answer joins those of its ID.
+    fn join_answer(
+        &mut self,
+        changes: &mut LinkedList<Change>,
+        id: i8,
+        is_result: bool,
+        target: Target,
+    ) -> Result<(), AllocError>
+        ensures joined { OnOk result (half_of self.new
+            ≡ with_grant (half_of self.old) id is_result (target_problems is_result target)) }
+        ensures undoes { StillUndoes changes.old self.old changes.new self.new }
+        ensures slot { self.new.slot ≡ self.old.slot }
+    {
+        self.grants.push(id, Answer { is_result, target })?;
+        self.note(changes, Change::GrantJoined(id))
+    }
+
+    /// Receives a Return Result, or a Return Error.
+    fn receive_answer(
+        &mut self,
+        changes: &mut LinkedList<Change>,
+        table: &Table,
+        is_result: bool,
+        last: bool,
+        id: i8,
+    ) -> Result<(), AllocError>
+        ensures received { OnOk result (half_of self.new
+            ≡ receive_answer (half_of self.old) is_result last id
+            (answered_operation table.now (half_of self.old) id)) }
+        ensures undoes { StillUndoes changes.old self.old changes.new self.new }
+        ensures slot { self.new.slot ≡ self.old.slot }
+    {
+        let target = self.target(table, is_result, id);
+        self.join_answer(changes, id, is_result, target)?;
+        if last && target == Target::Invocation {
+            self.wait(changes, id)?;
+        }
+        Ok(())
+    }
+
+    /// The last answer to an own invocation, which is there, came.
+    fn wait(&mut self, changes: &mut LinkedList<Change>, id: i8) -> Result<(), AllocError>
+        requires there { IsSome (operation_sent (half_of self.old) id) }
+        ensures waits { (code : Code) → operation_sent (half_of self.old) id ≡ Some code
+            → OnOk result (half_of self.new ≡ wait_for_reject (half_of self.old) id code) }
+        ensures undoes { StillUndoes changes.old self.old changes.new self.new }
+        ensures slot { self.new.slot ≡ self.old.slot }
+    {
+        self.out.set_state(id, InvocationState::WaitForReject);
+        self.note(changes, Change::Waits(id))
+    }
+
+    /// Receives a Reject.
+    fn receive_reject(
+        &mut self,
+        changes: &mut LinkedList<Change>,
+        id: Option<i8>,
+        problem: ProblemView,
+    ) -> Result<(), AllocError>
+        ensures received { OnOk result (half_of self.new ≡ receive_reject (half_of self.old) id (problem_of problem)) }
+        ensures undoes { StillUndoes changes.old self.old changes.new self.new }
+        ensures slot { self.new.slot ≡ self.old.slot }
+    {
+        let (Some(id), ProblemView::Invoke(_)) = (id, problem) else {
+            return Ok(());
+        };
+        if self.out.get(id).is_none() {
+            return Ok(());
+        }
+        let was = self.out.put(id, None);
+        self.note(changes, Change::Out { id, was })
+    }
+
+    /// Receives a component. Where memory ran out the changes lead back to what was before it.
+    pub(crate) fn receive_component(
+        &mut self,
+        alloc: Global,
+        changes: &mut LinkedList<Change>,
+        table: &Table,
+        component: ComponentView,
+    ) -> Result<(), AllocError>
+        ensures received { OnOk result (half_of self.new
+            ≡ receive_component table.now (half_of self.old) (component_of component.entry)) }
+        ensures undoes { StillUndoes changes.old self.old changes.new self.new }
+        ensures slot { self.new.slot ≡ self.old.slot }
+    {
+        match component {
+            ComponentView::Invoke {
+                id,
+                linked,
+                code,
+                ..
+            } => self.receive_invoke(alloc, changes, table, id, linked, code),
+            ComponentView::ReturnResult { last, id, .. } => {
+                self.receive_answer(changes, table, true, last, id)
+            }
+            ComponentView::ReturnError { id, .. } => {
+                self.receive_answer(changes, table, false, true, id)
+            }
+            ComponentView::Reject { id, problem } => self.receive_reject(changes, id, problem),
+        }
+    }
+}

@@ -1,0 +1,229 @@
+//! What sending a component does to a half (Q.774 3.2, component sub-layer; Q.771, operation classes).
+
+ghost use Rattle.std.specs.Prelude.{◌≡◌, ◌<◌, Bool, Option, Some, None, Err, OnOk, option_map, length};
+ghost use Rattle.tcap_parts.specs.declared.code.Code.{Code};
+ghost use Rattle.tcap_parts.specs.Meaning.{code_of, component_of, problem_of};
+ghost use Rattle.tcap_end.specs.Step.{AnswersInMemory};
+ghost use Rattle.tcap_end.specs.Half.{listed};
+ghost use Rattle.tcap_end.specs.Component.{may_answer, may_link, send_answer, send_component, send_invoke, send_reject};
+ghost use Rattle.tcap_end.specs.HalfState.{StillUndoes, half_of, without_grant, without_inn};
+ghost use Rattle.tcap_end.specs.Places.{place_of, rejected_place};
+
+use crate::fault::EndFault;
+use crate::half::InvocationState;
+use crate::half_state::{Change, HalfState};
+use crate::outs::OwnInvocation;
+use crate::places::{first_answerable, first_rejectable, first_rejectable_answer, links_any};
+use crate::table::Table;
+use std::alloc::{AllocError, Global};
+use std::collections::LinkedList;
+use tcap_parts::{CodeView, ComponentView, ProblemView};
+
+impl HalfState {
+    /// Whether a linked ID names an invocation that was received, to which the operation may be linked.
+    fn may_link(&self, table: &Table, linked: Option<i8>, code: CodeView) -> bool
+        ensures { result ≡ may_link table.now (half_of self.now) linked (code_of code.entry) }
+    {
+        let Some(linked) = linked else {
+            return true;
+        };
+        match self.inn.get(linked) {
+            Some(list) => links_any(list, table, code),
+            None => false,
+        }
+    }
+
+    /// Sends an Invoke.
+    fn send_invoke(
+        &mut self,
+        alloc: Global,
+        changes: &mut LinkedList<Change>,
+        table: &Table,
+        id: i8,
+        linked: Option<i8>,
+        code: CodeView,
+    ) -> Result<(), EndFault>
+        ensures step { AnswersInMemory (send_invoke table.now (half_of self.old) id linked (code_of code.entry))
+            result (half_of self.new) }
+        ensures undoes { StillUndoes changes.old self.old changes.new self.new }
+        ensures slot { self.new.slot ≡ self.old.slot }
+    {
+        if !table.has(code) {
+            return Err(EndFault::UnknownOperation);
+        }
+        if self.out.get(id).is_some() {
+            return Err(EndFault::InvokeIdBusy);
+        }
+        if !self.may_link(table, linked, code) {
+            return Err(EndFault::BadLink);
+        }
+        let code = code.to_code(alloc)?;
+        self.out.make(id)?;
+        let state = InvocationState::OperationSent;
+        let was = self.out.put(id, Some(OwnInvocation { code, state }));
+        self.note(changes, Change::Out { id, was })?;
+        Ok(())
+    }
+
+    /// Where the oldest invocation of that ID stands that a Return Result, or a Return Error, may answer.
+    fn answerable_place(
+        &self,
+        table: &Table,
+        is_result: bool,
+        id: i8,
+        named: Option<CodeView>,
+    ) -> Option<usize>
+        ensures { result ≡ place_of (may_answer table.now is_result (option_map code_of named.entry))
+            (listed id (half_of self.now).inn) }
+    {
+        first_answerable(self.inn.get(id)?, table, is_result, named)
+    }
+
+    /// Why no invocation of that ID may be answered so.
+    fn why_no_answer(&self, table: &Table, is_result: bool, id: i8) -> EndFault
+        ensures { (last : Bool) (named : Option Code)
+            → place_of (may_answer table.now is_result named) (listed id (half_of self.now).inn) ≡ None
+            → send_answer table.now (half_of self.now) is_result last id named ≡ Err result }
+    {
+        if self.answerable_place(table, is_result, id, None).is_some() {
+            return EndFault::WrongOperation;
+        }
+        match self.inn.get(id) {
+            Some(list) if !list.is_empty() => EndFault::ClassForbids,
+            _ => EndFault::NothingToAnswer,
+        }
+    }
+
+    /// Sends a Return Result, or a Return Error, which names this operation or none. One that is not the last takes
+    /// nothing.
+    fn send_answer(
+        &mut self,
+        changes: &mut LinkedList<Change>,
+        table: &Table,
+        is_result: bool,
+        last: bool,
+        id: i8,
+        named: Option<CodeView>,
+    ) -> Result<(), EndFault>
+        ensures step { AnswersInMemory (send_answer table.now (half_of self.old) is_result last id
+            (option_map code_of named.entry))
+            result (half_of self.new) }
+        ensures undoes { StillUndoes changes.old self.old changes.new self.new }
+        ensures slot { self.new.slot ≡ self.old.slot }
+    {
+        let Some(at) = self.answerable_place(table, is_result, id, named) else {
+            return Err(self.why_no_answer(table, is_result, id));
+        };
+        if last {
+            self.take_inn(changes, id, at)?;
+        }
+        Ok(())
+    }
+
+    /// Takes the invocation at that place of an ID's list.
+    fn take_inn(
+        &mut self,
+        changes: &mut LinkedList<Change>,
+        id: i8,
+        at: usize,
+    ) -> Result<(), AllocError>
+        requires within { at < length (listed id (half_of self.old).inn) }
+        ensures taken { OnOk result (half_of self.new ≡ without_inn id at (half_of self.old)) }
+        ensures undoes { StillUndoes changes.old self.old changes.new self.new }
+        ensures slot { self.new.slot ≡ self.old.slot }
+    {
+        let item = self.inn.take(id, at);
+        self.note(changes, Change::InnTaken { id, at, item })
+    }
+
+    /// Takes the answer at that place of an ID's list.
+    fn take_grant(
+        &mut self,
+        changes: &mut LinkedList<Change>,
+        id: i8,
+        at: usize,
+    ) -> Result<(), AllocError>
+        requires within { at < length (listed id (half_of self.old).grants) }
+        ensures taken { OnOk result (half_of self.new ≡ without_grant id at (half_of self.old)) }
+        ensures undoes { StillUndoes changes.old self.old changes.new self.new }
+        ensures slot { self.new.slot ≡ self.old.slot }
+    {
+        let item = self.grants.take(id, at);
+        self.note(changes, Change::GrantTaken { id, at, item })
+    }
+
+    /// Where the oldest item stands that a Reject of this problem rejects.
+    fn rejected_place(&self, id: i8, problem: ProblemView) -> Option<usize>
+        ensures { result ≡ rejected_place (half_of self.now) id (problem_of problem) }
+    {
+        match problem {
+            ProblemView::General(_) => None,
+            ProblemView::Invoke(n) => first_rejectable(self.inn.get(id)?, n.number),
+            ProblemView::ReturnResult(n) => {
+                first_rejectable_answer(self.grants.get(id)?, true, n.number)
+            }
+            ProblemView::ReturnError(n) => {
+                first_rejectable_answer(self.grants.get(id)?, false, n.number)
+            }
+        }
+    }
+
+    /// Sends a Reject.
+    fn send_reject(
+        &mut self,
+        changes: &mut LinkedList<Change>,
+        id: Option<i8>,
+        problem: ProblemView,
+    ) -> Result<(), EndFault>
+        ensures step { AnswersInMemory (send_reject (half_of self.old) id (problem_of problem)) result
+            (half_of self.new) }
+        ensures undoes { StillUndoes changes.old self.old changes.new self.new }
+        ensures slot { self.new.slot ≡ self.old.slot }
+    {
+        let Some(id) = id else {
+            return Err(EndFault::RejectNotAllowed);
+        };
+        let Some(at) = self.rejected_place(id, problem) else {
+            return Err(EndFault::RejectNotAllowed);
+        };
+        match problem {
+            ProblemView::Invoke(_) => self.take_inn(changes, id, at)?,
+            _ => self.take_grant(changes, id, at)?,
+        }
+        Ok(())
+    }
+
+    /// Sends a component. Where it may not be sent, or memory ran out, the changes lead back to what was before it.
+    pub(crate) fn send_component(
+        &mut self,
+        alloc: Global,
+        changes: &mut LinkedList<Change>,
+        table: &Table,
+        component: ComponentView,
+    ) -> Result<(), EndFault>
+        ensures step { AnswersInMemory (send_component table.now (half_of self.old) (component_of component.entry))
+            result (half_of self.new) }
+        ensures undoes { StillUndoes changes.old self.old changes.new self.new }
+        ensures slot { self.new.slot ≡ self.old.slot }
+    {
+        match component {
+            ComponentView::Invoke {
+                id,
+                linked,
+                code,
+                ..
+            } => self.send_invoke(alloc, changes, table, id, linked, code),
+            ComponentView::ReturnResult { last, id, body } => {
+                let named = match body {
+                    Some(body) => Some(body.code),
+                    None => None,
+                };
+                self.send_answer(changes, table, true, last, id, named)
+            }
+            ComponentView::ReturnError { id, .. } => {
+                self.send_answer(changes, table, false, true, id, None)
+            }
+            ComponentView::Reject { id, problem } => self.send_reject(changes, id, problem),
+        }
+    }
+}
