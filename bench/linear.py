@@ -28,9 +28,9 @@ DIALOGUE = bytes.fromhex(
 ROUNDS = 200
 
 with open("crates/tcap_msg_rows/src/vectors.rt") as file:
-    # The digits of a row stand behind its name, and may go on in the next line behind a backslash.
-    DIGITS = re.findall(r'\(\s*"\w+",\s*"([0-9a-f\\\s]+)",', file.read())
-VECTORS = b"".join(bytes.fromhex(re.sub(r"[\\\s]", "", digits)) for digits in DIGITS)
+    # The digits of a row stand behind its name.
+    DIGITS = re.findall(r'^\w+;([0-9a-f]+);', file.read(), re.MULTILINE)
+VECTORS = b"".join(bytes.fromhex(digits) for digits in DIGITS)
 
 
 def element(count):

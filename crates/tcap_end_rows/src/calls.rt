@@ -1,36 +1,16 @@
 //! Calls of one end, from a list, and what they answer.
 
-use crate::calls::Call::{Close, Expire, Quiet, Receive, RefuseBegin, RefuseContinue, Send};
-use crate::calls::Name::{Own, Peer};
-use crate::lists::{MESSAGES, TABLE};
+use crate::lists::{MESSAGES, table_named};
 use std::alloc::Global;
 use tcap_end::{EndFault, EndState, HalfName, Table};
-use tcap_msg::{Message, MessageParts, TransactionId, decode, view};
-use tcap_msg_rows::VECTORS;
+use tcap_msg::{MessageParts, TransactionId, decode, view};
+use tcap_msg_rows::vector;
 
-/// A half, by a transaction ID of one octet: its own or its peer's.
-#[derive(Clone, Copy)]
-pub(crate) enum Name {
-    Own(u8),
-    Peer(u8),
-}
-
-/// A call: messages by their names, and the text of the table where a hidden step asks it.
-#[derive(Clone, Copy)]
-pub(crate) enum Call {
-    Send(&'static str),
-    Receive(&'static str),
-    RefuseBegin(&'static str, &'static str),
-    RefuseContinue(&'static str, &'static str),
-    Expire(&'static str, Name, i8),
-    Close(&'static str, Name),
-    Quiet,
-}
-
-/// What came of a list of calls: how often memory ran out, and the first call whose answer is not the one wanted of it, with
-/// that answer.
+/// What came of a list of calls: how many there are, how often memory ran out, and the first call whose answer is not the one wanted
+/// of it, with that answer.
 #[derive(Clone, Copy, PartialEq, Eq, Debug)]
 pub(crate) struct Answers {
+    pub(crate) count: usize,
     pub(crate) failed: usize,
     pub(crate) wrong: Option<(usize, u8)>,
 }
@@ -40,144 +20,196 @@ pub(crate) fn table_of(alloc: Global, text: &str) -> Option<Table> {
     Table::from_json(alloc, text.as_bytes()).ok()
 }
 
+/// The digits of the message of that name, of the vectors or beside them.
+fn digits_of(name: &str) -> Option<&'static str> {
+    for row in MESSAGES.lines() {
+        let mut columns = row.split(';');
+        if columns.next() == Some(name) {
+            return columns.next();
+        }
+    }
+    vector(name)
+}
+
 /// The octets of the message of that name; `None` where there is none, or memory ran out.
-fn message_of(alloc: Global, name: &str) -> Option<Vec<u8>> {
-    for (other, digits, _) in VECTORS {
-        if other == name {
-            return hex::decode(alloc, digits).ok();
-        }
-    }
-    for (other, digits) in MESSAGES {
-        if other == name {
-            return hex::decode(alloc, digits).ok();
-        }
-    }
-    None
+fn octets_named(alloc: Global, name: &str) -> Option<Vec<u8>> {
+    hex::decode(alloc, digits_of(name)?).ok()
 }
 
 /// The half of that name.
-fn half_of(name: Name) -> Option<HalfName> {
-    Some(match name {
-        Own(octet) => HalfName::Own(TransactionId::new(&[octet])?),
-        Peer(octet) => HalfName::Peer(TransactionId::new(&[octet])?),
-    })
+fn half_of(side: &str, octet: &str) -> Option<HalfName> {
+    let id = TransactionId::new(&[octet.parse::<u8>().ok()?])?;
+    match side {
+        "own" => Some(HalfName::Own(id)),
+        "peer" => Some(HalfName::Peer(id)),
+        _ => None,
+    }
 }
 
-/// The message of that name, as a value of its own; `None` where there is none, or memory ran out.
-fn value_of(alloc: Global, name: &str) -> Option<Message> {
-    let octets = message_of(alloc, name)?;
-    Some(decode(alloc, &octets).ok()?.0)
+/// What sending or receiving a message answers.
+fn told<M: MessageParts>(
+    table: &Table,
+    end: &mut EndState,
+    message: &M,
+    is_sent: bool,
+) -> Result<(), EndFault> {
+    if is_sent {
+        end.send(table, message)
+    } else {
+        end.receive(table, message)
+    }
 }
 
-/// What sending a message answers, as a value of its own or as a view of its octets.
-fn sent(
+/// The same of the message of that name, as a value of its own or as a view of its octets.
+fn told_by_name(
     alloc: Global,
     end: &mut EndState,
     name: &str,
+    is_sent: bool,
     as_value: bool,
 ) -> Option<Result<(), EndFault>> {
-    let table = table_of(alloc, TABLE)?;
-    if as_value {
-        let message = value_of(alloc, name)?;
-        return Some(end.send(&table, &message));
-    }
-    let octets = message_of(alloc, name)?;
-    let (message, _) = view(&octets).ok()?;
-    Some(end.send(&table, &message))
-}
-
-/// What receiving it answers.
-fn received(
-    alloc: Global,
-    end: &mut EndState,
-    name: &str,
-    as_value: bool,
-) -> Option<Result<(), EndFault>> {
-    let table = table_of(alloc, TABLE)?;
-    if as_value {
-        let message = value_of(alloc, name)?;
-        return Some(end.receive(&table, &message));
-    }
-    let octets = message_of(alloc, name)?;
-    let (message, _) = view(&octets).ok()?;
-    Some(end.receive(&table, &message))
-}
-
-/// What `refuse_begin` or `refuse_continue` answers of two messages, as values of their own,
-fn refused_values(
-    alloc: Global,
-    end: &EndState,
-    is_begin: bool,
-    name: &str,
-    abort: &str,
-) -> Option<Result<(), EndFault>> {
-    let message = value_of(alloc, name)?;
-    let abort = value_of(alloc, abort)?;
-    Some(if is_begin {
-        end.refuse_begin(&message, &abort)
-    } else {
-        end.refuse_continue(&message, &abort)
-    })
-}
-
-/// and as views of their octets.
-fn refused_views(
-    alloc: Global,
-    end: &EndState,
-    is_begin: bool,
-    name: &str,
-    abort: &str,
-) -> Option<Result<(), EndFault>> {
-    let (octets, abort) = (message_of(alloc, name)?, message_of(alloc, abort)?);
-    let (message, _) = view(&octets).ok()?;
-    let (abort, _) = view(&abort).ok()?;
-    Some(if is_begin {
-        end.refuse_begin(&message, &abort)
-    } else {
-        end.refuse_continue(&message, &abort)
-    })
-}
-
-/// The number of what a call answers, 0 for Ok.
-fn answer(alloc: Global, end: &mut EndState, call: Call, as_value: bool) -> Option<u8> {
-    let answered = match call {
-        Send(name) => sent(alloc, end, name, as_value)?,
-        Receive(name) => received(alloc, end, name, as_value)?,
-        RefuseBegin(begin, abort) if as_value => refused_values(alloc, end, true, begin, abort)?,
-        RefuseBegin(begin, abort) => refused_views(alloc, end, true, begin, abort)?,
-        RefuseContinue(continued, abort) if as_value => {
-            refused_values(alloc, end, false, continued, abort)?
-        }
-        RefuseContinue(continued, abort) => refused_views(alloc, end, false, continued, abort)?,
-        Expire(table, name, invoke) => {
-            end.expire(&table_of(alloc, table)?, half_of(name)?, invoke)
-        }
-        Close(table, name) => end.close(&table_of(alloc, table)?, half_of(name)?),
-        Quiet => end.quiet(),
+    let octets = octets_named(alloc, name)?;
+    let table = table_of(alloc, table_named("usual")?)?;
+    let answered = match view(&octets) {
+        Ok((message, _)) if !as_value => Some(told(&table, end, &message, is_sent)),
+        _ => match decode(alloc, &octets).ok() {
+            Some((message, _)) => {
+                let answered = told(&table, end, &message, is_sent);
+                drop(message);
+                Some(answered)
+            }
+            None => None,
+        },
     };
-    Some(match answered {
-        Ok(()) => 0,
-        Err(fault) => fault.number(),
-    })
+    drop(table);
+    answered
 }
 
-/// Makes a list of calls on a new end, each once more where memory ran out. Beside each call stands the number that it has to
-/// answer, 0 for Ok. The messages are values of their own or views of their octets. `None` where memory ran out outside a call.
-pub(crate) fn made(alloc: Global, list: &[(Call, u8)], as_values: bool) -> Option<Answers> {
-    let mut end = EndState::new(alloc);
+/// What `refuse_begin` or `refuse_continue` answers of two messages.
+fn refused<M: MessageParts>(
+    end: &EndState,
+    message: &M,
+    abort: &M,
+    is_begin: bool,
+) -> Result<(), EndFault> {
+    if is_begin {
+        end.refuse_begin(message, abort)
+    } else {
+        end.refuse_continue(message, abort)
+    }
+}
+
+/// The same of the messages of those names, as values of their own or as views of their octets.
+fn refused_by_name(
+    alloc: Global,
+    end: &EndState,
+    names: (&str, &str),
+    is_begin: bool,
+    as_value: bool,
+) -> Option<Result<(), EndFault>> {
+    let (octets, abort) = (octets_named(alloc, names.0)?, octets_named(alloc, names.1)?);
+    if !as_value {
+        let (message, _) = view(&octets).ok()?;
+        let (abort, _) = view(&abort).ok()?;
+        return Some(refused(end, &message, &abort, is_begin));
+    }
+    let (message, _) = decode(alloc, &octets).ok()?;
+    match decode(alloc, &abort).ok() {
+        Some((abort, _)) => {
+            let answered = refused(end, &message, &abort, is_begin);
+            drop(message);
+            drop(abort);
+            Some(answered)
+        }
+        None => {
+            drop(message);
+            None
+        }
+    }
+}
+
+/// What a hidden step of a half answers: `close`, or `expire` of an invocation.
+fn unseen(
+    alloc: Global,
+    end: &mut EndState,
+    table: &str,
+    half: HalfName,
+    invoke: Option<i8>,
+) -> Option<Result<(), EndFault>> {
+    let table = table_of(alloc, table_named(table)?)?;
+    let answered = match invoke {
+        Some(invoke) => end.expire(&table, half, invoke),
+        None => end.close(&table, half),
+    };
+    drop(table);
+    Some(answered)
+}
+
+/// The number of what the call of a row answers, 0 for Ok, and the number that is wanted.
+fn answer(alloc: Global, end: &mut EndState, row: &str, as_value: bool) -> Option<(u8, u8)> {
+    let mut words = row.split(' ');
+    let wanted = words.next()?.parse::<u8>().ok()?;
+    let call = words.next()?;
+    let answered = match call {
+        "send" | "receive" => told_by_name(alloc, end, words.next()?, call == "send", as_value)?,
+        "refuse_begin" | "refuse_continue" => {
+            let names = (words.next()?, words.next()?);
+            refused_by_name(alloc, end, names, call == "refuse_begin", as_value)?
+        }
+        "expire" => {
+            let table = words.next()?;
+            let half = half_of(words.next()?, words.next()?)?;
+            let invoke = words.next()?.parse::<i8>().ok()?;
+            unseen(alloc, end, table, half, Some(invoke))?
+        }
+        "close" => {
+            let table = words.next()?;
+            unseen(
+                alloc,
+                end,
+                table,
+                half_of(words.next()?, words.next()?)?,
+                None,
+            )?
+        }
+        "quiet" => end.quiet(),
+        _ => return None,
+    };
+    match answered {
+        Ok(()) => Some((0, wanted)),
+        Err(fault) => Some((fault.number(), wanted)),
+    }
+}
+
+/// Makes a list of calls on an end, each once more where memory ran out.
+fn made_on(alloc: Global, end: &mut EndState, list: &str, as_values: bool) -> Option<Answers> {
     let mut answers = Answers {
+        count: 0,
         failed: 0,
         wrong: None,
     };
-    for (place, (call, wanted)) in list.iter().enumerate() {
-        let mut number = answer(alloc, &mut end, *call, as_values)?;
+    for row in list.lines() {
+        if row.starts_with("# ") {
+            continue;
+        }
+        let (mut number, wanted) = answer(alloc, end, row, as_values)?;
         if number == EndFault::Memory.number() {
             answers.failed = answers.failed.saturating_add(1);
-            number = answer(alloc, &mut end, *call, as_values)?;
+            number = answer(alloc, end, row, as_values)?.0;
         }
-        if number != *wanted && answers.wrong.is_none() {
-            answers.wrong = Some((place, number));
+        if number != wanted && answers.wrong.is_none() {
+            answers.wrong = Some((answers.count, number));
         }
+        answers.count = answers.count.saturating_add(1);
     }
     Some(answers)
+}
+
+/// The same on a new end. The messages are values of their own or views of their octets. `None` where memory ran out outside a call,
+/// or where a call cannot be read.
+pub(crate) fn made(alloc: Global, list: &str, as_values: bool) -> Option<Answers> {
+    let mut end = EndState::new(alloc);
+    let answers = made_on(alloc, &mut end, list, as_values);
+    drop(end);
+    answers
 }

@@ -22,7 +22,7 @@ fn make_lists(alloc: Global) -> Option<(usize, usize)> {
     let mut failed: usize = 0;
     let mut wrong: usize = 0;
     for as_values in [false, true] {
-        for list in LISTS {
+        for list in LISTS.split("\n\n") {
             let answers = made(alloc, list, as_values)?;
             failed = failed.saturating_add(answers.failed);
             if answers.wrong.is_some() {

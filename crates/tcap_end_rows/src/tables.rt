@@ -5,83 +5,65 @@ use std::test::Fail;
 use tcap_ber::ObjectIdView;
 use tcap_end::TableReason::{BadClass, DoubleCode, Memory, NotJson, TableShape, TooManyRows};
 use tcap_end::{Table, TableFault, TableReason};
-use tcap_msg_rows::octets_of;
+use tcap_msg_rows::{Row, each_row, octets_of, text_of};
 use tcap_parts::CodeView;
 
-/// Texts, and the reason why they are no table, whose place is 0.
-const TEXTS: [(&str, Option<TableReason>); 18] = [
-    ("", Some(NotJson)),
-    ("{", Some(NotJson)),
-    (r#"{"operations":[]}}"#, Some(NotJson)),
-    (r#"{"operations":[],}"#, Some(NotJson)),
-    ("[]", Some(TableShape)),
-    ("{}", Some(TableShape)),
-    ("null", Some(TableShape)),
-    (r#"{"operations":[]}"#, None),
-    (" { \"operations\" : [ ] }\n", None),
-    (r#"{"operations":{}}"#, Some(TableShape)),
-    (r#"{"operations":null}"#, Some(TableShape)),
-    (r#"{"prearranged":true}"#, Some(TableShape)),
-    (r#"{"operations":[],"prearranged":true}"#, None),
-    (r#"{"prearranged":false,"operations":[]}"#, None),
-    (r#"{"operations":[],"prearranged":null}"#, Some(TableShape)),
-    (r#"{"operations":[],"prearranged":1}"#, Some(TableShape)),
-    (r#"{"operations":[],"name":"x"}"#, Some(TableShape)),
-    (r#"{"Operations":[]}"#, Some(TableShape)),
-];
+/// Texts. The columns: the reason why a text is no table, whose place is 0, `none` where it is one, and the text.
+const TEXTS: &str = r#"
+NotJson;
+NotJson;{
+NotJson;{"operations":[]}}
+NotJson;{"operations":[],}
+TableShape;[]
+TableShape;{}
+TableShape;null
+none;{"operations":[]}
+none; { "operations" : [ ] }\n
+TableShape;{"operations":{}}
+TableShape;{"operations":null}
+TableShape;{"prearranged":true}
+none;{"operations":[],"prearranged":true}
+none;{"prearranged":false,"operations":[]}
+TableShape;{"operations":[],"prearranged":null}
+TableShape;{"operations":[],"prearranged":1}
+TableShape;{"operations":[],"name":"x"}
+TableShape;{"Operations":[]}
+"#;
 
-/// Rows, and the fault with the number of its row.
-const ROWS: [(&str, Option<(TableReason, u64)>); 29] = [
-    // The shape of a row.
-    ("1", Some((TableShape, 0))),
-    (r#"{"class":1}"#, Some((TableShape, 0))),
-    (r#"{"code":1}"#, Some((TableShape, 0))),
-    (r#"{"class":1,"code":1,"name":1}"#, Some((TableShape, 0))),
-    (r#"{"class":1.0,"code":1}"#, Some((TableShape, 0))),
-    (r#"{"class":"1","code":1}"#, Some((TableShape, 0))),
-    (r#"{"class":1,"code":2147483648}"#, Some((TableShape, 0))),
-    (r#"{"class":1,"code":2147483647}"#, None),
-    (r#"{"class":1,"code":-2147483648}"#, None),
-    (r#"{"class":1,"code":-2147483649}"#, Some((TableShape, 0))),
-    (r#"{"class":1,"code":"2a80"}"#, Some((TableShape, 0))),
-    (r#"{"class":1,"code":""}"#, Some((TableShape, 0))),
-    (r#"{"class":1,"code":"2a0"}"#, Some((TableShape, 0))),
-    (r#"{"class":1,"code":"2g"}"#, Some((TableShape, 0))),
-    (r#"{"class":1,"code":1,"linked":[]}"#, None),
-    (r#"{"class":1,"code":1,"linked":[2,2,"2a03"]}"#, None),
-    (r#"{"class":1,"code":1,"linked":2}"#, Some((TableShape, 0))),
-    (
-        r#"{"class":1,"code":1,"linked":[true]}"#,
-        Some((TableShape, 0)),
-    ),
-    (r#"{"class":1,"code":1,"expires":false}"#, None),
-    (r#"{"class":1,"code":1,"expires":1}"#, Some((TableShape, 0))),
-    // Classes and codes.
-    (r#"{"class":0,"code":1}"#, Some((BadClass, 0))),
-    (r#"{"class":5,"code":1}"#, Some((BadClass, 0))),
-    (r#"{"class":-1,"code":1}"#, Some((BadClass, 0))),
-    (
-        r#"{"class":4,"code":1},{"class":5,"code":1}"#,
-        Some((BadClass, 1)),
-    ),
-    (
-        r#"{"class":1,"code":1},{"class":2,"code":1}"#,
-        Some((DoubleCode, 1)),
-    ),
-    (
-        r#"{"class":1,"code":"2A0304"},{"class":1,"code":"2a0304"}"#,
-        Some((DoubleCode, 1)),
-    ),
-    (r#"{"class":1,"code":42},{"class":1,"code":"2a"}"#, None),
-    (
-        r#"{"class":1,"code":1},{"class":1,"code":2},{"class":6,"code":"x"}"#,
-        Some((TableShape, 2)),
-    ),
-    (
-        r#"{"class":1,"code":1},{"class":6,"code":1},{}"#,
-        Some((BadClass, 1)),
-    ),
-];
+/// The columns: the reason and the number of the row of the fault, `none` and 0 where there is none, and rows.
+const ROWS: &str = r#"
+# The shape of a row.
+TableShape;0;1
+TableShape;0;{"class":1}
+TableShape;0;{"code":1}
+TableShape;0;{"class":1,"code":1,"name":1}
+TableShape;0;{"class":1.0,"code":1}
+TableShape;0;{"class":"1","code":1}
+TableShape;0;{"class":1,"code":2147483648}
+none;0;{"class":1,"code":2147483647}
+none;0;{"class":1,"code":-2147483648}
+TableShape;0;{"class":1,"code":-2147483649}
+TableShape;0;{"class":1,"code":"2a80"}
+TableShape;0;{"class":1,"code":""}
+TableShape;0;{"class":1,"code":"2a0"}
+TableShape;0;{"class":1,"code":"2g"}
+none;0;{"class":1,"code":1,"linked":[]}
+none;0;{"class":1,"code":1,"linked":[2,2,"2a03"]}
+TableShape;0;{"class":1,"code":1,"linked":2}
+TableShape;0;{"class":1,"code":1,"linked":[true]}
+none;0;{"class":1,"code":1,"expires":false}
+TableShape;0;{"class":1,"code":1,"expires":1}
+# Classes and codes.
+BadClass;0;{"class":0,"code":1}
+BadClass;0;{"class":5,"code":1}
+BadClass;0;{"class":-1,"code":1}
+BadClass;1;{"class":4,"code":1},{"class":5,"code":1}
+DoubleCode;1;{"class":1,"code":1},{"class":2,"code":1}
+DoubleCode;1;{"class":1,"code":"2A0304"},{"class":1,"code":"2a0304"}
+none;0;{"class":1,"code":42},{"class":1,"code":"2a"}
+TableShape;2;{"class":1,"code":1},{"class":1,"code":2},{"class":6,"code":"x"}
+BadClass;1;{"class":1,"code":1},{"class":6,"code":1},{}
+"#;
 
 /// An operation of each class, and one to which that of class 4 may be linked.
 const LOCALS: &str =
@@ -127,7 +109,7 @@ fn fault((reason, place): (TableReason, u64)) -> TableFault {
 }
 
 /// The text of a table of these rows.
-fn text_of(alloc: Global, rows: &str) -> Result<String, Fail> {
+fn table_text(alloc: Global, rows: &str) -> Result<String, Fail> {
     Ok(format!(in alloc; "{{\"operations\":[{rows}]}}")?)
 }
 
@@ -166,31 +148,62 @@ fn nested(alloc: Global, lists: usize) -> Result<String, Fail> {
     Ok(text)
 }
 
-#[test]
-fn texts(rt: HostRuntime) {
-    for (text, reason) in TEXTS {
-        let wanted = reason.map(|reason| fault((reason, 0)));
-        assert_eq!(rt; refusal(rt.alloc(), text), wanted, "{text}");
+/// The fault of a reason of that name in that row.
+fn fault_named(name: &str, place: &str) -> Result<Option<TableFault>, Fail> {
+    let reason = match name {
+        "none" => return Ok(None),
+        "NotJson" => NotJson,
+        "TableShape" => TableShape,
+        "BadClass" => BadClass,
+        "DoubleCode" => DoubleCode,
+        _ => return Err(Fail::from("a reason")),
+    };
+    Ok(Some(fault((reason, place.parse::<u64>()?))))
+}
+
+struct Text;
+
+impl Row for Text {
+    fn holds(alloc: Global, columns: &[&str]) -> Result<bool, Fail> {
+        let [reason, text] = columns else {
+            return Err(Fail::from("two columns"));
+        };
+        Ok(refusal(alloc, text_of(alloc, text)?.as_str()) == fault_named(reason, "0")?)
+    }
+}
+
+struct TableRows;
+
+impl Row for TableRows {
+    fn holds(alloc: Global, columns: &[&str]) -> Result<bool, Fail> {
+        let [reason, place, rows] = columns else {
+            return Err(Fail::from("three columns"));
+        };
+        let text = table_text(alloc, rows)?;
+        Ok(refusal(alloc, &text) == fault_named(reason, place)?)
     }
 }
 
 #[test]
+fn texts(rt: HostRuntime) -> Result<(), Fail> {
+    assert_eq!(rt; each_row::<Text>(rt.alloc(), TEXTS)?, 18);
+    Ok(())
+}
+
+#[test]
 fn rows(rt: HostRuntime) -> Result<(), Fail> {
-    for (rows, wanted) in ROWS {
-        let text = text_of(rt.alloc(), rows)?;
-        assert_eq!(rt; refusal(rt.alloc(), &text), wanted.map(fault), "{rows}");
-    }
+    assert_eq!(rt; each_row::<TableRows>(rt.alloc(), ROWS)?, 29);
     Ok(())
 }
 
 #[test]
 fn counts(rt: HostRuntime) -> Result<(), Fail> {
     for (count, wanted) in [(1_000, None), (1_001, Some((TooManyRows, 0)))] {
-        let text = text_of(rt.alloc(), &many_rows(rt.alloc(), count)?)?;
+        let text = table_text(rt.alloc(), &many_rows(rt.alloc(), count)?)?;
         assert_eq!(rt; refusal(rt.alloc(), &text), wanted.map(fault), "{count}");
     }
     for (count, wanted) in [(1_000, None), (1_001, Some((TableShape, 0)))] {
-        let text = text_of(rt.alloc(), &row_of_many(rt.alloc(), count)?)?;
+        let text = table_text(rt.alloc(), &row_of_many(rt.alloc(), count)?)?;
         assert_eq!(rt; refusal(rt.alloc(), &text), wanted.map(fault), "{count}");
     }
     for (count, reason) in [(100, TableShape), (200, NotJson)] {
@@ -212,26 +225,27 @@ fn no_text(rt: HostRuntime) {
 
 #[test]
 fn classes(rt: HostRuntime) -> Result<(), Fail> {
-    let text = text_of(rt.alloc(), LOCALS)?;
+    let text = table_text(rt.alloc(), LOCALS)?;
     let table = Table::from_json(rt.alloc(), text.as_bytes())
         .ok()
         .ok_or("a table")?;
-    for (code, class) in CLASSES {
-        assert_eq!(rt; table.class_of(CodeView::Local(code)), class, "{code}");
+    for (code, class) in &CLASSES {
+        assert_eq!(rt; table.class_of(CodeView::Local(*code)), *class, "{code}");
     }
+    drop(table);
     Ok(())
 }
 
 #[test]
 fn global_classes(rt: HostRuntime) -> Result<(), Fail> {
-    let text = text_of(rt.alloc(), GLOBALS)?;
+    let text = table_text(rt.alloc(), GLOBALS)?;
     let table = Table::from_json(rt.alloc(), text.as_bytes())
         .ok()
         .ok_or("a table")?;
-    for (digits, class) in GLOBAL_CLASSES {
+    for (digits, class) in &GLOBAL_CLASSES {
         let octets = octets_of(rt.alloc(), digits)?;
         let id = ObjectIdView::new(&octets).ok_or("an object identifier")?;
-        assert_eq!(rt; table.class_of(CodeView::Global(id)), class, "{digits}");
+        assert_eq!(rt; table.class_of(CodeView::Global(id)), *class, "{digits}");
     }
     assert_eq!(rt; table.class_of(CodeView::Local(42)), Some(2));
     Ok(())
@@ -239,7 +253,7 @@ fn global_classes(rt: HostRuntime) -> Result<(), Fail> {
 
 #[test]
 fn numbers(rt: HostRuntime) {
-    for (reason, number) in NUMBERS {
-        assert_eq!(rt; reason.number(), number);
+    for (reason, number) in &NUMBERS {
+        assert_eq!(rt; reason.number(), *number);
     }
 }

@@ -3,8 +3,6 @@
 #![tactic(auto)]
 
 #[cfg(test)]
-mod bad_dialogues;
-#[cfg(test)]
 mod by_hand;
 #[cfg(test)]
 mod decoding;
@@ -14,10 +12,15 @@ mod devices;
 mod encoding;
 #[cfg(test)]
 mod parts;
+#[cfg(test)]
+mod refusals;
 mod tools;
 #[cfg(test)]
 mod values;
 mod vectors;
 
-pub use tools::{edited, element, encoded_again, lens, octets_of, refusal, view_refusal, written};
-pub use vectors::VECTORS;
+pub use tools::{
+    Row, each_row, edited, element, encoded_again, fault_of, is_refused, lens, lent_again,
+    message_of, octets_of, refusal, text_of, view_refusal, written,
+};
+pub use vectors::{VECTORS, vector};

@@ -5,40 +5,32 @@ use std::alloc::Global;
 use std::test::Fail;
 use tcap_ber::{ObjectId, Small};
 use tcap_msg::{Message, MessageParts, TransactionId, view};
-use tcap_msg_rows::{encoded_again, lens, octets_of, written};
+use tcap_msg_rows::{Row, each_row, encoded_again, lens, octets_of, written};
 use tcap_parts::{Code, Component, ComponentView, Portion, Problem, ResultBody};
 
-/// Components with the shortest lengths, as hexadecimal digits, and their lines.
-const COMPONENTS: [(&str, &str); 16] = [
-    ("a10602010102012d", "Invoke id=1 op=45"),
-    ("a1090201ff80010102012d", "Invoke id=-1 linked=1 op=45"),
-    (
-        "a11002010580018006042a8648010402abcd",
-        "Invoke id=5 linked=-128 op=g:2a864801 parameter=0402abcd",
-    ),
-    ("a1080201010203008000", "Invoke id=1 op=32768"),
-    ("a203020101", "ReturnResultLast id=1"),
-    ("a208020101300302012d", "ReturnResultLast id=1 op=45"),
-    (
-        "a20d020180300806022a030402abcd",
-        "ReturnResultLast id=-128 op=g:2a03 parameter=0402abcd",
-    ),
-    ("a703020102", "ReturnResultNotLast id=2"),
-    (
-        "a70a02010230050201ff0500",
-        "ReturnResultNotLast id=2 op=-1 parameter=0500",
-    ),
-    ("a306020101020122", "ReturnError id=1 error=34"),
-    (
-        "a30902010106012a0401aa",
-        "ReturnError id=1 error=g:2a parameter=0401aa",
-    ),
-    ("a406020101800102", "Reject id=1 general=2"),
-    ("a4050500800100", "Reject id=null general=0"),
-    ("a406020101810107", "Reject id=1 invoke=7"),
-    ("a40602010182017f", "Reject id=1 result=127"),
-    ("a406020101830104", "Reject id=1 error=4"),
-];
+/// The columns: components as hexadecimal digits, what is written of them, and their lines, a dash where those are not looked at.
+const COMPONENTS: &str = "
+a10602010102012d;a10602010102012d;Invoke id=1 op=45
+a1090201ff80010102012d;a1090201ff80010102012d;Invoke id=-1 linked=1 op=45
+a11002010580018006042a8648010402abcd;a11002010580018006042a8648010402abcd;Invoke id=5 linked=-128 op=g:2a864801 parameter=0402abcd
+a1080201010203008000;a1080201010203008000;Invoke id=1 op=32768
+a203020101;a203020101;ReturnResultLast id=1
+a208020101300302012d;a208020101300302012d;ReturnResultLast id=1 op=45
+a20d020180300806022a030402abcd;a20d020180300806022a030402abcd;ReturnResultLast id=-128 op=g:2a03 parameter=0402abcd
+a703020102;a703020102;ReturnResultNotLast id=2
+a70a02010230050201ff0500;a70a02010230050201ff0500;ReturnResultNotLast id=2 op=-1 parameter=0500
+a306020101020122;a306020101020122;ReturnError id=1 error=34
+a30902010106012a0401aa;a30902010106012a0401aa;ReturnError id=1 error=g:2a parameter=0401aa
+a406020101800102;a406020101800102;Reject id=1 general=2
+a4050500800100;a4050500800100;Reject id=null general=0
+a406020101810107;a406020101810107;Reject id=1 invoke=7
+a40602010182017f;a40602010182017f;Reject id=1 result=127
+a406020101830104;a406020101830104;Reject id=1 error=4
+# Padded lengths.
+a28103020101;a203020101;-
+a7820009020102308103020100;a7080201023003020100;-
+a48109028200010181810107;a406020101810107;-
+";
 
 /// A Begin with transaction ID 01 around components, which are shorter than 100 octets.
 fn begin(alloc: Global, components: &str) -> Result<Vec<u8>, Fail> {
@@ -50,41 +42,28 @@ fn begin(alloc: Global, components: &str) -> Result<Vec<u8>, Fail> {
     Ok(octets)
 }
 
-#[test]
-fn lines(rt: HostRuntime) -> Result<(), Fail> {
-    for (component, line) in COMPONENTS {
-        let wanted = format!(in rt.alloc(); "0 A Begin otid=01\n  {line}\n")?;
-        let printed = lines_of(rt.alloc(), &begin(rt.alloc(), component)?)?;
-        assert_eq!(rt; printed.as_slice(), wanted.as_bytes(), "{line}");
+struct Components;
+
+impl Row for Components {
+    fn holds(alloc: Global, columns: &[&str]) -> Result<bool, Fail> {
+        let [components, respelled, line] = columns else {
+            return Err(Fail::from("three columns"));
+        };
+        let octets = begin(alloc, components)?;
+        let wanted = begin(alloc, respelled)?;
+        let lines = format!(in alloc; "0 A Begin otid=01\n  {line}\n")?;
+        let is_shown = *line == "-" || lines_of(alloc, &octets)?.as_slice() == lines.as_bytes();
+        Ok(
+            is_shown
+                && lens(alloc, &octets)? == (octets.len(), Some(wanted.len()))
+                && encoded_again(alloc, &octets)? == wanted,
+        )
     }
-    Ok(())
 }
 
 #[test]
-fn written_again(rt: HostRuntime) -> Result<(), Fail> {
-    for (component, line) in COMPONENTS {
-        let octets = begin(rt.alloc(), component)?;
-        let len = octets.len();
-        assert_eq!(rt; lens(rt.alloc(), &octets)?, (len, Some(len)), "{line}");
-        assert_eq!(rt; encoded_again(rt.alloc(), &octets)?, octets, "{line}");
-    }
-    Ok(())
-}
-
-/// Components whose lengths are padded, and what is written of them.
-const PADDED: [(&str, &str); 3] = [
-    ("a28103020101", "a203020101"),
-    ("a7820009020102308103020100", "a7080201023003020100"),
-    ("a48109028200010181810107", "a406020101810107"),
-];
-
-#[test]
-fn padded(rt: HostRuntime) -> Result<(), Fail> {
-    for (component, wanted) in PADDED {
-        let octets = begin(rt.alloc(), component)?;
-        let wanted = begin(rt.alloc(), wanted)?;
-        assert_eq!(rt; encoded_again(rt.alloc(), &octets)?, wanted, "{component}");
-    }
+fn shown_and_written(rt: HostRuntime) -> Result<(), Fail> {
+    assert_eq!(rt; each_row::<Components>(rt.alloc(), COMPONENTS)?, 19);
     Ok(())
 }
 
@@ -124,13 +103,13 @@ const EACH_KIND: &str =
 /// What is written of a Begin with transaction ID 01 and these components.
 fn begin_of(alloc: Global, components: Vec<Component>) -> Result<Vec<u8>, Fail> {
     let otid = TransactionId::new(&[1]).ok_or("an ID")?;
-    let components = Portion::new(components).ok_or("components")?;
+    let components = Some(Portion::new(components).ok_or("components")?);
     written(
         alloc,
-        &Message::Begin {
+        Message::Begin {
             otid,
             dialogue: None,
-            components: Some(components),
+            components,
         },
     )
 }
@@ -145,10 +124,12 @@ fn made_by_hand(rt: HostRuntime) -> Result<(), Fail> {
 /// Each component lent, made a value again, and put into a message of its own.
 #[test]
 fn lent(rt: HostRuntime) -> Result<(), Fail> {
+    let kinds = each_kind(rt.alloc())?;
     let mut components = Vec::new(rt.alloc());
-    for component in &each_kind(rt.alloc())? {
+    for component in &kinds {
         components.push(component.view().to_component(rt.alloc())?)?;
     }
+    drop(kinds);
     let octets = begin_of(rt.alloc(), components)?;
     assert_eq!(rt; octets, begin(rt.alloc(), EACH_KIND)?);
     Ok(())
@@ -204,10 +185,9 @@ fn many(rt: HostRuntime) -> Result<(), Fail> {
         octets.extend_from_slice(&[0xA2, 3, 2, 1, 1])?;
     }
     let (message, len) = view(&octets).ok().ok_or("a message")?;
-    assert_eq!(rt; len, octets.len());
-    assert_eq!(rt; message.count(), 13_105);
-    assert_eq!(rt; message.components().count(), 13_105);
-    assert_eq!(rt; encoded_again(rt.alloc(), &octets)?, octets);
+    let counts = (message.count(), message.components().count());
+    assert!(rt; len == octets.len() && counts == (13_105, 13_105));
+    assert!(rt; encoded_again(rt.alloc(), &octets)? == octets);
     Ok(())
 }
 

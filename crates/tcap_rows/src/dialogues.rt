@@ -4,193 +4,60 @@ use crate::tools::lines_of;
 use std::alloc::Global;
 use std::test::Fail;
 use tcap_ber::{Counted, Window};
-use tcap_msg_rows::{edited, element, encoded_again, octets_of, refusal, view_refusal};
+use tcap_msg_rows::{
+    Row, each_row, edited, element, encoded_again, fault_of, is_refused, octets_of,
+};
 use tcap_parts::{len_dialogue, view_dialogue, write_dialogue};
 
-/// dialogue-as-id, the name of the abstract syntax of structured dialogues (Q.773 4.2.3).
-const STRUCTURED: &str = "060700118605010101";
+/// The columns: the name of the abstract syntax, that of structured dialogues or that of Unidirectionals, a PDU, what `show` prints of
+/// it, and the PDU as it is written.
+const READ: &str = "
+# Dialogue requests: with the usual protocol version, without one, and with others that are taken.
+structured;600f80020780a109060704000001001302; AARQ context=04000001001302;600f80020780a109060704000001001302
+structured;600ba109060704000001001302; AARQ context=04000001001302;600f80020780a109060704000001001302
+structured;600f80020080a109060704000001001302; AARQ context=04000001001302;600f80020780a109060704000001001302
+structured;600f800207ffa109060704000001001302; AARQ context=04000001001302;600f80020780a109060704000001001302
+structured;6009800203c8a10306012a; AARQ context=2a;600980020780a10306012a
+# User information: none, without and with EXTERNALs.
+structured;600b80020780a10306012abe00; AARQ context=2a info=0;600b80020780a10306012abe00
+structured;600d80020780a10306012abe022800; AARQ context=2a info=1;600d80020780a10306012abe022800
+structured;601080020780a10306012abe052800280105; AARQ context=2a info=2;601080020780a10306012abe052800280105
+# A padded length in the user information is kept, any other is not, that of the information itself included.
+structured;600e80020780a10306012abe03288100; AARQ context=2a info=1;600e80020780a10306012abe03288100
+structured;600e80020780a10306012abe81022800; AARQ context=2a info=1;600d80020780a10306012abe022800
+structured;6081118081020780a18105068200012abe820000; AARQ context=2a info=0;600b80020780a10306012abe00
+# Dialogue responses, of the user and of the provider.
+structured;611b80020780a109060704000001001302a203020100a305a103020100; AARE context=04000001001302 result=0 user=0;611b80020780a109060704000001001302a203020100a305a103020100
+structured;6117a109060704000001001302a203020101a305a103020102; AARE context=04000001001302 result=1 user=2;611b80020780a109060704000001001302a203020101a305a103020102
+structured;611b80020080a109060704000001001302a203020101a305a203020102; AARE context=04000001001302 result=1 provider=2;611b80020780a109060704000001001302a203020101a305a203020102
+structured;611580020780a10306012aa20302017fa305a10302017f; AARE context=2a result=127 user=127;611580020780a10306012aa20302017fa305a10302017f
+structured;611580020780a10306012aa20302017fa305a20302017f; AARE context=2a result=127 provider=127;611580020780a10306012aa20302017fa305a20302017f
+structured;611980020780a10306012aa203020100a305a103020100be022800; AARE context=2a result=0 user=0 info=1;611980020780a10306012aa203020100a305a103020100be022800
+structured;61811c80020780a10306012aa2810402810100a38107a2810402810100be00; AARE context=2a result=0 provider=0 info=0;611780020780a10306012aa203020100a305a203020100be00
+# Dialogue aborts.
+structured;6403800100; ABRT source=0;6403800100
+structured;6403800101; ABRT source=1;6403800101
+structured;640380017f; ABRT source=127;640380017f
+structured;640480810101; ABRT source=1;6403800101
+structured;6405800100be00; ABRT source=0 info=0;6405800100be00
+structured;6407800101be022800; ABRT source=1 info=1;6407800101be022800
+structured;640b800100be06280028002800; ABRT source=0 info=3;640b800100be06280028002800
+# PDUs of Unidirectionals.
+unstructured;600f80020780a109060704000001001302; AUDT context=04000001001302;600f80020780a109060704000001001302
+unstructured;600ba109060704000001001302; AUDT context=04000001001302;600f80020780a109060704000001001302
+unstructured;6009800200ffa10306012a; AUDT context=2a;600980020780a10306012a
+unstructured;600b80020780a10306012abe00; AUDT context=2a info=0;600b80020780a10306012abe00
+unstructured;600980020780a10306012a; AUDT context=2a;600980020780a10306012a
+unstructured;6010a10306012abe09280028810028820000; AUDT context=2a info=3;601480020780a10306012abe09280028810028820000
+";
 
-/// unidialogue-as-id, that of Unidirectionals.
-const UNSTRUCTURED: &str = "060700118605010201";
-
-/// A name of an abstract syntax and a PDU, what `show` prints of it, and the PDU as it is written.
-const READ: [(&str, &str, &str, &str); 31] = [
-    // Dialogue requests: with the usual protocol version, without one, and with others that are taken.
-    (
-        STRUCTURED,
-        "600f80020780a109060704000001001302",
-        " AARQ context=04000001001302",
-        "600f80020780a109060704000001001302",
-    ),
-    (
-        STRUCTURED,
-        "600ba109060704000001001302",
-        " AARQ context=04000001001302",
-        "600f80020780a109060704000001001302",
-    ),
-    (
-        STRUCTURED,
-        "600f80020080a109060704000001001302",
-        " AARQ context=04000001001302",
-        "600f80020780a109060704000001001302",
-    ),
-    (
-        STRUCTURED,
-        "600f800207ffa109060704000001001302",
-        " AARQ context=04000001001302",
-        "600f80020780a109060704000001001302",
-    ),
-    (
-        STRUCTURED,
-        "6009800203c8a10306012a",
-        " AARQ context=2a",
-        "600980020780a10306012a",
-    ),
-    // User information: none, without and with EXTERNALs.
-    (
-        STRUCTURED,
-        "600b80020780a10306012abe00",
-        " AARQ context=2a info=0",
-        "600b80020780a10306012abe00",
-    ),
-    (
-        STRUCTURED,
-        "600d80020780a10306012abe022800",
-        " AARQ context=2a info=1",
-        "600d80020780a10306012abe022800",
-    ),
-    (
-        STRUCTURED,
-        "601080020780a10306012abe052800280105",
-        " AARQ context=2a info=2",
-        "601080020780a10306012abe052800280105",
-    ),
-    // A padded length in the user information is kept, any other is not, that of the information itself included.
-    (
-        STRUCTURED,
-        "600e80020780a10306012abe03288100",
-        " AARQ context=2a info=1",
-        "600e80020780a10306012abe03288100",
-    ),
-    (
-        STRUCTURED,
-        "600e80020780a10306012abe81022800",
-        " AARQ context=2a info=1",
-        "600d80020780a10306012abe022800",
-    ),
-    (
-        STRUCTURED,
-        "6081118081020780a18105068200012abe820000",
-        " AARQ context=2a info=0",
-        "600b80020780a10306012abe00",
-    ),
-    // Dialogue responses, of the user and of the provider.
-    (
-        STRUCTURED,
-        "611b80020780a109060704000001001302a203020100a305a103020100",
-        " AARE context=04000001001302 result=0 user=0",
-        "611b80020780a109060704000001001302a203020100a305a103020100",
-    ),
-    (
-        STRUCTURED,
-        "6117a109060704000001001302a203020101a305a103020102",
-        " AARE context=04000001001302 result=1 user=2",
-        "611b80020780a109060704000001001302a203020101a305a103020102",
-    ),
-    (
-        STRUCTURED,
-        "611b80020080a109060704000001001302a203020101a305a203020102",
-        " AARE context=04000001001302 result=1 provider=2",
-        "611b80020780a109060704000001001302a203020101a305a203020102",
-    ),
-    (
-        STRUCTURED,
-        "611580020780a10306012aa20302017fa305a10302017f",
-        " AARE context=2a result=127 user=127",
-        "611580020780a10306012aa20302017fa305a10302017f",
-    ),
-    (
-        STRUCTURED,
-        "611580020780a10306012aa20302017fa305a20302017f",
-        " AARE context=2a result=127 provider=127",
-        "611580020780a10306012aa20302017fa305a20302017f",
-    ),
-    (
-        STRUCTURED,
-        "611980020780a10306012aa203020100a305a103020100be022800",
-        " AARE context=2a result=0 user=0 info=1",
-        "611980020780a10306012aa203020100a305a103020100be022800",
-    ),
-    (
-        STRUCTURED,
-        "61811c80020780a10306012aa2810402810100a38107a2810402810100be00",
-        " AARE context=2a result=0 provider=0 info=0",
-        "611780020780a10306012aa203020100a305a203020100be00",
-    ),
-    // Dialogue aborts.
-    (STRUCTURED, "6403800100", " ABRT source=0", "6403800100"),
-    (STRUCTURED, "6403800101", " ABRT source=1", "6403800101"),
-    (STRUCTURED, "640380017f", " ABRT source=127", "640380017f"),
-    (STRUCTURED, "640480810101", " ABRT source=1", "6403800101"),
-    (
-        STRUCTURED,
-        "6405800100be00",
-        " ABRT source=0 info=0",
-        "6405800100be00",
-    ),
-    (
-        STRUCTURED,
-        "6407800101be022800",
-        " ABRT source=1 info=1",
-        "6407800101be022800",
-    ),
-    (
-        STRUCTURED,
-        "640b800100be06280028002800",
-        " ABRT source=0 info=3",
-        "640b800100be06280028002800",
-    ),
-    // PDUs of Unidirectionals.
-    (
-        UNSTRUCTURED,
-        "600f80020780a109060704000001001302",
-        " AUDT context=04000001001302",
-        "600f80020780a109060704000001001302",
-    ),
-    (
-        UNSTRUCTURED,
-        "600ba109060704000001001302",
-        " AUDT context=04000001001302",
-        "600f80020780a109060704000001001302",
-    ),
-    (
-        UNSTRUCTURED,
-        "6009800200ffa10306012a",
-        " AUDT context=2a",
-        "600980020780a10306012a",
-    ),
-    (
-        UNSTRUCTURED,
-        "600b80020780a10306012abe00",
-        " AUDT context=2a info=0",
-        "600b80020780a10306012abe00",
-    ),
-    (
-        UNSTRUCTURED,
-        "600980020780a10306012a",
-        " AUDT context=2a",
-        "600980020780a10306012a",
-    ),
-    (
-        UNSTRUCTURED,
-        "6010a10306012abe09280028810028820000",
-        " AUDT context=2a info=3",
-        "601480020780a10306012abe09280028810028820000",
-    ),
-];
-
-/// The EXTERNAL with the name of an abstract syntax and a PDU.
+/// The EXTERNAL with a name of an abstract syntax and a PDU.
 fn external(alloc: Global, name: &str, pdu: &str) -> Result<Vec<u8>, Fail> {
+    let name = match name {
+        "structured" => "060700118605010101",
+        "unstructured" => "060700118605010201",
+        _ => return Err(Fail::from("a name")),
+    };
     let mut content = octets_of(alloc, name)?;
     let inner = element(alloc, 0xA0, &octets_of(alloc, pdu)?)?;
     content.extend_from_slice(&inner)?;
@@ -241,28 +108,16 @@ fn is_read_in_each(
     text: &str,
     respelled: &[u8],
 ) -> Result<bool, Fail> {
-    for (tag, front, behind, head, components) in AROUND {
-        let octets = message(alloc, tag, front, portion, behind)?;
+    for (tag, front, behind, head, components) in &AROUND {
+        let octets = message(alloc, *tag, front, portion, behind)?;
         let lines = format!(in alloc; "0 A {head}{text}\n{components}")?;
-        let wanted = message(alloc, tag, front, respelled, behind)?;
+        let wanted = message(alloc, *tag, front, respelled, behind)?;
         let is_shown = lines_of(alloc, &octets)?.as_slice() == lines.as_bytes();
         if !is_shown || encoded_again(alloc, &octets)? != wanted {
             return Ok(false);
         }
     }
     Ok(true)
-}
-
-#[test]
-fn read_in_each_message(rt: HostRuntime) -> Result<(), Fail> {
-    let alloc = rt.alloc();
-    for (name, pdu, text, respelled) in READ {
-        let portion = external(alloc, name, pdu)?;
-        let respelled = external(alloc, name, respelled)?;
-        let is_read = is_read_in_each(alloc, &portion, text, &respelled)?;
-        assert!(rt; is_read, "{pdu}");
-    }
-    Ok(())
 }
 
 /// What is counted and written of the dialogue portion with this content.
@@ -278,48 +133,77 @@ fn portion_again(alloc: Global, portion: &[u8]) -> Result<(usize, Vec<u8>), Fail
     Ok((len, writer.into_inner()))
 }
 
-#[test]
-fn portions_alone(rt: HostRuntime) -> Result<(), Fail> {
-    for (name, pdu, _, respelled) in READ {
-        let portion = external(rt.alloc(), name, pdu)?;
-        let wanted = external(rt.alloc(), name, respelled)?;
-        let (len, octets) = portion_again(rt.alloc(), &portion)?;
-        assert_eq!(rt; len, wanted.len(), "{pdu}");
-        assert_eq!(rt; octets, wanted, "{pdu}");
+struct Read;
+
+impl Row for Read {
+    fn holds(alloc: Global, columns: &[&str]) -> Result<bool, Fail> {
+        let [name, pdu, text, respelled] = columns else {
+            return Err(Fail::from("four columns"));
+        };
+        let portion = external(alloc, name, pdu)?;
+        let wanted = external(alloc, name, respelled)?;
+        let (len, octets) = portion_again(alloc, &portion)?;
+        Ok(
+            len == wanted.len()
+                && octets == wanted
+                && is_read_in_each(alloc, &portion, text, &wanted)?,
+        )
     }
+}
+
+#[test]
+fn read_in_each_message(rt: HostRuntime) -> Result<(), Fail> {
+    assert_eq!(rt; each_row::<Read>(rt.alloc(), READ)?, 31);
     Ok(())
 }
 
-/// A Begin with a dialogue request, and edits of it: two places, which may be one, and the octets that are set there, and
-/// the reason and the place of the fault.
+/// A Begin with a dialogue request,
 const REQUEST: &str =
     "622d4801016b1e281c060700118605010101a011600f80020780a1090607040000010013026c08a10602010102012d";
 
-const EDITS: [([(usize, u8); 2], u8, u64); 9] = [
-    // Another name, none, and another abstract syntax's PDU.
-    ([(16, 0x03), (16, 0x03)], 13, 9),
-    ([(17, 0x81), (17, 0x81)], 7, 9),
-    ([(9, 0x05), (9, 0x05)], 13, 9),
-    ([(18, 0xA1), (18, 0xA1)], 13, 18),
-    ([(20, 0x65), (20, 0x65)], 13, 20),
-    ([(16, 0x02), (20, 0x61)], 13, 20),
-    // The protocol version without version 1.
-    ([(25, 0x00), (25, 0x00)], 12, 22),
-    // A dialogue portion that goes past the message, and one whose EXTERNAL goes past it.
-    ([(6, 0x7F), (6, 0x7F)], 5, 5),
-    ([(8, 0x1D), (8, 0x1D)], 5, 7),
-];
+/// and edits of it. The columns: a place and the octet that is set there, the same again, which may be the same place, and the number
+/// and the place of the fault.
+const EDITS: &str = "
+# Another name, none, and another abstract syntax's PDU.
+16;3;16;3;13;9
+17;129;17;129;7;9
+9;5;9;5;13;9
+18;161;18;161;13;18
+20;101;20;101;13;20
+16;2;20;97;13;20
+# The protocol version without version 1.
+25;0;25;0;12;22
+# A dialogue portion that goes past the message, and one whose EXTERNAL goes past it.
+6;127;6;127;5;5
+8;29;8;29;5;7
+";
+
+struct Edit;
+
+impl Row for Edit {
+    fn holds(alloc: Global, columns: &[&str]) -> Result<bool, Fail> {
+        let [place, value, other, other_value, number, at] = columns else {
+            return Err(Fail::from("six columns"));
+        };
+        let octets = octets_of(alloc, REQUEST)?;
+        let octets = edited(
+            alloc,
+            &octets,
+            place.parse::<usize>()?,
+            value.parse::<u8>()?,
+        )?;
+        let octets = edited(
+            alloc,
+            &octets,
+            other.parse::<usize>()?,
+            other_value.parse::<u8>()?,
+        )?;
+        is_refused(alloc, &octets, fault_of(number, at)?)
+    }
+}
 
 #[test]
 fn refused_edits(rt: HostRuntime) -> Result<(), Fail> {
-    for (edits, reason, at) in EDITS {
-        let mut octets = octets_of(rt.alloc(), REQUEST)?;
-        for (place, value) in edits {
-            octets = edited(rt.alloc(), &octets, place, value)?;
-        }
-        let wanted = Some((reason, at));
-        assert_eq!(rt; refusal(rt.alloc(), &octets), wanted, "{reason} {at}");
-        assert_eq!(rt; view_refusal(&octets), wanted, "{reason} {at}");
-    }
+    assert_eq!(rt; each_row::<Edit>(rt.alloc(), EDITS)?, 9);
     Ok(())
 }

@@ -25,4 +25,6 @@ mod untold;
 #[cfg(test)]
 mod walking;
 #[cfg(test)]
+mod walks;
+#[cfg(test)]
 mod words;

@@ -1,45 +1,36 @@
 //! Messages of each kind: decoded, shown, encoded again, and cut.
 
-use crate::tools::{lines_of, shown};
+use crate::tools::{is_cut_at_each, lines_of, shown};
 use std::alloc::Global;
 use std::test::Fail;
 use tcap_ber::Failing;
-use tcap_msg::{EncodeFault, MessageParts, decode, encode, view};
+use tcap_msg::{EncodeFault, encode, view};
 use tcap_msg_rows::{
-    VECTORS, edited, encoded_again, lens, octets_of, refusal, view_refusal, written,
+    Row, VECTORS, each_row, edited, encoded_again, lens, lent_again, message_of, octets_of,
+    refusal, text_of, vector, view_refusal,
 };
 
+/// Messages with padded lengths or without the protocol version, and the names of the vectors that are written of them.
+const RESPELLED: &str = "
+62294801016b1a2818060700118605010101a00d600ba1090607040000010013026c08a10602010102012d;begin_with_request
+658200414882000102498101016b812d28812a060700118605010101a082001d61811aa109060704000001001302a203020100a38107a18104028101006c8105a203020101;continue_with_response
+67830000074901024a810101;abort_with_cause_1
+648400000003490102;end_alone
+61840000000a6c08a106020101020130;unidirectional_with_invoke
+";
+
+/// Messages of which each octet is set to each value: with a dialogue request, its protocol version left out, with a
+/// dialogue response, and with a dialogue abort and user information.
+const EDITED: &str = "
+622d4801016b1e281c060700118605010101a011600f80020780a1090607040000010013026c08a10602010102012d
+62294801016b1a2818060700118605010101a00d600ba1090607040000010013026c08a10602010102012d
+65394801024901016b2a2828060700118605010101a01d611b80020780a109060704000001001302a203020100a305a1030201006c05a203020101
+671b4901026b162814060700118605010101a0096407800100be022800
+";
+
 /// The octets of the vector of that name.
-fn vector(alloc: Global, wanted: &str) -> Result<Vec<u8>, Fail> {
-    for (name, digits, _) in VECTORS {
-        if name == wanted {
-            return octets_of(alloc, digits);
-        }
-    }
-    Err(Fail::from("a vector of that name"))
-}
-
-/// What is written of a vector, given its name and its octets: the octets again, but for the padded one.
-fn respelled(alloc: Global, name: &str, octets: &[u8]) -> Result<Vec<u8>, Fail> {
-    if name == "padded_begin" {
-        vector(alloc, "begin_with_invoke")
-    } else {
-        Ok(octets.to_vec(alloc)?)
-    }
-}
-
-#[test]
-fn decoded_and_counted(rt: HostRuntime) -> Result<(), Fail> {
-    for (name, digits, _) in VECTORS {
-        let mut octets = octets_of(rt.alloc(), digits)?;
-        let len = octets.len();
-        let short = respelled(rt.alloc(), name, &octets)?.len();
-        assert_eq!(rt; lens(rt.alloc(), &octets)?, (len, Some(short)), "{name}");
-        // What stands behind is not looked at.
-        octets.extend_from_slice(&[0x62, 0x80])?;
-        assert_eq!(rt; lens(rt.alloc(), &octets)?, (len, Some(short)), "{name}");
-    }
-    Ok(())
+fn vector_octets(alloc: Global, name: &str) -> Result<Vec<u8>, Fail> {
+    octets_of(alloc, vector(name).ok_or("a vector of that name")?)
 }
 
 /// The count of octets that `view` gives.
@@ -50,129 +41,129 @@ fn view_len(octets: &[u8]) -> Option<usize> {
     }
 }
 
-#[test]
-fn viewed_and_counted(rt: HostRuntime) -> Result<(), Fail> {
-    for (name, digits, _) in VECTORS {
-        let mut octets = octets_of(rt.alloc(), digits)?;
-        let len = octets.len();
-        assert_eq!(rt; view_len(&octets), Some(len), "{name}");
-        octets.push(0x6C)?;
-        assert_eq!(rt; view_len(&octets), Some(len), "{name}");
+/// Whether the message at the front of the octets is counted as so many octets, and as so many where it is encoded again.
+fn is_counted(alloc: Global, octets: &[u8], len: usize, short: usize) -> Result<bool, Fail> {
+    Ok(view_len(octets) == Some(len) && lens(alloc, octets)? == (len, Some(short)))
+}
+
+/// Whether those octets are written of the message: of the one that `decode` gives, of the one that a view of the octets lends, and of
+/// the one that the message itself lends.
+fn is_written(alloc: Global, octets: &[u8], wanted: &[u8]) -> Result<bool, Fail> {
+    let (of_view, of_lent) = lent_again(alloc, octets)?;
+    Ok(
+        of_view.as_slice() == wanted
+            && of_lent.as_slice() == wanted
+            && encoded_again(alloc, octets)?.as_slice() == wanted,
+    )
+}
+
+/// Whether `encode` answers that the writer failed, which took that many of the wanted octets.
+fn fails_at(alloc: Global, octets: &[u8], wanted: &[u8], count: usize) -> Result<bool, Fail> {
+    let (message, _) = message_of(alloc, octets)?;
+    let mut writer = Failing::new(Vec::new(alloc), count);
+    let answer = encode(&message, &mut writer);
+    drop(message);
+    let taken = writer.into_inner();
+    Ok(answer == Err(EncodeFault::Write) && wanted.get(..count) == Some(taken.as_slice()))
+}
+
+/// A vector: counted, alone and with others behind it that are not looked at, shown, written again, cut after each count of octets,
+/// and written to a writer that fails at each count. The octets are written again, but for the padded one.
+struct Vector;
+
+impl Row for Vector {
+    fn holds(alloc: Global, columns: &[&str]) -> Result<bool, Fail> {
+        let [name, digits, _, lines] = columns else {
+            return Err(Fail::from("four columns"));
+        };
+        let octets = octets_of(alloc, digits)?;
+        let wanted = match *name {
+            "padded_begin" => vector_octets(alloc, "begin_with_invoke")?,
+            _ => octets_of(alloc, digits)?,
+        };
+        let mut more = octets_of(alloc, digits)?;
+        more.extend_from_slice(&[0x62, 0x80])?;
+        for count in 0..wanted.len() {
+            if !fails_at(alloc, &octets, &wanted, count)? {
+                return Ok(false);
+            }
+        }
+        Ok(
+            is_counted(alloc, &octets, octets.len(), wanted.len())?
+                && is_counted(alloc, &more, octets.len(), wanted.len())?
+                && lines_of(alloc, &octets)?.as_slice() == text_of(alloc, lines)?.as_bytes()
+                && is_written(alloc, &octets, &wanted)?
+                && is_cut_at_each(alloc, &octets)?,
+        )
     }
-    Ok(())
+}
+
+struct Respelled;
+
+impl Row for Respelled {
+    fn holds(alloc: Global, columns: &[&str]) -> Result<bool, Fail> {
+        let [digits, name] = columns else {
+            return Err(Fail::from("two columns"));
+        };
+        let octets = octets_of(alloc, digits)?;
+        let wanted = vector_octets(alloc, name)?;
+        Ok(
+            is_counted(alloc, &octets, octets.len(), wanted.len())?
+                && is_written(alloc, &octets, &wanted)?,
+        )
+    }
+}
+
+/// Whether `decode` and `view` answer the same of the message, and, where they read it, what is written of it, written again, and its
+/// lines are the same.
+fn is_same_again(alloc: Global, message: &[u8]) -> Result<bool, Fail> {
+    let is_same = refusal(alloc, message)? == view_refusal(message);
+    let Some(len) = view_len(message) else {
+        return Ok(is_same);
+    };
+    let octets = message.get(..len).ok_or("its octets")?;
+    let once = encoded_again(alloc, octets)?;
+    Ok(
+        is_same
+            && once == encoded_again(alloc, &once)?
+            && lines_of(alloc, octets)? == lines_of(alloc, &once)?,
+    )
+}
+
+struct Edited;
+
+impl Row for Edited {
+    fn holds(alloc: Global, columns: &[&str]) -> Result<bool, Fail> {
+        let [digits] = columns else {
+            return Err(Fail::from("one column"));
+        };
+        let octets = octets_of(alloc, digits)?;
+        for place in 0..octets.len() {
+            for value in 0..=255_u8 {
+                if !is_same_again(alloc, &edited(alloc, &octets, place, value)?)? {
+                    return Ok(false);
+                }
+            }
+        }
+        Ok(true)
+    }
 }
 
 #[test]
-fn lines(rt: HostRuntime) -> Result<(), Fail> {
-    for (name, digits, lines) in VECTORS {
-        let octets = octets_of(rt.alloc(), digits)?;
-        let printed = lines_of(rt.alloc(), &octets)?;
-        assert_eq!(rt; printed.as_slice(), lines.as_bytes(), "{name}");
-    }
+fn vectors(rt: HostRuntime) -> Result<(), Fail> {
+    assert_eq!(rt; each_row::<Vector>(rt.alloc(), VECTORS)?, 25);
     Ok(())
 }
-
-#[test]
-fn written_again(rt: HostRuntime) -> Result<(), Fail> {
-    for (name, digits, _) in VECTORS {
-        let octets = octets_of(rt.alloc(), digits)?;
-        let wanted = respelled(rt.alloc(), name, &octets)?;
-        assert_eq!(rt; encoded_again(rt.alloc(), &octets)?, wanted, "{name}");
-    }
-    Ok(())
-}
-
-/// Messages with padded lengths or without the protocol version, and the names of the vectors that are written of them.
-const RESPELLED: [(&str, &str); 5] = [
-    (
-        "62294801016b1a2818060700118605010101a00d600ba1090607040000010013026c08a10602010102012d",
-        "begin_with_request",
-    ),
-    (
-        "658200414882000102498101016b812d28812a060700118605010101a082001d61811aa109060704000001\
-         001302a203020100a38107a18104028101006c8105a203020101",
-        "continue_with_response",
-    ),
-    ("67830000074901024a810101", "abort_with_cause_1"),
-    ("648400000003490102", "end_alone"),
-    (
-        "61840000000a6c08a106020101020130",
-        "unidirectional_with_invoke",
-    ),
-];
 
 #[test]
 fn respelled_as_vectors(rt: HostRuntime) -> Result<(), Fail> {
-    for (digits, name) in RESPELLED {
-        let octets = octets_of(rt.alloc(), digits)?;
-        let wanted = vector(rt.alloc(), name)?;
-        let short = wanted.len();
-        assert_eq!(rt;
-            lens(rt.alloc(), &octets)?,
-            (octets.len(), Some(short)),
-            "{name}"
-        );
-        assert_eq!(rt; encoded_again(rt.alloc(), &octets)?, wanted, "{name}");
-    }
-    Ok(())
-}
-
-/// What is written of the message that a view of the octets lends.
-fn view_written(alloc: Global, octets: &[u8]) -> Result<Vec<u8>, Fail> {
-    let (lent, _) = view(octets).ok().ok_or("a message")?;
-    written(alloc, &lent.to_message(alloc)?)
-}
-
-/// What is written of a message that is lent by a message and made a value again.
-fn lent_written(alloc: Global, octets: &[u8]) -> Result<Vec<u8>, Fail> {
-    let (message, _) = decode(alloc, octets).ok().ok_or("a message")?;
-    written(alloc, &message.view().to_message(alloc)?)
-}
-
-#[test]
-fn made_of_views(rt: HostRuntime) -> Result<(), Fail> {
-    for (name, digits, _) in VECTORS {
-        let octets = octets_of(rt.alloc(), digits)?;
-        let wanted = respelled(rt.alloc(), name, &octets)?;
-        assert_eq!(rt; view_written(rt.alloc(), &octets)?, wanted, "{name}");
-        assert_eq!(rt; lent_written(rt.alloc(), &octets)?, wanted, "{name}");
-    }
+    assert_eq!(rt; each_row::<Respelled>(rt.alloc(), RESPELLED)?, 5);
     Ok(())
 }
 
 #[test]
-fn cut_after_each_count(rt: HostRuntime) -> Result<(), Fail> {
-    for (name, digits, _) in VECTORS {
-        let octets = octets_of(rt.alloc(), digits)?;
-        for count in 0..octets.len() {
-            let wanted = Some((1, count as u64));
-            let cut = &octets[..count];
-            assert_eq!(rt; refusal(rt.alloc(), cut), wanted, "{name} {count}");
-            assert_eq!(rt; view_refusal(cut), wanted, "{name} {count}");
-        }
-    }
-    Ok(())
-}
-
-/// What a writer took that fails at this count of octets, and whether `encode` answers that it failed.
-fn cut_writing(alloc: Global, octets: &[u8], count: usize) -> Result<(Vec<u8>, bool), Fail> {
-    let mut writer = Failing::new(Vec::new(alloc), count);
-    let (message, _) = decode(alloc, octets).ok().ok_or("a message")?;
-    let has_failed = encode(&message, &mut writer) == Err(EncodeFault::Write);
-    Ok((writer.into_inner(), has_failed))
-}
-
-#[test]
-fn failing_writer(rt: HostRuntime) -> Result<(), Fail> {
-    for (name, digits, _) in VECTORS {
-        let octets = octets_of(rt.alloc(), digits)?;
-        let wanted = respelled(rt.alloc(), name, &octets)?;
-        for count in 0..wanted.len() {
-            let (taken, has_failed) = cut_writing(rt.alloc(), &octets, count)?;
-            assert!(rt; has_failed, "{name} {count}");
-            assert_eq!(rt; taken.as_slice(), &wanted[..count], "{name} {count}");
-        }
-    }
+fn each_octet_set_to_each_value(rt: HostRuntime) -> Result<(), Fail> {
+    assert_eq!(rt; each_row::<Edited>(rt.alloc(), EDITED)?, 4);
     Ok(())
 }
 
@@ -181,58 +172,22 @@ fn failing_writer(rt: HostRuntime) -> Result<(), Fail> {
 fn one_record(rt: HostRuntime) -> Result<(), Fail> {
     let mut record = Vec::new(rt.alloc());
     let mut wanted = String::new(rt.alloc());
-    for (at, (_, digits, lines)) in VECTORS.iter().enumerate() {
-        let (octet, end) = if at % 2 == 0 {
+    let mut count = 0_usize;
+    for row in VECTORS.lines().filter(|row| !row.is_empty()) {
+        let (octet, end) = if count % 2 == 0 {
             (0x41, "A")
         } else {
             (0x42, "B")
         };
         record.push(octet)?;
+        let digits = row.split(';').nth(1).ok_or("digits")?;
         record.extend_from_slice(&octets_of(rt.alloc(), digits)?)?;
-        let rest = lines.strip_prefix("0 A").ok_or("the first line")?;
-        wanted.push_str(&format!(in rt.alloc(); "{at} {end}{rest}")?)?;
+        let lines = text_of(rt.alloc(), row.split(';').nth(3).ok_or("lines")?)?;
+        let rest = lines.as_str().strip_prefix("0 A").ok_or("the first line")?;
+        wanted.push_str(&format!(in rt.alloc(); "{count} {end}{rest}")?)?;
+        count = count.saturating_add(1);
     }
     let (printed, status) = shown(rt.alloc(), &record)?;
-    assert_eq!(rt; printed.as_slice(), wanted.as_bytes());
-    assert_eq!(rt; status, 0);
-    Ok(())
-}
-
-/// Messages of which each octet is set to each value: with a dialogue request, its protocol version left out, with a
-/// dialogue response, and with a dialogue abort and user information.
-const EDITED: [&str; 4] = [
-    "622d4801016b1e281c060700118605010101a011600f80020780a1090607040000010013026c08a10602010102012d",
-    "62294801016b1a2818060700118605010101a00d600ba1090607040000010013026c08a10602010102012d",
-    "65394801024901016b2a2828060700118605010101a01d611b80020780a109060704000001001302a203020100\
-     a305a1030201006c05a203020101",
-    "671b4901026b162814060700118605010101a0096407800100be022800",
-];
-
-/// Whether what is written of the message, written again, and its lines are the same.
-fn is_same_again(alloc: Global, octets: &[u8]) -> Result<bool, Fail> {
-    let once = encoded_again(alloc, octets)?;
-    let twice = encoded_again(alloc, &once)?;
-    Ok(once == twice && lines_of(alloc, octets)? == lines_of(alloc, &once)?)
-}
-
-#[test]
-fn each_octet_set_to_each_value(rt: HostRuntime) -> Result<(), Fail> {
-    for digits in EDITED {
-        let octets = octets_of(rt.alloc(), digits)?;
-        for place in 0..octets.len() {
-            for value in 0..=255_u8 {
-                let mut message = edited(rt.alloc(), &octets, place, value)?;
-                let refused = refusal(rt.alloc(), &message);
-                assert_eq!(rt; view_refusal(&message), refused, "{digits} {place} {value}");
-                if let Some(len) = view_len(&message) {
-                    message.truncate(len);
-                    assert!(rt;
-                        is_same_again(rt.alloc(), &message)?,
-                        "{digits} {place} {value}"
-                    );
-                }
-            }
-        }
-    }
+    assert!(rt; count == 25 && printed.as_slice() == wanted.as_bytes() && status == 0);
     Ok(())
 }

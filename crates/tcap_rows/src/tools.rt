@@ -4,7 +4,7 @@ use std::alloc::Global;
 use std::test::Fail;
 use tcap_ber::Counted;
 use tcap_judge::run_show;
-use tcap_msg_rows::octets_of;
+use tcap_msg_rows::{is_refused, octets_of};
 
 /// What is printed of a record, and the status.
 pub(crate) fn shown(alloc: Global, record: &[u8]) -> Result<(Vec<u8>, u8), Fail> {
@@ -36,4 +36,29 @@ pub(crate) fn nested(
         octets.extend_from_slice(&[0, 0])?;
     }
     Ok(octets)
+}
+
+/// The octets, behind them so many zero octets, and then the others.
+pub(crate) fn padded(
+    alloc: Global,
+    front: &str,
+    zeros: usize,
+    behind: &str,
+) -> Result<Vec<u8>, Fail> {
+    let mut octets = octets_of(alloc, front)?;
+    let len = octets.len().checked_add(zeros).ok_or("a count")?;
+    octets.resize(len, 0)?;
+    octets.extend_from_slice(&octets_of(alloc, behind)?)?;
+    Ok(octets)
+}
+
+/// Whether each cut of the octets is refused as cut, at the count of its octets.
+pub(crate) fn is_cut_at_each(alloc: Global, octets: &[u8]) -> Result<bool, Fail> {
+    for count in 0..octets.len() {
+        let cut = octets.get(..count).ok_or("a cut")?;
+        if !is_refused(alloc, cut, Some((1, count as u64)))? {
+            return Ok(false);
+        }
+    }
+    Ok(true)
 }

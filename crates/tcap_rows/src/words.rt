@@ -3,98 +3,73 @@
 use std::alloc::Global;
 use std::test::Fail;
 use tcap_judge::{Request, request};
+use tcap_msg_rows::{Row, each_row};
 
-/// Whether the words are wrong, and the text says so.
-fn is_wrong<'a>(alloc: Global, words: &'a [&'a str], text: &str) -> Result<bool, Fail> {
+/// The columns: what the words ask for, or `wrong` or `help`; the file that is named, an equals sign in front of it, a dash for none,
+/// or what the text has to contain; and the words, each behind a comma.
+const WORDS: &str = "
+show;-;,tcapjudge,show
+show;=x;,tcapjudge,show,x
+show;=;,tcapjudge,show,
+show;=pack;,tcapjudge,show,pack
+show;=help;,tcapjudge,show,help
+show;=-x;,tcapjudge,show,--,-x
+pack;-;,tcapjudge,pack
+pack;=x;,tcapjudge,pack,x
+pack;=show;,tcapjudge,pack,show
+pack;=-x;,tcapjudge,pack,--,-x
+wrong;requires a subcommand;
+wrong;requires a subcommand;,tcapjudge
+wrong;unrecognized subcommand 'shew';,tcapjudge,shew
+wrong;unexpected argument 'y';,tcapjudge,show,x,y
+wrong;unexpected argument 'y';,tcapjudge,pack,x,y
+wrong;unexpected argument '-x';,tcapjudge,show,-x
+wrong;unrecognized subcommand 'x';,tcapjudge,x
+help;Usage: tcapjudge;,tcapjudge,--help
+help;Usage: tcapjudge;,tcapjudge,-h
+help;Usage: tcapjudge;,tcapjudge,help
+help;Usage: tcapjudge;,tcapjudge,show,--help
+help;Usage: tcapjudge;,tcapjudge,show,x,-h
+help;Usage: tcapjudge;,tcapjudge,pack,--help
+help;Usage: tcapjudge;,tcapjudge,help,show
+help;Usage: tcapjudge;,tcapjudge,help,pack
+";
+
+/// Whether the request, or the fault, is the wanted one.
+fn is_answered<'a>(
+    alloc: Global,
+    words: &'a [&'a str],
+    kind: &str,
+    wanted: &str,
+) -> Result<bool, Fail> {
     match request(alloc, words) {
-        Ok(_) => Ok(false),
+        Ok(Request::Show(file)) => Ok(kind == "show" && file == wanted.strip_prefix("=")),
+        Ok(Request::Pack(file)) => Ok(kind == "pack" && file == wanted.strip_prefix("=")),
         Err(fault) => {
             let said = format!(in alloc; "{fault}")?;
-            Ok(!fault.is_help() && said.as_str().contains(text))
+            let is_kind = kind == if fault.is_help() { "help" } else { "wrong" };
+            Ok(is_kind && said.as_str().contains(wanted))
         }
     }
 }
 
-/// Whether the words ask for help, and the text is some.
-fn is_help<'a>(alloc: Global, words: &'a [&'a str]) -> Result<bool, Fail> {
-    match request(alloc, words) {
-        Ok(_) => Ok(false),
-        Err(fault) => {
-            let said = format!(in alloc; "{fault}")?;
-            Ok(fault.is_help() && said.as_str().contains("Usage: tcapjudge"))
+struct WordsRow;
+
+impl Row for WordsRow {
+    fn holds(alloc: Global, columns: &[&str]) -> Result<bool, Fail> {
+        let [kind, wanted, listed] = columns else {
+            return Err(Fail::from("three columns"));
+        };
+        let mut words = Vec::new(alloc);
+        for word in listed.split(',').skip(1) {
+            words.push(word)?;
         }
+        is_answered(alloc, &words, kind, wanted)
     }
 }
 
 #[test]
-fn shows(rt: HostRuntime) -> Result<(), Fail> {
-    let alloc = rt.alloc();
-    assert!(rt; request(alloc, &["tcapjudge", "show"])? == Request::Show(None));
-    assert!(rt; request(alloc, &["tcapjudge", "show", "x"])? == Request::Show(Some("x")));
-    assert!(rt; request(alloc, &["tcapjudge", "show", ""])? == Request::Show(Some("")));
-    assert!(rt; request(alloc, &["tcapjudge", "show", "pack"])? == Request::Show(Some("pack")));
-    assert!(rt; request(alloc, &["tcapjudge", "show", "help"])? == Request::Show(Some("help")));
-    assert!(rt; request(alloc, &["tcapjudge", "show", "--", "-x"])? == Request::Show(Some("-x")));
-    Ok(())
-}
-
-#[test]
-fn packs(rt: HostRuntime) -> Result<(), Fail> {
-    let alloc = rt.alloc();
-    assert!(rt; request(alloc, &["tcapjudge", "pack"])? == Request::Pack(None));
-    assert!(rt; request(alloc, &["tcapjudge", "pack", "x"])? == Request::Pack(Some("x")));
-    assert!(rt; request(alloc, &["tcapjudge", "pack", "show"])? == Request::Pack(Some("show")));
-    assert!(rt; request(alloc, &["tcapjudge", "pack", "--", "-x"])? == Request::Pack(Some("-x")));
-    Ok(())
-}
-
-#[test]
-fn refuses_wrong_words(rt: HostRuntime) -> Result<(), Fail> {
-    let alloc = rt.alloc();
-    assert!(rt; is_wrong(alloc, &[], "requires a subcommand")?);
-    assert!(rt; is_wrong(alloc, &["tcapjudge"], "requires a subcommand")?);
-    assert!(rt;
-        is_wrong(
-            alloc,
-            &["tcapjudge", "shew"],
-            "unrecognized subcommand 'shew'"
-        )?
-    );
-    assert!(rt;
-        is_wrong(
-            alloc,
-            &["tcapjudge", "show", "x", "y"],
-            "unexpected argument 'y'"
-        )?
-    );
-    assert!(rt;
-        is_wrong(
-            alloc,
-            &["tcapjudge", "pack", "x", "y"],
-            "unexpected argument 'y'"
-        )?
-    );
-    assert!(rt;
-        is_wrong(
-            alloc,
-            &["tcapjudge", "show", "-x"],
-            "unexpected argument '-x'"
-        )?
-    );
-    assert!(rt; is_wrong(alloc, &["tcapjudge", "x"], "unrecognized subcommand 'x'")?);
-    Ok(())
-}
-
-#[test]
-fn gives_help(rt: HostRuntime) -> Result<(), Fail> {
-    let alloc = rt.alloc();
-    assert!(rt; is_help(alloc, &["tcapjudge", "--help"])?);
-    assert!(rt; is_help(alloc, &["tcapjudge", "-h"])?);
-    assert!(rt; is_help(alloc, &["tcapjudge", "help"])?);
-    assert!(rt; is_help(alloc, &["tcapjudge", "show", "--help"])?);
-    assert!(rt; is_help(alloc, &["tcapjudge", "show", "x", "-h"])?);
-    assert!(rt; is_help(alloc, &["tcapjudge", "pack", "--help"])?);
-    assert!(rt; is_help(alloc, &["tcapjudge", "help", "show"])?);
-    assert!(rt; is_help(alloc, &["tcapjudge", "help", "pack"])?);
+fn words(rt: HostRuntime) -> Result<(), Fail> {
+    assert_eq!(rt; each_row::<WordsRow>(rt.alloc(), WORDS)?, 25);
     Ok(())
 }
