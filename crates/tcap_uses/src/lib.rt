@@ -1,0 +1,19 @@
+//! A use of each library, as the page of that library shows it. What each function says is proved from what the
+//! library's public calls promise.
+#![tactic(auto)]
+
+mod ber;
+mod check;
+mod end;
+mod judge;
+mod msg;
+mod parts;
+mod record;
+
+pub use ber::integer_content;
+pub use check::all_taken;
+pub use end::first_sent;
+pub use judge::shown;
+pub use msg::read_again;
+pub use parts::first_component;
+pub use record::entries_of;

@@ -1,0 +1,34 @@
+"""Shows that the example of each library's page is the one that is proved: the block of code in crates/tcap_NAME/README.md is,
+word for word, the file crates/tcap_uses/src/NAME.rt without its `ghost use` lines, which import the words of the clauses."""
+
+import re
+import sys
+
+LIBRARIES = ["ber", "parts", "msg", "record", "end", "check", "judge"]
+BLOCK = re.compile(r"^```rust\n(.*?)^```$", re.DOTALL | re.MULTILINE)
+
+
+def text_of(path):
+    """The text of a file, nothing where there is none."""
+    try:
+        with open(path, encoding="utf-8") as file:
+            return file.read()
+    except OSError:
+        return ""
+
+
+def shown(source):
+    """What a page shows of a file of uses."""
+    lines = source.splitlines(keepends=True)
+    return "".join(line for line in lines if not line.startswith("ghost use ")).lstrip("\n")
+
+
+failed = []
+for name in LIBRARIES:
+    page, file = f"crates/tcap_{name}/README.md", f"crates/tcap_uses/src/{name}.rt"
+    source = text_of(file)
+    if not source or BLOCK.findall(text_of(page)) != [shown(source)]:
+        failed.append(name)
+        print(f"{page} does not show {file}", file=sys.stderr)
+print(f"{len(LIBRARIES) - len(failed)} passed, {len(failed)} failed")
+sys.exit(bool(failed))
