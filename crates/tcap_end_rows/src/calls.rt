@@ -3,7 +3,7 @@
 use crate::lists::{MESSAGES, table_named};
 use std::alloc::Global;
 use tcap_end::{EndFault, EndState, HalfName, Table};
-use tcap_msg::{MessageParts, TransactionId, decode, view};
+use tcap_msg::{Message, MessageParts, TransactionId, decode, view};
 use tcap_msg_rows::vector;
 
 /// What came of a list of calls: how many there are, how often memory ran out, and the first call whose answer is not the one wanted
@@ -85,18 +85,52 @@ fn told_by_name(
     answered
 }
 
-/// What `refuse_begin` or `refuse_continue` answers of two messages.
-fn refused<M: MessageParts>(
+/// What `refuse_begin` or `refuse_continue` answers of views of the octets of two messages.
+fn refused_views(
     end: &EndState,
-    message: &M,
-    abort: &M,
+    octets: &[u8],
+    abort: &[u8],
     is_begin: bool,
-) -> Result<(), EndFault> {
-    if is_begin {
-        end.refuse_begin(message, abort)
+) -> Option<Result<(), EndFault>> {
+    let (message, _) = view(octets).ok()?;
+    let (abort, _) = view(abort).ok()?;
+    Some(if is_begin {
+        end.refuse_begin(&message, &abort)
     } else {
-        end.refuse_continue(message, abort)
-    }
+        end.refuse_continue(&message, &abort)
+    })
+}
+
+/// The same of a message, and of the one that an Abort's octets are.
+fn refused_value(
+    alloc: Global,
+    end: &EndState,
+    message: &Message,
+    abort: &[u8],
+    is_begin: bool,
+) -> Option<Result<(), EndFault>> {
+    let (abort, _) = decode(alloc, abort).ok()?;
+    let answered = if is_begin {
+        end.refuse_begin(message, &abort)
+    } else {
+        end.refuse_continue(message, &abort)
+    };
+    drop(abort);
+    Some(answered)
+}
+
+/// The same of the messages that the octets of both are.
+fn refused_values(
+    alloc: Global,
+    end: &EndState,
+    octets: &[u8],
+    abort: &[u8],
+    is_begin: bool,
+) -> Option<Result<(), EndFault>> {
+    let (message, _) = decode(alloc, octets).ok()?;
+    let answered = refused_value(alloc, end, &message, abort, is_begin);
+    drop(message);
+    answered
 }
 
 /// The same of the messages of those names, as values of their own or as views of their octets.
@@ -107,24 +141,12 @@ fn refused_by_name(
     is_begin: bool,
     as_value: bool,
 ) -> Option<Result<(), EndFault>> {
-    let (octets, abort) = (octets_named(alloc, names.0)?, octets_named(alloc, names.1)?);
-    if !as_value {
-        let (message, _) = view(&octets).ok()?;
-        let (abort, _) = view(&abort).ok()?;
-        return Some(refused(end, &message, &abort, is_begin));
-    }
-    let (message, _) = decode(alloc, &octets).ok()?;
-    match decode(alloc, &abort).ok() {
-        Some((abort, _)) => {
-            let answered = refused(end, &message, &abort, is_begin);
-            drop(message);
-            drop(abort);
-            Some(answered)
-        }
-        None => {
-            drop(message);
-            None
-        }
+    let octets = octets_named(alloc, names.0)?;
+    let abort = octets_named(alloc, names.1)?;
+    if as_value {
+        refused_values(alloc, end, &octets, &abort, is_begin)
+    } else {
+        refused_views(end, &octets, &abort, is_begin)
     }
 }
 
