@@ -14,10 +14,10 @@ use Rattle.tcap_record.specs.declared.entry.End.TheVariants.{A, B}
 use Rattle.tcap_end.specs.Table.{Table}
 use Rattle.tcap_end.specs.End.{End}
 use Rattle.tcap_check.specs.World.{Item, OnItsWay, Sent, World, channel_from, empty, is_side, other, with_channel, with_end}
-use Rattle.tcap_check.specs.Run.{Event, Sends, Receives, Replies, Loses, Expires, Closes, Quiet, Runs, after, joined, numbers_of, numbers_sent, numbers_taken, takes_from}
+use Rattle.tcap_check.specs.Run.{Event, Sends, Receives, Replies, Loses, Expires, Closes, Quiet, Tells, Runs, after, joined, numbers_of, numbers_sent, numbers_taken, takes_from}
 use Rattle.tcap_check.specs.Since.{WasSent}
 use Rattle.tcap_check.proofs.ListLaws.{all_both, all_weaker}
-use Rattle.tcap_check.proofs.RunLaws.{IsQuiet, closing, delivery, expiry, loss, quiet, reply, runs_keep, sending}
+use Rattle.tcap_check.proofs.RunLaws.{IsQuiet, closing, delivery, expiry, loss, quiet, reply, runs_keep, sending, telling}
 use Rattle.tcap_check.proofs.SinceLaws.{drop_more, no_quiet}
 
 -- ---- the sent list
@@ -86,7 +86,7 @@ get_more (first ∷ items) item found zero is = is
 get_more (first ∷ items) item found (suc n) is = get_more items item found n is
 
 -- and the new one behind them.
-get_new : (items : List Item) (item : Item) → slice_get (items ++ item ∷ []) (length items) ≡ Some item
+pub get_new : (items : List Item) (item : Item) → slice_get (items ++ item ∷ []) (length items) ≡ Some item
 get_new [] item = refl
 get_new (first ∷ items) item = get_new items item
 
@@ -237,6 +237,13 @@ quiet_passes side w next is = record {
     empty_at A = (is.from_a, rw is.next_is refl)
     empty_at B = (is.from_b, rw is.next_is refl)
 
+-- An end's channel gets the message that it tells.
+tells_passes : (side sender : Side) (m : Message) (w : World) → Passes (Tells sender m) side w (joined sender m w)
+tells_passes A A m w = gets m refl refl refl
+tells_passes A B m w = stays refl refl (inr (B, m, refl, refl))
+tells_passes B A m w = stays refl refl (inr (A, m, refl, refl))
+tells_passes B B m w = gets m refl refl refl
+
 -- What each step does to each channel.
 passes : (table : Table) (event : Event) (w next : World) → after table event w ≡ Some next → (side : Side) → Passes event side w next
 passes table (Sends sender m) w next is side =
@@ -253,6 +260,7 @@ passes table (Expires place name id) w next is side =
     let h = expiry table place name id w next is in rw (h.next_is) (hidden_passes side place (Expires place name id) w h.made refl)
 passes table (Closes place name) w next is side =
     let h = closing table place name w next is in rw (h.next_is) (hidden_passes side place (Closes place name) w h.made refl)
+passes table (Tells sender m) w next is side = rw ((telling table sender m w next is).next_is) (tells_passes side sender m w)
 passes table Quiet w next is side = quiet_passes side w next (quiet table w next is)
 
 -- ---- what was taken from a channel, and what is on it

@@ -16,3 +16,10 @@ pub mod NotDescribed
 pub mod ReplayLaws
 pub mod ReplayGaps
 pub mod ReplayEntries
+pub mod ImpliedLaws
+pub mod DescribedLaws
+pub mod GivenBound
+pub mod GivenRuns
+pub mod DescribedRuns
+pub mod AtOnceLaws
+pub mod ReasonLaws

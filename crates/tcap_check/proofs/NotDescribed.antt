@@ -8,7 +8,7 @@ use Rattle.tcap_msg.specs.declared.message.Message.TheVariants.{Begin}
 use Rattle.tcap_record.specs.declared.entry.End.TheVariants.{A, B}
 use Rattle.tcap_end.specs.declared.half.HalfName.TheVariants.{Own}
 use Rattle.tcap_check.specs.World.{Sent}
-use Rattle.tcap_check.specs.Run.{Event, Sends, Receives, Replies, Loses, Expires, Closes, Quiet}
+use Rattle.tcap_check.specs.Run.{Event, Sends, Receives, Replies, Loses, Expires, Closes, Quiet, Tells}
 use Rattle.tcap_check.specs.Follows.{Follows, IsImplied}
 use Rattle.tcap_check.specs.Refused as refused
 use Rattle.tcap_check.specs.Refused.{IsNotDescribed}
@@ -71,6 +71,7 @@ at_first [] (Replies side n ∷ implied) rest more sends here_is all is = cc
 at_first [] (Loses side n ∷ implied) rest more sends here_is all is = cc
 at_first [] (Closes side n ∷ implied) rest more sends here_is all is = cc
 at_first [] (Quiet ∷ implied) rest more sends here_is all is = cc
+at_first [] (Tells side n ∷ implied) rest more sends here_is all is = cc
 
 -- In the second, behind the delivery, the next Begin implies no expiry in the half of the first.
 not_implied : (here implied rest more : List Event) (sends : Event) → map Some here ≡ Some (Receives B 0) ∷ []
@@ -86,6 +87,7 @@ not_implied (x ∷ []) (Replies side n ∷ implied) rest more sends here_is all 
 not_implied (x ∷ []) (Loses side n ∷ implied) rest more sends here_is all sends_is is = cc
 not_implied (x ∷ []) (Closes side n ∷ implied) rest more sends here_is all sends_is is = cc
 not_implied (x ∷ []) (Quiet ∷ implied) rest more sends here_is all sends_is is = cc
+not_implied (x ∷ []) (Tells side n ∷ implied) rest more sends here_is all sends_is is = cc
 
 pub expiry_not_listed : IsNotDescribed refused.expiry_not_listed
 expiry_not_listed = ((_, refl, refl), by)

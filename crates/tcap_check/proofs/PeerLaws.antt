@@ -55,12 +55,12 @@ peer_or_bare h half = by h.phase refl half.phase
 -- ---- one half
 
 -- What came from the peer did so still, where the half keeps its peer's ID.
-still_came : (w next : World) (side : Side) (f g : KeptHalf) (component : Component) → SentMore w next → f.half.peer ≡ g.half.peer
+still_came : {event : Event} → (w next : World) (side : Side) (f g : KeptHalf) (component : Component) → SentMore event w next → f.half.peer ≡ g.half.peer
     → CameFromPeer w side f component → CameFromPeer next side g component
 still_came w next side f g component sent same (m, since, from, has) = (m, sent.keeps (other side) m since, from ∙ same, has)
 
 -- What comes now comes from the peer.
-now_came : (w next : World) (side : Side) (g : KeptHalf) (came : Option Message) (component : Component) → SentMore w next
+now_came : {event : Event} → (w next : World) (side : Side) (g : KeptHalf) (came : Option Message) (component : Component) → SentMore event w next
     → CameSince w side came → HasCome came component → IsFrom came g.half.peer → CameFromPeer next side g component
 now_came w next side g None component sent since has from = absurd has
 now_came w next side g (Some m) component sent since has from = (m, sent.keeps (other side) m since, from, has)
@@ -74,8 +74,8 @@ abbrev IsAnswered : World → Side → ℤ → KeptHalf → Answer → Type 0
 IsAnswered w side id f answer = (component : Component) × IsAnswer answer id component × CameFromPeer w side f component
 
 -- A half that was there, or is new, and what a step makes of it.
-module _ (w next : World) (side : Side) (g : KeptHalf) (h : Half) (came : Option Message) (since : CameSince w side came)
-    (sent : SentMore w next) (turns : Turns came h g.half) (known : HasPeer h ⊎ IsBare h) where
+module _ {event : Event} (w next : World) (side : Side) (g : KeptHalf) (h : Half) (came : Option Message) (since : CameSince w side came)
+    (sent : SentMore event w next) (turns : Turns came h g.half) (known : HasPeer h ⊎ IsBare h) where
   abbrev was : KeptHalf
   was = record g { half = h }
 
@@ -146,8 +146,8 @@ abbrev AllKnow : World → Type 0
 AllKnow w = (side : Side) (f : KeptHalf) → Has (end_at side w) f → Knows w side f
 
 -- A step keeps it,
-keeps_known : (w next : World) → ((side : Side) → IsEnd (end_at side w)) → Advances w next → AllKnow w → AllKnow next
-keeps_known w next sound advances held side g had = by (moves.moves.back g had)
+keeps_known : (event : Event) (w next : World) → ((side : Side) → IsEnd (end_at side w)) → Advances event w next → AllKnow w → AllKnow next
+keeps_known event w next sound advances held side g had = by (moves.moves.back g had)
   where
     moves : EndMoves side w next
     moves = advances.ends side
@@ -163,7 +163,8 @@ keeps_known w next sound advances held side g had = by (moves.moves.back g had)
 
 -- so it holds behind each run.
 all_know : (table : Table) (events : List Event) (w : World) → Runs table events w → AllKnow w
-all_know table = worlds_keep table AllKnow (λ w none side f had. absurd (none.halves side f had)) keeps_known
+all_know table = worlds_keep table (λ events w. AllKnow w) (λ events w none side f had. absurd (none.halves side f had))
+    (λ before. keeps_known)
 
 -- What a half knows of its peer, in each run.
 pub knows : (table : Table) (events : List Event) (w : World) (side : Side) (f : KeptHalf) → Runs table events w → Has (end_at side w) f

@@ -8,8 +8,10 @@ use Rattle.tcap_msg.specs.declared.message.Message.TheVariants.{Unidirectional, 
 use Rattle.tcap_record.specs.declared.entry.End.{End as Side}
 use Rattle.tcap_record.specs.declared.entry.End.TheVariants as sides
 use Rattle.tcap_check.specs.World.{Item, Sent, other}
-use Rattle.tcap_check.specs.Run.{Event, Sends, Receives, Replies, Loses, Expires, Closes, Quiet, where_so}
-use Rattle.tcap_check.specs.Certificate.{By, Certificate, Fate, Gap, IsPrompt, Lost, prompt_from}
+use Rattle.tcap_check.specs.Run.{Event, Sends, Receives, Replies, Loses, Expires, Closes, Quiet, Tells, where_so}
+use Rattle.tcap_check.specs.declared.certificate.Fate.{Fate}
+use Rattle.tcap_check.specs.declared.certificate.Fate.TheVariants.{Gap, Lost, By}
+use Rattle.tcap_check.specs.Certificate.{Certificate, IsPrompt, prompt_from}
 use Rattle.tcap_check.specs.Follows.{Follows, FollowsFrom, IsImplied, IsPlain, deliveries, gap_events, losses_from, lost_from, sending, taken_by, without_losses}
 use Rattle.tcap_check.proofs.ListLaws.{all_both}
 
@@ -82,6 +84,7 @@ implied_plain item (event ∷ events) all = (by item event all.0, implied_plain 
     by (Sent side message) (Loses other number) is = absurd is
     by (Sent side message) (Closes other name) is = absurd is
     by (Sent side message) Quiet is = absurd is
+    by (Sent side message) (Tells other m) is = absurd is
     by Item.Quiet event is = absurd is
 
 -- So is a send.
@@ -125,6 +128,7 @@ no_losses (Receives side number ∷ events) from_a from_b plain = (plain.0, no_l
 no_losses (Replies side number ∷ events) from_a from_b plain = absurd plain.0
 no_losses (Expires side name id ∷ events) from_a from_b plain = (plain.0, no_losses events from_a from_b plain.1)
 no_losses (Closes side name ∷ events) from_a from_b plain = absurd plain.0
+no_losses (Tells side m ∷ events) from_a from_b plain = absurd plain.0
 no_losses (Quiet ∷ events) from_a from_b plain = (plain.0, no_losses events from_a from_b plain.1)
 
 -- ---- runs

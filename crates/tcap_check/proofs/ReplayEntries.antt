@@ -1,19 +1,21 @@
 -- Entries that are replayed, one after the other, follow the certificate but for losses.
 use Rattle.std.proofs.Common.{◌≡◌, ℕ, ◌+◌, ◌==◌, true, List, [], ◌∷◌, ◌++◌, map, length, Some, Result, Ok, Err, refl, sym, ap, ap₂, subst, ◌∙◌, append_assoc, append-nil}
-use Rattle.std.specs.Prelude.{ok_or, slice_get}
+use Rattle.std.specs.Prelude.{not, ok_or, slice_get}
 use Rattle.std.proofs.lemmas.Bool.{eqb-true}
 use Rattle.std.proofs.lemmas.List.{length-append}
-use Rattle.tcap_ber.specs.declared.fault.Fault.{Fault}
 use Rattle.tcap_msg.specs.declared.message.Message.{Message}
 use Rattle.tcap_record.specs.declared.entry.End.{End as Side}
-use Rattle.tcap_record.specs.declared.entry.Entry.{Entry}
 use Rattle.tcap_end.specs.Table.{Table}
 use Rattle.tcap_end.proofs.AnsweringLaws.{needs_ok, some_ok, then_ok}
 use Rattle.tcap_check.specs.World.{Item, Sent}
 use Rattle.tcap_check.specs.Run.{Event, Quiet, after}
-use Rattle.tcap_check.specs.Certificate.{Certificate, Fate, Gap, Lost, By}
+use Rattle.tcap_check.specs.declared.certificate.Fate.{Fate}
+use Rattle.tcap_check.specs.declared.certificate.Fate.TheVariants.{Gap, Lost, By}
+use Rattle.tcap_check.specs.Certificate.{Certificate}
 use Rattle.tcap_check.specs.Follows.{FatesFit, FollowsFrom, gap_events, quiet_by, sending, sending_by, taken_by, without_losses}
-use Rattle.tcap_check.specs.Replayed.{FateCount, FateRange, NotQuiet, OutOfOrder, Replay, entries_replayed, entry_replayed, fault_at, gap_replayed, happens, is_gap, is_in_order, is_nothing, item_of, item_replayed, lost_from_both, quiet_replayed, next_entry, sent_replayed, stepped}
+use Rattle.tcap_check.specs.declared.fault.Reason.{Reason}
+use Rattle.tcap_check.specs.declared.fault.Reason.TheVariants.{FateCount, FateRange, NotQuiet, OutOfOrder}
+use Rattle.tcap_check.specs.Replayed.{Replay, entries_replayed, entry_replayed, fault_at, gap_replayed, happens, is_gap, is_nothing, is_overtaking, item_replayed, lost_from_both, quiet_replayed, next_entry, sent_replayed, stepped}
 use Rattle.tcap_check.proofs.RunLaws.{grows, map_some}
 use Rattle.tcap_check.proofs.ReplayLaws.{Extends, IsSentBy, Replays, both_replay, extends_then, gap_replays, message_replays, replays_then, stepped_replays, without_both}
 use Rattle.tcap_check.proofs.ReplayGaps.{gap_events_before}
@@ -76,7 +78,7 @@ quiet_replays table c fate r next has is =
 sent_replays : (table : Table) (c : Certificate) (fate : Fate) (side : Side) (message : Message) (r next : Replay)
     → sent_replayed table c fate side message r ≡ Ok next → IsReplayedBy table c (Sent side message) r next
 sent_replays table c fate side message r next is =
-    let so = needs_ok (is_in_order c side fate r.world.sent) (fault_at OutOfOrder (next_entry r)) _ next is in
+    let so = needs_ok (not (is_overtaking side fate c.fates r.world.sent)) (fault_at OutOfOrder (next_entry r)) _ next is in
     let gap = then_ok (gap_replayed table c r) _ next so.1 in
     let here = gap_replays table c r gap.0 gap.1 in
     record { here = here.0; mid = gap.0; here_is = here.1; gap = here.2; sent = message_replays table c side message gap.0 next gap.2 }
@@ -88,13 +90,13 @@ item_replays table c fate Item.Quiet r next has is = quiet_replays table c fate 
 
 -- ---- entries
 
-abbrev ok_item : Item → Result Item Fault
+abbrev ok_item : Item → Result Item Reason
 ok_item item = Ok item
 
 -- Entries that were replayed are these items, and the steps follow the certificate but for losses.
-pub record AreReplayed (table : Table) (c : Certificate) (entries : List Entry) (r next : Replay) : Type 0 where
+pub record AreReplayed (table : Table) (c : Certificate) (entries : List (Result Item Reason)) (r next : Replay) : Type 0 where
   pub items : List Item
-  pub are : map ok_item items ≡ map item_of entries
+  pub are : map ok_item items ≡ entries
   pub steps : List Event
   pub extends : Extends table r steps next
   pub sent : next.world.sent ≡ r.world.sent ++ items
@@ -105,8 +107,8 @@ in_turn : (here implied : List Event) (sends : Event) (rest : List Event) → he
 in_turn here implied sends rest =
     ap (λ (x : List Event). x ++ rest) (sym (append_assoc here implied (sends ∷ []))) ∙ append_assoc (here ++ implied) (sends ∷ []) rest
 
-one_entry : (table : Table) (c : Certificate) (entry : Entry) (entries : List Entry) (item : Item) (r mid next : Replay) (count : ℕ) → FatesFit count 0 c.fates
-    → ok_item item ≡ item_of entry → IsReplayedBy table c item r mid → AreReplayed table c entries mid next → AreReplayed table c (entry ∷ entries) r next
+one_entry : (table : Table) (c : Certificate) (entry : Result Item Reason) (entries : List (Result Item Reason)) (item : Item) (r mid next : Replay) (count : ℕ) → FatesFit count 0 c.fates
+    → ok_item item ≡ entry → IsReplayedBy table c item r mid → AreReplayed table c entries mid next → AreReplayed table c (entry ∷ entries) r next
 one_entry table c entry entries item r mid next count fit is one rest =
     let before = r.world.sent in
     let more = rest.items in
@@ -121,7 +123,7 @@ one_entry table c entry entries item r mid next count fit is one rest =
     (subst (λ (x : List Item). FollowsFrom c x (next_entry mid) more (without_losses rest.steps)) joined rest.follows) in
     record {
       items = all;
-      are = ap₂ (λ (x : Result Item Fault) (xs : List (Result Item Fault)). x ∷ xs) is rest.are;
+      are = ap₂ (λ (x : Result Item Reason) (xs : List (Result Item Reason)). x ∷ xs) is rest.are;
       steps = both.steps ++ rest.steps;
       extends = extends_then table r mid next both.steps rest.steps both.extends rest.extends;
       sent = rest.sent ∙ joined;
@@ -140,7 +142,7 @@ one_entry table c entry entries item r mid next count fit is one rest =
       );
     }
 
-pub entries_replay : (table : Table) (c : Certificate) (entries : List Entry) (r next : Replay) (count : ℕ) → FatesFit count 0 c.fates
+pub entries_replay : (table : Table) (c : Certificate) (entries : List (Result Item Reason)) (r next : Replay) (count : ℕ) → FatesFit count 0 c.fates
     → entries_replayed table c entries r ≡ Ok next → AreReplayed table c entries r next
 entries_replay table c [] r next count fit is =
     let so = needs_ok (next_entry r == length c.fates) (fault_at FateCount (next_entry r)) (gap_replayed table c r) next is in
@@ -157,12 +159,12 @@ entries_replay table c [] r next count fit is =
 entries_replay table c (entry ∷ entries) r next count fit is =
     let fate = then_ok (ok_or (slice_get c.fates (next_entry r)) (fault_at FateCount (next_entry r))) _ next is in
     let has = some_ok (slice_get c.fates (next_entry r)) (fault_at FateCount (next_entry r)) fate.0 fate.1 in
-    let one = then_ok (entry_replayed table c fate.0 (item_of entry) r) _ next fate.2 in
+    let one = then_ok (entry_replayed table c fate.0 entry r) _ next fate.2 in
     let rest = entries_replay table c entries one.0 next count fit one.2 in
-    by fate.0 one.0 (item_of entry) refl has one.1 rest
+    by fate.0 one.0 entry refl has one.1 rest
   where
-    by : (fate : Fate) (mid : Replay) (x : Result Item Fault) → item_of entry ≡ x → slice_get c.fates (next_entry r) ≡ Some fate
+    by : (fate : Fate) (mid : Replay) (x : Result Item Reason) → entry ≡ x → slice_get c.fates (next_entry r) ≡ Some fate
         → entry_replayed table c fate x r ≡ Ok mid → AreReplayed table c entries mid next → AreReplayed table c (entry ∷ entries) r next
     by fate mid (Ok item) e has is rest =
         one_entry table c entry entries item r mid next count fit (sym e) (item_replays table c fate item r mid has is) rest
-    by fate mid (Err fault) e has is rest = cc
+    by fate mid (Err reason) e has is rest = cc

@@ -16,18 +16,26 @@ use Rattle.tcap_end.specs.declared.fault.EndFault.{EndFault}
 use Rattle.tcap_end.specs.declared.fault.EndFault.TheVariants as faults
 use Rattle.tcap_end.specs.End.{End}
 use Rattle.tcap_end.specs.Step.{needs, ◌>>◌, ◌>>=◌}
-use Rattle.tcap_end.specs.Reply.{aborts, refuse_begin}
+use Rattle.tcap_end.specs.Reply.{aborts}
 use Rattle.tcap_end.specs.declared.half.HalfName.{HalfName}
 use Rattle.tcap_end.specs.declared.half.HalfName.TheVariants as names
 use Rattle.tcap_end.specs.Table.{Table}
 use Rattle.tcap_end.specs.Message.{send}
 use Rattle.tcap_end.proofs.AnsweringLaws.{needs_ok, ok_same, some_ok, then_ok}
 use Rattle.tcap_check.specs.World.{Item, OnItsWay, Sent, World, channel_from, end_at, is_side, other, with_channel, with_end}
-use Rattle.tcap_check.specs.Run.{Event, Sends, Receives, Replies, Loses, Expires, Closes, Quiet, abort_for, after, joined, may_refuse, played, then_so}
-use Rattle.tcap_check.specs.Certificate.{Certificate, Closing, Expiry, Fate, Gap, Lost, By}
+use Rattle.tcap_check.specs.Run.{Event, Sends, Receives, Replies, Loses, Expires, Closes, Quiet, Tells, after, joined, played, then_so}
+use Rattle.tcap_check.specs.declared.certificate.Closing.{Closing}
+use Rattle.tcap_check.specs.declared.certificate.Expiry.{Expiry}
+use Rattle.tcap_check.specs.declared.certificate.Fate.{Fate}
+use Rattle.tcap_check.specs.declared.certificate.Fate.TheVariants.{Gap, Lost, By}
+use Rattle.tcap_check.specs.Certificate.{Certificate}
 use Rattle.tcap_check.specs.Follows.{IsImplied, invoking_half, closing_by, closing_event, deliveries, expiry_by, expiry_event, gap_events, half_begun, invoke_id, is_loss, named_entry, originating, sending, sending_by, without_losses}
 use Rattle.tcap_check.proofs.RunLaws.{grows, map_some, where_some}
-use Rattle.tcap_check.specs.Replayed.{BadReply, CheckFault, FateRange, HiddenRefused, Reason, closings_replayed, deliveries_replayed, expiries_replayed, fault_at, gap_replayed, implied, implied_over, may_reply, message_by, message_replayed, reply_replayed, next_entry, or_same, send_replayed, sent_or_refused, Replay, happens, lost_before, lost_from_both, lost_from_front, if_lost, lost_front, stepped, with_step}
+use Rattle.tcap_check.specs.declared.fault.CheckFault.{CheckFault}
+use Rattle.tcap_check.specs.declared.fault.Reason.{Reason}
+use Rattle.tcap_check.specs.declared.fault.Reason.TheVariants.{BadReply, FateRange, HiddenRefused}
+use Rattle.tcap_check.proofs.ChannelLaws.{get_new}
+use Rattle.tcap_check.specs.Replayed.{closings_replayed, deliveries_replayed, expiries_replayed, fault_at, gap_replayed, implied, implied_over, is_abort, message_by, message_replayed, reply_replayed, next_entry, or_same, send_replayed, sent_or_refused, Replay, happens, lost_before, lost_from_both, lost_from_front, if_lost, lost_front, stepped, with_step}
 
 -- ---- runs, one behind the other
 
@@ -165,6 +173,7 @@ before_replays table c (Loses side n) r = replays_nothing table r
 before_replays table c (Expires side name id) r = replays_nothing table r
 before_replays table c (Closes side name) r = replays_nothing table r
 before_replays table c Quiet r = both_replay table c r
+before_replays table c (Tells side m) r = replays_nothing table r
 
 -- A step that is no loss.
 pub stepped_replays : (table : Table) (event : Event) (items : List Item) (r next : Replay) → is_loss event ≡ false → stepped table event r ≡ Some next
@@ -391,24 +400,20 @@ abort_is cause id (Begin otid dialogue components) is = cc
 abort_is cause id (Continue otid dtid dialogue components) is = cc
 abort_is cause id (EndMessage dtid dialogue components) is = cc
 
-or_false : (b : Bool) → (b || false) ≡ true → b ≡ true
-or_false true is = refl
-or_false false is = is
+-- An item that is an Abort with a cause is that message.
+abort_of : (abort made : Message) (side : Side) → is_abort abort (Some (Sent side made)) ≡ true → made ≡ abort
+abort_of abort (Abort dtid (Some (Cause cause))) side is = sym (abort_is cause dtid abort is)
+abort_of abort (Abort dtid (Some (ByDialogue d))) side is = cc
+abort_of abort (Abort dtid None) side is = cc
+abort_of abort (Unidirectional dialogue components) side is = cc
+abort_of abort (Begin otid dialogue components) side is = cc
+abort_of abort (Continue otid dtid dialogue components) side is = cc
+abort_of abort (EndMessage dtid dialogue components) side is = cc
 
--- A step that needs something and is taken has it.
-needs_so : {A F : Type 0} (so : Bool) (reason : F) (rest : Result A F) → is_ok (needs so reason >> rest) ≡ true → so ≡ true
-needs_so true reason rest is = refl
-needs_so false reason rest is = is
-
-may_reply_is : (e : End) (m abort : Message) → may_refuse e m abort ≡ true → abort_for m ≡ Some abort
-may_reply_is e (Begin otid dialogue components) abort is =
-    let so = or_false (is_ok (refuse_begin e (Begin otid dialogue components) abort)) is in
-    ap Some (sym (abort_is 4 otid abort (needs_so (aborts 4 otid abort) faults.NoTransaction _ so)))
-may_reply_is e (Continue otid dtid dialogue components) abort is =
-    ap Some (sym (abort_is 1 otid abort (needs_so (aborts 1 otid abort) faults.NoTransaction _ is)))
-may_reply_is e (Unidirectional dialogue components) abort is = cc
-may_reply_is e (EndMessage dtid dialogue components) abort is = cc
-may_reply_is e (Abort dtid reason) abort is = cc
+-- The item that joined the list is the one at the next number.
+newest_at : (before next : World) (items : List Item) (item : Item) → next.sent ≡ before.sent ++ items → items ≡ item ∷ []
+    → slice_get next.sent (length before.sent) ≡ Some item
+newest_at before next items item grown one = rw (grown, one) (get_new before.sent item)
 
 -- An Abort by which the provider of an end answers.
 pub reply_replays : (table : Table) (c : Certificate) (side : Side) (abort : Message) (number : ℕ) (r next : Replay)
@@ -416,20 +421,24 @@ pub reply_replays : (table : Table) (c : Certificate) (side : Side) (abort : Mes
 reply_replays table c side abort number r next is =
     let event = Replies side number in
     let before = lost_from_front c (other side) r in
-    let so = needs_ok (may_reply (end_at side r.world) abort (channel_from (other side) before.world)) (fault_at BadReply (next_entry r))
-    _ next is in
-    let step = some_ok (stepped table event before) (fault_at BadReply (next_entry r)) next so.1 in
-    let found = map_some _ (after table event before.world) next step in
+    let step = then_ok (happens table c event BadReply (next_entry r) r) _ next is in
+    let so = needs_ok (is_abort abort (slice_get step.0.world.sent (next_entry r))) (fault_at BadReply (next_entry r)) _ next step.2 in
+    let last : step.0 ≡ next = ok_same {F = CheckFault} step.0 next so.1 in
+    let made : stepped table event before ≡ Some step.0 = some_ok (stepped table event before) (fault_at BadReply (next_entry r)) step.0 step.1 in
+    let found = map_some _ (after table event before.world) step.0 made in
     let g = grows table event before.world found.0 found.1 in
-    let made = g.1 in
-    let head = made.0 in
-    let answers = subst (λ (messages : List OnItsWay). may_reply (end_at side r.world) abort messages ≡ true) made.3 so.0 in
-    let same : made.2 ≡ abort = some_is (sym made.5 ∙ may_reply_is (end_at side r.world) head.message abort answers) in
+    let adds = g.1 in
+    let lost = losing_replays table c (other side) r in
+    let number_is : length before.world.sent ≡ next_entry r = ap length (lost.sent ∙ append-nil r.world.sent) in
+    let world_is : found.0 ≡ step.0.world = ap (λ (x : Replay). x.world) found.2 in
+    let there : slice_get step.0.world.sent (next_entry r) ≡ Some (Sent side adds.2) =
+    ap₂ (λ (v : World) (n : ℕ). slice_get v.sent n) (sym world_is) (sym number_is) ∙ newest_at before.world found.0 g.0 (Sent side adds.2) g.2 adds.6 in
+    let same : adds.2 ≡ abort = abort_of abort adds.2 side (ap (is_abort abort) (sym there) ∙ so.0) in
     let sent : next.world.sent ≡ before.world.sent ++ Sent side abort ∷ [] =
-    ap (λ (x : Replay). x.world.sent) (sym found.2) ∙ g.2 ∙ ap (λ (x : List Item). before.world.sent ++ x) made.6
-    ∙ ap (λ (m : Message). before.world.sent ++ Sent side m ∷ []) same in
-    replays_then table r before next [] (event ∷ []) [] (Sent side abort ∷ []) (losing_replays table c (other side) r)
-    (stepped_replays table event (Sent side abort ∷ []) before next refl step sent)
+    ap (λ (x : Replay). x.world.sent) (sym last) ∙ ap (λ (v : World). v.sent) (sym world_is) ∙ g.2
+    ∙ ap (λ (x : List Item). before.world.sent ++ x) adds.6 ∙ ap (λ (m : Message). before.world.sent ++ Sent side m ∷ []) same in
+    replays_then table r before next [] (event ∷ []) [] (Sent side abort ∷ []) lost
+    (stepped_replays table event (Sent side abort ∷ []) before next refl (made ∙ ap Some last) sent)
 
 -- What sends an item is a send of it, or a reply of its end, or a quiet mark.
 sends_itself : (c : Certificate) (number : ℕ) (side sender : Side) (message sent : Message) (taken : List ℕ)
@@ -514,3 +523,4 @@ message_replays table c side message r next is = by (sending c (next_entry r) (S
     by (Some (Expires sender name id)) found e = cc
     by (Some (Closes sender name)) found e = cc
     by (Some Quiet) found e = cc
+    by (Some (Tells sender m)) found e = cc

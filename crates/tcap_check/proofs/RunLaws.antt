@@ -20,7 +20,7 @@ use Rattle.tcap_end.specs.Sound.{IsEnd}
 use Rattle.tcap_end.proofs.EndLaws.{nothing_sound}
 use Rattle.tcap_end.proofs.StepLaws.{closes, expires, receives, sends}
 use Rattle.tcap_check.specs.World.{Item, OnItsWay, Sent, World, channel_from, empty, end_at, other, with_channel, with_end}
-use Rattle.tcap_check.specs.Run.{Adds, Event, Sends, Receives, Replies, Loses, Expires, Closes, Quiet, Runs, abort_for, after, after_quiet, head_taken, joined, may_refuse, played, reply_to, then_so, where_so}
+use Rattle.tcap_check.specs.Run.{Adds, Event, Sends, Receives, Replies, Loses, Expires, Closes, Quiet, Tells, Runs, abort_for, after, after_quiet, head_taken, joined, may_refuse, played, reply_to, then_so, where_so}
 
 -- ---- tests, and steps that are there
 
@@ -119,6 +119,10 @@ pub record IsHidden (side : Side) (step : End → Result End EndFault) (w next :
   pub step_is : step (end_at side w) ≡ Ok made
   pub next_is : next ≡ with_end side made w
 
+-- The message joined, and nothing else.
+pub record IsTold (side : Side) (m : Message) (w next : World) : Type 0 where
+  pub next_is : next ≡ joined side m w
+
 -- Nothing was on its way, and nothing is left.
 pub record IsQuiet (w next : World) : Type 0 where
   pub from_a : w.from_a ≡ []
@@ -204,6 +208,11 @@ closing table side name w next is =
     let step = took (λ e. with_end side e w) (close table (end_at side w) name) next is in
     record { made = step.0; step_is = step.1; next_is = sym step.2 }
 
+-- an end tells a message,
+pub telling : (table : Table) (side : Side) (m : Message) (w next : World) → after table (Tells side m) w ≡ Some next
+    → IsTold side m w next
+telling table side m w next is = record { next_is = let same : joined side m w ≡ next = cc in sym same }
+
 -- Both ends are nothing then.
 both_quiet : (a b : Bool) (x : World) (sent : List Item)
     → then_so (result_ok (needs a faults.StillOpen >> Ok nothing))
@@ -262,6 +271,7 @@ grows table (Loses side number) w next is = search rules
 grows table (Expires side name id) w next is = search rules
 grows table (Closes side name) w next is = search rules
 grows table Quiet w next is = search rules
+grows table (Tells side m) w next is = search rules
 
 -- That is one item at most.
 one_at_most : (w : World) (event : Event) (items : List Item) → Adds w event items → length items ≤ 1
@@ -272,6 +282,7 @@ one_at_most w (Loses side number) items adds = rw adds (omega arith)
 one_at_most w (Expires side name id) items adds = rw adds (omega arith)
 one_at_most w (Closes side name) items adds = rw adds (omega arith)
 one_at_most w Quiet items adds = rw adds (omega arith)
+one_at_most w (Tells side m) items adds = rw adds (omega arith)
 
 -- A run has at least as many steps as items.
 pub steps_for_items : (table : Table) (events : List Event) (w : World) → Runs table events w → length w.sent ≤ length events
@@ -343,6 +354,7 @@ step_sound table (Closes side name) w next is old =
     let step = closing table side name w next is in
     let made = (closes table (end_at side w) step.made name (old side) step.step_is).sound in
     rw (step.next_is) (with_sound side step.made w made old)
+step_sound table (Tells side m) w next is old = rw ((telling table side m w next is).next_is) (joined_sound side m w old)
 step_sound table Quiet w next is old = rw ((quiet table w next is).next_is) (quiet_sound (w.sent ++ Item.Quiet ∷ []))
 
 -- Both ends are sound in each run.

@@ -1,5 +1,6 @@
 -- What was sent has its half: an ID that was sent is used, and where a dialogue was ended the half is closed.
-use Rattle.std.proofs.Common.{◌≡◌, ◌⊎◌, inl, inr, List, Some, sym, ◌∙◌}
+use Rattle.std.proofs.Common.{◌≡◌, ◌⊎◌, inl, inr, Bool, true, false, List, [], ◌∷◌, ◌++◌, Some, refl, sym, ◌∙◌}
+use Rattle.std.specs.Prelude.{◌||◌}
 use Rattle.tcap_msg.specs.declared.message.Message.{Message}
 use Rattle.tcap_msg.specs.declared.message.Message.TheVariants.{Unidirectional, Begin, Continue, End as EndMessage, Abort}
 use Rattle.tcap_record.specs.declared.entry.End.{End as Side}
@@ -7,17 +8,31 @@ use Rattle.tcap_end.specs.Table.{Table}
 use Rattle.tcap_end.specs.End.{End, KeptHalf}
 use Rattle.tcap_end.specs.Sound.{Has, IsEnd, IsSame}
 use Rattle.tcap_check.specs.World.{World, end_at}
-use Rattle.tcap_check.specs.Run.{Event, Runs}
+use Rattle.tcap_check.specs.Run.{Event, KeepsRules, Runs, is_told_by, tells}
 use Rattle.tcap_check.specs.Since.{EndedIsClosed, HasUsed, SentSince}
 use Rattle.tcap_check.proofs.RunLaws.{sound}
 use Rattle.tcap_check.proofs.WorldMoves.{Advances, HasEnded, worlds_keep}
 
--- each message that was sent since has what it says of its end
-abbrev HasHalves : World → Type 0
-HasHalves w = (side : Side) (m : Message) → SentSince side m w.sent → HasUsed w side m × HasEnded w side m
+-- each message that an end which keeps the rules sent since has what it says of its end
+abbrev HasHalves : Side → List Event → World → Type 0
+HasHalves side events w = KeepsRules side events → (m : Message) → SentSince side m w.sent → HasUsed w side m × HasEnded w side m
+
+-- Neither is so.
+or_parts : (a b : Bool) → (a || b) ≡ false → (a ≡ false) × (b ≡ false)
+or_parts true b is = cc
+or_parts false b is = (refl, is)
+
+-- It kept them before the last step, and in it.
+kept_before : (side : Side) (before : List Event) (event : Event) → KeepsRules side (before ++ event ∷ [])
+    → KeepsRules side before × (is_told_by side event ≡ false)
+kept_before side [] event keeps = (refl, (or_parts (is_told_by side event) false keeps).0)
+kept_before side (first ∷ before) event keeps =
+    let both = or_parts (is_told_by side first) (tells side (before ++ event ∷ [])) keeps in
+    let rest = kept_before side before event both.1 in
+    (rw (both.0) (rest.0), rest.1)
 
 -- An ID stays used,
-still_used : (w next : World) (side : Side) (m : Message) → Advances w next → HasUsed w side m → HasUsed next side m
+still_used : {event : Event} → (w next : World) (side : Side) (m : Message) → Advances event w next → HasUsed w side m → HasUsed next side m
 still_used w next side (Unidirectional dialogue components) advances used = tt
 still_used w next side (Begin otid dialogue components) advances (f, had, own) =
     let moved = (advances.ends side).moves.forth f had in
@@ -29,30 +44,34 @@ still_used w next side (EndMessage dtid dialogue components) advances used = tt
 still_used w next side (Abort dtid reason) advances used = tt
 
 -- and a half stays closed.
-still_ended : (w next : World) (side : Side) (m : Message) → Advances w next → HasEnded w side m → HasEnded next side m
+still_ended : {event : Event} → (w next : World) (side : Side) (m : Message) → Advances event w next → HasEnded w side m → HasEnded next side m
 still_ended w next side m advances ended id ends =
     let was = ended id ends in
     let moved = (advances.ends side).moves.forth was.0 was.1 in
     (record (was.0) { half = moved.0 }, moved.1, moved.2.peer id was.2, moved.2.closed was.3)
 
 -- A step keeps it,
-keeps_halves : (w next : World) → ((side : Side) → IsEnd (end_at side w)) → Advances w next → HasHalves w → HasHalves next
-keeps_halves w next sound advances held side m since = by (advances.sent.adds side m since)
+keeps_halves : (side : Side) (before : List Event) (event : Event) (w next : World) → ((place : Side) → IsEnd (end_at place w))
+    → Advances event w next → HasHalves side before w → HasHalves side (before ++ event ∷ []) next
+keeps_halves side before event w next sound advances held keeps m since =
+    by (kept_before side before event keeps).0 (advances.sent.adds side m (kept_before side before event keeps).1 since)
   where
-    by : SentSince side m w.sent ⊎ (HasUsed next side m × HasEnded next side m) → HasUsed next side m × HasEnded next side m
-    by (inl was) =
-        let had = held side m was in
+    by : KeepsRules side before → SentSince side m w.sent ⊎ (HasUsed next side m × HasEnded next side m)
+        → HasUsed next side m × HasEnded next side m
+    by kept (inl was) =
+        let had = held kept m was in
         (still_used w next side m advances had.0, still_ended w next side m advances had.1)
-    by (inr new) = new
+    by kept (inr new) = new
 
 -- so it holds behind each run.
-has_halves : (table : Table) (events : List Event) (w : World) → Runs table events w → HasHalves w
-has_halves table = worlds_keep table HasHalves (λ w blank side m since. absurd (blank.sent side m since)) keeps_halves
+has_halves : (table : Table) (side : Side) (events : List Event) (w : World) → Runs table events w → HasHalves side events w
+has_halves table side = worlds_keep table (HasHalves side) (λ events w blank keeps m since. absurd (blank.sent side m since))
+    (keeps_halves side)
 
 -- An ID that was sent since is used.
 pub ids_used : (table : Table) (events : List Event) (w : World) (side : Side) (m : Message) → Runs table events w
-    → SentSince side m w.sent → HasUsed w side m
-ids_used table events w side m runs since = (has_halves table events w runs side m since).0
+    → KeepsRules side events → SentSince side m w.sent → HasUsed w side m
+ids_used table events w side m runs keeps since = (has_halves table side events w runs keeps m since).0
 
 -- At one place an end has one half.
 one_half : (e : End) (f g : KeptHalf) → Has e f → Has e g → IsSame f g → g.half ≡ f.half
@@ -61,8 +80,8 @@ one_half e f g in_f in_g same =
 
 -- A half is closed where the dialogue with its peer was ended since.
 pub ended_closed : (table : Table) (events : List Event) (w : World) (side : Side) (f : KeptHalf) → Runs table events w
-    → Has (end_at side w) f → EndedIsClosed w side f
-ended_closed table events w side f runs had m id since ends peer =
-    let (g, there, of_g, is_closed) = (has_halves table events w runs side m since).1 id ends in
+    → KeepsRules side events → Has (end_at side w) f → EndedIsClosed w side f
+ended_closed table events w side f runs keeps had m id since ends peer =
+    let (g, there, of_g, is_closed) = (has_halves table side events w runs keeps m since).1 id ends in
     let same = (sound table events w runs side).one_peer f g id had there peer of_g in
     rw (← one_half (end_at side w) f g had there same) is_closed

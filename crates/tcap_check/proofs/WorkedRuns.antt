@@ -8,7 +8,7 @@ use Rattle.tcap_end.specs.declared.half.HalfName.TheVariants.{Own, Peer}
 use Rattle.tcap_check.specs.World.{Item}
 use Rattle.tcap_check.specs.Run.{Event, Receives, Expires, Closes}
 use Rattle.tcap_check.specs.Follows.{FatesFit, Follows, FollowsFrom, IsImplied, gap_events, losses_from, lost_from, sending, without_losses}
-use Rattle.tcap_check.specs.Worked.{IsWorked, IsWorkedBy, Worked, empty_record, two_entries, three_entries, crossing, late_reject, delayed, closed_half, refused_begin, lost_begin, over_a_mark, both_again, in_a_row, end_implies, both_close, prearranged}
+use Rattle.tcap_check.specs.Worked.{IsWorked, IsWorkedBy, Worked, IsWorkedFor, continues_behind_its_end, end_is_not_heard, empty_record, two_entries, three_entries, crossing, late_reject, delayed, closed_half, refused_begin, lost_begin, over_a_mark, both_again, in_a_row, end_implies, both_close, prearranged, table}
 
 -- From a gap on, the events are what the certificate says, with the items that are left between.
 record From (w : Worked) (n : ℕ) (left : List Item) (events : List Event) : Type 0 where
@@ -68,21 +68,21 @@ empty_record_gaps = last refl
 
 pub empty_record_runs : IsWorked empty_record 0
 empty_record_runs =
-    ((_, refl, refl), refl, follows empty_record refl (search rules) (search rules) (search rules) empty_record_gaps refl refl)
+    ((_, refl, refl), (refl, refl), refl, follows empty_record refl (search rules) (search rules) (search rules) empty_record_gaps refl refl)
 
 two_entries_gaps : Gaps two_entries
 two_entries_gaps = gap [] refl refl (gap (Receives B 0 ∷ []) refl refl (last refl))
 
 pub two_entries_runs : IsWorked two_entries 4
 two_entries_runs =
-    ((_, refl, refl), refl, follows two_entries refl (search rules) (search rules) (search rules) two_entries_gaps refl refl)
+    ((_, refl, refl), (refl, refl), refl, follows two_entries refl (search rules) (search rules) (search rules) two_entries_gaps refl refl)
 
 three_entries_gaps : Gaps three_entries
 three_entries_gaps = gap [] refl refl (gap (Receives B 0 ∷ []) refl refl (gap (Receives A 1 ∷ []) refl refl (last refl)))
 
 pub three_entries_runs : IsWorked three_entries 6
 three_entries_runs =
-    ((_, refl, refl), refl, follows three_entries refl (search rules) (search rules) (search rules) three_entries_gaps refl refl)
+    ((_, refl, refl), (refl, refl), refl, follows three_entries refl (search rules) (search rules) (search rules) three_entries_gaps refl refl)
 
 crossing_gaps : Gaps crossing
 crossing_gaps =
@@ -91,7 +91,7 @@ crossing_gaps =
 
 pub crossing_runs : IsWorked crossing 9
 crossing_runs =
-    ((_, refl, refl), refl, follows crossing refl (search rules) (search rules) (search rules) crossing_gaps refl refl)
+    ((_, refl, refl), (refl, refl), refl, follows crossing refl (search rules) (search rules) (search rules) crossing_gaps refl refl)
 
 late_reject_gaps : Gaps late_reject
 late_reject_gaps =
@@ -99,7 +99,7 @@ late_reject_gaps =
 
 pub late_reject_runs : IsWorked late_reject 7
 late_reject_runs =
-    ((_, refl, refl), refl, follows late_reject refl (search rules) (search rules) (search rules) late_reject_gaps refl refl)
+    ((_, refl, refl), (refl, refl), refl, follows late_reject refl (search rules) (search rules) (search rules) late_reject_gaps refl refl)
 
 delayed_gaps : Gaps delayed
 delayed_gaps =
@@ -109,28 +109,28 @@ delayed_gaps =
 
 pub delayed_runs : IsWorked delayed 11
 delayed_runs =
-    ((_, refl, refl), refl, follows delayed refl (search rules) (search rules) (search rules) delayed_gaps refl refl)
+    ((_, refl, refl), (refl, refl), refl, follows delayed refl (search rules) (search rules) (search rules) delayed_gaps refl refl)
 
 closed_half_gaps : Gaps closed_half
 closed_half_gaps = gap [] refl refl (gap (Receives B 0 ∷ []) refl refl (gap (Closes A (Own (1 ∷ [])) ∷ []) refl refl (last refl)))
 
 pub closed_half_runs : IsWorked closed_half 6
 closed_half_runs =
-    ((_, refl, refl), refl, follows closed_half refl (search rules) (search rules) (search rules) closed_half_gaps refl refl)
+    ((_, refl, refl), (refl, refl), refl, follows closed_half refl (search rules) (search rules) (search rules) closed_half_gaps refl refl)
 
 refused_begin_gaps : Gaps refused_begin
 refused_begin_gaps = gap [] refl refl (gap [] refl refl (last refl))
 
 pub refused_begin_runs : IsWorked refused_begin 3
 refused_begin_runs =
-    ((_, refl, refl), refl, follows refused_begin refl (search rules) (search rules) (search rules) refused_begin_gaps refl refl)
+    ((_, refl, refl), (refl, refl), refl, follows refused_begin refl (search rules) (search rules) (search rules) refused_begin_gaps refl refl)
 
 lost_begin_gaps : Gaps lost_begin
 lost_begin_gaps = gap [] refl refl (last refl)
 
 pub lost_begin_runs : IsWorked lost_begin 2
 lost_begin_runs =
-    ((_, refl, refl), refl, follows lost_begin refl (search rules) (search rules) (search rules) lost_begin_gaps refl refl)
+    ((_, refl, refl), (refl, refl), refl, follows lost_begin refl (search rules) (search rules) (search rules) lost_begin_gaps refl refl)
 
 over_a_mark_gaps : Gaps over_a_mark
 over_a_mark_gaps =
@@ -139,7 +139,7 @@ over_a_mark_gaps =
 
 pub over_a_mark_runs : IsWorked over_a_mark 9
 over_a_mark_runs =
-    ((_, refl, refl), refl, follows over_a_mark refl (search rules) (search rules) (search rules) over_a_mark_gaps refl refl)
+    ((_, refl, refl), (refl, refl), refl, follows over_a_mark refl (search rules) (search rules) (search rules) over_a_mark_gaps refl refl)
 
 both_again_gaps : Gaps both_again
 both_again_gaps = gap [] refl refl
@@ -153,7 +153,7 @@ both_again_gaps = gap [] refl refl
 
 pub both_again_runs : IsWorked both_again 13
 both_again_runs =
-    ((_, refl, refl), refl, follows both_again refl (search rules) (search rules) (search rules) both_again_gaps refl refl)
+    ((_, refl, refl), (refl, refl), refl, follows both_again refl (search rules) (search rules) (search rules) both_again_gaps refl refl)
 
 in_a_row_gaps : Gaps in_a_row
 in_a_row_gaps = gap [] refl refl
@@ -162,7 +162,7 @@ in_a_row_gaps = gap [] refl refl
 
 pub in_a_row_runs : IsWorked in_a_row 4
 in_a_row_runs =
-    ((_, refl, refl), refl, follows in_a_row refl (search rules) (search rules) (search rules) in_a_row_gaps refl refl)
+    ((_, refl, refl), (refl, refl), refl, follows in_a_row refl (search rules) (search rules) (search rules) in_a_row_gaps refl refl)
 
 end_implies_gaps : Gaps end_implies
 end_implies_gaps = gap [] refl refl
@@ -172,7 +172,7 @@ end_implies_gaps = gap [] refl refl
 
 pub end_implies_runs : IsWorked end_implies 7
 end_implies_runs =
-    ((_, refl, refl), refl, follows end_implies refl (search rules) (search rules) (search rules) end_implies_gaps refl refl)
+    ((_, refl, refl), (refl, refl), refl, follows end_implies refl (search rules) (search rules) (search rules) end_implies_gaps refl refl)
 
 both_close_gaps : Gaps both_close
 both_close_gaps = gap [] refl refl
@@ -183,4 +183,10 @@ both_close_gaps = gap [] refl refl
 
 pub both_close_runs : IsWorkedBy prearranged both_close 9
 both_close_runs =
-    ((_, refl, refl), refl, follows both_close refl (search rules) (search rules) (search rules) both_close_gaps refl refl)
+    ((_, refl, refl), (refl, refl), refl, follows both_close refl (search rules) (search rules) (search rules) both_close_gaps refl refl)
+
+pub continues_behind_its_end_runs : IsWorkedFor table continues_behind_its_end
+continues_behind_its_end_runs = ((_, refl, refl), refl)
+
+pub end_is_not_heard_runs : IsWorkedFor table end_is_not_heard
+end_is_not_heard_runs = ((_, refl, refl), refl)

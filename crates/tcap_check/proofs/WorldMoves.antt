@@ -1,5 +1,5 @@
 -- What a step makes of a world: each end moves, and what was sent since stays so, with one message more at most.
-use Rattle.std.proofs.Common.{◌≡◌, ◌⊎◌, inl, inr, ℕ, List, [], ◌∷◌, ◌++◌, Option, Some, None, Result, Ok, refl, sym}
+use Rattle.std.proofs.Common.{◌≡◌, ◌⊎◌, inl, inr, ℕ, true, false, List, [], ◌∷◌, ◌++◌, Option, Some, None, Result, Ok, refl, sym, ◌∙◌}
 use Rattle.std.specs.List.{AllByRecursion}
 use Rattle.std.proofs.lemmas.Option.{cond_some}
 use Rattle.tcap_msg.specs.declared.message.AbortReason.TheVariants.{Cause}
@@ -14,8 +14,8 @@ use Rattle.tcap_end.specs.End.{End, KeptHalf, nothing}
 use Rattle.tcap_end.specs.Message.{send}
 use Rattle.tcap_end.specs.Sound.{Has, IsEnd}
 use Rattle.tcap_end.proofs.EndLaws.{no_half}
-use Rattle.tcap_check.specs.World.{OnItsWay, Sent, World, channel_from, empty, end_at, other, with_channel, with_end}
-use Rattle.tcap_check.specs.Run.{Event, Sends, Receives, Replies, Loses, Expires, Closes, Quiet, Runs, after, joined, reply_to}
+use Rattle.tcap_check.specs.World.{OnItsWay, Sent, World, channel_from, empty, end_at, is_side, other, with_channel, with_end}
+use Rattle.tcap_check.specs.Run.{Event, Sends, Receives, Replies, Loses, Expires, Closes, Quiet, Tells, Runs, after, is_told_by, joined, reply_to}
 use Rattle.tcap_check.specs.Since.{HasUsed, SentSince, WasSent, ended_by}
 use Rattle.tcap_check.proofs.Moves.{Moves}
 use Rattle.tcap_check.proofs.TurnLaws.{moves_nowhere}
@@ -23,7 +23,7 @@ use Rattle.tcap_check.proofs.SentMoves.{begin_uses, closed_moves, continue_uses,
 use Rattle.tcap_check.proofs.ReceivedMoves.{received_moves}
 use Rattle.tcap_check.proofs.SinceLaws.{since_at, since_back, since_quiet, since_more}
 use Rattle.tcap_check.proofs.ChannelLaws.{were_sent}
-use Rattle.tcap_check.proofs.RunLaws.{IsDelivery, IsHidden, IsLoss, IsQuiet, IsReply, IsSending, closing, delivery, expiry, loss, quiet, reply, runs_keep, sending, sound}
+use Rattle.tcap_check.proofs.RunLaws.{IsDelivery, IsHidden, IsLoss, IsQuiet, IsReply, IsSending, IsTold, closing, delivery, expiry, loss, quiet, reply, runs_keep, sending, sound, telling}
 
 -- ---- what a step makes of a world
 
@@ -43,16 +43,16 @@ abbrev pub HasEnded : World → Side → Message → Type 0
 HasEnded w side m = (id : List ℕ) → ended_by m ≡ Some id
     → (f : KeptHalf) × Has (end_at side w) f × (f.half.peer ≡ Some id) × (f.half.phase ≡ phases.Closed)
 
--- What was sent since stays so; what is new has its half.
-pub record SentMore (w next : World) : Type 0 where
+-- What was sent since stays so; what is new of an end that keeps the rules has its half.
+pub record SentMore (event : Event) (w next : World) : Type 0 where
   pub keeps : (side : Side) (m : Message) → SentSince side m w.sent → SentSince side m next.sent
-  pub adds : (side : Side) (m : Message)
+  pub adds : (side : Side) (m : Message) → is_told_by side event ≡ false
       → SentSince side m next.sent → SentSince side m w.sent ⊎ (HasUsed next side m × HasEnded next side m)
 
 -- Both ends move, and the sent list grows.
-pub record Advances (w next : World) : Type 1 where
+pub record Advances (event : Event) (w next : World) : Type 1 where
   pub ends : (side : Side) → EndMoves side w next
-  pub sent : SentMore w next
+  pub sent : SentMore event w next
 
 -- No half is there, and nothing was sent since.
 pub record IsBlank (w : World) : Type 0 where
@@ -127,24 +127,41 @@ sent_with_channel sides.A more w = refl
 sent_with_channel sides.B more w = refl
 
 -- Nothing is sent.
-none_sent : (w next : World) → next.sent ≡ w.sent → SentMore w next
-none_sent w next is = record {
+none_sent : (event : Event) (w next : World) → next.sent ≡ w.sent → SentMore event w next
+none_sent event w next is = record {
   keeps = λ side m was. rw is was;
-  adds = λ side m since. inl (rw is at since);
+  adds = λ side m told since. inl (rw is at since);
 }
 
 -- A message is sent.
-one_sent : (sender : Side) (n : Message) (w next : World) → next.sent ≡ w.sent ++ Sent sender n ∷ []
-    → HasUsed next sender n → HasEnded next sender n → SentMore w next
-one_sent sender n w next is used ended = record {
+one_sent : (event : Event) (sender : Side) (n : Message) (w next : World) → next.sent ≡ w.sent ++ Sent sender n ∷ []
+    → HasUsed next sender n → HasEnded next sender n → SentMore event w next
+one_sent event sender n w next is used ended = record {
   keeps = λ side m was. rw is (since_more side sender m n w.sent was);
-  adds = λ side m since. by side m (since_back side sender m n w.sent (rw is at since));
+  adds = λ side m told since. by side m (since_back side sender m n w.sent (rw is at since));
 }
   where
     by : (side : Side) (m : Message) → ((side ≡ sender) × (m ≡ n)) ⊎ SentSince side m w.sent
         → SentSince side m w.sent ⊎ (HasUsed next side m × HasEnded next side m)
     by side m (inl newest) = inr (rw (newest.0, newest.1) (used, ended))
     by side m (inr was) = inl was
+
+-- A side is itself.
+is_itself : (side : Side) → is_side side side ≡ true
+is_itself sides.A = refl
+is_itself sides.B = refl
+
+-- A message is told.
+one_told : (teller : Side) (n : Message) (w next : World) → next.sent ≡ w.sent ++ Sent teller n ∷ [] → SentMore (Tells teller n) w next
+one_told teller n w next is = record {
+  keeps = λ side m was. rw is (since_more side teller m n w.sent was);
+  adds = λ side m told since. by side m told (since_back side teller m n w.sent (rw is at since));
+}
+  where
+    by : (side : Side) (m : Message) → is_side side teller ≡ false → ((side ≡ teller) × (m ≡ n)) ⊎ SentSince side m w.sent
+        → SentSince side m w.sent ⊎ (HasUsed next side m × HasEnded next side m)
+    by side m told (inl newest) = let bad : true ≡ false = sym (is_itself teller) ∙ rw (newest.0) at told in cc
+    by side m told (inr was) = inl was
 
 -- ---- steps
 
@@ -160,10 +177,10 @@ send_uses table side (Abort dtid reason) w next sound is = tt
 
 -- A message is sent,
 send_advances : (table : Table) (side : Side) (m : Message) (w next : World) → ((place : Side) → IsEnd (end_at place w))
-    → IsSending table side m w next → Advances w next
+    → IsSending table side m w next → Advances (Sends side m) w next
 send_advances table side m w next sound is = record {
   ends = one_end side is.made w next None changes tt (sent_moves table _ _ m (sound side) is.step);
-  sent = one_sent side m w next sent (send_uses table side m w next (sound side) step)
+  sent = one_sent (Sends side m) side m w next sent (send_uses table side m w next (sound side) step)
       (λ id. ending_closes table _ _ m id (sound side) step);
 }
   where
@@ -178,11 +195,12 @@ send_advances table side m w next sound is = record {
 
 -- one is received,
 delivery_advances : (table : Table) (side : Side) (number : ℕ) (w next : World) → ((place : Side) → IsEnd (end_at place w))
-    → AllByRecursion (WasSent w (other side)) (channel_from (other side) w) → IsDelivery table side number w next → Advances w next
+    → AllByRecursion (WasSent w (other side)) (channel_from (other side) w) → IsDelivery table side number w next
+    → Advances (Receives side number) w next
 delivery_advances table side number w next sound on_their_way is = record {
   ends = one_end side is.made w next (Some is.head.message) changes since
       (received_moves table _ _ is.head.message (sound side) is.step);
-  sent = none_sent w next sent;
+  sent = none_sent (Receives side number) w next sent;
 }
   where
     changes : Changes side is.made w next
@@ -207,10 +225,10 @@ reply_aborts e (EndMessage dtid dialogue components) abort is = cc
 reply_aborts e (Abort dtid reason) abort is = cc
 
 -- one is answered by the provider,
-reply_advances : (side : Side) (number : ℕ) (w next : World) → IsReply side number w next → Advances w next
+reply_advances : (side : Side) (number : ℕ) (w next : World) → IsReply side number w next → Advances (Replies side number) w next
 reply_advances side number w next is = record {
   ends = no_end side w next changes;
-  sent = one_sent side is.abort w next sent (rw what.2 tt) (rw what.2 (λ id ends. cc));
+  sent = one_sent (Replies side number) side is.abort w next sent (rw what.2 tt) (rw what.2 (λ id ends. cc));
 }
   where
     what : (otid : List ℕ) × (cause : ℕ) × (is.abort ≡ Abort otid (Some (Cause cause)))
@@ -223,18 +241,31 @@ reply_advances side number w next is = record {
     sent = rw (is.next_is, sent_joined side is.abort (with_channel (other side) is.more w), sent_with_channel (other side) is.more w) refl
 
 -- one is lost,
-loss_advances : (side : Side) (number : ℕ) (w next : World) → IsLoss side number w next → Advances w next
+loss_advances : (side : Side) (number : ℕ) (w next : World) → IsLoss side number w next → Advances (Loses side number) w next
 loss_advances side number w next is = record {
   ends = no_end side w next (rw is.next_is (changes_lost side is.more w));
-  sent = none_sent w next (rw (is.next_is, sent_with_channel side is.more w) refl);
+  sent = none_sent (Loses side number) w next (rw (is.next_is, sent_with_channel side is.more w) refl);
+}
+
+-- A told message leaves both ends as they are.
+changes_told : (side : Side) (m : Message) (w : World) → Changes side (end_at side w) w (joined side m w)
+changes_told sides.A m w = record { here = refl; there = refl }
+changes_told sides.B m w = record { here = refl; there = refl }
+
+-- one is told,
+told_advances : (side : Side) (m : Message) (w next : World) → IsTold side m w next → Advances (Tells side m) w next
+told_advances side m w next is = record {
+  ends = no_end side w next (rw is.next_is (changes_told side m w));
+  sent = one_told side m w next (rw (is.next_is, sent_joined side m w) refl);
 }
 
 -- or something happens to an end unseen.
-hidden_advances : (side : Side) (step : End → Result End EndFault) (w next : World)
-    → ((made : End) → step (end_at side w) ≡ Ok made → Moves None (end_at side w) made) → IsHidden side step w next → Advances w next
-hidden_advances side step w next moves is = record {
+hidden_advances : (event : Event) (side : Side) (step : End → Result End EndFault) (w next : World)
+    → ((made : End) → step (end_at side w) ≡ Ok made → Moves None (end_at side w) made) → IsHidden side step w next
+    → Advances event w next
+hidden_advances event side step w next moves is = record {
   ends = one_end side is.made w next None (rw is.next_is (changes_hidden side is.made w)) tt (moves is.made is.step_is);
-  sent = none_sent w next (rw (is.next_is, sent_with_end side is.made w) refl);
+  sent = none_sent event w next (rw (is.next_is, sent_with_end side is.made w) refl);
 }
 
 -- ---- blank worlds
@@ -261,7 +292,7 @@ quiet_blank w next is = rw is.next_is (record { halves = none_had _ refl refl; s
 
 -- A step goes on from what was there, or nothing is left behind it.
 step_advances : (table : Table) (before : List Event) (event : Event) (w next : World) → Runs table before w
-    → after table event w ≡ Some next → Advances w next ⊎ IsBlank next
+    → after table event w ≡ Some next → Advances event w next ⊎ IsBlank next
 step_advances table before (Sends side m) w next runs is =
     inl (send_advances table side m w next (sound table before w runs) (sending table side m w next is))
 step_advances table before (Receives side number) w next runs is =
@@ -272,20 +303,25 @@ step_advances table before (Replies side number) w next runs is =
 step_advances table before (Loses side number) w next runs is =
     inl (loss_advances side number w next (loss table side number w next is))
 step_advances table before (Expires side name id) w next runs is =
-    inl (hidden_advances side _ w next (λ made. expired_moves table _ made name id (sound table before w runs side))
+    inl (hidden_advances (Expires side name id) side _ w next (λ made. expired_moves table _ made name id (sound table before w runs side))
     (expiry table side name id w next is))
 step_advances table before (Closes side name) w next runs is =
-    inl (hidden_advances side _ w next (λ made. closed_moves table _ made name (sound table before w runs side))
+    inl (hidden_advances (Closes side name) side _ w next (λ made. closed_moves table _ made name (sound table before w runs side))
     (closing table side name w next is))
+step_advances table before (Tells side m) w next runs is = inl (told_advances side m w next (telling table side m w next is))
 step_advances table before Quiet w next runs is = inr (quiet_blank w next (quiet table w next is))
 
 -- What holds of each blank world, and is kept by each step that goes on, holds behind each run.
-pub worlds_keep : (table : Table) (Holds : World → Type 0) → ((w : World) → IsBlank w → Holds w)
-    → ((w next : World) → ((side : Side) → IsEnd (end_at side w)) → Advances w next → Holds w → Holds next)
-    → (events : List Event) (w : World) → Runs table events w → Holds w
-worlds_keep table Holds blank step = runs_keep table (λ events w. Holds w) (blank empty empty_blank)
-    (λ before event w next runs is held. by w next (sound table before w runs) held (step_advances table before event w next runs is))
+pub worlds_keep : (table : Table) (Holds : List Event → World → Type 0)
+    → ((events : List Event) (w : World) → IsBlank w → Holds events w)
+    → ((before : List Event) (event : Event) (w next : World) → ((side : Side) → IsEnd (end_at side w)) → Advances event w next
+    → Holds before w → Holds (before ++ event ∷ []) next)
+    → (events : List Event) (w : World) → Runs table events w → Holds events w
+worlds_keep table Holds blank step = runs_keep table Holds (blank [] empty empty_blank)
+    (λ before event w next runs is held.
+    by before event w next (sound table before w runs) held (step_advances table before event w next runs is))
   where
-    by : (w next : World) → ((side : Side) → IsEnd (end_at side w)) → Holds w → Advances w next ⊎ IsBlank next → Holds next
-    by w next sound held (inl advances) = step w next sound advances held
-    by w next sound held (inr none) = blank next none
+    by : (before : List Event) (event : Event) (w next : World) → ((side : Side) → IsEnd (end_at side w)) → Holds before w
+        → Advances event w next ⊎ IsBlank next → Holds (before ++ event ∷ []) next
+    by before event w next sound held (inl advances) = step before event w next sound advances held
+    by before event w next sound held (inr none) = blank (before ++ event ∷ []) next none

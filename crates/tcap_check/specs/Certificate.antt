@@ -1,30 +1,13 @@
 -- A certificate: what became of each message of a record, and what happened unseen. Entries are counted from 0. Gap 0
 -- is before the first entry, gap g between the entries g - 1 and g, the last gap behind the last entry.
-use Rattle.std.specs.Prelude.{◌≡◌, ℕ, ◌+◌, List, [], ◌∷◌}
-use Rattle.tcap_record.specs.declared.entry.End.{End as Side}
+use Rattle.std.specs.Prelude.{◌≡◌, ℕ, zero, suc, ◌+◌, List, [], ◌∷◌}
+use Rattle.tcap_check.specs.declared.certificate.Closing.{Closing}
+use Rattle.tcap_check.specs.declared.certificate.Expiry.{Expiry}
+use Rattle.tcap_check.specs.declared.certificate.Fate.{Fate}
+use Rattle.tcap_check.specs.declared.certificate.Fate.TheVariants.{Gap}
 
-pub data Fate : Type 0 where
-  -- it was delivered in that gap; a quiet mark has the next gap as its fate
-  Gap : ℕ → Fate
-  -- it was lost
-  Lost : Fate
-  -- it was taken by the provider's reply that is that entry
-  By : ℕ → Fate
-
--- An own invocation of an end ended unseen in that gap: the one that the component of that place, from 0, of that entry
--- began. The entry is a Begin or a Continue of that end.
-pub record Expiry : Type 0 where
-  pub gap : ℕ
-  pub side : Side
-  pub entry : ℕ
-  pub component : ℕ
-
--- An end's half of the transaction that the Begin of that entry began closed unseen in that gap.
-pub record Closing : Type 0 where
-  pub gap : ℕ
-  pub side : Side
-  pub entry : ℕ
-
+-- the fate of each entry; the invocations that end unseen, and the halves that close unseen, in the order in which they
+-- do in their gap
 pub record Certificate : Type 0 where
   pub fates : List Fate
   pub expire : List Expiry
@@ -33,8 +16,16 @@ pub record Certificate : Type 0 where
 -- each message is delivered in the gap behind its entry
 abbrev pub prompt_from : ℕ → List Fate → Type 0
 prompt_from entry [] = Unit {0}
-prompt_from entry (fate ∷ more) = (fate ≡ Fate.Gap (entry + 1)) × prompt_from (entry + 1) more
+prompt_from entry (fate ∷ more) = (fate ≡ Gap (entry + 1)) × prompt_from (entry + 1) more
 
 -- Each message is delivered before another is sent, and nothing else is listed.
 abbrev pub IsPrompt : Certificate → Type 0
 IsPrompt certificate = prompt_from 0 certificate.fates × (certificate.expire ≡ []) × (certificate.close ≡ [])
+
+-- the prompt certificate of so many entries, the first of which has that number
+abbrev pub prompt_fates : ℕ → ℕ → List Fate
+prompt_fates entry zero = []
+prompt_fates entry (suc count) = Gap (entry + 1) ∷ prompt_fates (entry + 1) count
+
+abbrev pub prompt : ℕ → Certificate
+prompt count = record { fates = prompt_fates 0 count; expire = []; close = [] }

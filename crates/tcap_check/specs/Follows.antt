@@ -11,8 +11,12 @@ use Rattle.tcap_record.specs.declared.entry.End.{End as Side}
 use Rattle.tcap_end.specs.declared.half.HalfName.{HalfName}
 use Rattle.tcap_end.specs.declared.half.HalfName.TheVariants as names
 use Rattle.tcap_check.specs.World.{Item, Sent, is_side, other}
-use Rattle.tcap_check.specs.Run.{Event, Sends, Receives, Replies, Loses, Expires, Closes, Quiet, then_so, where_so}
-use Rattle.tcap_check.specs.Certificate.{Certificate, Closing, Expiry, Fate, Gap, Lost, By}
+use Rattle.tcap_check.specs.Run.{Event, Sends, Receives, Replies, Loses, Expires, Closes, Quiet, Tells, then_so, where_so}
+use Rattle.tcap_check.specs.declared.certificate.Closing.{Closing}
+use Rattle.tcap_check.specs.declared.certificate.Expiry.{Expiry}
+use Rattle.tcap_check.specs.declared.certificate.Fate.{Fate}
+use Rattle.tcap_check.specs.declared.certificate.Fate.TheVariants.{Gap, Lost, By}
+use Rattle.tcap_check.specs.Certificate.{Certificate}
 
 -- ---- what is listed
 
@@ -30,7 +34,8 @@ named_entry items gap entry = cond (has_quiet (drop entry (take gap items))) Non
     (where_so (nat_lt entry gap) (slice_get items entry))
 
 -- An end's half of the transaction that a Begin with this originating ID began: by its own ID for who sent the Begin,
--- else by its peer's. A half may have two names; what a certificate describes uses this one.
+-- else by its peer's. A half that knows both IDs has two names (`Named`); this is the one that it has from the
+-- beginning.
 abbrev pub half_begun : Side → Side → List ℕ → HalfName
 half_begun side sender otid = cond (is_side side sender) (names.Own otid) (names.Peer otid)
 
@@ -117,7 +122,9 @@ invoking_half (Continue otid dtid dialogue components) = Some (names.Own otid)
 invoking_half (EndMessage dtid dialogue components) = Some (names.Peer dtid)
 invoking_half _ = None
 
--- An expiry right before an item is sent, of an ID that this item invokes, on its half.
+-- An expiry right before an item is sent, of an ID that this item invokes, on its half. Where a run makes these and then
+-- sends the item, they are exactly the IDs that the item invokes and that were in use: each has to end, and no other
+-- can (`laws::implied_are_needed`).
 abbrev pub IsImplied : Item → Event → Type 0
 IsImplied (Sent sender message) (Expires side name id) =
     (side ≡ sender) × (invoking_half message ≡ Some name) × Contains (filter_map invoke_id (components_in message)) id
@@ -152,6 +159,7 @@ abbrev pub IsPlain : Event → Type 0
 IsPlain (Replies side number) = ⊥
 IsPlain (Loses side number) = ⊥
 IsPlain (Closes side name) = ⊥
+IsPlain (Tells side message) = ⊥
 IsPlain _ = Unit {0}
 
 -- From a gap on, the events are gap by gap what the certificate says, with the items that are still to be sent between.
@@ -165,7 +173,7 @@ FollowsFrom certificate items gap (item ∷ more) events =
     × (events ≡ here ++ implied ++ sends ∷ rest)
     × FollowsFrom certificate items (gap + 1) more rest
 
--- A message is delivered or taken behind its entry, and before the end.
+-- A message is delivered in a gap behind its entry, which may be the last gap, or taken by an entry behind it.
 abbrev pub FatesFit : ℕ → ℕ → List Fate → Type 0
 FatesFit count n [] = Unit {0}
 FatesFit count n (Gap g ∷ fates) = (n < g) × (g ≤ count) × FatesFit count (n + 1) fates

@@ -1,9 +1,13 @@
 pub mod World
 pub mod Run
 pub mod Certificate
+pub mod CertificateText
+pub mod Entries
 pub mod Follows
+pub mod Named
 pub mod Worked
 pub mod Since
 pub mod Refused
 pub mod Replayed
+pub mod Given
 pub mod Replays

@@ -1,13 +1,12 @@
 -- The run that a certificate gives for the entries of a record, built entry by entry, or the first reason why it gives
 -- none.
 use Rattle.std.specs.Prelude.{ℕ, ℤ, ◌+◌, ◌*◌, Bool, true, false, List, [], ◌∷◌, ◌++◌, map, length, drop, filter, filter_map, slice_get, Option, Some, None, Result, Ok, Err, ok_or, ◌==◌, ◌&&◌, ◌||◌, not, nat_lt, nat_le, cond, option_map}
-use Rattle.tcap_ber.specs.declared.fault.Fault.{Fault}
+use Rattle.tcap_msg.specs.declared.message.AbortReason.TheVariants.{Cause}
 use Rattle.tcap_msg.specs.declared.message.Message.{Message}
+use Rattle.tcap_msg.specs.declared.message.Message.TheVariants.{Abort}
 use Rattle.tcap_msg.specs.Parts.{components_in}
 use Rattle.tcap_record.specs.declared.entry.End.{End as Side}
 use Rattle.tcap_record.specs.declared.entry.End.TheVariants as sides
-use Rattle.tcap_record.specs.declared.entry.Body.{Body}
-use Rattle.tcap_record.specs.declared.entry.Body.TheVariants.{Good, Bad, Quiet as QuietMark}
 use Rattle.tcap_record.specs.declared.entry.Entry.{Entry}
 use Rattle.tcap_end.specs.declared.fault.EndFault.{EndFault}
 use Rattle.tcap_end.specs.declared.fault.EndFault.TheVariants as faults
@@ -15,38 +14,24 @@ use Rattle.tcap_end.specs.declared.half.HalfName.{HalfName}
 use Rattle.tcap_end.specs.Table.{Table}
 use Rattle.tcap_end.specs.End.{End}
 use Rattle.tcap_end.specs.Message.{send}
+use Rattle.tcap_end.specs.Reply.{aborts}
 use Rattle.tcap_end.specs.Step.{needs, ◌>>◌, ◌>>=◌}
+use Rattle.tcap_check.specs.declared.fault.CheckFault.{CheckFault}
+use Rattle.tcap_check.specs.declared.fault.Reason.{Reason}
+use Rattle.tcap_check.specs.declared.fault.Reason.TheVariants.{FateCount, FateRange, OutOfOrder, BadReply, SendRefused, HiddenRefused, NotQuiet}
 use Rattle.tcap_check.specs.World.{Item, OnItsWay, Sent, World, channel_from, empty, end_at, is_side, other, with_channel, with_end}
-use Rattle.tcap_check.specs.Run.{Event, Sends, Receives, Replies, Loses, Expires, Quiet, after, joined, may_refuse}
-use Rattle.tcap_check.specs.Certificate.{Certificate, Closing, Expiry, Fate, Gap, Lost, By}
+use Rattle.tcap_check.specs.Run.{Event, Sends, Receives, Replies, Loses, Expires, Quiet, after, joined}
+use Rattle.tcap_check.specs.declared.certificate.Closing.{Closing}
+use Rattle.tcap_check.specs.declared.certificate.Expiry.{Expiry}
+use Rattle.tcap_check.specs.declared.certificate.Fate.{Fate}
+use Rattle.tcap_check.specs.declared.certificate.Fate.TheVariants.{Gap, Lost, By}
+use Rattle.tcap_check.specs.Certificate.{Certificate}
+use Rattle.tcap_check.specs.Entries.{item_of}
 use Rattle.tcap_check.specs.Follows.{closing_event, expiry_event, invoking_half, invoke_id, sending, taken_by}
 
 -- ---- reasons
 
--- Why a certificate gives no run.
-pub data Reason : Type 0 where
-  -- there are not as many fates as entries
-  FateCount : Reason
-  -- what is listed lies outside the gaps that it may lie in, or names an entry of another kind
-  FateRange : Reason
-  -- a message comes before an earlier one of the same end
-  OutOfOrder : Reason
-  -- a message is received, or answered by the provider, where it may not be
-  BadReply : Reason
-  -- an entry is sent where it may not be
-  SendRefused : EndFault → Reason
-  -- a listed expiry or closing may not be
-  HiddenRefused : EndFault → Reason
-  -- a quiet mark stands where not all is quiet
-  NotQuiet : Reason
-  -- an entry is no message
-  BadMessage : Fault → Reason
-
 -- why, and at which entry
-pub record CheckFault : Type 0 where
-  pub reason : Reason
-  pub entry : ℕ
-
 abbrev pub fault_at : Reason → ℕ → CheckFault
 fault_at reason entry = record { reason = reason; entry = entry }
 
@@ -55,7 +40,7 @@ refused reason entry = Err (fault_at reason entry)
 
 -- ---- ranges, which are looked at before the first entry
 
--- A message is delivered or taken behind its entry, and before the end.
+-- A message is delivered in a gap behind its entry, which may be the last gap, or taken by an entry behind it.
 abbrev pub fate_fits : ℕ → ℕ → Fate → Bool
 fate_fits count entry (Gap gap) = nat_lt entry gap && nat_le gap count
 fate_fits count entry (By reply) = nat_lt entry reply && nat_lt reply count
@@ -175,27 +160,23 @@ gap_replayed table c r = do
 
 -- ---- an entry
 
--- Where a fate stands in the order of what happens: a gap before the entry behind it.
-abbrev pub time_of : Fate → ℕ
-time_of (Gap gap) = 2 * gap
-time_of (By reply) = 2 * reply + 1
-time_of Lost = 0
+-- Where a fate stands in the order of what happens: a gap before the entry behind it. What is lost has no time.
+abbrev pub time_of : Fate → Option ℕ
+time_of (Gap gap) = Some (2 * gap)
+time_of (By reply) = Some (2 * reply + 1)
+time_of Lost = None
+
+-- whether both have a time, and the second is later
+abbrev pub is_later : Option ℕ → Option ℕ → Bool
+is_later (Some time) (Some other) = nat_lt time other
+is_later _ _ = false
 
 -- an earlier message of the same end is delivered or taken later; the first of these fates is that of the first item
-abbrev pub overtakes : Side → ℕ → List Fate → List Item → Bool
-overtakes side time (fate ∷ fates) (Sent sender message ∷ items) = (is_side side sender && nat_lt time (time_of fate))
-    || overtakes side time fates items
-overtakes side time (fate ∷ fates) (Item.Quiet ∷ items) = overtakes side time fates items
-overtakes side time _ _ = false
-
-abbrev pub is_in_order : Certificate → Side → Fate → List Item → Bool
-is_in_order c side Lost items = true
-is_in_order c side fate items = not (overtakes side (time_of fate) c.fates items)
-
--- The provider of this end may answer the first of these messages by this Abort.
-abbrev pub may_reply : End → Message → List OnItsWay → Bool
-may_reply e abort [] = false
-may_reply e abort (first ∷ more) = may_refuse e first.message abort
+abbrev pub is_overtaking : Side → Fate → List Fate → List Item → Bool
+is_overtaking side fate (first ∷ fates) (Sent sender message ∷ items) =
+    (is_side side sender && is_later (time_of fate) (time_of first)) || is_overtaking side fate fates items
+is_overtaking side fate (first ∷ fates) (Item.Quiet ∷ items) = is_overtaking side fate fates items
+is_overtaking side fate _ _ = false
 
 abbrev pub or_same : Replay → Option Replay → Replay
 or_same r None = r
@@ -222,14 +203,18 @@ sent_or_refused side message r (Err reason) = refused (SendRefused reason) (next
 abbrev pub send_replayed : Table → Side → Message → Replay → Result Replay CheckFault
 send_replayed table side message r = sent_or_refused side message r (send table (end_at side r.world) message)
 
--- an Abort by which the provider of an end answers the message of that number
+-- whether an item is that Abort with a cause
+abbrev pub is_abort : Message → Option Item → Bool
+is_abort abort (Some (Sent side (Abort dtid (Some (Cause cause))))) = aborts cause dtid abort
+is_abort abort _ = false
+
+-- An Abort by which the provider of an end answers the message of that number: the step, and what it sent is this
+-- Abort.
 abbrev pub reply_replayed : Table → Certificate → Side → Message → ℕ → Replay → Result Replay CheckFault
 reply_replayed table c side abort number r = do
-  needs (may_reply (end_at side r.world) abort waiting) (fault_at BadReply (next_entry r))
-  happens table c (Replies side number) BadReply (next_entry r) r
-  where
-    waiting : List OnItsWay
-    waiting = channel_from (other side) (lost_from_front c (other side) r).world
+  next ← happens table c (Replies side number) BadReply (next_entry r) r
+  needs (is_abort abort (slice_get next.world.sent (next_entry r))) (fault_at BadReply (next_entry r))
+  Ok next
 
 -- a message that an end sends, or its provider, by that event
 abbrev pub message_by : Table → Certificate → Side → Message → Option Event → Replay → Result Replay CheckFault
@@ -261,51 +246,36 @@ quiet_replayed table c fate r = do
 -- a message with this fate
 abbrev pub sent_replayed : Table → Certificate → Fate → Side → Message → Replay → Result Replay CheckFault
 sent_replayed table c fate side message r = do
-  needs (is_in_order c side fate r.world.sent) (fault_at OutOfOrder (next_entry r))
+  needs (not (is_overtaking side fate c.fates r.world.sent)) (fault_at OutOfOrder (next_entry r))
   behind ← gap_replayed table c r
   message_replayed table c side message behind
-
--- The item that an entry is, or why it is no message.
-abbrev pub item_in : Option Side → Body → Result Item Fault
-item_in side (Bad fault) = Err fault
-item_in (Some side) (Good message) = Ok (Sent side message)
-item_in None (Good message) = Ok Item.Quiet
-item_in side QuietMark = Ok Item.Quiet
-
-abbrev pub item_of : Entry → Result Item Fault
-item_of entry = item_in entry.side entry.body
 
 abbrev pub item_replayed : Table → Certificate → Fate → Item → Replay → Result Replay CheckFault
 item_replayed table c fate (Sent side message) r = sent_replayed table c fate side message r
 item_replayed table c fate Item.Quiet r = quiet_replayed table c fate r
 
--- an entry with this fate, and the gap before it
-abbrev pub entry_replayed : Table → Certificate → Fate → Result Item Fault → Replay → Result Replay CheckFault
+-- what an entry is, with this fate, and the gap before it
+abbrev pub entry_replayed : Table → Certificate → Fate → Result Item Reason → Replay → Result Replay CheckFault
 entry_replayed table c fate (Ok item) r = item_replayed table c fate item r
-entry_replayed table c fate (Err fault) r = refused (BadMessage fault) (next_entry r)
+entry_replayed table c fate (Err reason) r = refused reason (next_entry r)
 
-abbrev pub entries_replayed : Table → Certificate → List Entry → Replay → Result Replay CheckFault
+-- what the entries from the next one on are, and the last gap
+abbrev pub entries_replayed : Table → Certificate → List (Result Item Reason) → Replay → Result Replay CheckFault
 entries_replayed table c [] r = do
   needs (next_entry r == length c.fates) (fault_at FateCount (next_entry r))
   gap_replayed table c r
 entries_replayed table c (entry ∷ entries) r = do
   fate ← ok_or (slice_get c.fates (next_entry r)) (fault_at FateCount (next_entry r))
-  next ← entry_replayed table c fate (item_of entry) r
+  next ← entry_replayed table c fate entry r
   entries_replayed table c entries next
 
 -- The run that the certificate gives for these entries; what is still on its way behind the last gap is lost.
 abbrev pub replayed : Table → Certificate → List Entry → Result (List Event) CheckFault
 replayed table c entries = do
   certificate_fits c
-  r ← entries_replayed table c entries nothing_replayed
+  r ← entries_replayed table c (map item_of entries) nothing_replayed
   Ok (lost_from_both c r).events
 
 -- how many steps it has
 abbrev pub moves_of : Table → Certificate → List Entry → Result ℕ CheckFault
 moves_of table c entries = replayed table c entries >>= λ events. Ok (length events)
-
--- ---- the entries of items
-
-abbrev pub entry_of : Item → Entry
-entry_of (Sent side message) = record { side = Some side; place = 0; body = Good message }
-entry_of Item.Quiet = record { side = None; place = 0; body = QuietMark }

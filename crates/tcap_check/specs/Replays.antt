@@ -3,16 +3,23 @@ use Rattle.std.specs.Prelude.{◌≡◌, ℕ, List, [], ◌∷◌, ◌++◌, map
 use Rattle.tcap_ber.specs.declared.fault.Fault.{Fault}
 use Rattle.tcap_ber.specs.declared.fault.Reason.TheVariants as element
 use Rattle.tcap_msg.specs.declared.message.Message.TheVariants.{Begin}
-use Rattle.tcap_record.specs.declared.entry.Body.TheVariants.{Bad}
+use Rattle.tcap_record.specs.declared.entry.Body.TheVariants.{Bad, Good, Quiet as QuietMark}
 use Rattle.tcap_record.specs.declared.entry.End.TheVariants.{A, B}
 use Rattle.tcap_record.specs.declared.entry.Entry.{Entry}
 use Rattle.tcap_end.specs.declared.fault.EndFault.TheVariants as faults
 use Rattle.tcap_end.specs.Table.{Table}
 use Rattle.tcap_check.specs.World.{Item, Sent}
 use Rattle.tcap_check.specs.Run.{provider_abort}
-use Rattle.tcap_check.specs.Certificate.{Certificate, Closing, Expiry, Fate, Gap, Lost, By}
+use Rattle.tcap_check.specs.declared.certificate.Closing.{Closing}
+use Rattle.tcap_check.specs.declared.certificate.Expiry.{Expiry}
+use Rattle.tcap_check.specs.declared.certificate.Fate.{Fate}
+use Rattle.tcap_check.specs.declared.certificate.Fate.TheVariants.{Gap, Lost, By}
+use Rattle.tcap_check.specs.Certificate.{Certificate}
 use Rattle.tcap_check.specs.Worked.{Worked, answer, begin, by_fates, crossing, end_to, id, invoke, lasting, late_reject, prearranged, table, two_entries}
-use Rattle.tcap_check.specs.Replayed.{FateCount, FateRange, OutOfOrder, BadReply, SendRefused, HiddenRefused, NotQuiet, BadMessage, Reason, entry_of, moves_of, refused, replayed}
+use Rattle.tcap_check.specs.declared.fault.Reason.{Reason}
+use Rattle.tcap_check.specs.declared.fault.Reason.TheVariants.{FateCount, FateRange, OutOfOrder, BadReply, SendRefused, HiddenRefused, NotQuiet, BadMessage, NoItem}
+use Rattle.tcap_check.specs.Entries.{entry_of}
+use Rattle.tcap_check.specs.Replayed.{moves_of, refused, replayed}
 
 -- The certificate of a worked run gives that run.
 abbrev pub IsReplayed : Table → Worked → Type 0
@@ -153,3 +160,8 @@ no_message = replayed table (by_fates (Gap 1 ∷ [])) (bad ∷ []) ≡ refused (
 
     bad : Entry
     bad = record { side = Some A; place = 1; body = Bad fault }
+
+-- an entry with a message and no end, and one with an end and a quiet mark
+abbrev pub no_item : Type 0
+no_item = (replayed table (by_fates (Gap 1 ∷ [])) (record { side = None; place = 1; body = Good (begin None None) } ∷ []) ≡ refused NoItem 0)
+    × (replayed table (by_fates (Gap 1 ∷ [])) (record { side = Some A; place = 0; body = QuietMark } ∷ []) ≡ refused NoItem 0)

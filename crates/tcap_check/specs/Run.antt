@@ -1,11 +1,12 @@
 -- Runs of two ends over two channels (Q.774 3.2 and 3.3): one step after the other. A message is received by the other
--- end, answered by its provider, or lost.
-use Rattle.std.specs.Prelude.{◌≡◌, ℕ, ◌+◌, ℤ, Bool, List, [], ◌∷◌, ◌++◌, map, length, Option, Some, None, is_ok, ◌==◌, ◌||◌, cond, option_and_then, option_map}
+-- end, answered by its provider, or lost. An end keeps the rules, or it tells what it likes.
+use Rattle.std.specs.Prelude.{◌≡◌, ℕ, ◌+◌, ℤ, Bool, false, List, [], ◌∷◌, ◌++◌, map, length, Option, Some, None, is_ok, ◌==◌, ◌||◌, cond, option_and_then, option_map}
 use Rattle.std.specs.Result.{result_ok}
 use Rattle.tcap_msg.specs.declared.message.AbortReason.TheVariants.{Cause}
 use Rattle.tcap_msg.specs.declared.message.Message.{Message}
 use Rattle.tcap_msg.specs.declared.message.Message.TheVariants.{Begin, Continue, Abort}
 use Rattle.tcap_record.specs.declared.entry.End.{End as Side}
+use Rattle.tcap_record.specs.declared.entry.End.TheVariants as sides
 use Rattle.tcap_end.specs.declared.half.HalfName.{HalfName}
 use Rattle.tcap_end.specs.Table.{Table}
 use Rattle.tcap_end.specs.End.{End, quiet}
@@ -38,6 +39,8 @@ pub data Event : Type 0 where
   Closes : Side → HalfName → Event
   -- a quiet mark: nothing is on its way, all halves are closed, and all IDs are free again (this profile's choice)
   Quiet : Event
+  -- An end that keeps no rule sends a message: it may always happen, and the end stays as it is.
+  Tells : Side → Message → Event
 
 -- A message joins the end of its channel, and of the sent list.
 abbrev pub joined : Side → Message → World → World
@@ -103,6 +106,7 @@ after table (Event.Expires side name id) w = option_map (λ e. with_end side e w
 after table (Event.Closes side name) w = option_map (λ e. with_end side e w)
     (result_ok (close table (end_at side w) name))
 after table Event.Quiet w = after_quiet w
+after table (Event.Tells side message) w = Some (joined side message w)
 
 -- the world behind a run
 abbrev pub played : Table → List Event → World → Option World
@@ -121,6 +125,7 @@ Adds w (Replies side number) items =
     × (head.number ≡ number)
     × (abort_for head.message ≡ Some abort) × (items ≡ Sent side abort ∷ [])
 Adds w Quiet items = items ≡ Item.Quiet ∷ []
+Adds w (Tells side message) items = items ≡ Sent side message ∷ []
 Adds w _ items = items ≡ []
 
 -- the number of the message that an event takes from an end's channel, if it takes one
@@ -149,6 +154,31 @@ numbers_sent side n (Item.Quiet ∷ items) = numbers_sent side (n + 1) items
 abbrev pub IsRunOf : List Item → Table → List Event → Type 0
 IsRunOf items table events = (w : World) × Runs table events w × (w.sent ≡ items)
 
+-- ---- ends that keep the rules
+
+-- whether this end tells a message in an event
+abbrev pub is_told_by : Side → Event → Bool
+is_told_by side (Tells sender message) = is_side side sender
+is_told_by side _ = false
+
+-- whether it does in one of these
+abbrev pub tells : Side → List Event → Bool
+tells side [] = false
+tells side (event ∷ events) = is_told_by side event || tells side events
+
+-- An end keeps the rules in these events: it tells nothing. The other may do anything.
+abbrev pub KeepsRules : Side → List Event → Type 0
+KeepsRules side events = tells side events ≡ false
+
+-- Both ends keep them.
+abbrev pub BothKeepRules : List Event → Type 0
+BothKeepRules events = KeepsRules sides.A events × KeepsRules sides.B events
+
 -- Two lawful ends may have sent these items, in this order, by a run of so many steps.
 abbrev pub IsLawful : List Item → Table → ℕ → Type 0
-IsLawful items table moves = (events : List Event) × IsRunOf items table events × (length events ≡ moves)
+IsLawful items table moves =
+    (events : List Event) × IsRunOf items table events × BothKeepRules events × (length events ≡ moves)
+
+-- One lawful end may have sent its part of these items, whatever the other end sends.
+abbrev pub IsLawfulFor : Side → List Item → Table → Type 0
+IsLawfulFor side items table = (events : List Event) × IsRunOf items table events × KeepsRules side events

@@ -9,12 +9,15 @@ use Rattle.tcap_parts.specs.declared.dialogue.Dialogue.TheVariants.{Request, Res
 use Rattle.tcap_parts.specs.declared.dialogue.Source.TheVariants.{User}
 use Rattle.tcap_msg.specs.declared.message.Message.{Message}
 use Rattle.tcap_msg.specs.declared.message.Message.TheVariants.{Unidirectional, Begin, Continue, End as EndMessage}
+use Rattle.tcap_record.specs.declared.entry.End.{End as Side}
 use Rattle.tcap_record.specs.declared.entry.End.TheVariants.{A, B}
 use Rattle.tcap_end.specs.declared.half.HalfName.TheVariants.{Own, Peer}
 use Rattle.tcap_end.specs.Table.{Table, Operation}
 use Rattle.tcap_check.specs.World.{Item, Sent}
-use Rattle.tcap_check.specs.Run.{Event, Sends, Receives, Replies, Loses, Expires, Closes, Quiet, IsRunOf, provider_abort}
-use Rattle.tcap_check.specs.Certificate.{Certificate, Fate, Gap, Lost, By}
+use Rattle.tcap_check.specs.Run.{BothKeepRules, Event, Sends, Receives, Replies, Loses, Expires, Closes, Quiet, Tells, IsRunOf, KeepsRules, provider_abort}
+use Rattle.tcap_check.specs.declared.certificate.Fate.{Fate}
+use Rattle.tcap_check.specs.declared.certificate.Fate.TheVariants.{Gap, Lost, By}
+use Rattle.tcap_check.specs.Certificate.{Certificate}
 use Rattle.tcap_check.specs.Follows.{Follows}
 
 -- ---- the table, and messages
@@ -79,9 +82,11 @@ pub record Worked : Type 0 where
   pub certificate : Certificate
   pub events : List Event
 
--- It is a run of so many steps that sends the items, and the certificate describes it.
+-- It is a run of so many steps of two ends that sends the items, and the certificate describes it.
 abbrev pub IsWorkedBy : Table → Worked → ℕ → Type 0
-IsWorkedBy table w moves = IsRunOf w.items table w.events × (length w.events ≡ moves) × Follows w.certificate w.items w.events
+IsWorkedBy table w moves =
+    IsRunOf w.items table w.events × BothKeepRules w.events × (length w.events ≡ moves)
+    × Follows w.certificate w.items w.events
 
 abbrev pub IsWorked : Worked → ℕ → Type 0
 IsWorked = IsWorkedBy table
@@ -217,4 +222,36 @@ both_close = record {
   };
   events = Sends A (begin None None) ∷ Receives B 0 ∷ Sends B (answer None None) ∷ Receives A 1
       ∷ Sends B (Unidirectional None (invoke 48 ∷ [])) ∷ Closes A (Own (id 1)) ∷ Closes B (Peer (id 1)) ∷ Receives A 2 ∷ Quiet ∷ [];
+}
+
+-- ---- an end that keeps the rules, and one that does not
+
+-- A run in which this end keeps the rules sends the items, whatever the other sends.
+pub record OneSided : Type 0 where
+  pub side : Side
+  pub items : List Item
+  pub events : List Event
+
+abbrev pub IsWorkedFor : Table → OneSided → Type 0
+IsWorkedFor table w = IsRunOf w.items table w.events × KeepsRules w.side w.events
+
+-- B tells a Begin, an End and then a Continue, which it may not. A's half has closed by the End: its provider answers
+-- the Continue by an Abort with cause 1.
+abbrev pub continues_behind_its_end : OneSided
+continues_behind_its_end = record {
+  side = A;
+  items = Sent B (begin None None) ∷ Sent A (answer None None) ∷ Sent B (end_to 2 None)
+      ∷ Sent B (Continue (id 1) (id 2) None None) ∷ Sent A (provider_abort (id 1) 1) ∷ [];
+  events = Tells B (begin None None) ∷ Receives A 0 ∷ Sends A (answer None None) ∷ Tells B (end_to 2 None) ∷ Receives A 2
+      ∷ Tells B (Continue (id 1) (id 2) None None) ∷ Replies A 3 ∷ [];
+}
+
+-- The same, but that A goes on as if the End had not come: it was lost.
+abbrev pub end_is_not_heard : OneSided
+end_is_not_heard = record {
+  side = A;
+  items = Sent B (begin None None) ∷ Sent A (answer None None) ∷ Sent B (end_to 2 None)
+      ∷ Sent B (Continue (id 1) (id 2) None None) ∷ Sent A (end_to 1 None) ∷ [];
+  events = Tells B (begin None None) ∷ Receives A 0 ∷ Sends A (answer None None) ∷ Tells B (end_to 2 None) ∷ Loses B 2
+      ∷ Tells B (Continue (id 1) (id 2) None None) ∷ Receives A 3 ∷ Sends A (end_to 1 None) ∷ [];
 }

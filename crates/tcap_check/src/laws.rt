@@ -1,4 +1,6 @@
-//! Laws over all runs of two ends. Each function says by its contract alone what holds of every run.
+//! Laws over all runs. Each function says by its contract alone what holds of every run. The laws of channels, and of
+//! what an end's halves know, hold whether the ends keep the rules or not; those of what an end sent hold of an end that
+//! keeps them, whatever the other does.
 
 ghost use Rattle.std.specs.Prelude.{◌≡◌, ℕ, ◌≤◌, List, ◌++◌, length};
 ghost use Rattle.std.specs.List.{AllByRecursion};
@@ -10,7 +12,7 @@ ghost use Rattle.tcap_end.specs.Table.{Table};
 ghost use Rattle.tcap_end.specs.End.{KeptHalf};
 ghost use Rattle.tcap_end.specs.Sound.{Has, IsEnd};
 ghost use Rattle.tcap_check.specs.World.{Item, World, channel_from, end_at};
-ghost use Rattle.tcap_check.specs.Run.{Adds, Event, IsLawful, Runs, after, numbers_of, numbers_sent, numbers_taken};
+ghost use Rattle.tcap_check.specs.Run.{Adds, Event, IsLawful, KeepsRules, Runs, after, numbers_of, numbers_sent, numbers_taken};
 ghost use Rattle.tcap_check.specs.Certificate.{Certificate, IsPrompt};
 ghost use Rattle.tcap_check.specs.Follows.{Follows, IsPlain};
 ghost use Rattle.tcap_check.specs.Since.{
@@ -30,7 +32,7 @@ pub fn sent_list_grows()
         → (items : List Item) × Adds w event items × (next.sent ≡ w.sent ++ items) }
 {}
 
-/// A run has at least as many steps as it sends items.
+/// A run of two ends has at least as many steps as it sends items.
 pub fn steps_at_least_items()
     ensures { (items : List Item) (table : Table) (moves : ℕ) → IsLawful items table moves → length items ≤ moves }
 {}
@@ -78,10 +80,11 @@ pub fn requests_were_sent()
         → RequestWasSent w side f }
 {}
 
-/// An originating ID that an end sent since the last quiet mark is one of its own; that of a Continue is of the half
-/// whose peer has the destination ID.
+/// An originating ID that an end which keeps the rules sent since the last quiet mark is one of its own; that of a
+/// Continue is of the half whose peer has the destination ID.
 pub fn sent_ids_are_used()
     ensures { (table : Table) (events : List Event) (w : World) (side : Side) (m : Message) → Runs table events w
+        → KeepsRules side events
         → SentSince side m w.sent
         → HasUsed w side m }
 {}
@@ -102,9 +105,11 @@ pub fn answers_were_sent()
         → AnswersWereSent w side f }
 {}
 
-/// A half whose end sent an End, or an Abort without cause, to its peer, since the last quiet mark, is closed.
+/// A half whose end keeps the rules and sent an End, or an Abort without cause, to its peer, since the last quiet mark,
+/// is closed.
 pub fn ended_is_closed()
     ensures { (table : Table) (events : List Event) (w : World) (side : Side) (f : KeptHalf) → Runs table events w
+        → KeepsRules side events
         → Has (end_at side w) f
         → EndedIsClosed w side f }
 {}

@@ -2,7 +2,13 @@
 //! with laws over all runs and worked runs. Definitions and theorems alone: nothing of it runs.
 #![tactic(auto)]
 
+mod certificate;
+mod fault;
+pub mod given;
 pub mod laws;
 pub mod refused;
 pub mod replays;
 pub mod worked;
+
+pub use certificate::{Closing, Expiry, Fate};
+pub use fault::{CheckFault, Reason};

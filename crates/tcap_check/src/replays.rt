@@ -122,3 +122,7 @@ pub fn mark_behind_a_lost_begin()
 pub fn no_message()
     ensures { replays.no_message }
 {}
+
+pub fn no_item()
+    ensures { replays.no_item }
+{}

@@ -3,7 +3,7 @@
 
 ghost use Rattle.tcap_check.specs.Worked as worked;
 ghost use Rattle.tcap_check.specs.Certificate.{IsPrompt};
-ghost use Rattle.tcap_check.specs.Worked.{IsWorked, IsWorkedBy};
+ghost use Rattle.tcap_check.specs.Worked.{IsWorked, IsWorkedBy, IsWorkedFor};
 
 /// The record without entries has the run of no steps.
 pub fn empty_record()
@@ -73,4 +73,14 @@ pub fn end_implies()
 /// Both ends close by prearrangement, and a quiet mark comes: 9 steps.
 pub fn both_close()
     ensures { IsWorkedBy worked.prearranged worked.both_close 9 }
+{}
+
+/// A peer continues behind its own End, and the end that keeps the rules answers by an Abort with cause 1 (Q.774 3.3).
+pub fn continues_behind_its_end()
+    ensures { IsWorkedFor worked.table worked.continues_behind_its_end }
+{}
+
+/// The same peer, whose End is lost: the end that keeps the rules goes on.
+pub fn end_is_not_heard()
+    ensures { IsWorkedFor worked.table worked.end_is_not_heard }
 {}

@@ -1,0 +1,5 @@
+use Rattle.tcap_check.proofs.ReasonLaws.{refusal_says}
+use Rattle.tcap_check.proofs.given.refusals_have_reasons.Goals as goal
+
+pub returns : goal.returns
+returns c = refusal_says

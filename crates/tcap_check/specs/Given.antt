@@ -1,0 +1,147 @@
+-- What a certificate gives: a run, or the reason why it gives none.
+use Rattle.std.specs.Prelude.{◌≡◌, ◌⊎◌, ℕ, ◌+◌, ◌*◌, ◌≤◌, ◌<◌, ℤ, Bool, true, false, List, [], ◌∷◌, ◌++◌, length, take, slice_get, Contains, Option, Some, None, Ok, Err}
+use Rattle.std.specs.List.{AllByRecursion}
+use Rattle.tcap_ber.specs.declared.fault.Fault.{Fault}
+use Rattle.tcap_msg.specs.declared.message.Message.{Message}
+use Rattle.tcap_record.specs.declared.entry.End.{End as Side}
+use Rattle.tcap_record.specs.declared.entry.Body.TheVariants.{Bad}
+use Rattle.tcap_record.specs.declared.entry.Entry.{Entry}
+use Rattle.tcap_end.specs.declared.fault.EndFault.TheVariants as faults
+use Rattle.tcap_end.specs.declared.half.HalfName.{HalfName}
+use Rattle.tcap_end.specs.declared.outs.OwnInvocation.{OwnInvocation}
+use Rattle.tcap_end.specs.Component.{own_invocation}
+use Rattle.tcap_end.specs.End.{End, KeptHalf, named, quiet}
+use Rattle.tcap_end.specs.Table.{Table}
+use Rattle.tcap_check.specs.declared.certificate.Closing.{Closing}
+use Rattle.tcap_check.specs.declared.certificate.Expiry.{Expiry}
+use Rattle.tcap_check.specs.declared.certificate.Fate.{Fate}
+use Rattle.tcap_check.specs.declared.certificate.Fate.TheVariants.{Gap, Lost, By}
+use Rattle.tcap_check.specs.declared.fault.Reason.{Reason}
+use Rattle.tcap_check.specs.declared.fault.Reason.TheVariants as reasons
+use Rattle.tcap_check.specs.World.{Item, Sent, World, end_at}
+use Rattle.tcap_check.specs.Run.{BothKeepRules, Event, IsRunOf, Runs, Sends, Replies, Loses, Expires, Closes, Quiet, Tells}
+use Rattle.tcap_check.specs.Certificate.{Certificate}
+use Rattle.tcap_check.specs.Entries.{AreItems, IsItem, count_components, item_of}
+use Rattle.tcap_check.specs.Follows.{Follows, closing_event, expiry_event}
+use Rattle.tcap_check.specs.Replayed.{fate_fits, is_later, time_of}
+
+-- ---- a run
+
+-- The entries are items, and these events are a run of two ends that sends them, as the certificate describes it.
+pub record IsGiven (table : Table) (c : Certificate) (entries : List Entry) (events : List Event) : Type 0 where
+  pub items : List Item
+  pub are : AreItems entries items
+  pub run : IsRunOf items table events
+  pub keeps : BothKeepRules events
+  pub follows : Follows c items events
+  pub bound : length events ≤ 2 * length entries + count_components items + length c.expire + length c.close
+
+-- ---- prompt runs
+
+-- whether what happens next sends something, or nothing happens any more
+abbrev pub is_over_or_sends : List Event → Bool
+is_over_or_sends [] = true
+is_over_or_sends (Sends side message ∷ events) = true
+is_over_or_sends (Replies side number ∷ events) = true
+is_over_or_sends (Quiet ∷ events) = true
+is_over_or_sends (Tells side message ∷ events) = true
+is_over_or_sends (event ∷ events) = false
+
+-- Each message, the last one too, is delivered before another is sent: where something is sent, and at the end, nothing
+-- is on its way.
+abbrev pub DeliversAtOnce : Table → List Event → Type 0
+DeliversAtOnce table events = (before behind : List Event) (w : World) → events ≡ before ++ behind
+    → is_over_or_sends behind ≡ true → Runs table before w
+    → (w.from_a ≡ []) × (w.from_b ≡ [])
+
+-- A step of two ends that keep the rules, and none that a record does not show: a loss, an expiry or a closing.
+abbrev pub IsSeen : Event → Type 0
+IsSeen (Loses side number) = ⊥
+IsSeen (Expires side name id) = ⊥
+IsSeen (Closes side name) = ⊥
+IsSeen (Tells side message) = ⊥
+IsSeen _ = Unit {0}
+
+-- ---- implied expiries
+
+-- An own invocation of that ID is there, in the half of that name.
+abbrev pub IsInUse : End → HalfName → ℤ → Type 0
+IsInUse e name id =
+    (kept : KeptHalf) × (own : OwnInvocation) × (named e name ≡ Some kept) × (own_invocation kept.half id ≡ Some own)
+
+-- ---- reasons
+
+-- the entry of that number
+abbrev pub IsAt : List Entry → ℕ → Item → Type 0
+IsAt entries number item = (entry : Entry) × (slice_get entries number ≡ Some entry) × IsItem entry item
+
+-- Something listed for that gap names an entry that does not stand before the gap, or the gap lies behind the end;
+-- count is that of the fates.
+abbrev pub IsOutside : ℕ → ℕ → ℕ → Type 0
+IsOutside count entry gap = (gap ≤ entry) ⊎ (count < gap)
+
+-- A closing lies outside, or, for the items before its gap, names no Begin, or one with a quiet mark between.
+abbrev pub IsNoClosing : ℕ → List Entry → Closing → Type 0
+IsNoClosing count entries x = IsOutside count x.entry x.gap
+    ⊎ ((items : List Item) × AreItems (take x.gap entries) items × (closing_event items x ≡ None))
+
+-- An expiry lies outside, or, for the items before its gap, names no Invoke of a Begin or Continue of its end, or one
+-- with a quiet mark between.
+abbrev pub IsNoExpiry : ℕ → List Entry → Expiry → Type 0
+IsNoExpiry count entries x = IsOutside count x.entry x.gap
+    ⊎ ((items : List Item) × AreItems (take x.gap entries) items × (expiry_event items x ≡ None))
+
+-- A fate lies outside its range, or is that of a quiet mark and not the next gap.
+abbrev pub IsNoFate : ℕ → List Entry → ℕ → Fate → Type 0
+IsNoFate count entries number fate = (fate_fits count number fate ≡ false)
+    ⊎ (IsAt entries number Item.Quiet × (fate ≡ Gap (number + 1) → ⊥))
+
+-- The fate of that entry, or something listed that names it, is none.
+abbrev pub IsOutOfRange : Certificate → List Entry → ℕ → Type 0
+IsOutOfRange c entries number =
+    ((fate : Fate) × (slice_get c.fates number ≡ Some fate) × IsNoFate (length c.fates) entries number fate)
+    ⊎ ((x : Closing) × Contains c.close x × (x.entry ≡ number) × IsNoClosing (length c.fates) entries x)
+    ⊎ ((x : Expiry) × Contains c.expire x × (x.entry ≡ number) × IsNoExpiry (length c.fates) entries x)
+
+-- An earlier message of the same end has a later time.
+abbrev pub IsBeforeEarlier : Certificate → List Entry → ℕ → Type 0
+IsBeforeEarlier c entries number =
+    (side : Side) × (message before : Message) × (earlier : ℕ) × (fate later : Fate)
+    × IsAt entries number (Sent side message) × IsAt entries earlier (Sent side before) × (earlier < number)
+    × (slice_get c.fates number ≡ Some fate) × (slice_get c.fates earlier ≡ Some later)
+    × (is_later (time_of fate) (time_of later) ≡ true)
+
+-- A message before that entry is delivered behind it, or is taken by it or behind it.
+abbrev pub IsPending : Certificate → List Entry → ℕ → Type 0
+IsPending c entries number =
+    (side : Side) × (message : Message) × (earlier : ℕ) × (fate : Fate)
+    × IsAt entries earlier (Sent side message) × (earlier < number) × (slice_get c.fates earlier ≡ Some fate)
+    × by_fate fate
+  where
+    by_fate : Fate → Type 0
+    by_fate (Gap gap) = number < gap
+    by_fate (By reply) = number ≤ reply
+    by_fate Lost = ⊥
+
+-- A run that sends the entries before that one leaves a half open.
+abbrev pub IsStillOpen : Table → List Entry → ℕ → Type 0
+IsStillOpen table entries number =
+    (side : Side) × (events : List Event) × (w : World) × Runs table events w × AreItems (take number entries) w.sent
+    × (quiet (end_at side w) ≡ Err faults.StillOpen)
+
+-- What a refusal of that entry for that reason says of the certificate and the entries.
+abbrev pub IsReason : Table → Certificate → List Entry → ℕ → Reason → Type 0
+IsReason table c entries number reasons.FateCount =
+    ((number < length entries) × (slice_get c.fates number ≡ None))
+    ⊎ ((number ≡ length entries) × (number < length c.fates))
+IsReason table c entries number reasons.FateRange = IsOutOfRange c entries number
+IsReason table c entries number reasons.OutOfOrder = IsBeforeEarlier c entries number
+IsReason table c entries number reasons.NotQuiet =
+    IsAt entries number Item.Quiet × (IsPending c entries number ⊎ IsStillOpen table entries number)
+IsReason table c entries number (reasons.BadMessage fault) =
+    (entry : Entry) × (slice_get entries number ≡ Some entry) × (entry.body ≡ Bad fault)
+IsReason table c entries number reasons.NoItem =
+    (entry : Entry) × (slice_get entries number ≡ Some entry) × (item_of entry ≡ Err reasons.NoItem)
+IsReason table c entries number reasons.CertificateShape = ⊥
+IsReason table c entries number reasons.Memory = ⊥
+IsReason table c entries number reason = Unit {0}

@@ -1,0 +1,40 @@
+//! Why a certificate gives no run.
+
+use tcap_ber::Fault;
+use tcap_end::EndFault;
+
+/// Why a certificate gives no run for a record.
+#[derive(Clone, Copy, Debug, PartialEq, Eq)]
+pub enum Reason {
+    /// The text is no certificate.
+    CertificateShape,
+    /// There are not as many fates as entries.
+    FateCount,
+    /// A fate, or what is listed, lies outside the gaps that it may lie in, or names an entry of another kind.
+    FateRange,
+    /// A message comes before an earlier one of the same end.
+    OutOfOrder,
+    /// A message is received, or answered by the provider, where it may not be.
+    BadReply,
+    /// An entry is sent where it may not be.
+    SendRefused(EndFault),
+    /// A listed expiry or closing may not happen there.
+    HiddenRefused(EndFault),
+    /// A quiet mark stands where not all is quiet.
+    NotQuiet,
+    /// An entry's octets are no message.
+    BadMessage(Fault),
+    /// An entry has a message and no end, or an end and a quiet mark. No entry that was read is so.
+    NoItem,
+    /// Memory ran out.
+    Memory,
+}
+
+/// A refusal: why, and at which entry.
+#[derive(Clone, Copy, Debug, PartialEq, Eq)]
+pub struct CheckFault {
+    /// Why there is no run.
+    pub reason: Reason,
+    /// The number of the entry, from 0; for `CertificateShape` and `Memory` it is 0.
+    pub entry: u64,
+}

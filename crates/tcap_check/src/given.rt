@@ -1,0 +1,94 @@
+//! What a certificate gives: a run of two ends that sends the items of a record, or the reason why it gives none. Each
+//! function says by its contract alone what holds of the definitions.
+
+ghost use Rattle.std.specs.Prelude.{◌≡◌, ℕ, ℤ, List, length, filter_map, Contains, Some, Ok, Err};
+ghost use Rattle.std.specs.List.{AllByRecursion};
+ghost use Rattle.tcap_msg.specs.declared.message.Message.{Message};
+ghost use Rattle.tcap_msg.specs.Parts.{components_in};
+ghost use Rattle.tcap_record.specs.declared.entry.End.{End as Side};
+ghost use Rattle.tcap_record.specs.declared.entry.Entry.{Entry};
+ghost use Rattle.tcap_end.specs.declared.half.HalfName.{HalfName};
+ghost use Rattle.tcap_end.specs.End.{End};
+ghost use Rattle.tcap_end.specs.Message.{send};
+ghost use Rattle.tcap_end.specs.Table.{Table};
+ghost use Rattle.tcap_check.specs.declared.fault.CheckFault.{CheckFault};
+ghost use Rattle.tcap_check.specs.World.{Item, Sent, World, end_at};
+ghost use Rattle.tcap_check.specs.Run.{BothKeepRules, Event, Expires, IsLawful, IsRunOf, played};
+ghost use Rattle.tcap_check.specs.Certificate.{Certificate, IsPrompt, prompt};
+ghost use Rattle.tcap_check.specs.Entries.{AreItems};
+ghost use Rattle.tcap_check.specs.Follows.{Follows, IsImplied, IsPlain, invoke_id, invoking_half};
+ghost use Rattle.tcap_check.specs.Named.{AreSameEvents, IsDescribedBy};
+ghost use Rattle.tcap_check.specs.Given.{DeliversAtOnce, IsGiven, IsInUse, IsReason, IsSeen};
+ghost use Rattle.tcap_check.specs.Replayed.{replayed};
+
+/// A run from any certificate: what it gives is a run of two ends, from the empty world, which sends the items that the
+/// entries are, in their order, and nothing else; the certificate describes it. It has at most twice as many steps as
+/// there are entries, one for each component, and one for each listed event.
+pub fn gives_a_run()
+    ensures { (table : Table) (c : Certificate) (entries : List Entry) (events : List Event)
+        → replayed table c entries ≡ Ok events
+        → IsGiven table c entries events }
+{}
+
+/// So two lawful ends may have sent these items, in this order, by so many steps.
+pub fn what_is_given_is_lawful()
+    ensures { (table : Table) (c : Certificate) (entries : List Entry) (events : List Event)
+        → replayed table c entries ≡ Ok events
+        → (items : List Item) × AreItems entries items × IsLawful items table (length events) }
+{}
+
+/// The other way: where the entries are items, and the certificate describes some run that sends them, it gives a run,
+/// of as many steps.
+pub fn gives_where_a_run_is_described()
+    ensures { (table : Table) (c : Certificate) (entries : List Entry) (items : List Item) (events : List Event)
+        → AreItems entries items → IsRunOf items table events → IsDescribedBy table c items events
+        → (given : List Event) × (replayed table c entries ≡ Ok given) × (length given ≡ length events) }
+{}
+
+/// A run may call a half by either of its names: what is behind it is the same.
+pub fn names_do_not_matter()
+    ensures { (table : Table) (w : World) (events others : List Event) → AreSameEvents table w events others
+        → played table others w ≡ played table events w }
+{}
+
+/// In events that a certificate describes, both ends keep the rules.
+pub fn described_ends_keep_the_rules()
+    ensures { (c : Certificate) (items : List Item) (events : List Event) → Follows c items events
+        → BothKeepRules events }
+{}
+
+/// Where a run makes expiries that a message implies, and then sends it, they are exactly those that the send needs: of
+/// the IDs that the message invokes and that were in use in its half.
+pub fn implied_are_needed()
+    ensures { (table : Table) (side : Side) (message : Message) (name : HalfName) (implied : List Event)
+        (w before : World) (made : End) (id : ℤ)
+        → AllByRecursion (IsImplied (Sent side message)) implied → invoking_half message ≡ Some name
+        → played table implied w ≡ Some before → send table (end_at side before) message ≡ Ok made
+        → Contains (filter_map invoke_id (components_in message)) id
+        → (Contains implied (Expires side name id) → IsInUse (end_at side w) name id)
+        × (IsInUse (end_at side w) name id → Contains implied (Expires side name id)) }
+{}
+
+/// What a prompt certificate gives is a run that delivers each message, the last one too, before another is sent, with no
+/// loss, no provider's reply and no closing.
+pub fn prompt_certificates_deliver_at_once()
+    ensures { (table : Table) (c : Certificate) (entries : List Entry) (events : List Event) → IsPrompt c
+        → replayed table c entries ≡ Ok events
+        → DeliversAtOnce table events × AllByRecursion IsPlain events }
+{}
+
+/// Where the entries are items that some run sends so, with no hidden step, the prompt certificate of so many entries
+/// gives a run.
+pub fn prompt_runs_are_given()
+    ensures { (table : Table) (entries : List Entry) (items : List Item) (events : List Event)
+        → AreItems entries items → IsRunOf items table events → AllByRecursion IsSeen events
+        → DeliversAtOnce table events
+        → (given : List Event) × (replayed table (prompt (length items)) entries ≡ Ok given) }
+{}
+
+/// What a refusal says of the certificate and the entries.
+pub fn refusals_have_reasons()
+    ensures { (table : Table) (c : Certificate) (entries : List Entry) (fault : CheckFault)
+        → replayed table c entries ≡ Err fault
+        → IsReason table c entries fault.entry fault.reason }
+{}
