@@ -18,6 +18,7 @@ pub mod ReplayGaps
 pub mod ReplayEntries
 pub mod ImpliedLaws
 pub mod DescribedLaws
+pub mod NamedLaws
 pub mod GivenBound
 pub mod GivenRuns
 pub mod DescribedRuns

@@ -1,7 +1,9 @@
 -- Worked replays: the run that a certificate gives for a record, or why it gives none.
-use Rattle.std.specs.Prelude.{◌≡◌, ℕ, List, [], ◌∷◌, ◌++◌, map, Some, None, Ok}
+use Rattle.std.specs.Prelude.{◌≡◌, ℕ, pos, List, [], ◌∷◌, ◌++◌, map, Some, None, Ok}
 use Rattle.tcap_ber.specs.declared.fault.Fault.{Fault}
 use Rattle.tcap_ber.specs.declared.fault.Reason.TheVariants as element
+use Rattle.tcap_parts.specs.declared.code.Code.TheVariants.{Local}
+use Rattle.tcap_parts.specs.declared.component.Component.TheVariants.{Invoke}
 use Rattle.tcap_msg.specs.declared.message.Message.TheVariants.{Begin}
 use Rattle.tcap_record.specs.declared.entry.Body.TheVariants.{Bad, Good, Quiet as QuietMark}
 use Rattle.tcap_record.specs.declared.entry.End.TheVariants.{A, B}
@@ -15,7 +17,7 @@ use Rattle.tcap_check.specs.declared.certificate.Expiry.{Expiry}
 use Rattle.tcap_check.specs.declared.certificate.Fate.{Fate}
 use Rattle.tcap_check.specs.declared.certificate.Fate.TheVariants.{Gap, Lost, By}
 use Rattle.tcap_check.specs.Certificate.{Certificate}
-use Rattle.tcap_check.specs.Worked.{Worked, answer, begin, by_fates, crossing, end_to, id, invoke, lasting, late_reject, prearranged, table, two_entries}
+use Rattle.tcap_check.specs.Worked.{Worked, answer, begin, by_fates, crossing, end_to, further, id, invoke, lasting, late_reject, prearranged, result, table, two_entries}
 use Rattle.tcap_check.specs.declared.fault.Reason.{Reason}
 use Rattle.tcap_check.specs.declared.fault.Reason.TheVariants.{FateCount, FateRange, OutOfOrder, BadReply, SendRefused, HiddenRefused, NotQuiet, BadMessage, NoItem}
 use Rattle.tcap_check.specs.Entries.{entry_of}
@@ -76,6 +78,22 @@ no_expiry_is_listed = Refuses table (expiring [] late_reject.certificate) late_r
 abbrev pub invokes_twice : Type 0
 invokes_twice = Refuses table (by_fates (Gap 1 ∷ [])) (Sent A (begin None (Some (invoke 45 ∷ invoke 45 ∷ []))) ∷ []) (SendRefused faults.InvokeIdBusy) 0
 
+-- An ID is invoked again behind the result that came: its earlier invocation, which waits for a Reject, has to end.
+abbrev pub invokes_again : Type 0
+invokes_again = Gives table (by_fates (Gap 1 ∷ Gap 2 ∷ Gap 3 ∷ []))
+    (Sent A (begin None (Some (invoke 45 ∷ []))) ∷ Sent B (answer None (Some (result ∷ []))) ∷ Sent A (further (invoke 46)) ∷ []) 7
+
+-- an Invoke that is linked to one of this operation
+abbrev links_to : ℕ → List Item
+links_to code = Sent A (begin None (Some (invoke code ∷ [])))
+    ∷ Sent B (answer None (Some (Invoke (pos 5) (Some (pos 1)) (Local (pos 48)) None ∷ []))) ∷ []
+
+abbrev pub links_with_leave : Type 0
+links_with_leave = Gives table (by_fates (Gap 1 ∷ Gap 2 ∷ [])) (links_to 50) 4
+
+abbrev pub links_without_leave : Type 0
+links_without_leave = Refuses table (by_fates (Gap 1 ∷ Gap 2 ∷ [])) (links_to 45) (SendRefused faults.BadLink) 1
+
 -- ---- order, and replies
 
 -- the second of three Begins before the first
@@ -117,6 +135,17 @@ reply_to_nothing = Refuses table (by_two Lost Lost) two_cross BadReply 5
 abbrev pub reply_behind_a_loss : Type 0
 reply_behind_a_loss = Gives table (by_two Lost (By 5)) two_cross 11
 
+-- An End that is lost, and a Begin behind it that comes; the other end goes on, and is answered.
+abbrev pub reply_behind_a_lost_end : Type 0
+reply_behind_a_lost_end = Gives table (by_fates (Gap 1 ∷ Gap 2 ∷ Lost ∷ Gap 4 ∷ By 5 ∷ Gap 6 ∷ []))
+    (Sent A (begin None None) ∷ Sent B (answer None None) ∷ Sent A (end_to 2 None) ∷ Sent A (Begin (id 3) None None)
+    ∷ Sent B (answer None None) ∷ Sent A (provider_abort (id 2) 1) ∷ []) 11
+
+-- a Continue that crosses an End, and is lost
+abbrev pub continue_is_lost : Type 0
+continue_is_lost = Gives table (by_fates (Gap 1 ∷ Gap 2 ∷ Gap 4 ∷ Lost ∷ []))
+    (Sent A (begin None None) ∷ Sent B (answer None None) ∷ Sent A (end_to 2 None) ∷ Sent B (answer None None) ∷ []) 8
+
 -- a Continue that is taken by what is no reply
 abbrev pub taken_by_a_message : Type 0
 taken_by_a_message = Refuses table (by_fates (Gap 1 ∷ By 2 ∷ Gap 3 ∷ []))
@@ -131,6 +160,10 @@ reply_of_the_other_cause =
 
 abbrev dialogue_and_mark : List Item
 dialogue_and_mark = Sent A (begin None None) ∷ Sent B (answer None None) ∷ Sent A (end_to 2 None) ∷ Item.Quiet ∷ []
+
+-- a quiet mark and nothing else
+abbrev pub mark_alone : Type 0
+mark_alone = Gives table (by_fates (Gap 1 ∷ [])) (Item.Quiet ∷ []) 1
 
 abbrev pub mark_before_a_message_comes : Type 0
 mark_before_a_message_comes = Refuses table (by_fates (Gap 1 ∷ Gap 2 ∷ Gap 4 ∷ Gap 4 ∷ [])) dialogue_and_mark NotQuiet 3
@@ -156,7 +189,7 @@ abbrev pub no_message : Type 0
 no_message = replayed table (by_fates (Gap 1 ∷ [])) (bad ∷ []) ≡ refused (BadMessage fault) 0
   where
     fault : Fault
-    fault = record { reason = element.Missing; place = 6 }
+    fault = record { reason = element.EmptyComponents; place = 6 }
 
     bad : Entry
     bad = record { side = Some A; place = 1; body = Bad fault }

@@ -25,11 +25,13 @@ use Rattle.tcap_check.specs.Follows.{Follows}
 abbrev operation : ℕ → Bool → Operation
 operation class expires = record { class = class; linked = []; expires = expires }
 
--- 45 of class 1, 46 of class 2, 47 of class 3, 48 of class 4; an invocation of 45 may end by its timer, or not
+-- 45 of class 1, 46 of class 2, 47 of class 3, 48 of class 4, and 50 of class 1, to which 48 may be linked; an invocation
+-- of 45 may end by its timer, or not
 abbrev table_with : Bool → Table
 table_with expires = record {
   operations = (Local (pos 45), operation 1 expires) ∷ (Local (pos 46), operation 2 true) ∷ (Local (pos 47), operation 3 true)
-      ∷ (Local (pos 48), operation 4 true) ∷ [];
+      ∷ (Local (pos 48), operation 4 true)
+      ∷ (Local (pos 50), record (operation 1 true) { linked = (Local (pos 48), tt) ∷ [] }) ∷ [];
   prearranged = false;
 }
 

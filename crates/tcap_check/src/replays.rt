@@ -126,3 +126,27 @@ pub fn no_message()
 pub fn no_item()
     ensures { replays.no_item }
 {}
+
+pub fn invokes_again()
+    ensures { replays.invokes_again }
+{}
+
+pub fn links_with_leave()
+    ensures { replays.links_with_leave }
+{}
+
+pub fn links_without_leave()
+    ensures { replays.links_without_leave }
+{}
+
+pub fn reply_behind_a_lost_end()
+    ensures { replays.reply_behind_a_lost_end }
+{}
+
+pub fn continue_is_lost()
+    ensures { replays.continue_is_lost }
+{}
+
+pub fn mark_alone()
+    ensures { replays.mark_alone }
+{}

@@ -1,0 +1,63 @@
+-- A run may call a half by either of its names.
+use Rattle.std.proofs.Common.{◌≡◌, ℤ, List, [], ◌∷◌, Option, Some, None, Result, Ok, refl, sym, ap, option_map}
+use Rattle.std.specs.Prelude.{not, ok_or}
+use Rattle.std.specs.Result.{result_ok}
+use Rattle.tcap_record.specs.declared.entry.End.{End as Side}
+use Rattle.tcap_end.specs.declared.fault.EndFault.{EndFault}
+use Rattle.tcap_end.specs.declared.fault.EndFault.TheVariants as faults
+use Rattle.tcap_end.specs.declared.half.HalfName.{HalfName}
+use Rattle.tcap_end.specs.Table.{Table}
+use Rattle.tcap_end.specs.Half.{closed_half, is_closed}
+use Rattle.tcap_end.specs.Component.{own_invocation}
+use Rattle.tcap_end.specs.End.{End, KeptHalf, named, put}
+use Rattle.tcap_end.specs.Hidden.{close, expire, may_close, may_expire, without_invocation}
+use Rattle.tcap_end.specs.Step.{needs, ◌>>◌, ◌>>=◌}
+use Rattle.tcap_check.specs.World.{World, end_at, with_end}
+use Rattle.tcap_check.specs.Run.{Event, Sends, Receives, Replies, Loses, Expires, Closes, Quiet, Tells, after, played, then_so}
+use Rattle.tcap_check.specs.Named.{AreSameEvents, IsSameEvent}
+
+-- What an expiry leaves is said by the half alone that the name finds,
+abbrev expire_found : Table → End → ℤ → Option KeptHalf → Result End EndFault
+expire_found table e id found = do
+  kept ← ok_or found faults.CannotExpire
+  needs (not (is_closed kept.half.phase)) faults.CannotExpire
+  needs (may_expire table (own_invocation kept.half id)) faults.CannotExpire
+  Ok (put e kept.slot kept.key (without_invocation id kept.half))
+
+expire_is : (table : Table) (e : End) (name : HalfName) (id : ℤ) → expire table e name id ≡ expire_found table e id (named e name)
+expire_is table e name id = refl
+
+-- and so is what a closing leaves.
+abbrev close_found : Table → End → Option KeptHalf → Result End EndFault
+close_found table e found = do
+  kept ← ok_or found faults.CannotClose
+  needs (may_close table kept.half.phase) faults.CannotClose
+  Ok (put e kept.slot kept.key (closed_half kept.half))
+
+close_is : (table : Table) (e : End) (name : HalfName) → close table e name ≡ close_found table e (named e name)
+close_is table e name = refl
+
+-- So an event by either name leaves the same world,
+same_step : (table : Table) (w : World) (event first : Event) → IsSameEvent w event first → after table first w ≡ after table event w
+same_step table w (Expires side name id) first (other, is, same) =
+    rw is (ap (λ (o : Option KeptHalf). option_map (λ e. with_end side e w) (result_ok (expire_found table (end_at side w) id o))) (sym same))
+same_step table w (Closes side name) first (other, is, same) =
+    rw is (ap (λ (o : Option KeptHalf). option_map (λ e. with_end side e w) (result_ok (close_found table (end_at side w) o))) (sym same))
+same_step table w (Sends side message) first is = rw (← is) refl
+same_step table w (Receives side number) first is = rw (← is) refl
+same_step table w (Replies side number) first is = rw (← is) refl
+same_step table w (Loses side number) first is = rw (← is) refl
+same_step table w Quiet first is = rw (← is) refl
+same_step table w (Tells side message) first is = rw (← is) refl
+
+-- and so do runs.
+pub same_runs : (table : Table) (w : World) (events others : List Event) → AreSameEvents table w events others
+    → played table others w ≡ played table events w
+same_runs table w [] others is = rw is refl
+same_runs table w (event ∷ events) others (first, rest, joined, same, on) =
+    rw (joined, same_step table w event first same) (by (after table event w) (λ next at. same_runs table next events rest (on next at)))
+  where
+    by : (o : Option World) → ((next : World) → o ≡ Some next → played table rest next ≡ played table events next)
+        → then_so o (played table rest) ≡ then_so o (played table events)
+    by None goes = refl
+    by (Some next) goes = goes next refl
