@@ -1,0 +1,132 @@
+-- What happens by a prompt certificate: each item, and right behind it the delivery of its message.
+use Rattle.std.proofs.Common.{◌≡◌, ◌≤◌, ◌<◌, ℕ, zero, suc, ◌+◌, ◌==◌, arith, Bool, true, false, List, [], ◌∷◌, ◌++◌, map, length, Some, None, refl, sym, ap, subst, ◌∙◌, append_assoc}
+use Rattle.std.specs.Prelude.{slice_get}
+use Rattle.std.specs.List.{AllByRecursion}
+use Rattle.std.proofs.lemmas.Bool.{eq-eqb, ne_eqb}
+use Rattle.std.proofs.lemmas.List.{length-append}
+use Rattle.tcap_msg.specs.declared.message.AbortReason.TheVariants.{Cause, Dialogue as ByDialogue}
+use Rattle.tcap_msg.specs.declared.message.Message.{Message}
+use Rattle.tcap_msg.specs.declared.message.Message.TheVariants.{Unidirectional, Begin, Continue, End as EndMessage, Abort}
+use Rattle.tcap_record.specs.declared.entry.End.{End as Side}
+use Rattle.tcap_check.specs.World.{Item, Sent, other}
+use Rattle.tcap_check.specs.Run.{Event, Sends, Receives, Quiet}
+use Rattle.tcap_check.specs.declared.certificate.Fate.{Fate}
+use Rattle.tcap_check.specs.declared.certificate.Fate.TheVariants.{Gap, Lost, By}
+use Rattle.tcap_check.specs.Certificate.{Certificate, IsPrompt, prompt, prompt_fates, prompt_from}
+use Rattle.tcap_check.specs.Follows.{FatesFit, FollowsFrom, IsImplied, deliveries, gap_events, lost_from, sending, sending_by, taken_by}
+
+-- ---- prompt fates
+
+-- No message is taken by a reply,
+none_taken : (entry reply n : ℕ) (fates : List Fate) → prompt_from entry fates → taken_by reply n fates ≡ []
+none_taken entry reply n [] prompt = refl
+none_taken entry reply n (Gap g ∷ fates) prompt = none_taken (entry + 1) reply (n + 1) fates prompt.1
+none_taken entry reply n (Lost ∷ fates) prompt = let bad = prompt.0 in cc
+none_taken entry reply n (By k ∷ fates) prompt = let bad = prompt.0 in cc
+
+-- nor lost.
+pub none_lost : (side : Side) (entry n : ℕ) (fates : List Fate) (items : List Item) → prompt_from entry fates
+    → lost_from side n fates items ≡ []
+none_lost side entry n [] items prompt = refl
+none_lost side entry n (Gap g ∷ fates) [] prompt = refl
+none_lost side entry n (Gap g ∷ fates) (item ∷ items) prompt = none_lost side (entry + 1) (n + 1) fates items prompt.1
+none_lost side entry n (Lost ∷ fates) items prompt = let bad = prompt.0 in cc
+none_lost side entry n (By k ∷ fates) items prompt = let bad = prompt.0 in cc
+
+-- The fate of each entry is the next gap.
+fate_at : (n i : ℕ) (fates : List Fate) → prompt_from n fates → i < length fates → slice_get fates i ≡ Some (Gap (n + i + 1))
+fate_at n i [] prompt below = absurd (omega (arith, below))
+fate_at n zero (fate ∷ fates) prompt below =
+    let place : n + 0 ≡ n = omega arith in rw place (ap (λ (f : Fate). Some f) prompt.0)
+fate_at n (suc i) (fate ∷ fates) prompt below =
+    let place : n + suc i ≡ (n + 1) + i = omega arith in
+    rw place (fate_at (n + 1) i fates prompt.1 (omega (arith, below)))
+
+-- The prompt fates are prompt,
+pub fates_prompt : (n count : ℕ) → prompt_from n (prompt_fates n count)
+fates_prompt n zero = tt
+fates_prompt n (suc count) = (refl, fates_prompt (n + 1) count)
+
+-- and so many;
+pub fates_count : (n count : ℕ) → length (prompt_fates n count) ≡ count
+fates_count n zero = refl
+fates_count n (suc count) = ap suc (fates_count (n + 1) count)
+
+-- they fit.
+pub fates_in : (all n count : ℕ) → n + count ≤ all → FatesFit all n (prompt_fates n count)
+fates_in all n zero within = tt
+fates_in all n (suc count) within = (omega arith, omega (arith, within), fates_in all (n + 1) count (omega (arith, within)))
+
+-- ---- gaps
+
+-- the delivery of an item that has this number
+abbrev pub delivery_of : ℕ → Item → List Event
+delivery_of n (Sent side message) = Receives (other side) n ∷ []
+delivery_of n Item.Quiet = []
+
+-- Nothing is delivered before it is sent.
+pub none_before : (gap n : ℕ) (fates : List Fate) (items : List Item) → prompt_from n fates → gap ≤ n → deliveries gap n fates items ≡ []
+none_before gap n [] items prompt below = refl
+none_before gap n (fate ∷ fates) [] prompt below = refl
+none_before gap n (Gap g ∷ fates) (Sent side message ∷ items) prompt below =
+    let place : g ≡ n + 1 = let is = prompt.0 in cc in
+    let later : (g == gap) ≡ false = ne_eqb g gap (λ e. omega (arith, below, place, e)) in
+    rw later (none_before gap (n + 1) fates items prompt.1 (omega (arith, below)))
+none_before gap n (Gap g ∷ fates) (Item.Quiet ∷ items) prompt below = none_before gap (n + 1) fates items prompt.1 (omega (arith, below))
+none_before gap n (Lost ∷ fates) (item ∷ items) prompt below = let bad = prompt.0 in cc
+none_before gap n (By k ∷ fates) (item ∷ items) prompt below = let bad = prompt.0 in cc
+
+-- In the gap behind an item, it alone is delivered.
+deliveries_behind : (gap n : ℕ) (fates : List Fate) (front : List Item) (item : Item) (more : List Item) → prompt_from n fates
+    → length fates ≡ length (front ++ item ∷ more) → gap ≡ n + length front
+    → deliveries (gap + 1) n fates (front ++ item ∷ more) ≡ delivery_of gap item
+deliveries_behind gap n fates front item more prompt counted at = ?
+
+-- ---- events
+
+-- the event that adds an item
+abbrev pub event_of : Item → Event
+event_of (Sent side message) = Sends side message
+event_of Item.Quiet = Quiet
+
+-- whether it is no Abort with a cause, which only a provider sends
+abbrev pub has_no_cause : Item → Bool
+has_no_cause (Sent side (Abort dtid (Some (Cause cause)))) = false
+has_no_cause _ = true
+
+-- The events are first these, and then each of the items, with expiries that it implies right before it and its
+-- delivery right behind it; the first of the items has number n.
+abbrev pub Prompt : ℕ → List Event → List Item → List Event → Type 0
+Prompt n here [] events = events ≡ here
+Prompt n here (item ∷ more) events =
+    (implied rest : List Event) × AllByRecursion (IsImplied item) implied × (has_no_cause item ≡ true)
+    × (events ≡ here ++ implied ++ event_of item ∷ rest) × Prompt (n + 1) (delivery_of n item) more rest
+
+-- What sends an item, where no message is taken by it.
+sends_is : (c : Certificate) (n : ℕ) (item : Item) (event : Event) → taken_by n 0 c.fates ≡ [] → sending c n item ≡ Some event
+    → (event ≡ event_of item) × (has_no_cause item ≡ true)
+sends_is c n item event none is = ?
+
+-- The other way.
+sends_so : (c : Certificate) (n : ℕ) (item : Item) → taken_by n 0 c.fates ≡ [] → slice_get c.fates n ≡ Some (Gap (n + 1))
+    → has_no_cause item ≡ true → sending c n item ≡ Some (event_of item)
+sends_so c n item none at so = ?
+
+-- Events that are the same as options are the same.
+same_events : (xs ys : List Event) → map Some xs ≡ map Some ys → xs ≡ ys
+same_events [] [] same = refl
+same_events [] (y ∷ ys) same = cc
+same_events (x ∷ xs) [] same = cc
+same_events (x ∷ xs) (y ∷ ys) same = let rest = same_events xs ys cc in cc
+
+-- What follows a prompt certificate is so.
+pub follows_prompt : (c : Certificate) (items : List Item) (gap : ℕ) (front left : List Item) (events : List Event) → IsPrompt c
+    → length c.fates ≡ length items → items ≡ front ++ left → gap ≡ length front → FollowsFrom c items gap left events
+    → Prompt gap (deliveries gap 0 c.fates items) left events
+follows_prompt c items gap front left events prompt counted joined at follows = ?
+
+-- The other way.
+pub prompt_follows : (c : Certificate) (items : List Item) (gap : ℕ) (here : List Event) (front left : List Item) (events : List Event) → IsPrompt c
+    → length c.fates ≡ length items → items ≡ front ++ left → gap ≡ length front → here ≡ deliveries gap 0 c.fates items
+    → Prompt gap here left events → FollowsFrom c items gap left events
+prompt_follows c items gap here front left events prompt counted joined at here_is is = ?
