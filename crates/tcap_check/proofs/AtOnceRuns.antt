@@ -1,5 +1,5 @@
 -- What happens by a prompt certificate: each item, and right behind it the delivery of its message.
-use Rattle.std.proofs.Common.{◌≡◌, ◌≤◌, ◌<◌, ℕ, zero, suc, ◌+◌, ◌==◌, arith, Bool, true, false, List, [], ◌∷◌, ◌++◌, map, length, Some, None, refl, sym, ap, subst, ◌∙◌, append_assoc}
+use Rattle.std.proofs.Common.{◌≡◌, ◌≤◌, ◌<◌, ℕ, zero, suc, ◌+◌, ◌==◌, arith, Bool, true, false, List, [], ◌∷◌, ◌++◌, map, length, Option, Some, None, refl, sym, ap, subst, ◌∙◌, append_assoc}
 use Rattle.std.specs.Prelude.{slice_get}
 use Rattle.std.specs.List.{AllByRecursion}
 use Rattle.std.proofs.lemmas.Bool.{eq-eqb, ne_eqb}
@@ -9,11 +9,11 @@ use Rattle.tcap_msg.specs.declared.message.Message.{Message}
 use Rattle.tcap_msg.specs.declared.message.Message.TheVariants.{Unidirectional, Begin, Continue, End as EndMessage, Abort}
 use Rattle.tcap_record.specs.declared.entry.End.{End as Side}
 use Rattle.tcap_check.specs.World.{Item, Sent, other}
-use Rattle.tcap_check.specs.Run.{Event, Sends, Receives, Quiet}
+use Rattle.tcap_check.specs.Run.{Event, Sends, Receives, Quiet, where_so}
 use Rattle.tcap_check.specs.declared.certificate.Fate.{Fate}
 use Rattle.tcap_check.specs.declared.certificate.Fate.TheVariants.{Gap, Lost, By}
 use Rattle.tcap_check.specs.Certificate.{Certificate, IsPrompt, prompt, prompt_fates, prompt_from}
-use Rattle.tcap_check.specs.Follows.{FatesFit, FollowsFrom, IsImplied, deliveries, gap_events, lost_from, sending, sending_by, taken_by}
+use Rattle.tcap_check.specs.Follows.{FatesFit, FollowsFrom, IsImplied, deliveries, gap_events, lost_from, quiet_by, sending, taken_by}
 
 -- ---- prompt fates
 
@@ -80,7 +80,23 @@ none_before gap n (By k ∷ fates) (item ∷ items) prompt below = let bad = pro
 deliveries_behind : (gap n : ℕ) (fates : List Fate) (front : List Item) (item : Item) (more : List Item) → prompt_from n fates
     → length fates ≡ length (front ++ item ∷ more) → gap ≡ n + length front
     → deliveries (gap + 1) n fates (front ++ item ∷ more) ≡ delivery_of gap item
-deliveries_behind gap n fates front item more prompt counted at = ?
+deliveries_behind gap n [] [] item more prompt counted at = cc
+deliveries_behind gap n [] (f ∷ front) item more prompt counted at = cc
+deliveries_behind gap n (Lost ∷ fates) front item more prompt counted at = let bad = prompt.0 in cc
+deliveries_behind gap n (By k ∷ fates) front item more prompt counted at = let bad = prompt.0 in cc
+deliveries_behind gap n (Gap g ∷ fates) [] Item.Quiet more prompt counted at =
+    none_before (gap + 1) (n + 1) fates more prompt.1 (omega (arith, at))
+deliveries_behind gap n (Gap g ∷ fates) [] (Sent side message) more prompt counted at =
+    let place : g ≡ n + 1 = let is = prompt.0 in cc in
+    let same : n ≡ gap = omega (arith, at) in
+    let now : (g == gap + 1) ≡ true = eq-eqb g (gap + 1) (omega (arith, place, same)) in
+    rw (now, none_before (gap + 1) (n + 1) fates more prompt.1 (omega (arith, at)), same) refl
+deliveries_behind gap n (Gap g ∷ fates) (Item.Quiet ∷ front) item more prompt counted at =
+    deliveries_behind gap (n + 1) fates front item more prompt.1 (omega (arith, counted)) (omega (arith, at))
+deliveries_behind gap n (Gap g ∷ fates) (Sent side message ∷ front) item more prompt counted at =
+    let place : g ≡ n + 1 = let is = prompt.0 in cc in
+    let later : (g == gap + 1) ≡ false = ne_eqb g (gap + 1) (λ e. omega (arith, at, place, e)) in
+    rw later (deliveries_behind gap (n + 1) fates front item more prompt.1 (omega (arith, counted)) (omega (arith, at)))
 
 -- ---- events
 
@@ -102,15 +118,43 @@ Prompt n here (item ∷ more) events =
     (implied rest : List Event) × AllByRecursion (IsImplied item) implied × (has_no_cause item ≡ true)
     × (events ≡ here ++ implied ++ event_of item ∷ rest) × Prompt (n + 1) (delivery_of n item) more rest
 
+-- It is that event.
+a_send : (sends event : Event) → Some sends ≡ Some event → event ≡ sends
+a_send sends event is = cc
+
 -- What sends an item, where no message is taken by it.
 sends_is : (c : Certificate) (n : ℕ) (item : Item) (event : Event) → taken_by n 0 c.fates ≡ [] → sending c n item ≡ Some event
     → (event ≡ event_of item) × (has_no_cause item ≡ true)
-sends_is c n item event none is = ?
+sends_is c n (Sent side (Unidirectional dialogue components)) event none is = (a_send _ event (rw none at is), refl)
+sends_is c n (Sent side (Begin otid dialogue components)) event none is = (a_send _ event (rw none at is), refl)
+sends_is c n (Sent side (Continue otid dtid dialogue components)) event none is = (a_send _ event (rw none at is), refl)
+sends_is c n (Sent side (EndMessage dtid dialogue components)) event none is = (a_send _ event (rw none at is), refl)
+sends_is c n (Sent side (Abort dtid None)) event none is = (a_send _ event (rw none at is), refl)
+sends_is c n (Sent side (Abort dtid (Some (ByDialogue dialogue)))) event none is = (a_send _ event (rw none at is), refl)
+sends_is c n (Sent side (Abort dtid (Some (Cause cause)))) event none is = let bad : None ≡ Some event = rw none at is in cc
+sends_is c n Item.Quiet event none is = (by (slice_get c.fates n) (rw none at is), refl)
+  where
+    quiet : (b : Bool) → where_so b (Some Quiet) ≡ Some event → event ≡ Quiet
+    quiet true is = cc
+    quiet false is = cc
+
+    by : (fate : Option Fate) → quiet_by n fate ≡ Some event → event ≡ Quiet
+    by None is = cc
+    by (Some (Gap g)) is = quiet (g == n + 1) is
+    by (Some Lost) is = cc
+    by (Some (By k)) is = cc
 
 -- The other way.
 sends_so : (c : Certificate) (n : ℕ) (item : Item) → taken_by n 0 c.fates ≡ [] → slice_get c.fates n ≡ Some (Gap (n + 1))
     → has_no_cause item ≡ true → sending c n item ≡ Some (event_of item)
-sends_so c n item none at so = ?
+sends_so c n (Sent side (Unidirectional dialogue components)) none at so = rw none refl
+sends_so c n (Sent side (Begin otid dialogue components)) none at so = rw none refl
+sends_so c n (Sent side (Continue otid dtid dialogue components)) none at so = rw none refl
+sends_so c n (Sent side (EndMessage dtid dialogue components)) none at so = rw none refl
+sends_so c n (Sent side (Abort dtid None)) none at so = rw none refl
+sends_so c n (Sent side (Abort dtid (Some (ByDialogue dialogue)))) none at so = rw none refl
+sends_so c n (Sent side (Abort dtid (Some (Cause cause)))) none at so = cc
+sends_so c n Item.Quiet none at so = rw (none, at, eq-eqb (n + 1) (n + 1) refl) refl
 
 -- Events that are the same as options are the same.
 same_events : (xs ys : List Event) → map Some xs ≡ map Some ys → xs ≡ ys
@@ -119,14 +163,68 @@ same_events [] (y ∷ ys) same = cc
 same_events (x ∷ xs) [] same = cc
 same_events (x ∷ xs) (y ∷ ys) same = let rest = same_events xs ys cc in cc
 
+-- Where nothing unseen is listed, a gap has deliveries alone.
+gap_is : (c : Certificate) (items : List Item) (gap : ℕ) (here : List Event) → IsPrompt c → map Some here ≡ gap_events c items gap
+    → here ≡ deliveries gap 0 c.fates items
+gap_is c items gap here prompt is = same_events here (deliveries gap 0 c.fates items) (rw (prompt.1, prompt.2) at is)
+
+gap_so : (c : Certificate) (items : List Item) (gap : ℕ) (here : List Event) → IsPrompt c → here ≡ deliveries gap 0 c.fates items
+    → map Some here ≡ gap_events c items gap
+gap_so c items gap here prompt is = rw (prompt.1, prompt.2) (ap (map Some) is)
+
+-- One item further.
+next_front : (items front : List Item) (item : Item) (more : List Item) → items ≡ front ++ item ∷ more
+    → items ≡ (front ++ item ∷ []) ++ more
+next_front items front item more joined = joined ∙ sym (append_assoc front (item ∷ []) more)
+
+next_gap : (gap : ℕ) (front : List Item) (item : Item) → gap ≡ length front → gap + 1 ≡ length (front ++ item ∷ [])
+next_gap gap front item at = ap (λ (n : ℕ). n + 1) at ∙ sym (length-append front (item ∷ []))
+
+delivered_next : (c : Certificate) (items : List Item) (gap : ℕ) (front : List Item) (item : Item) (more : List Item) → IsPrompt c
+    → length c.fates ≡ length items → items ≡ front ++ item ∷ more → gap ≡ length front
+    → deliveries (gap + 1) 0 c.fates items ≡ delivery_of gap item
+delivered_next c items gap front item more prompt counted joined at =
+    let place : gap ≡ 0 + length front = omega (arith, at) in
+    ap (λ (x : List Item). deliveries (gap + 1) 0 c.fates x) joined
+    ∙ deliveries_behind gap 0 c.fates front item more prompt.0 (counted ∙ ap length joined) place
+
 -- What follows a prompt certificate is so.
 pub follows_prompt : (c : Certificate) (items : List Item) (gap : ℕ) (front left : List Item) (events : List Event) → IsPrompt c
     → length c.fates ≡ length items → items ≡ front ++ left → gap ≡ length front → FollowsFrom c items gap left events
     → Prompt gap (deliveries gap 0 c.fates items) left events
-follows_prompt c items gap front left events prompt counted joined at follows = ?
+follows_prompt c items gap front [] events prompt counted joined at follows = gap_is c items gap events prompt follows
+follows_prompt c items gap front (item ∷ more) events prompt counted joined at (here, implied, rest, sends, here_is, all, made, events_are, on) =
+    let one = sends_is c gap item sends (none_taken 0 gap 0 c.fates prompt.0) made in
+    let delivered = gap_is c items gap here prompt here_is in
+    let behind = follows_prompt c items (gap + 1) (front ++ item ∷ []) more rest prompt counted (next_front items front item more joined)
+    (next_gap gap front item at) on in (
+      implied,
+      rest,
+      all,
+      one.1,
+      events_are ∙ ap (λ (x : List Event). x ++ implied ++ sends ∷ rest) delivered
+          ∙ ap (λ (x : Event). deliveries gap 0 c.fates items ++ implied ++ x ∷ rest) one.0,
+      subst (λ (x : List Event). Prompt (gap + 1) x more rest) (delivered_next c items gap front item more prompt counted joined at) behind,
+    )
 
 -- The other way.
 pub prompt_follows : (c : Certificate) (items : List Item) (gap : ℕ) (here : List Event) (front left : List Item) (events : List Event) → IsPrompt c
     → length c.fates ≡ length items → items ≡ front ++ left → gap ≡ length front → here ≡ deliveries gap 0 c.fates items
     → Prompt gap here left events → FollowsFrom c items gap left events
-prompt_follows c items gap here front left events prompt counted joined at here_is is = ?
+prompt_follows c items gap here front [] events prompt counted joined at here_is is = gap_so c items gap events prompt (is ∙ here_is)
+prompt_follows c items gap here front (item ∷ more) events prompt counted joined at here_is (implied, rest, all, so, events_are, on) =
+    let below : gap < length c.fates = rw (counted, joined, length-append front (item ∷ more), at) (omega arith) in
+    let place : 0 + gap + 1 ≡ gap + 1 = omega arith in
+    let fate : slice_get c.fates gap ≡ Some (Gap (gap + 1)) = fate_at 0 gap c.fates prompt.0 below ∙ ap (λ (n : ℕ). Some (Gap n)) place in (
+      here,
+      implied,
+      rest,
+      event_of item,
+      gap_so c items gap here prompt here_is,
+      all,
+      sends_so c gap item (none_taken 0 gap 0 c.fates prompt.0) fate so,
+      events_are,
+      prompt_follows c items (gap + 1) (delivery_of gap item) (front ++ item ∷ []) more rest prompt counted
+          (next_front items front item more joined) (next_gap gap front item at)
+          (sym (delivered_next c items gap front item more prompt counted joined at)) on,
+    )
