@@ -1,5 +1,5 @@
 -- Prompt certificates, and runs that deliver each message before another is sent.
-use Rattle.std.proofs.Common.{◌≡◌, ◌⊎◌, inl, inr, ℕ, ◌+◌, true, false, List, [], ◌∷◌, ◌++◌, length, Option, Some, None, Ok, arith, refl, sym, ap, ap₂, subst, ◌∙◌, append_assoc, append-nil}
+use Rattle.std.proofs.Common.{◌≡◌, ◌⊎◌, inl, inr, ℕ, ◌+◌, true, false, List, [], ◌∷◌, ◌++◌, length, Option, Some, None, Ok, arith, refl, sym, ap, subst, ◌∙◌, append_assoc, append-nil}
 use Rattle.std.specs.List.{AllByRecursion}
 use Rattle.std.proofs.lemmas.List.{length-append}
 use Rattle.tcap_msg.specs.declared.message.AbortReason.TheVariants.{Cause, Dialogue as ByDialogue}
@@ -10,17 +10,17 @@ use Rattle.tcap_record.specs.declared.entry.End.TheVariants as sides
 use Rattle.tcap_end.specs.End.{End}
 use Rattle.tcap_end.specs.Message.{send}
 use Rattle.tcap_end.specs.Table.{Table}
-use Rattle.tcap_check.specs.World.{Item, OnItsWay, Sent, World, channel_from, empty, other, with_channel, with_end}
-use Rattle.tcap_check.specs.Run.{Event, Sends, Receives, Replies, Loses, Expires, Closes, Quiet, Tells, IsRunOf, Runs, after, joined, numbers_of, numbers_sent, numbers_taken, played, takes_from, then_so}
+use Rattle.tcap_check.specs.World.{Item, OnItsWay, Sent, World, channel_from, empty, other, with_end}
+use Rattle.tcap_check.specs.Run.{Event, Sends, Receives, Replies, Loses, Expires, Closes, Quiet, Tells, IsRunOf, Runs, after, joined, numbers_of, numbers_sent, numbers_taken, played, then_so}
 use Rattle.tcap_check.specs.Certificate.{Certificate, IsPrompt, prompt}
-use Rattle.tcap_check.specs.Follows.{Follows, IsImplied, IsPlain, deliveries, is_loss, losses_from, without_losses}
+use Rattle.tcap_check.specs.Follows.{Follows, IsPlain, deliveries, is_loss, losses_from, without_losses}
 use Rattle.tcap_check.specs.Given.{DeliversAtOnce, IsSeen, is_over_or_sends}
-use Rattle.tcap_check.proofs.ListLaws.{all_both, all_weaker}
+use Rattle.tcap_check.proofs.ListLaws.{all_weaker}
 use Rattle.tcap_check.proofs.RunLaws.{IsDelivery, delivery, grows, quiet, reply, sending}
 use Rattle.tcap_check.proofs.ReplayLaws.{played_on}
 use Rattle.tcap_check.proofs.ChannelLaws.{are_whole}
 use Rattle.tcap_check.proofs.PromptLaws.{prompt_plain}
-use Rattle.tcap_check.proofs.AtOnceRuns.{Prompt, delivery_of, event_of, fates_count, fates_in, fates_prompt, follows_prompt, has_no_cause, none_before, none_lost, prompt_follows}
+use Rattle.tcap_check.proofs.AtOnceRuns.{Prompt, balanced, delivery_of, event_of, fates_count, fates_in, fates_prompt, follows_prompt, has_no_cause, none_before, none_lost, prompt_behind, prompt_follows, sent_both, sent_in}
 
 -- ---- lists
 
@@ -34,28 +34,12 @@ nothing_more : {A : Type 0} (xs ys : List A) → xs ++ ys ≡ xs → ys ≡ []
 nothing_more [] ys is = is
 nothing_more (x ∷ xs) ys is = nothing_more xs ys cc
 
--- Nothing is before nothing.
-nothing_before : {A : Type 0} (xs ys : List A) → xs ++ ys ≡ [] → xs ≡ []
-nothing_before [] ys is = refl
-nothing_before (x ∷ xs) ys is = cc
-
 -- A channel with no number has no message.
 no_numbers : (messages : List OnItsWay) → numbers_of messages ≡ [] → messages ≡ []
 no_numbers [] is = refl
 no_numbers (m ∷ messages) is = cc
 
 -- ---- events
-
--- what the events add to the sent list
-abbrev sent_in : List Event → List Item
-sent_in [] = []
-sent_in (Sends side message ∷ events) = Sent side message ∷ sent_in events
-sent_in (Quiet ∷ events) = Item.Quiet ∷ sent_in events
-sent_in (_ ∷ events) = sent_in events
-
--- It sends nothing.
-abbrev IsSilent : Event → Type 0
-IsSilent event = (events : List Event) → is_over_or_sends (event ∷ events) ≡ false
 
 -- A plain event is no loss.
 plain_stays : (event : Event) → IsPlain event → is_loss event ≡ false
@@ -72,25 +56,6 @@ plain_stays (Tells side m) plain = refl
 none_left_out : (events : List Event) → AllByRecursion (λ event. is_loss event ≡ false) events → without_losses events ≡ events
 none_left_out [] all = refl
 none_left_out (event ∷ events) all = rw (all.0, none_left_out events all.1) refl
-
--- Two lists of events add what the first adds, and then what the second does,
-sent_both : (xs ys : List Event) → sent_in (xs ++ ys) ≡ sent_in xs ++ sent_in ys
-sent_both [] ys = refl
-sent_both (Sends side m ∷ xs) ys = ap (λ (items : List Item). Sent side m ∷ items) (sent_both xs ys)
-sent_both (Quiet ∷ xs) ys = ap (λ (items : List Item). Item.Quiet ∷ items) (sent_both xs ys)
-sent_both (Receives side number ∷ xs) ys = sent_both xs ys
-sent_both (Replies side number ∷ xs) ys = sent_both xs ys
-sent_both (Loses side number ∷ xs) ys = sent_both xs ys
-sent_both (Expires side name id ∷ xs) ys = sent_both xs ys
-sent_both (Closes side name ∷ xs) ys = sent_both xs ys
-sent_both (Tells side m ∷ xs) ys = sent_both xs ys
-
--- and so they take.
-taken_both : (side : Side) (xs ys : List Event) → numbers_taken side (xs ++ ys) ≡ numbers_taken side xs ++ numbers_taken side ys
-taken_both side [] ys = refl
-taken_both side (x ∷ xs) ys =
-    ap (λ (numbers : List ℕ). takes_from side x ++ numbers) (taken_both side xs ys)
-    ∙ sym (append_assoc (takes_from side x) (numbers_taken side xs) (numbers_taken side ys))
 
 -- What a plain step adds to the sent list,
 step_sent : (table : Table) (event : Event) (w next : World) → after table event w ≡ Some next → IsPlain event
@@ -124,96 +89,7 @@ plays_sent table (event ∷ events) w final is plain =
         ∙ append_assoc w.sent (sent_in (event ∷ [])) (sent_in events)
         ∙ ap (λ (items : List Item). w.sent ++ items) (sym (sent_both (event ∷ []) events))
 
--- ---- a prompt run is balanced
-
--- Behind events that send nothing a send comes, or the end.
-skips : (front tail before behind : List Event) → AllByRecursion IsSilent front → front ++ tail ≡ before ++ behind
-    → is_over_or_sends behind ≡ true → (later : List Event) × (before ≡ front ++ later) × (tail ≡ later ++ behind)
-skips [] tail before behind silent split over = (before, refl, split)
-skips (event ∷ front) tail [] behind silent split over =
-    let sends : is_over_or_sends (event ∷ front ++ tail) ≡ true = ap is_over_or_sends split ∙ over in
-    let none : true ≡ false = sym sends ∙ silent.0 (front ++ tail) in cc
-skips (event ∷ front) tail (first ∷ before) behind silent split over =
-    let rest : front ++ tail ≡ before ++ behind = cc in
-    let same : first ≡ event = cc in
-    let (later, before_is, tail_is) = skips front tail before behind silent.1 rest over in
-    (later, ap₂ (λ (e : Event) (events : List Event). e ∷ events) same before_is, tail_is)
-
--- Expiries that an item implies send nothing,
-implied_silent : (item : Item) (events : List Event) → AllByRecursion (IsImplied item) events
-    → AllByRecursion IsSilent events × (sent_in events ≡ []) × ((side : Side) → numbers_taken side events ≡ [])
-implied_silent item [] all = (tt, refl, λ side. refl)
-implied_silent item (event ∷ events) all = by item event all.0 (implied_silent item events all.1)
-  where
-    by : (item : Item) (event : Event) → IsImplied item event
-        → AllByRecursion IsSilent events × (sent_in events ≡ []) × ((side : Side) → numbers_taken side events ≡ [])
-        → AllByRecursion IsSilent (event ∷ events) × (sent_in (event ∷ events) ≡ []) × ((side : Side) → numbers_taken side (event ∷ events) ≡ [])
-    by (Sent side message) (Expires other name id) is rest = ((λ more. refl, rest.0), rest.1, rest.2)
-    by (Sent side message) (Sends other m) is rest = absurd is
-    by (Sent side message) (Receives other number) is rest = absurd is
-    by (Sent side message) (Replies other number) is rest = absurd is
-    by (Sent side message) (Loses other number) is rest = absurd is
-    by (Sent side message) (Closes other name) is rest = absurd is
-    by (Sent side message) Quiet is rest = absurd is
-    by (Sent side message) (Tells other m) is rest = absurd is
-    by Item.Quiet event is rest = absurd is
-
--- nor does a delivery.
-delivery_silent : (n : ℕ) (item : Item) → AllByRecursion IsSilent (delivery_of n item) × (sent_in (delivery_of n item) ≡ [])
-delivery_silent n (Sent side message) = ((λ more. refl, tt), refl)
-delivery_silent n Item.Quiet = (tt, refl)
-
--- What an item sends is what its delivery takes.
-delivery_takes : (side : Side) (n : ℕ) (item : Item) (items : List Item)
-    → numbers_taken side (delivery_of n item) ++ numbers_sent side (n + 1) items ≡ numbers_sent side n (item ∷ items)
-delivery_takes sides.A n (Sent sides.A message) items = refl
-delivery_takes sides.A n (Sent sides.B message) items = refl
-delivery_takes sides.B n (Sent sides.A message) items = refl
-delivery_takes sides.B n (Sent sides.B message) items = refl
-delivery_takes side n Item.Quiet items = refl
-
--- A send takes nothing, and adds its item.
-event_adds : (side : Side) (item : Item) (events : List Event)
-    → (numbers_taken side (event_of item ∷ events) ≡ numbers_taken side events) × (sent_in (event_of item ∷ events) ≡ item ∷ sent_in events)
-event_adds side (Sent sender message) events = (refl, refl)
-event_adds side Item.Quiet events = (refl, refl)
-
--- Where a send comes next, or the end, what was sent was taken.
-balanced : (side : Side) (n : ℕ) (here : List Event) (left : List Item) (events before behind : List Event) → Prompt n here left events
-    → AllByRecursion IsSilent here → sent_in here ≡ [] → events ≡ before ++ behind → is_over_or_sends behind ≡ true
-    → numbers_taken side before ≡ numbers_taken side here ++ numbers_sent side n (sent_in before)
-balanced side n here [] events before behind is silent none split over =
-    let (later, before_is, tail_is) = skips here [] before behind silent (append-nil here ∙ sym is ∙ split) over in
-    let nothing : later ≡ [] = nothing_before later behind (sym tail_is) in
-    let same : before ≡ here = before_is ∙ ap (λ (events : List Event). here ++ events) nothing ∙ append-nil here in
-    rw (same, none) (sym (append-nil (numbers_taken side here)))
-balanced side n here (item ∷ more) events before behind (implied, rest, all, so, events_are, on) silent none split over =
-    let quiet = implied_silent item implied all in
-    let (later, before_is, tail_is) = skips (here ++ implied) (event_of item ∷ rest) before behind (all_both IsSilent here implied silent quiet.0)
-    (sym events_are ∙ split) over in
-    let taken : numbers_taken side before ≡ numbers_taken side here ++ numbers_taken side later =
-    ap (numbers_taken side) before_is ∙ taken_both side (here ++ implied) later
-    ∙ ap (λ (numbers : List ℕ). numbers ++ numbers_taken side later)
-    (taken_both side here implied ∙ ap (λ (numbers : List ℕ). numbers_taken side here ++ numbers) (quiet.2 side)
-    ∙ append-nil (numbers_taken side here)) in
-    let sent : sent_in before ≡ sent_in later =
-    ap sent_in before_is ∙ sent_both (here ++ implied) later
-    ∙ ap (λ (items : List Item). items ++ sent_in later) (sent_both here implied ∙ ap₂ (λ (xs ys : List Item). xs ++ ys) none quiet.1) in
-    let left : numbers_taken side later ≡ numbers_sent side n (sent_in later) =
-    by later tail_is
-    (λ last split. balanced side (n + 1) (delivery_of n item) more rest last behind on (delivery_silent n item).0 (delivery_silent n item).1 split over) in
-    rw (taken, sent, left) refl
-  where
-    by : (later : List Event) → event_of item ∷ rest ≡ later ++ behind
-        → ((last : List Event) → rest ≡ last ++ behind
-        → numbers_taken side last ≡ numbers_taken side (delivery_of n item) ++ numbers_sent side (n + 1) (sent_in last))
-        → numbers_taken side later ≡ numbers_sent side n (sent_in later)
-    by [] split on = refl
-    by (event ∷ last) split on =
-        let same : event ≡ event_of item = cc in
-        let adds = event_adds side item last in
-        let left = on last cc in
-        rw (same, adds.0, adds.1, left) (delivery_takes side n item (sent_in last))
+-- ---- what a prompt certificate describes
 
 -- What a prompt certificate describes delivers at once.
 pub followed_at_once : (table : Table) (c : Certificate) (items : List Item) (events : List Event) → IsPrompt c → IsRunOf items table events
@@ -275,13 +151,6 @@ sends_no_cause table e made side (EndMessage dtid dialogue components) is = refl
 sends_no_cause table e made side (Abort dtid None) is = refl
 sends_no_cause table e made side (Abort dtid (Some (ByDialogue dialogue))) is = refl
 sends_no_cause table e made side (Abort dtid (Some (Cause cause))) is = cc
-
--- A delivery more stands at the front.
-prompt_behind : (n : ℕ) (event : Event) (left : List Item) (events : List Event) → Prompt n [] left events
-    → Prompt n (event ∷ []) left (event ∷ events)
-prompt_behind n event [] events is = ap (λ (more : List Event). event ∷ more) is
-prompt_behind n event (item ∷ more) events (implied, rest, all, so, events_are, on) =
-    (implied, rest, all, so, ap (λ (others : List Event). event ∷ others) events_are, on)
 
 -- An item is added.
 adds_item : (w next final : World) (here : List Event) (item : Item) (events : List Event) → here ≡ [] → has_no_cause item ≡ true
