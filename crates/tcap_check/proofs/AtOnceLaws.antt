@@ -53,7 +53,8 @@ plain_stays Quiet plain = refl
 plain_stays (Tells side m) plain = refl
 
 -- Where none of the events is a loss, all are those that are none.
-none_left_out : (events : List Event) → AllByRecursion (λ event. is_loss event ≡ false) events → without_losses events ≡ events
+none_left_out : (events : List Event) → AllByRecursion (λ event. is_loss event ≡ false) events
+    → without_losses events ≡ events
 none_left_out [] all = refl
 none_left_out (event ∷ events) all = rw (all.0, none_left_out events all.1) refl
 
@@ -74,7 +75,8 @@ step_sent table Quiet w next is plain =
 step_sent table (Tells side m) w next is plain = absurd plain
 
 -- and a run of them.
-plays_sent : (table : Table) (events : List Event) (w final : World) → played table events w ≡ Some final → AllByRecursion IsPlain events
+plays_sent : (table : Table) (events : List Event) (w final : World) → played table events w ≡ Some final
+    → AllByRecursion IsPlain events
     → final.sent ≡ w.sent ++ sent_in events
 plays_sent table [] w final is plain = let same : final ≡ w = cc in rw same (sym (append-nil w.sent))
 plays_sent table (event ∷ events) w final is plain =
@@ -92,16 +94,19 @@ plays_sent table (event ∷ events) w final is plain =
 -- ---- what a prompt certificate describes
 
 -- What a prompt certificate describes delivers at once.
-pub followed_at_once : (table : Table) (c : Certificate) (items : List Item) (events : List Event) → IsPrompt c → IsRunOf items table events
+pub followed_at_once : (table : Table) (c : Certificate) (items : List Item) (events : List Event) → IsPrompt c
+    → IsRunOf items table events
     → Follows c items events → DeliversAtOnce table events
-followed_at_once table c items events is_prompt run follows before behind w split over runs = (empty_at sides.A, empty_at sides.B)
+followed_at_once table c items events is_prompt run follows before behind w split over runs =
+    (empty_at sides.A, empty_at sides.B)
   where
     plain : AllByRecursion IsPlain events
     plain = prompt_plain c items events is_prompt follows
 
     gaps : Prompt 0 (deliveries 0 0 c.fates items) items events
     gaps = follows_prompt c items 0 [] items events is_prompt follows.counted refl refl
-        (rw (none_left_out events (all_weaker IsPlain (λ event. is_loss event ≡ false) events plain_stays plain)) at follows.gaps)
+        (rw (none_left_out events (all_weaker IsPlain (λ event. is_loss event ≡ false) events plain_stays plain))
+        at follows.gaps)
 
     prompt_run : Prompt 0 [] items events
     prompt_run = rw (none_before 0 0 c.fates items is_prompt.0 (omega arith)) at gaps
@@ -110,11 +115,13 @@ followed_at_once table c items events is_prompt run follows before behind w spli
     sent = plays_sent table before empty w runs (all_front IsPlain before behind (rw split at plain))
 
     taken : (side : Side) → numbers_taken side before ≡ numbers_sent side 0 w.sent
-    taken side = balanced side 0 [] items events before behind prompt_run tt refl split over ∙ ap (numbers_sent side 0) (sym sent)
+    taken side = balanced side 0 [] items events before behind prompt_run tt refl split over
+        ∙ ap (numbers_sent side 0) (sym sent)
 
     empty_at : (side : Side) → channel_from side w ≡ []
     empty_at side = no_numbers (channel_from side w)
-        (nothing_more (numbers_taken side before) (numbers_of (channel_from side w)) (are_whole table before w runs side ∙ sym (taken side)))
+        (nothing_more (numbers_taken side before) (numbers_of (channel_from side w))
+        (are_whole table before w runs side ∙ sym (taken side)))
 
 -- ---- runs that deliver at once
 
@@ -130,7 +137,8 @@ IsFree w = (w.from_a ≡ []) × (w.from_b ≡ [])
 
 -- What is left from this world on is prompt.
 abbrev IsLeft : World → World → List Event → List Event → Type 0
-IsLeft w final here events = (left : List Item) × (final.sent ≡ w.sent ++ left) × Prompt (length w.sent) here left events
+IsLeft w final here events =
+    (left : List Item) × (final.sent ≡ w.sent ++ left) × Prompt (length w.sent) here left events
 
 -- Where nothing is on its way, none of both channels has a message,
 free_at : (side : Side) (w : World) → IsFree w → channel_from side w ≡ []
@@ -143,7 +151,8 @@ none_waits w here free (inl (from_a, from_b, none)) = none
 none_waits w here free (inr (side, on, full, other_free, is)) = let none = free_at side w free in cc
 
 -- What an end sends is no Abort with a cause.
-sends_no_cause : (table : Table) (e made : End) (side : Side) (m : Message) → send table e m ≡ Ok made → has_no_cause (Sent side m) ≡ true
+sends_no_cause : (table : Table) (e made : End) (side : Side) (m : Message) → send table e m ≡ Ok made
+    → has_no_cause (Sent side m) ≡ true
 sends_no_cause table e made side (Unidirectional dialogue components) is = refl
 sends_no_cause table e made side (Begin otid dialogue components) is = refl
 sends_no_cause table e made side (Continue otid dtid dialogue components) is = refl
@@ -153,8 +162,10 @@ sends_no_cause table e made side (Abort dtid (Some (ByDialogue dialogue))) is = 
 sends_no_cause table e made side (Abort dtid (Some (Cause cause))) is = cc
 
 -- An item is added.
-adds_item : (w next final : World) (here : List Event) (item : Item) (events : List Event) → here ≡ [] → has_no_cause item ≡ true
-    → next.sent ≡ w.sent ++ item ∷ [] → IsLeft next final (delivery_of (length w.sent) item) events → IsLeft w final here (event_of item ∷ events)
+adds_item : (w next final : World) (here : List Event) (item : Item) (events : List Event) → here ≡ []
+    → has_no_cause item ≡ true
+    → next.sent ≡ w.sent ++ item ∷ [] → IsLeft next final (delivery_of (length w.sent) item) events
+    → IsLeft w final here (event_of item ∷ events)
 adds_item w next final here item events none so sent (left, final_is, on) =
     let n = length w.sent in
     let number : length next.sent ≡ n + 1 = ap length sent ∙ length-append w.sent (item ∷ []) in (
@@ -185,7 +196,8 @@ alone : (on head : OnItsWay) (more : List OnItsWay) → on ∷ [] ≡ head ∷ m
 alone on head more is = let same : on ≡ head = cc in (ap (λ (m : OnItsWay). m.number) same, cc)
 
 -- and where it is received, nothing does, and nothing was sent.
-received_free : (table : Table) (side receiver : Side) (on : OnItsWay) (number : ℕ) (w next : World) → channel_from side w ≡ on ∷ []
+received_free : (table : Table) (side receiver : Side) (on : OnItsWay) (number : ℕ) (w next : World)
+    → channel_from side w ≡ on ∷ []
     → channel_from (other side) w ≡ [] → IsDelivery table receiver number w next
     → IsFree next × (next.sent ≡ w.sent) × (Receives (other side) on.number ≡ Receives receiver number)
 received_free table sides.A sides.A on number w next full free d = let channel = d.channel in cc
@@ -205,14 +217,17 @@ received_free table sides.B sides.A on number w next full free d =
 
 -- One step of such a run, and what is left behind it.
 one_step : (table : Table) (event : Event) (events : List Event) (w next final : World) (here : List Event)
-    → (is_over_or_sends (event ∷ events) ≡ true → IsFree w) → IsSeen event → after table event w ≡ Some next → Waits w here
+    → (is_over_or_sends (event ∷ events) ≡ true → IsFree w) → IsSeen event → after table event w ≡ Some next
+    → Waits w here
     → ((later : List Event) → Waits next later → IsLeft next final later events) → IsLeft w final here (event ∷ events)
 one_step table (Sends side m) events w next final here free seen is waits on =
     let s = sending table side m w next is in
     let g = grows table (Sends side m) w next is in
     let waiting : Waits next (delivery_of (length w.sent) (Sent side m)) =
-    subst (λ (v : World). Waits v (delivery_of (length w.sent) (Sent side m))) (sym s.next_is) (sent_waits side m s.made w (free refl)) in
-    adds_item w next final here (Sent side m) events (none_waits w here (free refl) waits) (sends_no_cause table _ s.made side m s.step)
+    subst (λ (v : World). Waits v (delivery_of (length w.sent) (Sent side m))) (sym s.next_is)
+    (sent_waits side m s.made w (free refl)) in
+    adds_item w next final here (Sent side m) events (none_waits w here (free refl) waits)
+    (sends_no_cause table _ s.made side m s.step)
     (g.2 ∙ ap (λ (items : List Item). w.sent ++ items) g.1) (on _ waiting)
 one_step table Quiet events w next final here free seen is waits on =
     let q = quiet table w next is in
@@ -249,7 +264,8 @@ one_step table (Tells side m) events w next final here free seen is waits on = a
 
 -- What is left of a run that delivers at once is prompt.
 walked : (table : Table) (events before : List Event) (w final : World) (here : List Event) → Runs table before w
-    → played table events w ≡ Some final → AllByRecursion IsSeen events → DeliversAtOnce table (before ++ events) → Waits w here
+    → played table events w ≡ Some final → AllByRecursion IsSeen events → DeliversAtOnce table (before ++ events)
+    → Waits w here
     → IsLeft w final here events
 walked table [] before w final here ran is seen at_once waits =
     let same : final ≡ w = cc in
@@ -257,21 +273,23 @@ walked table [] before w final here ran is seen at_once waits =
     ([], rw same (sym (append-nil w.sent)), sym (none_waits w here free waits))
 walked table (event ∷ events) before w final here ran is seen at_once waits =
     by (after table event w) refl
-    (λ next later ran_on is_on waits_on. walked table events (before ++ event ∷ []) next final later ran_on is_on seen.1 at_once_on waits_on) is
+    (λ next later ran_on is_on waits_on.
+    walked table events (before ++ event ∷ []) next final later ran_on is_on seen.1 at_once_on waits_on) is
   where
     at_once_on : DeliversAtOnce table ((before ++ event ∷ []) ++ events)
     at_once_on = rw (append_assoc before (event ∷ []) events) at_once
 
     by : (o : Option World) → after table event w ≡ o
-        → ((next : World) (later : List Event) → Runs table (before ++ event ∷ []) next → played table events next ≡ Some final
+        → ((next : World) (later : List Event) → Runs table (before ++ event ∷ []) next
+        → played table events next ≡ Some final
         → Waits next later → IsLeft next final later events)
         → then_so o (played table events) ≡ Some final → IsLeft w final here (event ∷ events)
     by None at on is = cc
     by (Some next) at on is =
         let ran_on : Runs table (before ++ event ∷ []) next =
         played_on table before (event ∷ []) empty w ran ∙ ap (λ (o : Option World). then_so o (played table [])) at in
-        one_step table event events w next final here (λ over. at_once before (event ∷ events) w refl over ran) seen.0 at waits
-        (λ later waits_on. on next later ran_on is waits_on)
+        one_step table event events w next final here (λ over. at_once before (event ∷ events) w refl over ran)
+        seen.0 at waits (λ later waits_on. on next later ran_on is waits_on)
 
 -- A step that is seen is no loss.
 seen_stays : (event : Event) → IsSeen event → is_loss event ≡ false
@@ -297,7 +315,8 @@ no_losses side (Quiet ∷ events) seen = no_losses side events seen.1
 no_losses side (Tells sender m ∷ events) seen = no_losses side events seen.1
 
 -- A prompt certificate describes a run that delivers at once and has no hidden step.
-pub at_once_follows : (table : Table) (items : List Item) (events : List Event) → IsRunOf items table events → AllByRecursion IsSeen events
+pub at_once_follows : (table : Table) (items : List Item) (events : List Event) → IsRunOf items table events
+    → AllByRecursion IsSeen events
     → DeliversAtOnce table events → Follows (prompt (length items)) items events
 at_once_follows table items events (w, runs, sent) seen at_once = record {
   counted = counted;
@@ -305,7 +324,8 @@ at_once_follows table items events (w, runs, sent) seen at_once = record {
   closings = tt;
   expiries = tt;
   gaps = rw (none_left_out events (all_weaker IsSeen (λ event. is_loss event ≡ false) events seen_stays seen))
-      (prompt_follows c items 0 [] [] items events is_prompt counted refl refl (sym (none_before 0 0 c.fates items is_prompt.0 (omega arith))) is);
+      (prompt_follows c items 0 [] [] items events is_prompt counted refl refl
+      (sym (none_before 0 0 c.fates items is_prompt.0 (omega arith))) is);
   losses = λ side. no_losses side events seen ∙ sym (none_lost side 0 0 c.fates items is_prompt.0);
 }
   where

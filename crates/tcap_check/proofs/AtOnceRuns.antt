@@ -36,7 +36,8 @@ none_lost side entry n (Lost ∷ fates) items prompt = let bad = prompt.0 in cc
 none_lost side entry n (By k ∷ fates) items prompt = let bad = prompt.0 in cc
 
 -- The fate of each entry is the next gap.
-fate_at : (n i : ℕ) (fates : List Fate) → prompt_from n fates → i < length fates → slice_get fates i ≡ Some (Gap (n + i + 1))
+fate_at : (n i : ℕ) (fates : List Fate) → prompt_from n fates → i < length fates
+    → slice_get fates i ≡ Some (Gap (n + i + 1))
 fate_at n i [] prompt below = absurd (omega (arith, below))
 fate_at n zero (fate ∷ fates) prompt below =
     let place : n + 0 ≡ n = omega arith in rw place (ap (λ (f : Fate). Some f) prompt.0)
@@ -57,7 +58,8 @@ fates_count n (suc count) = ap suc (fates_count (n + 1) count)
 -- they fit.
 pub fates_in : (all n count : ℕ) → n + count ≤ all → FatesFit all n (prompt_fates n count)
 fates_in all n zero within = tt
-fates_in all n (suc count) within = (omega arith, omega (arith, within), fates_in all (n + 1) count (omega (arith, within)))
+fates_in all n (suc count) within =
+    (omega arith, omega (arith, within), fates_in all (n + 1) count (omega (arith, within)))
 
 -- ---- gaps
 
@@ -67,19 +69,22 @@ delivery_of n (Sent side message) = Receives (other side) n ∷ []
 delivery_of n Item.Quiet = []
 
 -- Nothing is delivered before it is sent.
-pub none_before : (gap n : ℕ) (fates : List Fate) (items : List Item) → prompt_from n fates → gap ≤ n → deliveries gap n fates items ≡ []
+pub none_before : (gap n : ℕ) (fates : List Fate) (items : List Item) → prompt_from n fates → gap ≤ n
+    → deliveries gap n fates items ≡ []
 none_before gap n [] items prompt below = refl
 none_before gap n (fate ∷ fates) [] prompt below = refl
 none_before gap n (Gap g ∷ fates) (Sent side message ∷ items) prompt below =
     let place : g ≡ n + 1 = let is = prompt.0 in cc in
     let later : (g == gap) ≡ false = ne_eqb g gap (λ e. omega (arith, below, place, e)) in
     rw later (none_before gap (n + 1) fates items prompt.1 (omega (arith, below)))
-none_before gap n (Gap g ∷ fates) (Item.Quiet ∷ items) prompt below = none_before gap (n + 1) fates items prompt.1 (omega (arith, below))
+none_before gap n (Gap g ∷ fates) (Item.Quiet ∷ items) prompt below =
+    none_before gap (n + 1) fates items prompt.1 (omega (arith, below))
 none_before gap n (Lost ∷ fates) (item ∷ items) prompt below = let bad = prompt.0 in cc
 none_before gap n (By k ∷ fates) (item ∷ items) prompt below = let bad = prompt.0 in cc
 
 -- In the gap behind an item, it alone is delivered.
-deliveries_behind : (gap n : ℕ) (fates : List Fate) (front : List Item) (item : Item) (more : List Item) → prompt_from n fates
+deliveries_behind : (gap n : ℕ) (fates : List Fate) (front : List Item) (item : Item) (more : List Item)
+    → prompt_from n fates
     → length fates ≡ length (front ++ item ∷ more) → gap ≡ n + length front
     → deliveries (gap + 1) n fates (front ++ item ∷ more) ≡ delivery_of gap item
 deliveries_behind gap n [] [] item more prompt counted at = cc
@@ -132,15 +137,18 @@ a_send : (sends event : Event) → Some sends ≡ Some event → event ≡ sends
 a_send sends event is = cc
 
 -- What sends an item, where no message is taken by it.
-sends_is : (c : Certificate) (n : ℕ) (item : Item) (event : Event) → taken_by n 0 c.fates ≡ [] → sending c n item ≡ Some event
+sends_is : (c : Certificate) (n : ℕ) (item : Item) (event : Event) → taken_by n 0 c.fates ≡ []
+    → sending c n item ≡ Some event
     → (event ≡ event_of item) × (has_no_cause item ≡ true)
 sends_is c n (Sent side (Unidirectional dialogue components)) event none is = (a_send _ event (rw none at is), refl)
 sends_is c n (Sent side (Begin otid dialogue components)) event none is = (a_send _ event (rw none at is), refl)
 sends_is c n (Sent side (Continue otid dtid dialogue components)) event none is = (a_send _ event (rw none at is), refl)
 sends_is c n (Sent side (EndMessage dtid dialogue components)) event none is = (a_send _ event (rw none at is), refl)
 sends_is c n (Sent side (Abort dtid None)) event none is = (a_send _ event (rw none at is), refl)
-sends_is c n (Sent side (Abort dtid (Some (ByDialogue dialogue)))) event none is = (a_send _ event (rw none at is), refl)
-sends_is c n (Sent side (Abort dtid (Some (Cause cause)))) event none is = let bad : None ≡ Some event = rw none at is in cc
+sends_is c n (Sent side (Abort dtid (Some (ByDialogue dialogue)))) event none is =
+    (a_send _ event (rw none at is), refl)
+sends_is c n (Sent side (Abort dtid (Some (Cause cause)))) event none is =
+    let bad : None ≡ Some event = rw none at is in cc
 sends_is c n Item.Quiet event none is = (by (slice_get c.fates n) (rw none at is), refl)
   where
     quiet : (b : Bool) → where_so b (Some Quiet) ≡ Some event → event ≡ Quiet
@@ -154,7 +162,8 @@ sends_is c n Item.Quiet event none is = (by (slice_get c.fates n) (rw none at is
     by (Some (By k)) is = cc
 
 -- The other way.
-sends_so : (c : Certificate) (n : ℕ) (item : Item) → taken_by n 0 c.fates ≡ [] → slice_get c.fates n ≡ Some (Gap (n + 1))
+sends_so : (c : Certificate) (n : ℕ) (item : Item) → taken_by n 0 c.fates ≡ []
+    → slice_get c.fates n ≡ Some (Gap (n + 1))
     → has_no_cause item ≡ true → sending c n item ≡ Some (event_of item)
 sends_so c n (Sent side (Unidirectional dialogue components)) none at so = rw none refl
 sends_so c n (Sent side (Begin otid dialogue components)) none at so = rw none refl
@@ -173,11 +182,13 @@ same_events (x ∷ xs) [] same = cc
 same_events (x ∷ xs) (y ∷ ys) same = let rest = same_events xs ys cc in cc
 
 -- Where nothing unseen is listed, a gap has deliveries alone.
-gap_is : (c : Certificate) (items : List Item) (gap : ℕ) (here : List Event) → IsPrompt c → map Some here ≡ gap_events c items gap
+gap_is : (c : Certificate) (items : List Item) (gap : ℕ) (here : List Event) → IsPrompt c
+    → map Some here ≡ gap_events c items gap
     → here ≡ deliveries gap 0 c.fates items
 gap_is c items gap here prompt is = same_events here (deliveries gap 0 c.fates items) (rw (prompt.1, prompt.2) at is)
 
-gap_so : (c : Certificate) (items : List Item) (gap : ℕ) (here : List Event) → IsPrompt c → here ≡ deliveries gap 0 c.fates items
+gap_so : (c : Certificate) (items : List Item) (gap : ℕ) (here : List Event) → IsPrompt c
+    → here ≡ deliveries gap 0 c.fates items
     → map Some here ≡ gap_events c items gap
 gap_so c items gap here prompt is = rw (prompt.1, prompt.2) (ap (map Some) is)
 
@@ -189,7 +200,8 @@ next_front items front item more joined = joined ∙ sym (append_assoc front (it
 next_gap : (gap : ℕ) (front : List Item) (item : Item) → gap ≡ length front → gap + 1 ≡ length (front ++ item ∷ [])
 next_gap gap front item at = ap (λ (n : ℕ). n + 1) at ∙ sym (length-append front (item ∷ []))
 
-delivered_next : (c : Certificate) (items : List Item) (gap : ℕ) (front : List Item) (item : Item) (more : List Item) → IsPrompt c
+delivered_next : (c : Certificate) (items : List Item) (gap : ℕ) (front : List Item) (item : Item) (more : List Item)
+    → IsPrompt c
     → length c.fates ≡ length items → items ≡ front ++ item ∷ more → gap ≡ length front
     → deliveries (gap + 1) 0 c.fates items ≡ delivery_of gap item
 delivered_next c items gap front item more prompt counted joined at =
@@ -198,33 +210,40 @@ delivered_next c items gap front item more prompt counted joined at =
     ∙ deliveries_behind gap 0 c.fates front item more prompt.0 (counted ∙ ap length joined) place
 
 -- What follows a prompt certificate is so.
-pub follows_prompt : (c : Certificate) (items : List Item) (gap : ℕ) (front left : List Item) (events : List Event) → IsPrompt c
+pub follows_prompt : (c : Certificate) (items : List Item) (gap : ℕ) (front left : List Item) (events : List Event)
+    → IsPrompt c
     → length c.fates ≡ length items → items ≡ front ++ left → gap ≡ length front → FollowsFrom c items gap left events
     → Prompt gap (deliveries gap 0 c.fates items) left events
 follows_prompt c items gap front [] events prompt counted joined at follows = gap_is c items gap events prompt follows
-follows_prompt c items gap front (item ∷ more) events prompt counted joined at (here, implied, rest, sends, here_is, all, made, events_are, on) =
+follows_prompt c items gap front (item ∷ more) events prompt counted joined at follows =
+    let (here, implied, rest, sends, here_is, all, made, events_are, on) = follows in
     let one = sends_is c gap item sends (none_taken 0 gap 0 c.fates prompt.0) made in
     let delivered = gap_is c items gap here prompt here_is in
-    let behind = follows_prompt c items (gap + 1) (front ++ item ∷ []) more rest prompt counted (next_front items front item more joined)
-    (next_gap gap front item at) on in (
+    let behind = follows_prompt c items (gap + 1) (front ++ item ∷ []) more rest prompt counted
+    (next_front items front item more joined) (next_gap gap front item at) on in (
       implied,
       rest,
       all,
       one.1,
       events_are ∙ ap (λ (x : List Event). x ++ implied ++ sends ∷ rest) delivered
           ∙ ap (λ (x : Event). deliveries gap 0 c.fates items ++ implied ++ x ∷ rest) one.0,
-      subst (λ (x : List Event). Prompt (gap + 1) x more rest) (delivered_next c items gap front item more prompt counted joined at) behind,
+      subst (λ (x : List Event). Prompt (gap + 1) x more rest)
+          (delivered_next c items gap front item more prompt counted joined at) behind,
     )
 
 -- The other way.
-pub prompt_follows : (c : Certificate) (items : List Item) (gap : ℕ) (here : List Event) (front left : List Item) (events : List Event) → IsPrompt c
+pub prompt_follows : (c : Certificate) (items : List Item) (gap : ℕ) (here : List Event) (front left : List Item)
+    (events : List Event) → IsPrompt c
     → length c.fates ≡ length items → items ≡ front ++ left → gap ≡ length front → here ≡ deliveries gap 0 c.fates items
     → Prompt gap here left events → FollowsFrom c items gap left events
-prompt_follows c items gap here front [] events prompt counted joined at here_is is = gap_so c items gap events prompt (is ∙ here_is)
-prompt_follows c items gap here front (item ∷ more) events prompt counted joined at here_is (implied, rest, all, so, events_are, on) =
+prompt_follows c items gap here front [] events prompt counted joined at here_is is =
+    gap_so c items gap events prompt (is ∙ here_is)
+prompt_follows c items gap here front (item ∷ more) events prompt counted joined at here_is is =
+    let (implied, rest, all, so, events_are, on) = is in
     let below : gap < length c.fates = rw (counted, joined, length-append front (item ∷ more), at) (omega arith) in
     let place : 0 + gap + 1 ≡ gap + 1 = omega arith in
-    let fate : slice_get c.fates gap ≡ Some (Gap (gap + 1)) = fate_at 0 gap c.fates prompt.0 below ∙ ap (λ (n : ℕ). Some (Gap n)) place in (
+    let fate : slice_get c.fates gap ≡ Some (Gap (gap + 1)) =
+    fate_at 0 gap c.fates prompt.0 below ∙ ap (λ (n : ℕ). Some (Gap n)) place in (
       here,
       implied,
       rest,
@@ -264,7 +283,8 @@ sent_both (Closes side name ∷ xs) ys = sent_both xs ys
 sent_both (Tells side m ∷ xs) ys = sent_both xs ys
 
 -- and so they take.
-taken_both : (side : Side) (xs ys : List Event) → numbers_taken side (xs ++ ys) ≡ numbers_taken side xs ++ numbers_taken side ys
+taken_both : (side : Side) (xs ys : List Event)
+    → numbers_taken side (xs ++ ys) ≡ numbers_taken side xs ++ numbers_taken side ys
 taken_both side [] ys = refl
 taken_both side (x ∷ xs) ys =
     ap (λ (numbers : List ℕ). takes_from side x ++ numbers) (taken_both side xs ys)
@@ -296,7 +316,8 @@ implied_silent item (event ∷ events) all = by item event all.0 (implied_silent
   where
     by : (item : Item) (event : Event) → IsImplied item event
         → AllByRecursion IsSilent events × (sent_in events ≡ []) × ((side : Side) → numbers_taken side events ≡ [])
-        → AllByRecursion IsSilent (event ∷ events) × (sent_in (event ∷ events) ≡ []) × ((side : Side) → numbers_taken side (event ∷ events) ≡ [])
+        → AllByRecursion IsSilent (event ∷ events) × (sent_in (event ∷ events) ≡ [])
+        × ((side : Side) → numbers_taken side (event ∷ events) ≡ [])
     by (Sent side message) (Expires other name id) is rest = ((λ more. refl, rest.0), rest.1, rest.2)
     by (Sent side message) (Sends other m) is rest = absurd is
     by (Sent side message) (Receives other number) is rest = absurd is
@@ -308,7 +329,8 @@ implied_silent item (event ∷ events) all = by item event all.0 (implied_silent
     by Item.Quiet event is rest = absurd is
 
 -- nor does a delivery.
-delivery_silent : (n : ℕ) (item : Item) → AllByRecursion IsSilent (delivery_of n item) × (sent_in (delivery_of n item) ≡ [])
+delivery_silent : (n : ℕ) (item : Item)
+    → AllByRecursion IsSilent (delivery_of n item) × (sent_in (delivery_of n item) ≡ [])
 delivery_silent n (Sent side message) = ((λ more. refl, tt), refl)
 delivery_silent n Item.Quiet = (tt, refl)
 
@@ -323,12 +345,14 @@ delivery_takes side n Item.Quiet items = refl
 
 -- A send takes nothing, and adds its item.
 event_adds : (side : Side) (item : Item) (events : List Event)
-    → (numbers_taken side (event_of item ∷ events) ≡ numbers_taken side events) × (sent_in (event_of item ∷ events) ≡ item ∷ sent_in events)
+    → (numbers_taken side (event_of item ∷ events) ≡ numbers_taken side events)
+    × (sent_in (event_of item ∷ events) ≡ item ∷ sent_in events)
 event_adds side (Sent sender message) events = (refl, refl)
 event_adds side Item.Quiet events = (refl, refl)
 
 -- Where a send comes next, or the end, what was sent was taken.
-pub balanced : (side : Side) (n : ℕ) (here : List Event) (left : List Item) (events before behind : List Event) → Prompt n here left events
+pub balanced : (side : Side) (n : ℕ) (here : List Event) (left : List Item) (events before behind : List Event)
+    → Prompt n here left events
     → AllByRecursion IsSilent here → sent_in here ≡ [] → events ≡ before ++ behind → is_over_or_sends behind ≡ true
     → numbers_taken side before ≡ numbers_taken side here ++ numbers_sent side n (sent_in before)
 balanced side n here [] events before behind is silent none split over =
@@ -336,10 +360,10 @@ balanced side n here [] events before behind is silent none split over =
     let nothing : later ≡ [] = nothing_before later behind (sym tail_is) in
     let same : before ≡ here = before_is ∙ ap (λ (events : List Event). here ++ events) nothing ∙ append-nil here in
     rw (same, none) (sym (append-nil (numbers_taken side here)))
-balanced side n here (item ∷ more) events before behind (implied, rest, all, so, events_are, on) silent none split over =
+balanced side n here (item ∷ more) events before behind (implied, rest, all, so, are, on) silent none split over =
     let quiet = implied_silent item implied all in
-    let (later, before_is, tail_is) = skips (here ++ implied) (event_of item ∷ rest) before behind (all_both IsSilent here implied silent quiet.0)
-    (sym events_are ∙ split) over in
+    let (later, before_is, tail_is) = skips (here ++ implied) (event_of item ∷ rest) before behind
+    (all_both IsSilent here implied silent quiet.0) (sym are ∙ split) over in
     let taken : numbers_taken side before ≡ numbers_taken side here ++ numbers_taken side later =
     ap (numbers_taken side) before_is ∙ taken_both side (here ++ implied) later
     ∙ ap (λ (numbers : List ℕ). numbers ++ numbers_taken side later)
@@ -347,10 +371,13 @@ balanced side n here (item ∷ more) events before behind (implied, rest, all, s
     ∙ append-nil (numbers_taken side here)) in
     let sent : sent_in before ≡ sent_in later =
     ap sent_in before_is ∙ sent_both (here ++ implied) later
-    ∙ ap (λ (items : List Item). items ++ sent_in later) (sent_both here implied ∙ ap₂ (λ (xs ys : List Item). xs ++ ys) none quiet.1) in
+    ∙ ap (λ (items : List Item). items ++ sent_in later)
+    (sent_both here implied ∙ ap₂ (λ (xs ys : List Item). xs ++ ys) none quiet.1) in
     let left : numbers_taken side later ≡ numbers_sent side n (sent_in later) =
     by later tail_is
-    (λ last split. balanced side (n + 1) (delivery_of n item) more rest last behind on (delivery_silent n item).0 (delivery_silent n item).1 split over) in
+    (λ last split.
+    balanced side (n + 1) (delivery_of n item) more rest last behind on (delivery_silent n item).0
+    (delivery_silent n item).1 split over) in
     rw (taken, sent, left) refl
   where
     by : (later : List Event) → event_of item ∷ rest ≡ later ++ behind
