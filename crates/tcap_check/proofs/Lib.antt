@@ -22,5 +22,6 @@ pub mod NamedLaws
 pub mod GivenBound
 pub mod GivenRuns
 pub mod DescribedRuns
+pub mod AtOnceRuns
 pub mod AtOnceLaws
 pub mod ReasonLaws

@@ -1,0 +1,11 @@
+use Rattle.tcap_check.proofs.AtOnceLaws.{followed_at_once}
+use Rattle.tcap_check.proofs.GivenRuns.{gives}
+use Rattle.tcap_check.proofs.PromptLaws.{prompt_plain}
+use Rattle.tcap_check.proofs.given.prompt_certificates_deliver_at_once.Goals as goal
+
+pub returns : goal.returns
+returns c table certificate entries events is_prompt is =
+    let given = gives table certificate entries events is in (
+      followed_at_once table certificate given.items events is_prompt given.run given.follows,
+      prompt_plain certificate given.items events is_prompt given.follows,
+    )
