@@ -34,13 +34,13 @@ IsIn n [] = ⊥
 IsIn n (x ∷ xs) = (x ≡ n) ⊎ IsIn n xs
 
 -- One of the first is one of both together,
-in_left : (n : ℕ) (xs ys : List ℕ) → IsIn n xs → IsIn n (xs ++ ys)
+pub in_left : (n : ℕ) (xs ys : List ℕ) → IsIn n xs → IsIn n (xs ++ ys)
 in_left n [] ys is = absurd is
 in_left n (x ∷ xs) ys (inl same) = inl same
 in_left n (x ∷ xs) ys (inr more) = inr (in_left n xs ys more)
 
 -- so is one of the second,
-in_right : (n : ℕ) (xs ys : List ℕ) → IsIn n ys → IsIn n (xs ++ ys)
+pub in_right : (n : ℕ) (xs ys : List ℕ) → IsIn n ys → IsIn n (xs ++ ys)
 in_right n [] ys is = is
 in_right n (x ∷ xs) ys is = inr (in_right n xs ys is)
 
@@ -187,7 +187,7 @@ then_some None step y is = cc
 then_some (Some x) step y is = (x, refl, is)
 
 -- Of some events and then others both take.
-taken_both : (side : Side) (xs ys : List Event) → numbers_taken side (xs ++ ys) ≡ numbers_taken side xs ++ numbers_taken side ys
+pub taken_both : (side : Side) (xs ys : List Event) → numbers_taken side (xs ++ ys) ≡ numbers_taken side xs ++ numbers_taken side ys
 taken_both side [] ys = refl
 taken_both side (x ∷ xs) ys =
     ap (λ ns. takes_from side x ++ ns) (taken_both side xs ys)
@@ -243,7 +243,7 @@ all_map P f [] each = tt
 all_map P f (x ∷ xs) each = (each x, all_map P f xs each)
 
 -- What is taken in a gap is delivered in it.
-here_takes : (side : Side) (c : Certificate) (items : List Item) (gap : ℕ) (here : List Event) → map Some here ≡ gap_events c items gap
+pub here_takes : (side : Side) (c : Certificate) (items : List Item) (gap : ℕ) (here : List Event) → map Some here ≡ gap_events c items gap
     → numbers_taken side here ≡ numbers_taken side (deliveries gap 0 c.fates items)
 here_takes side c items gap here is =
     let closings = filter (λ (x : Closing). x.gap == gap) c.close in
@@ -270,7 +270,7 @@ implied_takes side item (event ∷ events) all = rw (by item event all.0) (impli
     by Item.Quiet event is = absurd is
 
 -- From a gap on these are taken: what is delivered in it, what the next item takes, and what is taken behind it.
-step_takes : (side : Side) (c : Certificate) (items : List Item) (gap : ℕ) (item : Item) (here implied rest : List Event) (sends : Event)
+pub step_takes : (side : Side) (c : Certificate) (items : List Item) (gap : ℕ) (item : Item) (here implied rest : List Event) (sends : Event)
     → map Some here ≡ gap_events c items gap → AllByRecursion (IsImplied item) implied
     → numbers_taken side (here ++ implied ++ sends ∷ rest)
     ≡ numbers_taken side (deliveries gap 0 c.fates items) ++ (takes_from side sends ++ numbers_taken side rest)
@@ -283,14 +283,14 @@ step_takes side c items gap item here implied rest sends is all =
 -- ---- what an item takes
 
 -- It takes nothing, or is the reply that takes one message.
-abbrev Takes : List ℕ → Event → Type 0
+abbrev pub Takes : List ℕ → Event → Type 0
 Takes taken sends = (((side : Side) → takes_from side sends ≡ []) × (taken ≡ []))
     ⊎ ((replier : Side) × (n : ℕ) × (taken ≡ n ∷ []) × (sends ≡ Replies replier n))
 
 a_send : (side : Side) (message : Message) (sends : Event) → Some (Sends side message) ≡ Some sends → Takes [] sends
 a_send side message sends is = inl (λ place. subst (λ f. takes_from place f ≡ []) (some_is is) refl, refl)
 
-sending_takes : (c : Certificate) (number : ℕ) (item : Item) (taken : List ℕ) (sends : Event) → sending_by c number item taken ≡ Some sends
+pub sending_takes : (c : Certificate) (number : ℕ) (item : Item) (taken : List ℕ) (sends : Event) → sending_by c number item taken ≡ Some sends
     → Takes taken sends
 sending_takes c number (Sent side (Unidirectional dialogue components)) [] sends is = a_send side _ sends is
 sending_takes c number (Sent side (Unidirectional dialogue components)) (t ∷ more) sends is = cc
