@@ -17,6 +17,7 @@ pub mod ReplayLaws
 pub mod ReplayGaps
 pub mod ReplayEntries
 pub mod ImpliedLaws
+pub mod OrderLaws
 pub mod DescribedLaws
 pub mod NamedLaws
 pub mod GivenBound
