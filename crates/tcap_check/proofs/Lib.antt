@@ -21,5 +21,6 @@ pub mod DescribedLaws
 pub mod GivenBound
 pub mod GivenRuns
 pub mod DescribedRuns
+pub mod ExpiryLaws
 pub mod AtOnceLaws
 pub mod ReasonLaws
