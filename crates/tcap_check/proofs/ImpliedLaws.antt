@@ -1,5 +1,5 @@
 -- Expiries that a message implies: a run makes exactly those that its send needs, and the replay makes the same.
-use Rattle.std.proofs.Common.{arith, ◌≡◌, ◌≢◌, ◌⊎◌, inl, inr, ℤ, ℕ, suc, Bool, true, false, cond, List, [], ◌∷◌, ◌++◌, length, map, filter_map, Option, Some, None, Result, Ok, Err, is_none, is_some, option_map, refl, sym, ap, subst, ◌∙◌, append_assoc}
+use Rattle.std.proofs.Common.{arith, ◌≡◌, ◌≢◌, ◌⊎◌, inl, inr, ℤ, ℕ, suc, Bool, true, false, cond, List, [], ◌∷◌, ◌++◌, length, map, filter_map, Option, Some, None, Result, Ok, Err, is_none, is_some, not, refl, sym, ap, subst, ◌∙◌, append_assoc}
 use Rattle.std.specs.Prelude.{ok_or}
 use Rattle.std.specs.Result.{result_ok}
 use Rattle.std.specs.List.{AllByRecursion, Contains, cons_option}
@@ -28,13 +28,13 @@ use Rattle.tcap_end.specs.declared.half.InvocationState.TheVariants as states
 use Rattle.tcap_end.specs.declared.half.Phase.TheVariants as phases
 use Rattle.tcap_end.specs.declared.outs.OwnInvocation.{OwnInvocation}
 use Rattle.tcap_end.specs.Component.{may_answer, may_link, own_invocation, send_answer, send_component, send_invoke, send_reject}
-use Rattle.tcap_end.specs.Dialogue.{first_standing}
-use Rattle.tcap_end.specs.Half.{Half, fresh, one_fits, without_oldest_of}
+use Rattle.tcap_end.specs.Dialogue.{may_go_on}
+use Rattle.tcap_end.specs.Half.{Half, closed_half, is_closed, one_fits, without_oldest_of}
 use Rattle.tcap_end.specs.Hidden.{expire}
 use Rattle.tcap_end.specs.Step.{needs, ◌>>◌, ◌>>=◌}
 use Rattle.tcap_end.specs.Table.{Table, operation_of}
-use Rattle.tcap_end.specs.End.{End, KeptHalf, named, with_own, with_peer}
-use Rattle.tcap_end.specs.Message.{send, send_components, send_begin, send_continue, send_end, send_next_continue}
+use Rattle.tcap_end.specs.End.{End, KeptHalf, is_id, named, put as put_half, with_own, with_peer}
+use Rattle.tcap_end.specs.Message.{is_active, send, send_components, send_continue, send_end, send_next_continue}
 use Rattle.tcap_end.specs.Sound.{IsEnd}
 use Rattle.tcap_end.proofs.AnsweringLaws.{needs_ok, ok_same, some_ok, then_ok}
 use Rattle.tcap_end.proofs.MapLaws.{found_other}
@@ -135,6 +135,26 @@ none_stands table (c ∷ more) h g id is there stands =
     by None is there other rest = rest there
     by (Some x) is there other rest = first x other rest (contains_first x (filter_map invoke_id more) id there)
 
+-- A Continue that goes on sends its components over the half.
+next_sends : (table : Table) (e next : End) (dtid : List ℕ) (dialogue : Option Dialogue) (components : List Component) (f : KeptHalf)
+    → send_next_continue table e dtid dialogue components f ≡ Ok next → (g : Half) × (send_components table f.half components ≡ Ok g)
+next_sends table e next dtid dialogue components f sends =
+    let active = needs_ok (is_active f.half.phase) faults.WrongPhase _ next sends in
+    let peer = needs_ok (is_id dtid f.half.peer) faults.NoTransaction _ next active.1 in
+    let may = needs_ok (may_go_on f.half.phase f.half.standing dialogue) faults.WrongDialogue _ next peer.1 in
+    let (g, made, put) = then_ok (send_components table f.half components) (λ half. Ok (put_half e f.slot f.key half)) next may.1 in (g, made)
+
+-- So does an End.
+end_sends : (table : Table) (e next : End) (dtid : List ℕ) (dialogue : Option Dialogue) (components : List Component)
+    → send_end table e dtid dialogue components ≡ Ok next
+    → (f : KeptHalf) × (g : Half) × (with_peer e dtid ≡ Some f) × (send_components table f.half components ≡ Ok g)
+end_sends table e next dtid dialogue components sends =
+    let (f, ok, step) = then_ok (ok_or (with_peer e dtid) faults.NoTransaction) _ next sends in
+    let is_open = needs_ok (not (is_closed f.half.phase)) faults.WrongPhase _ next step in
+    let may = needs_ok (may_go_on f.half.phase f.half.standing dialogue) faults.WrongDialogue _ next is_open.1 in
+    let (g, made, put) = then_ok (send_components table f.half components) (λ half. Ok (put_half e f.slot f.key (closed_half half))) next may.1 in
+    (f, g, some_ok _ _ f ok, made)
+
 -- A message that is sent over a half invokes no ID that is in use there.
 sent_frees : (table : Table) (e next : End) (message : Message) (name : HalfName) (id : ℤ) → send table e message ≡ Ok next
     → invoking_half message ≡ Some name → Contains (filter_map invoke_id (components_in message)) id → IsInUse e name id → ⊥
@@ -149,11 +169,8 @@ sent_frees table e next message name id sends over there (kept, own, named_is, f
         → send_continue table e otid dtid dialogue components o ≡ Ok next → Contains (filter_map invoke_id components) id → ⊥
     goes_on otid dtid dialogue components None is sends there = cc
     goes_on otid dtid dialogue components (Some f) is sends there =
-        let active = needs_ok _ _ _ next sends in
-        let peer = needs_ok _ _ _ next active.1 in
-        let may = needs_ok _ _ _ next peer.1 in
-        let (g, made, put) = then_ok (send_components table f.half components) _ next may.1 in
-        over_kept components f g (cc) made there
+        let sending = next_sends table e next dtid dialogue components f sends in
+        let same : f ≡ kept = cc in over_kept components f sending.0 same sending.1 there
 
     by : (m : Message) → send table e m ≡ Ok next → invoking_half m ≡ Some name
         → Contains (filter_map invoke_id (components_in m)) id → ⊥
@@ -169,12 +186,8 @@ sent_frees table e next message name id sends over there (kept, own, named_is, f
     by (EndMessage dtid dialogue components) sends over there =
         let at : names.Peer dtid ≡ name = cc in
         let is : with_peer e dtid ≡ Some kept = ap (named e) at ∙ named_is in
-        let (f, ok, step) = then_ok (ok_or (with_peer e dtid) faults.NoTransaction) _ next sends in
-        let f_is = some_ok _ _ f ok in
-        let is_open = needs_ok _ _ _ next step in
-        let may = needs_ok _ _ _ next is_open.1 in
-        let (g, made, put) = then_ok (send_components table f.half (items_of components)) _ next may.1 in
-        over_kept (items_of components) f g (let j : Some f ≡ Some kept = sym f_is ∙ is in cc) made there
+        let (f, g, f_is, made) = end_sends table e next dtid dialogue (items_of components) sends in
+        let same : f ≡ kept = cc (f_is, is) in over_kept (items_of components) f g same made there
     by (Abort dtid reason) sends over there = cc
 
 -- ---- the expiries as IDs
@@ -275,6 +288,16 @@ is_stepped : (table : Table) (side : Side) (name : HalfName) (id : ℤ) (r : Rep
     → stepped table (Expires side name id) r ≡ Some (with_step (Expires side name id) r (with_end side e r.world))
 is_stepped table side name id r e is = rw is refl
 
+-- One step and then others.
+made_first : (side : Side) (event : Event) (few count : ℕ) (e last : End) (r next : Replay) → suc few ≡ count
+    → Makes side few last (with_step event r (with_end side e r.world)) next → Makes side count last r next
+made_first side event few count e last r next counted later = record {
+  steps = event ∷ later.steps;
+  events = later.events ∙ append_assoc r.events (event ∷ []) later.steps;
+  as_many = ap suc later.as_many ∙ counted;
+  world = later.world ∙ with_twice side e last r.world;
+}
+
 -- The replay makes them: it tries each ID in turn, and those that expire are in use when they are tried.
 makes : (table : Table) (side : Side) (name : HalfName) (ids those : List ℤ) (last : End) (r : Replay) → IsEnd (end_at side r.world)
     → Expire table name those (end_at side r.world) last → ((id : ℤ) → Contains those id → Contains ids id)
@@ -323,12 +346,7 @@ makes table side name (x ∷ ids) those last r sound ran invoked free =
         let there = among f.others f.are (λ h. not_in_use table e name x f.next sound f.expires (all_in_use table name f.others f.next last x f.ran h)) in
         let later = rest f.others next (rw at (expires table e f.next name x sound f.expires).sound) (rw at f.ran) there behind in
         subst (λ (o : Option Replay). Makes side (length those) last r (implied table side name ids (or_same r o)))
-        (sym (is_stepped table side name x r f.next f.expires)) (record {
-          steps = event ∷ later.steps;
-          events = later.events ∙ append_assoc r.events (event ∷ []) later.steps;
-          as_many = ap suc later.as_many ∙ sym f.counted;
-          world = later.world ∙ with_twice side f.next last r.world;
-        })
+        (sym (is_stepped table side name x r f.next f.expires)) (made_first side event (length f.others) (length those) f.next last r _ (sym f.counted) later)
 
 -- The replay makes as many, and leaves the end that the run leaves.
 pub record AreMade (side : Side) (before : World) (made : List Event) (r next : Replay) : Type 0 where
