@@ -1,5 +1,5 @@
 -- What an expiry leaves of an end: which own invocations are in use behind it, and that two of them change places.
-use Rattle.std.proofs.Common.{arith, ◌≡◌, ◌≢◌, ◌<◌, get_or, zero, ◌⊎◌, inl, inr, ℕ, ℤ, suc, Bool, true, false, cond, List, [], ◌∷◌, length, Option, Some, None, Result, Ok, Err, IsSome, refl, sym, ap, subst, ◌∙◌}
+use Rattle.std.proofs.Common.{arith, ◌≡◌, ◌≢◌, ◌<◌, get_or, zero, ◌⊎◌, inl, inr, ℕ, ℤ, suc, Bool, true, false, cond, List, [], ◌∷◌, length, Option, Some, None, Ok, refl, sym, ap, subst, ◌∙◌}
 use Rattle.std.specs.Prelude.{ok_or}
 use Rattle.std.specs.List.{Contains}
 use Rattle.std.specs.Map.{lookup, remove_entry}
@@ -20,15 +20,14 @@ use Rattle.tcap_end.specs.declared.half.Slot.{Slot}
 use Rattle.tcap_end.specs.declared.half.Slot.TheVariants.{Begun, Accepted}
 use Rattle.tcap_end.specs.declared.outs.OwnInvocation.{OwnInvocation}
 use Rattle.tcap_end.specs.Component.{own_invocation}
-use Rattle.tcap_end.specs.End.{End, KeptHalf, first_half, half_where, is_id, named, put, with_own, with_peer}
+use Rattle.tcap_end.specs.End.{End, KeptHalf, first_half, half_where, is_id, named, put}
 use Rattle.tcap_end.specs.Half.{Half, is_closed}
 use Rattle.tcap_end.specs.Hidden.{expire, may_expire, without_invocation}
-use Rattle.tcap_end.specs.Sound.{IsEnd, IsHalf, Rises}
-use Rattle.tcap_end.specs.Step.{needs, ◌>>◌}
+use Rattle.tcap_end.specs.Sound.{IsEnd, Rises}
 use Rattle.tcap_end.specs.Table.{Table, octets_cmp}
 use Rattle.tcap_end.proofs.AnsweringLaws.{needs_ok, ok_same, some_ok, then_ok}
 use Rattle.tcap_end.proofs.FoundLaws.{named_has, octets_total}
-use Rattle.tcap_end.proofs.HiddenLaws.{expires_some, invoked_ends}
+use Rattle.tcap_end.proofs.HiddenLaws.{invoked_ends}
 use Rattle.tcap_end.proofs.MapLaws.{behind_first, insert_twice, keys_eq}
 use Rattle.tcap_check.specs.Given.{IsInUse}
 

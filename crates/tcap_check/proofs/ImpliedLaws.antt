@@ -1,7 +1,6 @@
 -- Expiries that a message implies: a run makes exactly those that its send needs, and the replay makes the same.
-use Rattle.std.proofs.Common.{arith, ◌≡◌, ◌≢◌, ◌⊎◌, inl, inr, ℤ, ℕ, suc, Bool, true, false, cond, List, [], ◌∷◌, ◌++◌, length, map, filter_map, Option, Some, None, Result, Ok, Err, is_none, is_some, not, refl, sym, ap, subst, ◌∙◌, append_assoc}
+use Rattle.std.proofs.Common.{arith, ◌≡◌, ◌⊎◌, inl, inr, ℤ, ℕ, suc, Bool, true, false, cond, List, [], ◌∷◌, ◌++◌, length, map, filter_map, Option, Some, None, Result, Ok, Err, is_none, is_some, not, refl, sym, ap, subst, ◌∙◌, append_assoc}
 use Rattle.std.specs.Prelude.{ok_or}
-use Rattle.std.specs.Result.{result_ok}
 use Rattle.std.specs.List.{AllByRecursion, Contains, cons_option}
 use Rattle.std.specs.BTreeMap.{insert_entry}
 use Rattle.std.specs.Ordering.{int_cmp}
@@ -25,13 +24,12 @@ use Rattle.tcap_end.specs.declared.fault.EndFault.TheVariants as faults
 use Rattle.tcap_end.specs.declared.half.HalfName.{HalfName}
 use Rattle.tcap_end.specs.declared.half.HalfName.TheVariants as names
 use Rattle.tcap_end.specs.declared.half.InvocationState.TheVariants as states
-use Rattle.tcap_end.specs.declared.half.Phase.TheVariants as phases
 use Rattle.tcap_end.specs.declared.outs.OwnInvocation.{OwnInvocation}
 use Rattle.tcap_end.specs.Component.{may_answer, may_link, own_invocation, send_answer, send_component, send_invoke, send_reject}
 use Rattle.tcap_end.specs.Dialogue.{may_go_on}
 use Rattle.tcap_end.specs.Half.{Half, closed_half, is_closed, one_fits, without_oldest_of}
 use Rattle.tcap_end.specs.Hidden.{expire}
-use Rattle.tcap_end.specs.Step.{needs, ◌>>◌, ◌>>=◌}
+use Rattle.tcap_end.specs.Step.{needs}
 use Rattle.tcap_end.specs.Table.{Table, operation_of}
 use Rattle.tcap_end.specs.End.{End, KeptHalf, is_id, named, put as put_half, with_own, with_peer}
 use Rattle.tcap_end.specs.Message.{is_active, send, send_components, send_continue, send_end, send_next_continue}
@@ -45,7 +43,7 @@ use Rattle.tcap_check.specs.Follows.{IsImplied, invoke_id, invoking_half}
 use Rattle.tcap_check.specs.Given.{IsInUse}
 use Rattle.tcap_check.specs.Replayed.{Replay, implied, or_same, stepped, with_step}
 use Rattle.tcap_check.proofs.RunLaws.{expiry}
-use Rattle.tcap_check.proofs.ExpiryLaws.{Expire, all_in_use, contains_first, ends_in_use, expires_first, ids_eq, in_use, not_in_use, one_of_them}
+use Rattle.tcap_check.proofs.ExpiryLaws.{Expire, all_in_use, contains_first, ends_in_use, expires_first, in_use, not_in_use, one_of_them}
 
 -- ---- what a send needs
 
