@@ -121,8 +121,10 @@ first_is passes slot ((key, half) ∷ es) f is = by (passes half) refl is (first
     first = record { slot = slot; key = key; half = half }
 
     by : (b : Bool) → passes half ≡ b → cond b (Some first) (first_half passes slot es) ≡ Some f
-        → (first_half passes slot es ≡ Some f → (f.slot ≡ slot) × (passes f.half ≡ true)) → (f.slot ≡ slot) × (passes f.half ≡ true)
-    by true so is rest = let same : first ≡ f = cc in (ap (λ (g : KeptHalf). g.slot) (sym same), ap (λ (g : KeptHalf). passes g.half) (sym same) ∙ so)
+        → (first_half passes slot es ≡ Some f → (f.slot ≡ slot) × (passes f.half ≡ true))
+        → (f.slot ≡ slot) × (passes f.half ≡ true)
+    by true so is rest =
+        let same : f ≡ first = cc in (ap (λ (g : KeptHalf). g.slot) same, ap (λ (g : KeptHalf). passes g.half) same ∙ so)
     by false so is rest = rest is
 
 -- A half that passes, put where the first was found, is the first.
@@ -137,7 +139,8 @@ first_put passes slot ((key, half) ∷ es) f h is so = by (octets_cmp f.key key)
 
     by : (r : Ordering) → octets_cmp f.key key ≡ r
         → (first_half passes slot es ≡ Some f → passes h ≡ true → first_half passes slot (insert_entry octets_cmp es f.key h) ≡ new)
-        → first_half passes slot (match_ordering r ((f.key, h) ∷ (key, half) ∷ es) ((key, h) ∷ es) ((key, half) ∷ insert_entry octets_cmp es f.key h))
+        → first_half passes slot
+        (match_ordering r ((f.key, h) ∷ (key, half) ∷ es) ((key, h) ∷ es) ((key, half) ∷ insert_entry octets_cmp es f.key h))
         ≡ new
     by Less at rest = rw so refl
     by Equal at rest =
@@ -176,7 +179,8 @@ where_put passes e f h is keeps = by (first_half passes Begun e.begun) refl
         rw (slot, there) refl
 
 -- Behind a half that has the same IDs, put where the half of that name was found, that half has the name.
-pub named_put : (e : End) (name : HalfName) (f : KeptHalf) (h : Half) → named e name ≡ Some f → h.own ≡ f.half.own → h.peer ≡ f.half.peer
+pub named_put : (e : End) (name : HalfName) (f : KeptHalf) (h : Half) → named e name ≡ Some f
+    → h.own ≡ f.half.own → h.peer ≡ f.half.peer
     → named (put e f.slot f.key h) name ≡ Some (record { slot = f.slot; key = f.key; half = h })
 named_put e (names.Own id) f h is own peer = where_put (λ h. is_id id h.own) e f h is (λ so. rw own so)
 named_put e (names.Peer id) f h is own peer = where_put (λ h. is_id id h.peer) e f h is (λ so. rw peer so)
@@ -198,6 +202,7 @@ pub record IsExpiry (table : Table) (e : End) (name : HalfName) (id : ℤ) (next
   pub next_is : put e kept.slot kept.key (without_invocation id kept.half) ≡ next
   pub now : named next name ≡ Some (record { slot = kept.slot; key = kept.key; half = without_invocation id kept.half })
 
+-- An expiry that is Ok is one.
 pub expiry_is : (table : Table) (e : End) (name : HalfName) (id : ℤ) (next : End) → expire table e name id ≡ Ok next
     → IsExpiry table e name id next
 expiry_is table e name id next is =
@@ -216,7 +221,8 @@ expiry_is table e name id next is =
     }
 
 -- An own invocation that ends was in use.
-pub ends_in_use : (table : Table) (e : End) (name : HalfName) (id : ℤ) (next : End) → expire table e name id ≡ Ok next → IsInUse e name id
+pub ends_in_use : (table : Table) (e : End) (name : HalfName) (id : ℤ) (next : End) → expire table e name id ≡ Ok next
+    → IsInUse e name id
 ends_in_use table e name id next is = by (own_invocation x.kept.half id) refl x.may
   where
     x : IsExpiry table e name id next
@@ -232,7 +238,8 @@ pub stays_in_use : (table : Table) (e : End) (name : HalfName) (id other : ℤ) 
 stays_in_use table e name id other next is apart (kept, own, named_is, found) =
     let x = expiry_is table e name id next is in
     let same : x.kept ≡ kept = cc (x.was, named_is) in
-    (_, own, x.now, found_apart _ _ x.kept.half.out (ids_apart other id apart) ∙ ap (λ (k : KeptHalf). own_invocation k.half other) same ∙ found)
+    (_, own, x.now, found_apart _ _ x.kept.half.out (ids_apart other id apart)
+    ∙ ap (λ (k : KeptHalf). own_invocation k.half other) same ∙ found)
 
 -- What is in use behind it was before.
 pub was_in_use : (table : Table) (e : End) (name : HalfName) (id other : ℤ) (next : End) → expire table e name id ≡ Ok next
@@ -245,7 +252,8 @@ was_in_use table e name id other next is (kept, own, named_is, found) = by (ids_
     by : (other ≡ id) ⊎ (other ≢ id) → IsInUse e name other
     by (inl same) = subst (λ (i : ℤ). IsInUse e name i) (sym same) (ends_in_use table e name id next is)
     by (inr apart) =
-        let same : record { slot = x.kept.slot; key = x.kept.key; half = without_invocation id x.kept.half } ≡ kept = cc (x.now, named_is) in
+        let same : record { slot = x.kept.slot; key = x.kept.key; half = without_invocation id x.kept.half } ≡ kept =
+        cc (x.now, named_is) in
         (x.kept, own, x.was, sym (found_apart _ _ x.kept.half.out (ids_apart other id apart))
         ∙ ap (λ (k : KeptHalf). own_invocation k.half other) same ∙ found)
 
@@ -254,10 +262,12 @@ pub not_in_use : (table : Table) (e : End) (name : HalfName) (id : ℤ) (next : 
     → IsInUse next name id → ⊥
 not_in_use table e name id next sound is (kept, own, named_is, found) =
     let x = expiry_is table e name id next is in
-    let same : record { slot = x.kept.slot; key = x.kept.key; half = without_invocation id x.kept.half } ≡ kept = cc (x.now, named_is) in
+    let same : record { slot = x.kept.slot; key = x.kept.key; half = without_invocation id x.kept.half } ≡ kept =
+    cc (x.now, named_is) in
     let rises = (sound.halves x.kept (named_has e name sound x.kept x.was)).out in
     let none = removed_gone id x.kept.half.out rises in
-    let some : own_invocation (without_invocation id x.kept.half) id ≡ Some own = ap (λ (k : KeptHalf). own_invocation k.half id) same ∙ found in cc
+    let some : own_invocation (without_invocation id x.kept.half) id ≡ Some own =
+    ap (λ (k : KeptHalf). own_invocation k.half id) same ∙ found in cc
 
 -- Two expiries change places.
 pub expire_before : (table : Table) (e : End) (name : HalfName) (x y : ℤ) (next last : End) → x ≢ y
@@ -285,7 +295,10 @@ expire_before table e name x y next last apart one two =
     between = cc (a.now, b.was)
 
     may_x : may_expire table (own_invocation h x) ≡ true
-    may_x = ap (may_expire table) (sym (found_apart _ _ h.out (ids_apart x y apart)) ∙ ap (λ (k : KeptHalf). own_invocation k.half x) between) ∙ b.may
+    may_x =
+        ap (may_expire table)
+        (sym (found_apart _ _ h.out (ids_apart x y apart)) ∙ ap (λ (k : KeptHalf). own_invocation k.half x) between)
+        ∙ b.may
 
     may_y : may_expire table (own_invocation (without_invocation x h) y) ≡ true
     may_y = ap (may_expire table) (found_apart _ _ h.out (ids_apart y x (λ same. apart (sym same)))) ∙ a.may
@@ -370,14 +383,16 @@ expires_first table name [] e last id ran had free = absurd (free (subst (λ (x 
 expires_first table name (x ∷ ids) e last id (next, is, ran) had free =
     by (λ still. expires_first table name ids next last id ran still free) (ids_eq id x)
   where
-    among : (others : List ℤ) → ((i : ℤ) → Contains others i → Contains ids i) → (i : ℤ) → Contains (x ∷ others) i → Contains (x ∷ ids) i
+    among : (others : List ℤ) → ((i : ℤ) → Contains others i → Contains ids i) → (i : ℤ)
+        → Contains (x ∷ others) i → Contains (x ∷ ids) i
     among others are i there = at (contains_first x others i there)
       where
         at : (x ≡ i) ⊎ Contains others i → Contains (x ∷ ids) i
         at (inl same) = (0, omega arith, same)
         at (inr later) = Contains-append_right (x ∷ []) ids i (are i later)
 
-    by : (IsInUse next name id → IsFirst table name ids next last id) → (id ≡ x) ⊎ (id ≢ x) → IsFirst table name (x ∷ ids) e last id
+    by : (IsInUse next name id → IsFirst table name ids next last id) → (id ≡ x) ⊎ (id ≢ x)
+        → IsFirst table name (x ∷ ids) e last id
     by rest (inl same) = record {
       next = next;
       others = ids;

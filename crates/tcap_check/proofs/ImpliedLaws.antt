@@ -56,9 +56,12 @@ record Leaves (h g : Half) (c : Component) (id : ℤ) : Type 0 where
   is_no_other : invoke_id c ≡ Some id → ⊥
   stands : Stands g id
 
-leaves_this : (h x g : Half) (c : Component) (id : ℤ) → Leaves h x c id → (let r : Result Half EndFault = Ok x in r) ≡ Ok g → Leaves h g c id
+-- It is such a half where the step was Ok.
+leaves_this : (h x g : Half) (c : Component) (id : ℤ) → Leaves h x c id → (let r : Result Half EndFault = Ok x in r) ≡ Ok g
+    → Leaves h g c id
 leaves_this h x g c id leaves is = let same = ok_same {F = EndFault} x g is in rw (← same) leaves
 
+-- An Invoke that is sent,
 invoke_leaves : (table : Table) (h g : Half) (i id : ℤ) (linked : Option ℤ) (code : Code) (c : Component) → invoke_id c ≡ Some i
     → send_invoke table h i linked code ≡ Ok g → Stands h id → Leaves h g c id
 invoke_leaves table h g i id linked code c invokes is stands =
@@ -82,8 +85,9 @@ invoke_leaves table h g i id linked code c invokes is stands =
 no_invoke : (h g : Half) (c : Component) (id : ℤ) → invoke_id c ≡ None → Stands g id → Leaves h g c id
 no_invoke h g c id none stands = record { is_no_other = λ other. cc (none, other); stands = stands }
 
-answer_leaves : (table : Table) (h g : Half) (is_result last : Bool) (i id : ℤ) (named : Option Code) (c : Component) → invoke_id c ≡ None
-    → send_answer table h is_result last i named ≡ Ok g → Stands h id → Leaves h g c id
+-- an answer,
+answer_leaves : (table : Table) (h g : Half) (is_result last : Bool) (i id : ℤ) (named : Option Code) (c : Component)
+    → invoke_id c ≡ None → send_answer table h is_result last i named ≡ Ok g → Stands h id → Leaves h g c id
 answer_leaves table h g is_result last i id named c none is stands =
     let some = needs_ok (one_fits i (λ item. true) h.inn) faults.NothingToAnswer _ g is in
     let class = needs_ok (one_fits i (may_answer table is_result None) h.inn) faults.ClassForbids _ g some.1 in
@@ -97,6 +101,7 @@ answer_leaves table h g is_result last i id named c none is stands =
     by true is = leaves_this h left g c id (no_invoke h left c id none stands) is
     by false is = leaves_this h h g c id (no_invoke h h c id none stands) is
 
+-- a Reject,
 reject_leaves : (h g : Half) (i : Option ℤ) (problem : Problem) (id : ℤ) (c : Component) → invoke_id c ≡ None
     → send_reject h i problem ≡ Ok g → Stands h id → Leaves h g c id
 reject_leaves h g None problem id c none is stands = cc
@@ -108,10 +113,15 @@ reject_leaves h g (Some i) (problems.ReturnResult n) id c none is stands =
 reject_leaves h g (Some i) (problems.ReturnError n) id c none is stands =
     let step = needs_ok _ _ _ g is in leaves_this h _ g c id (no_invoke h _ c id none stands) step.1
 
-component_leaves : (table : Table) (h g : Half) (c : Component) (id : ℤ) → send_component table h c ≡ Ok g → Stands h id → Leaves h g c id
-component_leaves table h g (Invoke i linked code parameter) id is stands = invoke_leaves table h g i id linked code _ refl is stands
-component_leaves table h g (ReturnResult last i body) id is stands = answer_leaves table h g true last i id _ _ refl is stands
-component_leaves table h g (ReturnError i code parameter) id is stands = answer_leaves table h g false true i id None _ refl is stands
+-- each component.
+component_leaves : (table : Table) (h g : Half) (c : Component) (id : ℤ) → send_component table h c ≡ Ok g → Stands h id
+    → Leaves h g c id
+component_leaves table h g (Invoke i linked code parameter) id is stands =
+    invoke_leaves table h g i id linked code _ refl is stands
+component_leaves table h g (ReturnResult last i body) id is stands =
+    answer_leaves table h g true last i id _ _ refl is stands
+component_leaves table h g (ReturnError i code parameter) id is stands =
+    answer_leaves table h g false true i id None _ refl is stands
 component_leaves table h g (Reject i problem) id is stands = reject_leaves h g i problem id _ refl is stands
 
 -- Components that are sent invoke no ID that stands.
@@ -134,13 +144,15 @@ none_stands table (c ∷ more) h g id is there stands =
     by (Some x) is there other rest = first x other rest (contains_first x (filter_map invoke_id more) id there)
 
 -- A Continue that goes on sends its components over the half.
-next_sends : (table : Table) (e next : End) (dtid : List ℕ) (dialogue : Option Dialogue) (components : List Component) (f : KeptHalf)
-    → send_next_continue table e dtid dialogue components f ≡ Ok next → (g : Half) × (send_components table f.half components ≡ Ok g)
+next_sends : (table : Table) (e next : End) (dtid : List ℕ) (dialogue : Option Dialogue) (components : List Component)
+    (f : KeptHalf) → send_next_continue table e dtid dialogue components f ≡ Ok next
+    → (g : Half) × (send_components table f.half components ≡ Ok g)
 next_sends table e next dtid dialogue components f sends =
     let active = needs_ok (is_active f.half.phase) faults.WrongPhase _ next sends in
     let peer = needs_ok (is_id dtid f.half.peer) faults.NoTransaction _ next active.1 in
     let may = needs_ok (may_go_on f.half.phase f.half.standing dialogue) faults.WrongDialogue _ next peer.1 in
-    let (g, made, put) = then_ok (send_components table f.half components) (λ half. Ok (put_half e f.slot f.key half)) next may.1 in (g, made)
+    let (g, made, put) =
+    then_ok (send_components table f.half components) (λ half. Ok (put_half e f.slot f.key half)) next may.1 in (g, made)
 
 -- So does an End.
 end_sends : (table : Table) (e next : End) (dtid : List ℕ) (dialogue : Option Dialogue) (components : List Component)
@@ -150,7 +162,8 @@ end_sends table e next dtid dialogue components sends =
     let (f, ok, step) = then_ok (ok_or (with_peer e dtid) faults.NoTransaction) _ next sends in
     let is_open = needs_ok (not (is_closed f.half.phase)) faults.WrongPhase _ next step in
     let may = needs_ok (may_go_on f.half.phase f.half.standing dialogue) faults.WrongDialogue _ next is_open.1 in
-    let (g, made, put) = then_ok (send_components table f.half components) (λ half. Ok (put_half e f.slot f.key (closed_half half))) next may.1 in
+    let (g, made, put) =
+    then_ok (send_components table f.half components) (λ half. Ok (put_half e f.slot f.key (closed_half half))) next may.1 in
     (f, g, some_ok _ _ f ok, made)
 
 -- A message that is sent over a half invokes no ID that is in use there.
@@ -212,15 +225,17 @@ is_expiry side message name (Closes other half) is over = absurd is
 is_expiry side message name Quiet is over = absurd is
 is_expiry side message name (Tells sender m) is over = absurd is
 
--- The end behind a change, and the change again.
+-- The end behind a change.
 end_with : (side : Side) (e : End) (w : World) → end_at side (with_end side e w) ≡ e
 end_with sides.A e w = refl
 end_with sides.B e w = refl
 
+-- The end as it is changes nothing.
 with_same : (side : Side) (w : World) → with_end side (end_at side w) w ≡ w
 with_same sides.A w = refl
 with_same sides.B w = refl
 
+-- The later of two ends stays.
 with_twice : (side : Side) (e f : End) (w : World) → with_end side f (with_end side e w) ≡ with_end side f w
 with_twice sides.A e f w = refl
 with_twice sides.B e f w = refl
@@ -238,7 +253,8 @@ ids_of table side message name [] w before all over plays = record {
 ids_of table side message name (event ∷ events) w before all over plays =
     let (id, same, there) = is_expiry side message name event all.0 over in
     let on = subst (λ (x : Event). then_so (after table x w) (played table events) ≡ Some before) same plays in
-    by id same there (after table (Expires side name id) w) refl on (λ next. ids_of table side message name events next before all.1 over)
+    by id same there (after table (Expires side name id) w) refl on
+    (λ next. ids_of table side message name events next before all.1 over)
   where
     ids : List ℤ
     ids = filter_map invoke_id (components_in message)
@@ -282,7 +298,8 @@ not_stepped table side name id r free = by (expire table (end_at side r.world) n
     by (Err reason) is = rw is refl
 
 -- and one that does makes a step.
-is_stepped : (table : Table) (side : Side) (name : HalfName) (id : ℤ) (r : Replay) (e : End) → expire table (end_at side r.world) name id ≡ Ok e
+is_stepped : (table : Table) (side : Side) (name : HalfName) (id : ℤ) (r : Replay) (e : End)
+    → expire table (end_at side r.world) name id ≡ Ok e
     → stepped table (Expires side name id) r ≡ Some (with_step (Expires side name id) r (with_end side e r.world))
 is_stepped table side name id r e is = rw is refl
 
@@ -307,10 +324,10 @@ makes table side name [] [] last r sound ran invoked free = record {
   as_many = refl;
   world = sym (with_same side r.world) ∙ ap (λ (e : End). with_end side e r.world) ran;
 }
-makes table side name [] (id ∷ those) last r sound ran invoked free = let there = invoked id (0, omega arith, refl) in let lt = there.1 in absurd (omega arith)
+makes table side name [] (id ∷ those) last r sound ran invoked free =
+    let there = invoked id (0, omega arith, refl) in let lt = there.1 in absurd (omega arith)
 makes table side name (x ∷ ids) those last r sound ran invoked free =
-    by (in_use e name x)
-    (λ those r. makes table side name ids those last r)
+    by (in_use e name x) (λ those r. makes table side name ids those last r)
   where
     e : End
     e = end_at side r.world
@@ -321,7 +338,8 @@ makes table side name (x ∷ ids) those last r sound ran invoked free =
     behind : (i : ℤ) → Contains ids i → IsInUse last name i → ⊥
     behind i there = free i (Contains-append_right (x ∷ []) ids i there)
 
-    among : (other : List ℤ) → ((i : ℤ) → Contains other i → Contains those i) → (Contains other x → ⊥) → (i : ℤ) → Contains other i → Contains ids i
+    among : (other : List ℤ) → ((i : ℤ) → Contains other i → Contains those i) → (Contains other x → ⊥)
+        → (i : ℤ) → Contains other i → Contains ids i
     among other are none i there = at (contains_first x ids i (invoked i (are i there)))
       where
         at : (x ≡ i) ⊎ Contains ids i → Contains ids i
@@ -341,10 +359,12 @@ makes table side name (x ∷ ids) those last r sound ran invoked free =
         let f = expires_first table name those e last x ran had (free x (0, omega arith, refl)) in
         let next = with_step event r (with_end side f.next r.world) in
         let at = end_with side f.next r.world in
-        let there = among f.others f.are (λ h. not_in_use table e name x f.next sound f.expires (all_in_use table name f.others f.next last x f.ran h)) in
+        let there = among f.others f.are
+        (λ h. not_in_use table e name x f.next sound f.expires (all_in_use table name f.others f.next last x f.ran h)) in
         let later = rest f.others next (rw at (expires table e f.next name x sound f.expires).sound) (rw at f.ran) there behind in
         subst (λ (o : Option Replay). Makes side (length those) last r (implied table side name ids (or_same r o)))
-        (sym (is_stepped table side name x r f.next f.expires)) (made_first side event (length f.others) (length those) f.next last r _ (sym f.counted) later)
+        (sym (is_stepped table side name x r f.next f.expires))
+        (made_first side event (length f.others) (length those) f.next last r _ (sym f.counted) later)
 
 -- The replay makes as many, and leaves the end that the run leaves.
 pub record AreMade (side : Side) (before : World) (made : List Event) (r next : Replay) : Type 0 where
@@ -353,6 +373,7 @@ pub record AreMade (side : Side) (before : World) (made : List Event) (r next : 
   pub as_many : length steps ≡ length made
   pub world : next.world ≡ with_end side (end_at side before) r.world
 
+-- The replay makes as many expiries as the run, and leaves the end that the run leaves.
 pub implied_same : (table : Table) (side : Side) (message : Message) (name : HalfName) (made : List Event) (w before : World) (sent : End) (r : Replay)
     → IsEnd (end_at side w) → AllByRecursion (IsImplied (Sent side message)) made → invoking_half message ≡ Some name
     → played table made w ≡ Some before → send table (end_at side before) message ≡ Ok sent
@@ -360,7 +381,8 @@ pub implied_same : (table : Table) (side : Side) (message : Message) (name : Hal
     → AreMade side before made r (implied table side name (filter_map invoke_id (components_in message)) r)
 implied_same table side message name made w before sent r sound all over plays sends same =
     let given = ids_of table side message name made w before all over plays in
-    let replayed = makes table side name ids given.those (end_at side before) r (rw same sound) (rw same given.ran) given.invoked free in record {
+    let replayed =
+    makes table side name ids given.those (end_at side before) r (rw same sound) (rw same given.ran) given.invoked free in record {
       steps = replayed.steps;
       events = replayed.events;
       as_many = replayed.as_many ∙ sym (ap length given.are ∙ length-map {A = ℤ} given.those (Expires side name));
@@ -375,7 +397,7 @@ implied_same table side message name made w before sent r sound all over plays s
 
 -- ---- the law
 
--- An expiry of that half is one of those of these IDs as its ID is one of them.
+-- Where an expiry of that half is one of those of these IDs, its ID is one of them,
 one_of_ids : (side : Side) (name : HalfName) (ids : List ℤ) (id : ℤ) → Contains (map (Expires side name) ids) (Expires side name id)
     → Contains ids id
 one_of_ids side name [] id there = let lt = there.1 in absurd (omega arith)
@@ -383,10 +405,12 @@ one_of_ids side name (x ∷ ids) id there =
     by (one_of_ids side name ids id) (contains_first (Expires side name x) (map (Expires side name) ids) (Expires side name id) there)
   where
     by : (Contains (map (Expires side name) ids) (Expires side name id) → Contains ids id)
-        → (Expires side name x ≡ Expires side name id) ⊎ Contains (map (Expires side name) ids) (Expires side name id) → Contains (x ∷ ids) id
+        → (Expires side name x ≡ Expires side name id) ⊎ Contains (map (Expires side name) ids) (Expires side name id)
+        → Contains (x ∷ ids) id
     by rest (inl same) = (0, omega arith, cc)
     by rest (inr later) = Contains-append_right (x ∷ []) ids id (rest later)
 
+-- and the other way round.
 ids_one : (side : Side) (name : HalfName) (ids : List ℤ) (id : ℤ) → Contains ids id
     → Contains (map (Expires side name) ids) (Expires side name id)
 ids_one side name [] id there = let lt = there.1 in absurd (omega arith)
@@ -399,7 +423,8 @@ ids_one side name (x ∷ ids) id there = by (ids_one side name ids id) (contains
         Contains-append_right (Expires side name x ∷ []) (map (Expires side name) ids) (Expires side name id) (rest later)
 
 -- A run makes exactly those that its send needs.
-pub made_are_needed : (table : Table) (side : Side) (message : Message) (name : HalfName) (made : List Event) (w before : World) (sent : End) (id : ℤ)
+pub made_are_needed : (table : Table) (side : Side) (message : Message) (name : HalfName) (made : List Event)
+    (w before : World) (sent : End) (id : ℤ)
     → AllByRecursion (IsImplied (Sent side message)) made → invoking_half message ≡ Some name
     → played table made w ≡ Some before → send table (end_at side before) message ≡ Ok sent
     → Contains (filter_map invoke_id (components_in message)) id
@@ -410,8 +435,10 @@ made_are_needed table side message name made w before sent id all over plays sen
     let free = sent_frees table (end_at side before) sent message name id sends over there in (
       λ among.
           all_in_use table name given.those (end_at side w) (end_at side before) id given.ran
-          (one_of_ids side name given.those id (subst (λ (events : List Event). Contains events (Expires side name id)) given.are among)),
+          (one_of_ids side name given.those id
+          (subst (λ (events : List Event). Contains events (Expires side name id)) given.are among)),
       λ had.
           subst (λ (events : List Event). Contains events (Expires side name id)) (sym given.are)
-          (ids_one side name given.those id (one_of_them table name given.those (end_at side w) (end_at side before) id given.ran had free)),
+          (ids_one side name given.those id
+          (one_of_them table name given.those (end_at side w) (end_at side before) id given.ran had free)),
     )
