@@ -23,6 +23,7 @@ pub mod NamedLaws
 pub mod GivenBound
 pub mod GivenRuns
 pub mod DescribedRuns
+pub mod ExpiryLaws
 pub mod AtOnceRuns
 pub mod AtOnceLaws
 pub mod ReasonLaws

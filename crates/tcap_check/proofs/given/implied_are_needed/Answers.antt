@@ -1,5 +1,6 @@
-use Rattle.tcap_check.proofs.ImpliedLaws.{implied_same}
+-- A run makes exactly the expiries that its send needs.
+use Rattle.tcap_check.proofs.ImpliedLaws.{made_are_needed}
 use Rattle.tcap_check.proofs.given.implied_are_needed.Goals as goal
 
 pub returns : goal.returns
-returns c = ?
+returns c = made_are_needed
