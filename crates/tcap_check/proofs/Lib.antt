@@ -19,10 +19,10 @@ pub mod ReplayEntries
 pub mod ImpliedLaws
 pub mod OrderLaws
 pub mod DescribedLaws
-pub mod NamedLaws
 pub mod GivenBound
 pub mod GivenRuns
 pub mod DescribedRuns
+pub mod NamedLaws
 pub mod ExpiryLaws
 pub mod AtOnceRuns
 pub mod AtOnceLaws

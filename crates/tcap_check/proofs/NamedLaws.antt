@@ -1,8 +1,9 @@
--- A run may call a half by either of its names.
-use Rattle.std.proofs.Common.{◌≡◌, ℤ, List, [], ◌∷◌, Option, Some, None, Result, Ok, refl, sym, ap, option_map}
+-- A run may call a half by either of its names, and a certificate that describes it gives one.
+use Rattle.std.proofs.Common.{arith, ◌≡◌, ℤ, List, [], ◌∷◌, length, Option, Some, None, Result, Ok, refl, sym, ap, ◌∙◌, option_map}
 use Rattle.std.specs.Prelude.{not, ok_or}
 use Rattle.std.specs.Result.{result_ok}
 use Rattle.tcap_record.specs.declared.entry.End.{End as Side}
+use Rattle.tcap_record.specs.declared.entry.Entry.{Entry}
 use Rattle.tcap_end.specs.declared.fault.EndFault.{EndFault}
 use Rattle.tcap_end.specs.declared.fault.EndFault.TheVariants as faults
 use Rattle.tcap_end.specs.declared.half.HalfName.{HalfName}
@@ -12,9 +13,13 @@ use Rattle.tcap_end.specs.Component.{own_invocation}
 use Rattle.tcap_end.specs.End.{End, KeptHalf, named, put}
 use Rattle.tcap_end.specs.Hidden.{close, expire, may_close, may_expire, without_invocation}
 use Rattle.tcap_end.specs.Step.{needs, ◌>>◌, ◌>>=◌}
-use Rattle.tcap_check.specs.World.{World, end_at, with_end}
-use Rattle.tcap_check.specs.Run.{Event, Sends, Receives, Replies, Loses, Expires, Closes, Quiet, Tells, after, played, then_so}
-use Rattle.tcap_check.specs.Named.{AreSameEvents, IsSameEvent}
+use Rattle.tcap_check.specs.World.{Item, World, empty, end_at, with_end}
+use Rattle.tcap_check.specs.Run.{Event, Sends, Receives, Replies, Loses, Expires, Closes, Quiet, Tells, IsRunOf, after, played, then_so}
+use Rattle.tcap_check.specs.Certificate.{Certificate}
+use Rattle.tcap_check.specs.Entries.{AreItems}
+use Rattle.tcap_check.specs.Named.{AreSameEvents, IsDescribedBy, IsSameEvent}
+use Rattle.tcap_check.specs.Replayed.{replayed}
+use Rattle.tcap_check.proofs.DescribedRuns.{followed_is_given}
 
 -- What an expiry leaves is said by the half alone that the name finds,
 abbrev expire_found : Table → End → ℤ → Option KeptHalf → Result End EndFault
@@ -61,3 +66,24 @@ same_runs table w (event ∷ events) others (first, rest, joined, same, on) =
         → then_so o (played table rest) ≡ then_so o (played table events)
     by None goes = refl
     by (Some next) goes = goes next refl
+
+-- They are as many,
+same_count : (table : Table) (w v : World) (events others : List Event) → AreSameEvents table w events others
+    → played table events w ≡ Some v → length others ≡ length events
+same_count table w v [] others is plays = rw is refl
+same_count table w v (event ∷ events) others (first, rest, joined, same, on) plays =
+    rw joined (by (after table event w) (λ next at. same_count table next v events rest (on next at)) plays)
+  where
+    by : (o : Option World)
+        → ((next : World) → o ≡ Some next → played table events next ≡ Some v → length rest ≡ length events)
+        → then_so o (played table events) ≡ Some v → length (first ∷ rest) ≡ length (event ∷ events)
+    by None goes is = cc
+    by (Some next) goes is = let one : length rest ≡ length events = goes next refl is in omega (arith, one)
+
+-- so what is described is given, whichever names it uses.
+pub described_is_given : (table : Table) (c : Certificate) (entries : List Entry) (items : List Item) (events : List Event)
+    → AreItems entries items → IsRunOf items table events → IsDescribedBy table c items events
+    → (given : List Event) × (replayed table c entries ≡ Ok given) × (length given ≡ length events)
+described_is_given table c entries items events are (w, runs, sent) (others, same, follows) =
+    let (given, is, count) = followed_is_given table c entries items others are (w, same_runs table empty events others same ∙ runs, sent) follows in
+    (given, is, count ∙ same_count table empty w events others same runs)

@@ -1,5 +1,5 @@
-use Rattle.tcap_check.proofs.DescribedRuns.{followed_is_given}
+use Rattle.tcap_check.proofs.NamedLaws.{described_is_given}
 use Rattle.tcap_check.proofs.given.gives_where_a_run_is_described.Goals as goal
 
 pub returns : goal.returns
-returns c = ?
+returns c = described_is_given
