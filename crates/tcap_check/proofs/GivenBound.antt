@@ -15,7 +15,6 @@ use Rattle.std.proofs.lemmas.Map.{lookup-remove_entry}
 use Rattle.std.proofs.lemmas.Map.Keys.{IsDistinct-from_sorted}
 use Rattle.std.proofs.lemmas.Map.Lookups.{exact_signed}
 use Rattle.std.proofs.lemmas.Map.Views.{tells_apart}
-use Rattle.tcap_parts.specs.declared.component.Component.{Component}
 use Rattle.tcap_msg.specs.declared.message.AbortReason.TheVariants.{Cause, Dialogue as ByDialogue}
 use Rattle.tcap_msg.specs.declared.message.Message.{Message}
 use Rattle.tcap_msg.specs.declared.message.Message.TheVariants.{Unidirectional, Begin, Continue, End as EndMessage, Abort}
@@ -72,6 +71,7 @@ total_most : {X : Type 0} (weigh : X → ℕ) (xs : List X) → ((x : X) → wei
 total_most weigh [] most = omega arith
 total_most weigh (x ∷ xs) most = omega (arith, most x, total_most weigh xs most)
 
+-- That is one at most.
 one_most : {X : Type 0} (passes : X → Bool) (x : X) → one passes x ≤ 1
 one_most passes x = by (passes x)
   where
@@ -94,7 +94,7 @@ no_more : {X : Type 0} (p q : X → Bool) (xs : List X) → ((x : X) → q x ≡
 no_more p q [] less = omega arith
 no_more p q (x ∷ xs) less = omega (arith, implied_one p q x (less x), no_more p q xs less)
 
--- and fewer where one of the list passes the other alone.
+-- and fewer where one that stands in the list passes the other alone:
 fewer_at : {X : Type 0} (p q : X → Bool) (xs : List X) (x : X) → ((y : X) → q y ≡ true → p y ≡ true) → p x ≡ true → q x ≡ false
     → (k : ℕ) → k < length xs → slice_index_or xs k x ≡ x → total (one q) xs + 1 ≤ total (one p) xs
 fewer_at p q [] x less was gone k below is = absurd (omega (arith, below))
@@ -105,6 +105,7 @@ fewer_at p q (y ∷ xs) x less was gone zero below is =
 fewer_at p q (y ∷ xs) x less was gone (suc k) below is =
     omega (arith, implied_one p q y (less y), fewer_at p q xs x less was gone k (omega (arith, below)) is)
 
+-- the same, where the list contains it.
 fewer : {X : Type 0} (p q : X → Bool) (xs : List X) (x : X) → ((y : X) → q y ≡ true → p y ≡ true) → p x ≡ true → q x ≡ false
     → Contains xs x → total (one q) xs + 1 ≤ total (one p) xs
 fewer p q xs x less was gone (k, below, is) = fewer_at p q xs x less was gone k below is
@@ -168,7 +169,8 @@ taken_most : (table : Table) (events : List Event) (w : World) → Runs table ev
     → length (numbers_taken A events) + length (numbers_taken B events) ≤ length w.sent
 taken_most table events w runs = omega (arith, sent_most 0 w.sent,
     ap length (are_whole table events w runs A), ap length (are_whole table events w runs B),
-    length-append (numbers_taken A events) (numbers_of (channel_from A w)), length-append (numbers_taken B events) (numbers_of (channel_from B w)))
+    length-append (numbers_taken A events) (numbers_of (channel_from A w)),
+    length-append (numbers_taken B events) (numbers_of (channel_from B w)))
 
 -- What adds to the sent list adds one item,
 joins_one : (w : World) (event : Event) (items : List Item) → Adds w event items → joins event ≤ length items
@@ -196,8 +198,8 @@ joins_most table = runs_keep table (λ events w. total joins events ≤ length w
 -- ---- a half that is put again
 
 -- A half that is found passes, and stands in that slot.
-first_passes : (passes : Half → Bool) (slot : Slot) (es : List (List ℕ × Half)) (f : KeptHalf) → first_half passes slot es ≡ Some f
-    → (passes f.half ≡ true) × (f.slot ≡ slot)
+first_passes : (passes : Half → Bool) (slot : Slot) (es : List (List ℕ × Half)) (f : KeptHalf)
+    → first_half passes slot es ≡ Some f → (passes f.half ≡ true) × (f.slot ≡ slot)
 first_passes passes slot [] f is = cc
 first_passes passes slot ((key, half) ∷ es) f is = by (passes half) refl is (first_passes passes slot es f)
   where
@@ -205,7 +207,8 @@ first_passes passes slot ((key, half) ∷ es) f is = by (passes half) refl is (f
     first = record { slot = slot; key = key; half = half }
 
     by : (b : Bool) → passes half ≡ b → cond b (Some first) (first_half passes slot es) ≡ Some f
-        → (first_half passes slot es ≡ Some f → (passes f.half ≡ true) × (f.slot ≡ slot)) → (passes f.half ≡ true) × (f.slot ≡ slot)
+        → (first_half passes slot es ≡ Some f → (passes f.half ≡ true) × (f.slot ≡ slot))
+        → (passes f.half ≡ true) × (f.slot ≡ slot)
     by true so is rest = let same : first ≡ f = cc in rw (← same) (so, refl)
     by false so is rest = rest is
 
@@ -253,13 +256,14 @@ half_put : (passes : Half → Bool) (e : End) (f : KeptHalf) (h : Half) → half
     → (g : KeptHalf) × (half_where passes (put e f.slot f.key h) ≡ Some g) × (g.half ≡ h)
 half_put passes e f h is pass = by (first_half passes Begun e.begun) refl
   where
-    at_begun : (slot : Slot) (key : List ℕ) (g : KeptHalf) → slot ≡ Begun → first_half passes Begun (insert_entry octets_cmp e.begun key h) ≡ Some g
-        → half_where passes (put e slot key h) ≡ Some g
+    at_begun : (slot : Slot) (key : List ℕ) (g : KeptHalf) → slot ≡ Begun
+        → first_half passes Begun (insert_entry octets_cmp e.begun key h) ≡ Some g → half_where passes (put e slot key h) ≡ Some g
     at_begun Begun key g so found = rw found refl
     at_begun Accepted key g so found = cc
 
     at_accepted : (slot : Slot) (key : List ℕ) (g : KeptHalf) → slot ≡ Accepted → first_half passes Begun e.begun ≡ None
-        → first_half passes Accepted (insert_entry octets_cmp e.accepted key h) ≡ Some g → half_where passes (put e slot key h) ≡ Some g
+        → first_half passes Accepted (insert_entry octets_cmp e.accepted key h) ≡ Some g
+        → half_where passes (put e slot key h) ≡ Some g
     at_accepted Begun key g so none found = cc
     at_accepted Accepted key g so none found = rw none found
 
@@ -277,7 +281,8 @@ half_put passes e f h is pass = by (first_half passes Begun e.begun) refl
         (g.0, at_begun f.slot f.key g.0 had.1 g.1, g.2)
 
 -- by its name, where it has the IDs of the one that was there.
-named_put : (e : End) (name : HalfName) (f : KeptHalf) (h : Half) → named e name ≡ Some f → h.own ≡ f.half.own → h.peer ≡ f.half.peer
+named_put : (e : End) (name : HalfName) (f : KeptHalf) (h : Half) → named e name ≡ Some f
+    → h.own ≡ f.half.own → h.peer ≡ f.half.peer
     → (g : KeptHalf) × (named (put e f.slot f.key h) name ≡ Some g) × (g.half ≡ h)
 named_put e (names.Own id) f h is own peer = half_put (λ x. is_id id x.own) e f h is (λ was. rw own was)
 named_put e (names.Peer id) f h is own peer = half_put (λ x. is_id id x.peer) e f h is (λ was. rw peer was)
@@ -293,18 +298,21 @@ lookup_left : {X : Type 0} (id q : ℤ) (items : List (ℤ × X)) → Rises int_
     → lookup (is_at (int_cmp q)) (remove_entry (is_at (int_cmp id)) items)
     ≡ cond (is_at (int_cmp id) q) None (lookup (is_at (int_cmp q)) items)
 lookup_left id q items rises =
-    lookup-remove_entry (eq_by_cmp_equiv int_cmp_total) (is_at (int_cmp id)) alike q items (IsDistinct-from_sorted int_cmp (keys_of items) rises)
+    lookup-remove_entry (eq_by_cmp_equiv int_cmp_total) (is_at (int_cmp id)) alike q items
+    (IsDistinct-from_sorted int_cmp (keys_of items) rises)
   where
     alike : (x y : ℤ) → is_at (int_cmp id) x ≡ true → is_at (int_cmp id) y ≡ eq_by_cmp int_cmp x y
     alike x y is = rw (tells_apart exact_signed id x is) refl
 
--- An expiry ends one that is in use, and begins none.
+-- One that was in use ended, and none began.
 record EndsOne (name : HalfName) (id : ℤ) (e next : End) : Type 0 where
   was : in_use e (Some name) id ≡ true
   gone : in_use next (Some name) id ≡ false
   others : (q : ℤ) → in_use next (Some name) q ≡ true → in_use e (Some name) q ≡ true
 
-ends_one : (name : HalfName) (id : ℤ) (e next : End) (f : KeptHalf) → named e name ≡ Some f → is_some (own_invocation f.half id) ≡ true
+-- So it is where the half is put again without it,
+ends_one : (name : HalfName) (id : ℤ) (e next : End) (f : KeptHalf) → named e name ≡ Some f
+    → is_some (own_invocation f.half id) ≡ true
     → Rises int_cmp f.half.out → put e f.slot f.key (without_invocation id f.half) ≡ next → EndsOne name id e next
 ends_one name id e next f found was rises is = record {
   was = rw found was;
@@ -312,7 +320,8 @@ ends_one name id e next f found was rises is = record {
   others = λ q so. rw found (by (is_at (int_cmp id) q) (own_invocation f.half q) (sym (now q) ∙ so));
 }
   where
-    left : (g : KeptHalf) × (named (put e f.slot f.key (without_invocation id f.half)) name ≡ Some g) × (g.half ≡ without_invocation id f.half)
+    left : (g : KeptHalf) × (named (put e f.slot f.key (without_invocation id f.half)) name ≡ Some g)
+        × (g.half ≡ without_invocation id f.half)
     left = named_put e name f (without_invocation id f.half) found refl refl
 
     now : (q : ℤ) → in_use next (Some name) q ≡ is_some (cond (is_at (int_cmp id) q) None (own_invocation f.half q))
@@ -322,7 +331,9 @@ ends_one name id e next f found was rises is = record {
     by true o so = cc
     by false o so = so
 
-expired : (table : Table) (e next : End) (name : HalfName) (id : ℤ) → IsEnd e → expire table e name id ≡ Ok next → EndsOne name id e next
+-- and that is what an expiry does.
+expired : (table : Table) (e next : End) (name : HalfName) (id : ℤ) → IsEnd e
+    → expire table e name id ≡ Ok next → EndsOne name id e next
 expired table e next name id sound is =
     let (f, ok, step) = then_ok (ok_or (named e name) faults.CannotExpire) _ next is in
     let found = some_ok _ _ f ok in
@@ -340,7 +351,8 @@ losses_apart [] = refl
 losses_apart (event ∷ events) = by event (losses_apart events)
   where
     by : (event : Event) → total hides events ≡ total hides (without_losses events)
-        → hides event + total hides events ≡ total hides (cond (is_loss event) (without_losses events) (event ∷ without_losses events))
+        → hides event + total hides events
+        ≡ total hides (cond (is_loss event) (without_losses events) (event ∷ without_losses events))
     by (Sends side message) rest = omega (arith, rest)
     by (Receives side number) rest = omega (arith, rest)
     by (Replies side number) rest = omega (arith, rest)
@@ -358,6 +370,7 @@ record InParts (events firsts rests : List Event) : Type 0 where
   first_is : without_losses first ≡ firsts
   rest_is : without_losses rest ≡ rests
 
+-- There are such parts.
 in_parts : (events firsts rests : List Event) → without_losses events ≡ firsts ++ rests → InParts events firsts rests
 in_parts events [] rests is = record { first = []; rest = events; whole = refl; first_is = refl; rest_is = is }
 in_parts [] (x ∷ firsts) rests is = cc
@@ -418,6 +431,7 @@ record RunsInParts (table : Table) (events firsts rests : List Event) (v w : Wor
   on : played table rest mid ≡ Some w
   count : total hides events ≡ total hides first + total hides rest
 
+-- There are such parts of a run.
 run_in_parts : (table : Table) (events firsts rests : List Event) (v w : World) → without_losses events ≡ firsts ++ rests
     → played table events v ≡ Some w → RunsInParts table events firsts rests v w
 run_in_parts table events firsts rests v w are is =
@@ -452,6 +466,7 @@ same_end A B more w = refl
 same_end B A more w = refl
 same_end B B more w = refl
 
+-- an end that is put in is there,
 own_end : (side : Side) (made : End) (w : World) → end_at side (with_end side made w) ≡ made
 own_end A made w = refl
 own_end B made w = refl
@@ -465,7 +480,8 @@ expiry_uses table side name id half ids v next sound step half_is there =
     let same : end_at side next ≡ h.made = ap (end_at side) h.next_is ∙ own_end side h.made v in
     let ends = expired table (end_at side v) h.made name id sound h.step_is in
     let kept = (expires table (end_at side v) h.made name id sound h.step_is).sound in
-    let less = fewer (in_use (end_at side v) (Some name)) (in_use h.made (Some name)) ids id ends.others ends.was ends.gone there in
+    let less = fewer (in_use (end_at side v) (Some name)) (in_use h.made (Some name)) ids id ends.others ends.was
+    ends.gone there in
     rw (same, half_is) (kept, less)
 
 -- so of expiries of IDs over one half there are at most as many as are in use.
@@ -483,7 +499,8 @@ expiries_most table sender m (Expires side name id ∷ events) v w sound is all 
     let (next, step, on) = first_step table (Expires side name id) events v w is in
     let same : side ≡ sender = all.0.0 in
     let moved : after table (Expires sender name id) v ≡ Some next = rw (← same) step in
-    let less = expiry_uses table sender name id (invoking_half m) (filter_map invoke_id (components_in m)) v next sound moved all.0.1 all.0.2 in
+    let less = expiry_uses table sender name id (invoking_half m) (filter_map invoke_id (components_in m)) v next sound moved
+    all.0.1 all.0.2 in
     omega (arith, less.1, expiries_most table sender m events next w less.0 on all.1)
 expiries_most table sender m (Sends side message ∷ events) v w sound is all = absurd (all.0)
 expiries_most table sender m (Receives side number ∷ events) v w sound is all = absurd (all.0)
@@ -497,14 +514,17 @@ abbrev components_of : Item → ℕ
 components_of (Sent side message) = length (components_in message)
 components_of Item.Quiet = 0
 
+-- They are counted item by item.
 count_more : (item : Item) (items : List Item) → count_components (item ∷ items) ≡ components_of item + count_components items
 count_more (Sent side message) items = refl
 count_more Item.Quiet items = omega arith
 
 -- An item implies at most as many as it has components.
 implied_most : (table : Table) (item : Item) (events : List Event) (v w : World) → ((side : Side) → IsEnd (end_at side v))
-    → played table events v ≡ Some w → AllByRecursion (IsImplied item) (without_losses events) → total hides events ≤ components_of item
-implied_most table (Sent sender m) events v w sound is all = omega (arith, expiries_most table sender m events v w (sound sender) is all,
+    → played table events v ≡ Some w → AllByRecursion (IsImplied item) (without_losses events)
+    → total hides events ≤ components_of item
+implied_most table (Sent sender m) events v w sound is all = omega (arith,
+    expiries_most table sender m events v w (sound sender) is all,
     total_most (one (in_use (end_at sender v) (invoking_half m))) (filter_map invoke_id (components_in m))
     (one_most (in_use (end_at sender v) (invoking_half m))), filter_map_most invoke_id (components_in m))
 implied_most table Item.Quiet events v w sound is all = omega (arith, losses_apart events, none (without_losses events) all)
@@ -520,6 +540,7 @@ abbrev hides_some : Option Event → ℕ
 hides_some None = 0
 hides_some (Some event) = hides event
 
+-- That is one at most.
 some_most : (event : Option Event) → hides_some event ≤ 1
 some_most None = omega arith
 some_most (Some (Sends side message)) = omega arith
@@ -531,6 +552,7 @@ some_most (Some (Closes side name)) = omega arith
 some_most (Some Quiet) = omega arith
 some_most (Some (Tells side message)) = omega arith
 
+-- Events count the same as options.
 same_total : (events : List Event) → total hides_some (map Some events) ≡ total hides events
 same_total [] = refl
 same_total (event ∷ events) = ap (λ n. hides event + n) (same_total events)
@@ -542,7 +564,8 @@ deliveries_none gap n (fate ∷ fates) [] = refl
 deliveries_none gap n (Gap g ∷ fates) (Sent side message ∷ items) = by (g == gap) (deliveries_none gap (n + 1) fates items)
   where
     by : (b : Bool) → total hides (deliveries gap (n + 1) fates items) ≡ 0
-        → total hides (cond b (Receives (other side) n ∷ deliveries gap (n + 1) fates items) (deliveries gap (n + 1) fates items)) ≡ 0
+        → total hides (cond b (Receives (other side) n ∷ deliveries gap (n + 1) fates items)
+        (deliveries gap (n + 1) fates items)) ≡ 0
     by true rest = omega (arith, rest)
     by false rest = rest
 deliveries_none gap n (Gap g ∷ fates) (Item.Quiet ∷ items) = deliveries_none gap (n + 1) fates items
@@ -552,10 +575,12 @@ deliveries_none gap n (By k ∷ fates) (Sent side message ∷ items) = deliverie
 deliveries_none gap n (By k ∷ fates) (Item.Quiet ∷ items) = deliveries_none gap (n + 1) fates items
 
 -- There is one for each that is listed for the gap.
-listed_most : (closes expiries : List (Option Event)) (received here : List Event) → map Some here ≡ closes ++ expiries ++ map Some received
+listed_most : (closes expiries : List (Option Event)) (received here : List Event)
+    → map Some here ≡ closes ++ expiries ++ map Some received
     → total hides received ≡ 0 → total hides here ≤ length closes + length expiries
 listed_most closes expiries received here is none =
-    let whole : total hides_some (map Some here) ≡ total hides_some (closes ++ expiries ++ map Some received) = ap (total hides_some) is in
+    let whole : total hides_some (map Some here) ≡ total hides_some (closes ++ expiries ++ map Some received) =
+        ap (total hides_some) is in
     omega (arith, whole, same_total here, total_both hides_some (closes ++ expiries) (map Some received),
     total_both hides_some closes expiries, same_total received, none,
     total_most hides_some closes some_most, total_most hides_some expiries some_most)
@@ -568,7 +593,7 @@ here_most c items gap here is =
     (deliveries_none gap 0 c.fates items), length-map (filter (λ x. x.gap == gap) c.close) (closing_event items),
     length-map (filter (λ x. x.gap == gap) c.expire) (expiry_event items))
 
--- What adds an item is not hidden.
+-- What adds an item is not hidden, whatever it takes,
 sending_none : (c : Certificate) (number : ℕ) (item : Item) (taken : List ℕ) → hides_some (sending_by c number item taken) ≡ 0
 sending_none c number (Sent side (Unidirectional dialogue components)) [] = refl
 sending_none c number (Sent side (Unidirectional dialogue components)) (one ∷ more) = refl
@@ -598,6 +623,7 @@ sending_none c number Item.Quiet [] = by (slice_get c.fates number)
     by (Some Lost) = refl
     by (Some (By k)) = refl
 
+-- so it is not in a run.
 sends_none : (c : Certificate) (number : ℕ) (item : Item) (event : Event) → sending c number item ≡ Some event → hides event ≡ 0
 sends_none c number item event is = sym (ap hides_some is) ∙ sending_none c number item (taken_by number 0 c.fates)
 
@@ -619,14 +645,16 @@ now_and_later {X} gap_of gap (x ∷ xs) =
     all : List X
     all = filter (λ y. nat_le gap (gap_of y)) xs
 
-    by : (a : Bool) → (gap_of x == gap) ≡ a → (b : Bool) → nat_le (gap + 1) (gap_of x) ≡ b → (e : Bool) → nat_le gap (gap_of x) ≡ e
+    by : (a : Bool) → (gap_of x == gap) ≡ a → (b : Bool) → nat_le (gap + 1) (gap_of x) ≡ b
+        → (e : Bool) → nat_le gap (gap_of x) ≡ e
         → length now + length behind ≤ length all
         → length (cond a (x ∷ now) now) + length (cond b (x ∷ behind) behind) ≤ length (cond e (x ∷ all) all)
     by true is true above e at rest = absurd (omega (arith, eqb-true (gap_of x) gap is, leb-true (gap + 1) (gap_of x) above))
     by true is false above true at rest = omega (arith, rest)
     by true is false above false at rest = let yes = le-leb gap (gap_of x) (omega (arith, eqb-true (gap_of x) gap is)) in cc
     by false is true above true at rest = omega (arith, rest)
-    by false is true above false at rest = let yes = le-leb gap (gap_of x) (omega (arith, leb-true (gap + 1) (gap_of x) above)) in cc
+    by false is true above false at rest =
+        let yes = le-leb gap (gap_of x) (omega (arith, leb-true (gap + 1) (gap_of x) above)) in cc
     by false is false above true at rest = omega (arith, rest)
     by false is false above false at rest = rest
 
@@ -643,22 +671,24 @@ from_gap : (table : Table) (c : Certificate) (items more : List Item) (gap : ℕ
 from_gap table c items [] gap before events v w runs is follows = omega (arith, losses_apart events,
     here_most c items gap (without_losses events) follows, now_and_later (λ (x : Closing). x.gap) gap c.close,
     now_and_later (λ (x : Expiry). x.gap) gap c.expire)
-from_gap table c items (item ∷ more) gap before events v w runs is (here, implied, rest, sends, here_is, all, sends_is, events_is, on) =
+from_gap table c items (item ∷ more) gap before events v w runs is
+    (here, implied, rest, sends, here_is, all, sends_is, events_is, on) =
     let first = run_in_parts table events (here ++ implied) (sends ∷ rest) v w events_is is in
     let second = run_in_parts table first.first here implied v first.mid first.first_is first.ran in
     let third = run_in_parts table first.rest (sends ∷ []) rest first.mid w first.rest_is first.on in
     let to_here = onward table before second.first v second.mid runs second.ran in
     let to_sends = onward table before first.first v first.mid runs first.ran in
     let to_rest = onward table (before ++ first.first) third.first first.mid third.mid to_sends third.ran in
-    let listed : total hides second.first ≤ length (filter (λ x. x.gap == gap) c.close) + length (filter (λ x. x.gap == gap) c.expire) =
+    let listed : total hides second.first ≤ length (filter (λ x. x.gap == gap) c.close)
+        + length (filter (λ x. x.gap == gap) c.expire) =
         omega (arith, losses_apart second.first, ap (total hides) second.first_is, here_most c items gap here here_is) in
     let implies : total hides second.rest ≤ components_of item =
-        implied_most table item second.rest second.mid first.mid (ends_sound table (before ++ second.first) second.mid to_here) second.on
-        (rw (second.rest_is) all) in
+        implied_most table item second.rest second.mid first.mid (ends_sound table (before ++ second.first) second.mid to_here)
+        second.on (rw (second.rest_is) all) in
     let last : total hides third.first ≡ 0 =
         losses_apart third.first ∙ ap (total hides) third.first_is ∙ omega (arith, sends_none c gap item sends sends_is) in
-    let behind = from_gap table c items more (gap + 1) ((before ++ first.first) ++ third.first) third.rest third.mid w to_rest third.on
-    (rw (third.rest_is) on) in
+    let behind = from_gap table c items more (gap + 1) ((before ++ first.first) ++ third.first) third.rest third.mid w
+    to_rest third.on (rw (third.rest_is) on) in
     omega (arith, count_more item more, listed, implies, last, behind, first.count, second.count, third.count,
     now_and_later (λ (x : Closing). x.gap) gap c.close, now_and_later (λ (x : Expiry). x.gap) gap c.expire)
 
@@ -669,6 +699,7 @@ hidden_most table c items events w runs follows = omega (arith,
     from_gap table c items items 0 [] events empty w refl runs follows.gaps,
     filter_most (λ x. nat_le 0 x.gap) c.expire, filter_most (λ x. nat_le 0 x.gap) c.close)
 
+-- A run that a certificate describes has at most so many steps.
 pub described_bound : (table : Table) (c : Certificate) (items : List Item) (events : List Event) → IsRunOf items table events
     → Follows c items events → length events ≤ 2 * length items + count_components items + length c.expire + length c.close
 described_bound table c items events (w, runs, sent) follows = omega (arith, steps_most events, taken_most table events w runs,
