@@ -1,12 +1,706 @@
 -- How many steps a run has that a certificate describes.
-use Rattle.std.proofs.Common.{◌≡◌, ◌≤◌, ◌+◌, ◌*◌, ℕ, List, length}
-use Rattle.tcap_end.specs.Table.{Table}
-use Rattle.tcap_check.specs.World.{Item}
-use Rattle.tcap_check.specs.Run.{Event, IsRunOf}
+use Rattle.std.proofs.Common.{arith, ◌≡◌, ◌≤◌, ◌<◌, ◌+◌, ◌*◌, ◌==◌, ℕ, ℤ, zero, suc, Bool, true, false, cond, nat_le, List, [], ◌∷◌, ◌++◌, map, filter, filter_map, length, Option, Some, None, Ok, refl, sym, ap, ◌∙◌}
+use Rattle.std.specs.Prelude.{Contains, is_some, ok_or, slice_get, slice_index_or}
+use Rattle.std.specs.List.{AllByRecursion, cons_option}
+use Rattle.std.specs.Map.{keys_of, lookup, remove_entry}
+use Rattle.std.specs.Ordering.{eq_by_cmp, int_cmp, match_ordering}
+use Rattle.std.specs.declared.cmp.Ordering.{Ordering}
+use Rattle.std.specs.declared.cmp.Ordering.TheVariants.{Less, Equal, Greater}
+use Rattle.std.specs.BTreeMap.{insert_entry, is_at}
+use Rattle.std.proofs.lemmas.Bool.{eqb-true, le-leb, leb-true}
+use Rattle.std.proofs.lemmas.Cmp.{eq_by_cmp_equiv, int_cmp_total, tied_itself}
+use Rattle.std.proofs.lemmas.List.{length-append, length-map}
+use Rattle.std.proofs.lemmas.List.Sums.{count_by-le-length, length-filter}
+use Rattle.std.proofs.lemmas.Map.{lookup-remove_entry}
+use Rattle.std.proofs.lemmas.Map.Keys.{IsDistinct-from_sorted}
+use Rattle.std.proofs.lemmas.Map.Lookups.{exact_signed}
+use Rattle.std.proofs.lemmas.Map.Views.{tells_apart}
+use Rattle.tcap_msg.specs.declared.message.AbortReason.TheVariants.{Cause, Dialogue as ByDialogue}
+use Rattle.tcap_msg.specs.declared.message.Message.{Message}
+use Rattle.tcap_msg.specs.declared.message.Message.TheVariants.{Unidirectional, Begin, Continue, End as EndMessage, Abort}
+use Rattle.tcap_msg.specs.Parts.{components_in}
+use Rattle.tcap_record.specs.declared.entry.End.{End as Side}
+use Rattle.tcap_record.specs.declared.entry.End.TheVariants.{A, B}
+use Rattle.tcap_end.specs.declared.fault.EndFault.TheVariants as faults
+use Rattle.tcap_end.specs.declared.half.HalfName.{HalfName}
+use Rattle.tcap_end.specs.declared.half.HalfName.TheVariants as names
+use Rattle.tcap_end.specs.declared.half.Slot.{Slot}
+use Rattle.tcap_end.specs.declared.half.Slot.TheVariants.{Begun, Accepted}
+use Rattle.tcap_end.specs.declared.outs.OwnInvocation.{OwnInvocation}
+use Rattle.tcap_end.specs.Component.{own_invocation}
+use Rattle.tcap_end.specs.End.{End, KeptHalf, first_half, half_where, is_id, named, put}
+use Rattle.tcap_end.specs.Half.{Half}
+use Rattle.tcap_end.specs.Hidden.{expire, without_invocation}
+use Rattle.tcap_end.specs.Sound.{IsEnd, Rises}
+use Rattle.tcap_end.specs.Table.{Table, octets_cmp}
+use Rattle.tcap_end.proofs.AnsweringLaws.{needs_ok, ok_same, some_ok, then_ok}
+use Rattle.tcap_end.proofs.FoundLaws.{named_has, octets_total}
+use Rattle.tcap_end.proofs.HiddenLaws.{expires_some}
+use Rattle.tcap_end.proofs.StepLaws.{expires}
+use Rattle.tcap_check.specs.World.{Item, OnItsWay, Sent, World, channel_from, empty, end_at, other, with_channel, with_end}
+use Rattle.tcap_check.specs.Run.{Adds, Event, Sends, Receives, Replies, Loses, Expires, Closes, Quiet, Tells, IsRunOf, Runs, after, numbers_of, numbers_sent, numbers_taken, played, takes_from, then_so, where_so}
+use Rattle.tcap_check.specs.declared.certificate.Closing.{Closing}
+use Rattle.tcap_check.specs.declared.certificate.Expiry.{Expiry}
+use Rattle.tcap_check.specs.declared.certificate.Fate.{Fate}
+use Rattle.tcap_check.specs.declared.certificate.Fate.TheVariants.{Gap, Lost, By}
 use Rattle.tcap_check.specs.Certificate.{Certificate}
 use Rattle.tcap_check.specs.Entries.{count_components}
-use Rattle.tcap_check.specs.Follows.{Follows}
+use Rattle.tcap_check.specs.Follows.{Follows, FollowsFrom, IsImplied, closing_event, deliveries, expiry_event, gap_events, invoke_id, invoking_half, is_loss, quiet_by, sending, sending_by, taken_by, without_losses}
+use Rattle.tcap_check.proofs.ChannelLaws.{are_whole}
+use Rattle.tcap_check.proofs.ReplayLaws.{played_on}
+use Rattle.tcap_check.proofs.RunLaws.{expiry, grows, loss, runs_keep, sound as ends_sound}
 
+-- ---- sums over lists
+
+-- what all of a list count together
+abbrev total : {X : Type 0} → (X → ℕ) → List X → ℕ
+total weigh [] = 0
+total weigh (x ∷ xs) = weigh x + total weigh xs
+
+-- one where a test passes
+abbrev one : {X : Type 0} → (X → Bool) → X → ℕ
+one passes x = cond (passes x) 1 0
+
+-- Two lists together count what both do.
+total_both : {X : Type 0} (weigh : X → ℕ) (xs ys : List X) → total weigh (xs ++ ys) ≡ total weigh xs + total weigh ys
+total_both weigh [] ys = omega arith
+total_both weigh (x ∷ xs) ys = omega (arith, total_both weigh xs ys)
+
+-- Where each counts at most one, they count at most as many as there are.
+total_most : {X : Type 0} (weigh : X → ℕ) (xs : List X) → ((x : X) → weigh x ≤ 1) → total weigh xs ≤ length xs
+total_most weigh [] most = omega arith
+total_most weigh (x ∷ xs) most = omega (arith, most x, total_most weigh xs most)
+
+-- That is one at most.
+one_most : {X : Type 0} (passes : X → Bool) (x : X) → one passes x ≤ 1
+one_most passes x = by (passes x)
+  where
+    by : (b : Bool) → cond b 1 0 ≤ 1
+    by true = omega arith
+    by false = omega arith
+
+-- Where a test passes no more than another,
+implied_one : {X : Type 0} (p q : X → Bool) (x : X) → (q x ≡ true → p x ≡ true) → one q x ≤ one p x
+implied_one p q x less = by (q x) (p x) less
+  where
+    by : (b a : Bool) → (b ≡ true → a ≡ true) → cond b 1 0 ≤ cond a 1 0
+    by true true less = omega arith
+    by true false less = let bad = less refl in cc
+    by false true less = omega arith
+    by false false less = omega arith
+
+-- it passes no more of a list,
+no_more : {X : Type 0} (p q : X → Bool) (xs : List X) → ((x : X) → q x ≡ true → p x ≡ true) → total (one q) xs ≤ total (one p) xs
+no_more p q [] less = omega arith
+no_more p q (x ∷ xs) less = omega (arith, implied_one p q x (less x), no_more p q xs less)
+
+-- and fewer where one that stands in the list passes the other alone:
+fewer_at : {X : Type 0} (p q : X → Bool) (xs : List X) (x : X) → ((y : X) → q y ≡ true → p y ≡ true) → p x ≡ true → q x ≡ false
+    → (k : ℕ) → k < length xs → slice_index_or xs k x ≡ x → total (one q) xs + 1 ≤ total (one p) xs
+fewer_at p q [] x less was gone k below is = absurd (omega (arith, below))
+fewer_at p q (y ∷ xs) x less was gone zero below is =
+    let before : one p y ≡ 1 = rw (is, was) refl in
+    let now : one q y ≡ 0 = rw (is, gone) refl in
+    omega (arith, before, now, no_more p q xs less)
+fewer_at p q (y ∷ xs) x less was gone (suc k) below is =
+    omega (arith, implied_one p q y (less y), fewer_at p q xs x less was gone k (omega (arith, below)) is)
+
+-- the same, where the list contains it.
+fewer : {X : Type 0} (p q : X → Bool) (xs : List X) (x : X) → ((y : X) → q y ≡ true → p y ≡ true) → p x ≡ true → q x ≡ false
+    → Contains xs x → total (one q) xs + 1 ≤ total (one p) xs
+fewer p q xs x less was gone (k, below, is) = fewer_at p q xs x less was gone k below is
+
+-- A filtered map gives at most as many.
+filter_map_most : {X Y : Type 0} (f : X → Option Y) (xs : List X) → length (filter_map f xs) ≤ length xs
+filter_map_most f [] = omega arith
+filter_map_most {Y = Y} f (x ∷ xs) = by (f x) (filter_map_most f xs)
+  where
+    by : (o : Option Y) → length (filter_map f xs) ≤ length xs → length (cons_option o (filter_map f xs)) ≤ suc (length xs)
+    by None rest = omega (arith, rest)
+    by (Some y) rest = omega (arith, rest)
+
+-- ---- what a step counts as
+
+-- one where an event happens to an end unseen
+abbrev hides : Event → ℕ
+hides (Expires side name id) = 1
+hides (Closes side name) = 1
+hides _ = 0
+
+-- one where it adds to the sent list
+abbrev joins : Event → ℕ
+joins (Sends side message) = 1
+joins (Replies side number) = 1
+joins Quiet = 1
+joins (Tells side message) = 1
+joins _ = 0
+
+-- Each takes a message, adds one, or happens unseen;
+each_step : (event : Event) → 1 ≤ length (takes_from A event) + length (takes_from B event) + joins event + hides event
+each_step (Sends side message) = omega arith
+each_step (Receives A number) = omega arith
+each_step (Receives B number) = omega arith
+each_step (Replies side number) = omega arith
+each_step (Loses A number) = omega arith
+each_step (Loses B number) = omega arith
+each_step (Expires side name id) = omega arith
+each_step (Closes side name) = omega arith
+each_step Quiet = omega arith
+each_step (Tells side message) = omega arith
+
+-- so there are at most as many steps as there are of these together.
+steps_most : (events : List Event) → length events
+    ≤ length (numbers_taken A events) + length (numbers_taken B events) + total joins events + total hides events
+steps_most [] = omega arith
+steps_most (event ∷ events) = omega (arith, each_step event, steps_most events,
+    length-append (takes_from A event) (numbers_taken A events), length-append (takes_from B event) (numbers_taken B events))
+
+-- ---- what is taken, and what is sent
+
+-- Each number is that of one end's message,
+sent_most : (n : ℕ) (items : List Item) → length (numbers_sent A n items) + length (numbers_sent B n items) ≤ length items
+sent_most n [] = omega arith
+sent_most n (Item.Quiet ∷ items) = omega (arith, sent_most (n + 1) items)
+sent_most n (Sent A message ∷ items) = omega (arith, sent_most (n + 1) items)
+sent_most n (Sent B message ∷ items) = omega (arith, sent_most (n + 1) items)
+
+-- and what was taken from a channel was sent.
+taken_most : (table : Table) (events : List Event) (w : World) → Runs table events w
+    → length (numbers_taken A events) + length (numbers_taken B events) ≤ length w.sent
+taken_most table events w runs = omega (arith, sent_most 0 w.sent,
+    ap length (are_whole table events w runs A), ap length (are_whole table events w runs B),
+    length-append (numbers_taken A events) (numbers_of (channel_from A w)),
+    length-append (numbers_taken B events) (numbers_of (channel_from B w)))
+
+-- What adds to the sent list adds one item,
+joins_one : (w : World) (event : Event) (items : List Item) → Adds w event items → joins event ≤ length items
+joins_one w (Sends side m) items adds = rw adds (omega arith)
+joins_one w (Receives side number) items adds = omega arith
+joins_one w (Replies side number) items adds = rw (adds.6) (omega arith)
+joins_one w (Loses side number) items adds = omega arith
+joins_one w (Expires side name id) items adds = omega arith
+joins_one w (Closes side name) items adds = omega arith
+joins_one w Quiet items adds = rw adds (omega arith)
+joins_one w (Tells side m) items adds = rw adds (omega arith)
+
+-- so a run has at most as many such steps as it sends items.
+joins_most : (table : Table) (events : List Event) (w : World) → Runs table events w → total joins events ≤ length w.sent
+joins_most table = runs_keep table (λ events w. total joins events ≤ length w.sent) (omega arith) by
+  where
+    by : (before : List Event) (event : Event) (w next : World) → Runs table before w → after table event w ≡ Some next
+        → total joins before ≤ length w.sent → total joins (before ++ event ∷ []) ≤ length next.sent
+    by before event w next ran step kept =
+        let adds = grows table event w next step in
+        let new = joins_one w event adds.0 adds.1 in
+        let last : total joins (event ∷ []) ≡ joins event = omega arith in
+        rw (adds.2, length-append w.sent adds.0, total_both joins before (event ∷ [])) (omega (arith, last, new, kept))
+
+-- ---- a half that is put again
+
+-- A half that is found passes, and stands in that slot.
+first_passes : (passes : Half → Bool) (slot : Slot) (es : List (List ℕ × Half)) (f : KeptHalf)
+    → first_half passes slot es ≡ Some f → (passes f.half ≡ true) × (f.slot ≡ slot)
+first_passes passes slot [] f is = cc
+first_passes passes slot ((key, half) ∷ es) f is = by (passes half) refl is (first_passes passes slot es f)
+  where
+    first : KeptHalf
+    first = record { slot = slot; key = key; half = half }
+
+    by : (b : Bool) → passes half ≡ b → cond b (Some first) (first_half passes slot es) ≡ Some f
+        → (first_half passes slot es ≡ Some f → (passes f.half ≡ true) × (f.slot ≡ slot))
+        → (passes f.half ≡ true) × (f.slot ≡ slot)
+    by true so is rest = let same : first ≡ f = cc in rw (← same) (so, refl)
+    by false so is rest = rest is
+
+-- Where one that passes is put in its place, it is found.
+first_put : (passes : Half → Bool) (slot : Slot) (es : List (List ℕ × Half)) (f : KeptHalf) (h : Half)
+    → first_half passes slot es ≡ Some f → passes h ≡ true
+    → (g : KeptHalf) × (first_half passes slot (insert_entry octets_cmp es f.key h) ≡ Some g) × (g.half ≡ h)
+first_put passes slot [] f h is pass = cc
+first_put passes slot ((key, half) ∷ es) f h is pass = by (passes half) refl is (first_put passes slot es f h)
+  where
+    first : KeptHalf
+    first = record { slot = slot; key = key; half = half }
+
+    found : (q : List ℕ) (more : List (List ℕ × Half))
+        → (g : KeptHalf) × (first_half passes slot ((q, h) ∷ more) ≡ Some g) × (g.half ≡ h)
+    found q more = (record { slot = slot; key = q; half = h }, rw pass refl, refl)
+
+    at : (r : Ordering) → passes half ≡ false
+        → (g : KeptHalf) × (first_half passes slot (insert_entry octets_cmp es f.key h) ≡ Some g) × (g.half ≡ h)
+        → (g : KeptHalf) × (first_half passes slot (match_ordering r ((f.key, h) ∷ (key, half) ∷ es) ((key, h) ∷ es)
+        ((key, half) ∷ insert_entry octets_cmp es f.key h)) ≡ Some g) × (g.half ≡ h)
+    at Less so rest = found f.key ((key, half) ∷ es)
+    at Equal so rest = found key es
+    at Greater so rest = (rest.0, rw so (rest.1), rest.2)
+
+    here : first ≡ f → (r : Ordering) → octets_cmp f.key key ≡ r
+        → (g : KeptHalf) × (first_half passes slot (match_ordering r ((f.key, h) ∷ (key, half) ∷ es) ((key, h) ∷ es)
+        ((key, half) ∷ insert_entry octets_cmp es f.key h)) ≡ Some g) × (g.half ≡ h)
+    here same Less is = found f.key ((key, half) ∷ es)
+    here same Equal is = found key es
+    here same Greater is =
+        let keys : f.key ≡ key = ap (λ (x : KeptHalf). x.key) (sym same) in
+        let tie : octets_cmp f.key key ≡ Equal = rw keys (tied_itself octets_total key) in cc
+
+    by : (b : Bool) → passes half ≡ b → cond b (Some first) (first_half passes slot es) ≡ Some f
+        → (first_half passes slot es ≡ Some f → passes h ≡ true
+        → (g : KeptHalf) × (first_half passes slot (insert_entry octets_cmp es f.key h) ≡ Some g) × (g.half ≡ h))
+        → (g : KeptHalf) × (first_half passes slot (insert_entry octets_cmp ((key, half) ∷ es) f.key h) ≡ Some g) × (g.half ≡ h)
+    by true so is rest = let same : first ≡ f = cc in here same (octets_cmp f.key key) refl
+    by false so is rest = at (octets_cmp f.key key) so (rest is pass)
+
+-- So it is in an end,
+half_put : (passes : Half → Bool) (e : End) (f : KeptHalf) (h : Half) → half_where passes e ≡ Some f
+    → (passes f.half ≡ true → passes h ≡ true)
+    → (g : KeptHalf) × (half_where passes (put e f.slot f.key h) ≡ Some g) × (g.half ≡ h)
+half_put passes e f h is pass = by (first_half passes Begun e.begun) refl
+  where
+    at_begun : (slot : Slot) (key : List ℕ) (g : KeptHalf) → slot ≡ Begun
+        → first_half passes Begun (insert_entry octets_cmp e.begun key h) ≡ Some g → half_where passes (put e slot key h) ≡ Some g
+    at_begun Begun key g so found = rw found refl
+    at_begun Accepted key g so found = cc
+
+    at_accepted : (slot : Slot) (key : List ℕ) (g : KeptHalf) → slot ≡ Accepted → first_half passes Begun e.begun ≡ None
+        → first_half passes Accepted (insert_entry octets_cmp e.accepted key h) ≡ Some g
+        → half_where passes (put e slot key h) ≡ Some g
+    at_accepted Begun key g so none found = cc
+    at_accepted Accepted key g so none found = rw none found
+
+    by : (o : Option KeptHalf) → first_half passes Begun e.begun ≡ o
+        → (g : KeptHalf) × (half_where passes (put e f.slot f.key h) ≡ Some g) × (g.half ≡ h)
+    by None none =
+        let there = rw none at is in
+        let had = first_passes passes Accepted e.accepted f there in
+        let g = first_put passes Accepted e.accepted f h there (pass had.0) in
+        (g.0, at_accepted f.slot f.key g.0 had.1 none g.1, g.2)
+    by (Some k) some =
+        let there : first_half passes Begun e.begun ≡ Some f = some ∙ (rw some at is) in
+        let had = first_passes passes Begun e.begun f there in
+        let g = first_put passes Begun e.begun f h there (pass had.0) in
+        (g.0, at_begun f.slot f.key g.0 had.1 g.1, g.2)
+
+-- by its name, where it has the IDs of the one that was there.
+named_put : (e : End) (name : HalfName) (f : KeptHalf) (h : Half) → named e name ≡ Some f
+    → h.own ≡ f.half.own → h.peer ≡ f.half.peer
+    → (g : KeptHalf) × (named (put e f.slot f.key h) name ≡ Some g) × (g.half ≡ h)
+named_put e (names.Own id) f h is own peer = half_put (λ x. is_id id x.own) e f h is (λ was. rw own was)
+named_put e (names.Peer id) f h is own peer = half_put (λ x. is_id id x.peer) e f h is (λ was. rw peer was)
+
+-- ---- own invocations that are in use
+
+-- whether one of that ID is, in the half of that name
+abbrev in_use : End → Option HalfName → ℤ → Bool
+in_use e name id = is_some (then_so (then_so name (named e)) (λ kept. own_invocation kept.half id))
+
+-- What is left where one is removed.
+lookup_left : {X : Type 0} (id q : ℤ) (items : List (ℤ × X)) → Rises int_cmp items
+    → lookup (is_at (int_cmp q)) (remove_entry (is_at (int_cmp id)) items)
+    ≡ cond (is_at (int_cmp id) q) None (lookup (is_at (int_cmp q)) items)
+lookup_left id q items rises =
+    lookup-remove_entry (eq_by_cmp_equiv int_cmp_total) (is_at (int_cmp id)) alike q items
+    (IsDistinct-from_sorted int_cmp (keys_of items) rises)
+  where
+    alike : (x y : ℤ) → is_at (int_cmp id) x ≡ true → is_at (int_cmp id) y ≡ eq_by_cmp int_cmp x y
+    alike x y is = rw (tells_apart exact_signed id x is) refl
+
+-- One that was in use ended, and none began.
+record EndsOne (name : HalfName) (id : ℤ) (e next : End) : Type 0 where
+  was : in_use e (Some name) id ≡ true
+  gone : in_use next (Some name) id ≡ false
+  others : (q : ℤ) → in_use next (Some name) q ≡ true → in_use e (Some name) q ≡ true
+
+-- So it is where the half is put again without it,
+ends_one : (name : HalfName) (id : ℤ) (e next : End) (f : KeptHalf) → named e name ≡ Some f
+    → is_some (own_invocation f.half id) ≡ true
+    → Rises int_cmp f.half.out → put e f.slot f.key (without_invocation id f.half) ≡ next → EndsOne name id e next
+ends_one name id e next f found was rises is = record {
+  was = rw found was;
+  gone = rw (now id, tied_itself int_cmp_total id) refl;
+  others = λ q so. rw found (by (is_at (int_cmp id) q) (own_invocation f.half q) (sym (now q) ∙ so));
+}
+  where
+    left : (g : KeptHalf) × (named (put e f.slot f.key (without_invocation id f.half)) name ≡ Some g)
+        × (g.half ≡ without_invocation id f.half)
+    left = named_put e name f (without_invocation id f.half) found refl refl
+
+    now : (q : ℤ) → in_use next (Some name) q ≡ is_some (cond (is_at (int_cmp id) q) None (own_invocation f.half q))
+    now q = rw (← is, left.1, left.2) (ap is_some (lookup_left id q f.half.out rises))
+
+    by : (b : Bool) (o : Option OwnInvocation) → is_some (cond b None o) ≡ true → is_some o ≡ true
+    by true o so = cc
+    by false o so = so
+
+-- and that is what an expiry does.
+expired : (table : Table) (e next : End) (name : HalfName) (id : ℤ) → IsEnd e
+    → expire table e name id ≡ Ok next → EndsOne name id e next
+expired table e next name id sound is =
+    let (f, ok, step) = then_ok (ok_or (named e name) faults.CannotExpire) _ next is in
+    let found = some_ok _ _ f ok in
+    let open_one = needs_ok _ _ _ next step in
+    let may = needs_ok _ _ _ next open_one.1 in
+    let put_is = ok_same _ next may.1 in
+    ends_one name id e next f found (expires_some table (own_invocation f.half id) may.0)
+    (sound.halves f (named_has e name sound f found)).out put_is
+
+-- ---- runs in parts
+
+-- Losses are not hidden.
+losses_apart : (events : List Event) → total hides events ≡ total hides (without_losses events)
+losses_apart [] = refl
+losses_apart (event ∷ events) = by event (losses_apart events)
+  where
+    by : (event : Event) → total hides events ≡ total hides (without_losses events)
+        → hides event + total hides events
+        ≡ total hides (cond (is_loss event) (without_losses events) (event ∷ without_losses events))
+    by (Sends side message) rest = omega (arith, rest)
+    by (Receives side number) rest = omega (arith, rest)
+    by (Replies side number) rest = omega (arith, rest)
+    by (Loses side number) rest = omega (arith, rest)
+    by (Expires side name id) rest = omega (arith, rest)
+    by (Closes side name) rest = omega (arith, rest)
+    by Quiet rest = omega (arith, rest)
+    by (Tells side message) rest = omega (arith, rest)
+
+-- Events in two parts, of which these are the others than losses.
+record InParts (events firsts rests : List Event) : Type 0 where
+  first : List Event
+  rest : List Event
+  whole : events ≡ first ++ rest
+  first_is : without_losses first ≡ firsts
+  rest_is : without_losses rest ≡ rests
+
+-- There are such parts.
+in_parts : (events firsts rests : List Event) → without_losses events ≡ firsts ++ rests → InParts events firsts rests
+in_parts events [] rests is = record { first = []; rest = events; whole = refl; first_is = refl; rest_is = is }
+in_parts [] (x ∷ firsts) rests is = cc
+in_parts (event ∷ events) (x ∷ firsts) rests is =
+    by (is_loss event) refl is (in_parts events (x ∷ firsts) rests) (in_parts events firsts rests)
+  where
+    by : (b : Bool) → is_loss event ≡ b → cond b (without_losses events) (event ∷ without_losses events) ≡ x ∷ (firsts ++ rests)
+        → (without_losses events ≡ x ∷ (firsts ++ rests) → InParts events (x ∷ firsts) rests)
+        → (without_losses events ≡ firsts ++ rests → InParts events firsts rests)
+        → InParts (event ∷ events) (x ∷ firsts) rests
+    by true so is lost kept =
+        let parts = lost is in
+        record {
+          first = event ∷ parts.first;
+          rest = parts.rest;
+          whole = ap (λ es. event ∷ es) parts.whole;
+          first_is = rw so (parts.first_is);
+          rest_is = parts.rest_is;
+        }
+    by false so is lost kept =
+        let parts = kept cc in
+        let same : event ≡ x = cc in
+        record {
+          first = event ∷ parts.first;
+          rest = parts.rest;
+          whole = ap (λ es. event ∷ es) parts.whole;
+          first_is = rw (so, parts.first_is, same) refl;
+          rest_is = parts.rest_is;
+        }
+
+-- The world behind the first step.
+first_step : (table : Table) (event : Event) (events : List Event) (v w : World) → played table (event ∷ events) v ≡ Some w
+    → (next : World) × (after table event v ≡ Some next) × (played table events next ≡ Some w)
+first_step table event events v w is = by (after table event v) refl is
+  where
+    by : (o : Option World) → after table event v ≡ o → then_so o (played table events) ≡ Some w
+        → (next : World) × (after table event v ≡ Some next) × (played table events next ≡ Some w)
+    by None at is = cc
+    by (Some next) at is = (next, at, is)
+
+-- The world between two parts.
+between : (table : Table) (first rest : List Event) (v w : World) → played table (first ++ rest) v ≡ Some w
+    → (mid : World) × (played table first v ≡ Some mid) × (played table rest mid ≡ Some w)
+between table [] rest v w is = (v, refl, is)
+between table (event ∷ first) rest v w is =
+    let (next, step, on) = first_step table event (first ++ rest) v w is in
+    let (mid, there, behind) = between table first rest next w on in
+    (mid, rw step there, behind)
+
+-- A run in two parts.
+record RunsInParts (table : Table) (events firsts rests : List Event) (v w : World) : Type 0 where
+  first : List Event
+  rest : List Event
+  mid : World
+  first_is : without_losses first ≡ firsts
+  rest_is : without_losses rest ≡ rests
+  ran : played table first v ≡ Some mid
+  on : played table rest mid ≡ Some w
+  count : total hides events ≡ total hides first + total hides rest
+
+-- There are such parts of a run.
+run_in_parts : (table : Table) (events firsts rests : List Event) (v w : World) → without_losses events ≡ firsts ++ rests
+    → played table events v ≡ Some w → RunsInParts table events firsts rests v w
+run_in_parts table events firsts rests v w are is =
+    let parts = in_parts events firsts rests are in
+    let (mid, ran, on) = between table parts.first parts.rest v w (sym (ap (λ es. played table es v) parts.whole) ∙ is) in
+    record {
+      first = parts.first;
+      rest = parts.rest;
+      mid = mid;
+      first_is = parts.first_is;
+      rest_is = parts.rest_is;
+      ran = ran;
+      on = on;
+      count = ap (total hides) parts.whole ∙ total_both hides parts.first parts.rest;
+    }
+
+-- A run, and one more part.
+onward : (table : Table) (before first : List Event) (v w : World) → Runs table before v → played table first v ≡ Some w
+    → Runs table (before ++ first) w
+onward table before first v w runs is = played_on table before first empty v runs ∙ is
+
+-- ---- what an item implies
+
+-- how many own invocations of these IDs are in use
+abbrev uses : End → Option HalfName → List ℤ → ℕ
+uses e name ids = total (one (in_use e name)) ids
+
+-- A loss is no matter of ends,
+same_end : (side place : Side) (more : List OnItsWay) (w : World) → end_at side (with_channel place more w) ≡ end_at side w
+same_end A A more w = refl
+same_end A B more w = refl
+same_end B A more w = refl
+same_end B B more w = refl
+
+-- an end that is put in is there,
+own_end : (side : Side) (made : End) (w : World) → end_at side (with_end side made w) ≡ made
+own_end A made w = refl
+own_end B made w = refl
+
+-- and an expiry leaves fewer in use:
+expiry_uses : (table : Table) (side : Side) (name : HalfName) (id : ℤ) (half : Option HalfName) (ids : List ℤ) (v next : World)
+    → IsEnd (end_at side v) → after table (Expires side name id) v ≡ Some next → half ≡ Some name → Contains ids id
+    → IsEnd (end_at side next) × (uses (end_at side next) half ids + 1 ≤ uses (end_at side v) half ids)
+expiry_uses table side name id half ids v next sound step half_is there =
+    let h = expiry table side name id v next step in
+    let same : end_at side next ≡ h.made = ap (end_at side) h.next_is ∙ own_end side h.made v in
+    let ends = expired table (end_at side v) h.made name id sound h.step_is in
+    let kept = (expires table (end_at side v) h.made name id sound h.step_is).sound in
+    let less = fewer (in_use (end_at side v) (Some name)) (in_use h.made (Some name)) ids id ends.others ends.was
+    ends.gone there in
+    rw (same, half_is) (kept, less)
+
+-- so of expiries of IDs over one half there are at most as many as are in use.
+expiries_most : (table : Table) (sender : Side) (m : Message) (events : List Event) (v w : World) → IsEnd (end_at sender v)
+    → played table events v ≡ Some w → AllByRecursion (IsImplied (Sent sender m)) (without_losses events)
+    → total hides events ≤ uses (end_at sender v) (invoking_half m) (filter_map invoke_id (components_in m))
+expiries_most table sender m [] v w sound is all = omega arith
+expiries_most table sender m (Loses side number ∷ events) v w sound is all =
+    let (next, step, on) = first_step table (Loses side number) events v w is in
+    let l = loss table side number v next step in
+    let same : end_at sender next ≡ end_at sender v = rw (l.next_is) (same_end sender side l.more v) in
+    let rest = expiries_most table sender m events next w (rw same sound) on all in
+    omega (arith, rw same at rest)
+expiries_most table sender m (Expires side name id ∷ events) v w sound is all =
+    let (next, step, on) = first_step table (Expires side name id) events v w is in
+    let same : side ≡ sender = all.0.0 in
+    let moved : after table (Expires sender name id) v ≡ Some next = rw (← same) step in
+    let less = expiry_uses table sender name id (invoking_half m) (filter_map invoke_id (components_in m)) v next sound moved
+    all.0.1 all.0.2 in
+    omega (arith, less.1, expiries_most table sender m events next w less.0 on all.1)
+expiries_most table sender m (Sends side message ∷ events) v w sound is all = absurd (all.0)
+expiries_most table sender m (Receives side number ∷ events) v w sound is all = absurd (all.0)
+expiries_most table sender m (Replies side number ∷ events) v w sound is all = absurd (all.0)
+expiries_most table sender m (Closes side name ∷ events) v w sound is all = absurd (all.0)
+expiries_most table sender m (Quiet ∷ events) v w sound is all = absurd (all.0)
+expiries_most table sender m (Tells side message ∷ events) v w sound is all = absurd (all.0)
+
+-- what an item carries
+abbrev components_of : Item → ℕ
+components_of (Sent side message) = length (components_in message)
+components_of Item.Quiet = 0
+
+-- They are counted item by item.
+count_more : (item : Item) (items : List Item) → count_components (item ∷ items) ≡ components_of item + count_components items
+count_more (Sent side message) items = refl
+count_more Item.Quiet items = omega arith
+
+-- An item implies at most as many as it has components.
+implied_most : (table : Table) (item : Item) (events : List Event) (v w : World) → ((side : Side) → IsEnd (end_at side v))
+    → played table events v ≡ Some w → AllByRecursion (IsImplied item) (without_losses events)
+    → total hides events ≤ components_of item
+implied_most table (Sent sender m) events v w sound is all = omega (arith,
+    expiries_most table sender m events v w (sound sender) is all,
+    total_most (one (in_use (end_at sender v) (invoking_half m))) (filter_map invoke_id (components_in m))
+    (one_most (in_use (end_at sender v) (invoking_half m))), filter_map_most invoke_id (components_in m))
+implied_most table Item.Quiet events v w sound is all = omega (arith, losses_apart events, none (without_losses events) all)
+  where
+    none : (events : List Event) → AllByRecursion (IsImplied Item.Quiet) events → total hides events ≡ 0
+    none [] all = refl
+    none (event ∷ events) all = absurd (all.0)
+
+-- ---- what is listed
+
+-- the same of what may be an event
+abbrev hides_some : Option Event → ℕ
+hides_some None = 0
+hides_some (Some event) = hides event
+
+-- That is one at most.
+some_most : (event : Option Event) → hides_some event ≤ 1
+some_most None = omega arith
+some_most (Some (Sends side message)) = omega arith
+some_most (Some (Receives side number)) = omega arith
+some_most (Some (Replies side number)) = omega arith
+some_most (Some (Loses side number)) = omega arith
+some_most (Some (Expires side name id)) = omega arith
+some_most (Some (Closes side name)) = omega arith
+some_most (Some Quiet) = omega arith
+some_most (Some (Tells side message)) = omega arith
+
+-- Events count the same as options.
+same_total : (events : List Event) → total hides_some (map Some events) ≡ total hides events
+same_total [] = refl
+same_total (event ∷ events) = ap (λ n. hides event + n) (same_total events)
+
+-- Deliveries are not hidden.
+deliveries_none : (gap n : ℕ) (fates : List Fate) (items : List Item) → total hides (deliveries gap n fates items) ≡ 0
+deliveries_none gap n [] items = refl
+deliveries_none gap n (fate ∷ fates) [] = refl
+deliveries_none gap n (Gap g ∷ fates) (Sent side message ∷ items) = by (g == gap) (deliveries_none gap (n + 1) fates items)
+  where
+    by : (b : Bool) → total hides (deliveries gap (n + 1) fates items) ≡ 0
+        → total hides (cond b (Receives (other side) n ∷ deliveries gap (n + 1) fates items)
+        (deliveries gap (n + 1) fates items)) ≡ 0
+    by true rest = omega (arith, rest)
+    by false rest = rest
+deliveries_none gap n (Gap g ∷ fates) (Item.Quiet ∷ items) = deliveries_none gap (n + 1) fates items
+deliveries_none gap n (Lost ∷ fates) (Sent side message ∷ items) = deliveries_none gap (n + 1) fates items
+deliveries_none gap n (Lost ∷ fates) (Item.Quiet ∷ items) = deliveries_none gap (n + 1) fates items
+deliveries_none gap n (By k ∷ fates) (Sent side message ∷ items) = deliveries_none gap (n + 1) fates items
+deliveries_none gap n (By k ∷ fates) (Item.Quiet ∷ items) = deliveries_none gap (n + 1) fates items
+
+-- There is one for each that is listed for the gap.
+listed_most : (closes expiries : List (Option Event)) (received here : List Event)
+    → map Some here ≡ closes ++ expiries ++ map Some received
+    → total hides received ≡ 0 → total hides here ≤ length closes + length expiries
+listed_most closes expiries received here is none =
+    let whole : total hides_some (map Some here) ≡ total hides_some (closes ++ expiries ++ map Some received) =
+        ap (total hides_some) is in
+    omega (arith, whole, same_total here, total_both hides_some (closes ++ expiries) (map Some received),
+    total_both hides_some closes expiries, same_total received, none,
+    total_most hides_some closes some_most, total_most hides_some expiries some_most)
+
+here_most : (c : Certificate) (items : List Item) (gap : ℕ) (here : List Event) → map Some here ≡ gap_events c items gap
+    → total hides here ≤ length (filter (λ x. x.gap == gap) c.close) + length (filter (λ x. x.gap == gap) c.expire)
+here_most c items gap here is =
+    omega (arith, listed_most (map (closing_event items) (filter (λ x. x.gap == gap) c.close))
+    (map (expiry_event items) (filter (λ x. x.gap == gap) c.expire)) (deliveries gap 0 c.fates items) here is
+    (deliveries_none gap 0 c.fates items), length-map (filter (λ x. x.gap == gap) c.close) (closing_event items),
+    length-map (filter (λ x. x.gap == gap) c.expire) (expiry_event items))
+
+-- What adds an item is not hidden, whatever it takes,
+sending_none : (c : Certificate) (number : ℕ) (item : Item) (taken : List ℕ) → hides_some (sending_by c number item taken) ≡ 0
+sending_none c number (Sent side (Unidirectional dialogue components)) [] = refl
+sending_none c number (Sent side (Unidirectional dialogue components)) (one ∷ more) = refl
+sending_none c number (Sent side (Begin otid dialogue components)) [] = refl
+sending_none c number (Sent side (Begin otid dialogue components)) (one ∷ more) = refl
+sending_none c number (Sent side (Continue otid dtid dialogue components)) [] = refl
+sending_none c number (Sent side (Continue otid dtid dialogue components)) (one ∷ more) = refl
+sending_none c number (Sent side (EndMessage dtid dialogue components)) [] = refl
+sending_none c number (Sent side (EndMessage dtid dialogue components)) (one ∷ more) = refl
+sending_none c number (Sent side (Abort dtid None)) [] = refl
+sending_none c number (Sent side (Abort dtid None)) (one ∷ more) = refl
+sending_none c number (Sent side (Abort dtid (Some (ByDialogue dialogue)))) [] = refl
+sending_none c number (Sent side (Abort dtid (Some (ByDialogue dialogue)))) (one ∷ more) = refl
+sending_none c number (Sent side (Abort dtid (Some (Cause cause)))) [] = refl
+sending_none c number (Sent side (Abort dtid (Some (Cause cause)))) (one ∷ []) = refl
+sending_none c number (Sent side (Abort dtid (Some (Cause cause)))) (one ∷ two ∷ more) = refl
+sending_none c number Item.Quiet (one ∷ more) = refl
+sending_none c number Item.Quiet [] = by (slice_get c.fates number)
+  where
+    quiet : (b : Bool) → hides_some (where_so b (Some Quiet)) ≡ 0
+    quiet true = refl
+    quiet false = refl
+
+    by : (fate : Option Fate) → hides_some (quiet_by number fate) ≡ 0
+    by None = refl
+    by (Some (Gap g)) = quiet (g == number + 1)
+    by (Some Lost) = refl
+    by (Some (By k)) = refl
+
+-- so it is not in a run.
+sends_none : (c : Certificate) (number : ℕ) (item : Item) (event : Event) → sending c number item ≡ Some event → hides event ≡ 0
+sends_none c number item event is = sym (ap hides_some is) ∙ sending_none c number item (taken_by number 0 c.fates)
+
+-- how many are listed from a gap on
+abbrev later : {X : Type 0} → (X → ℕ) → ℕ → List X → ℕ
+later gap_of gap xs = length (filter (λ x. nat_le gap (gap_of x)) xs)
+
+-- That is those of the gap and those behind it,
+now_and_later : {X : Type 0} (gap_of : X → ℕ) (gap : ℕ) (xs : List X)
+    → length (filter (λ x. gap_of x == gap) xs) + later gap_of (gap + 1) xs ≤ later gap_of gap xs
+now_and_later gap_of gap [] = omega arith
+now_and_later {X} gap_of gap (x ∷ xs) =
+    by (gap_of x == gap) refl (nat_le (gap + 1) (gap_of x)) refl (nat_le gap (gap_of x)) refl (now_and_later gap_of gap xs)
+  where
+    now : List X
+    now = filter (λ y. gap_of y == gap) xs
+    behind : List X
+    behind = filter (λ y. nat_le (gap + 1) (gap_of y)) xs
+    all : List X
+    all = filter (λ y. nat_le gap (gap_of y)) xs
+
+    by : (a : Bool) → (gap_of x == gap) ≡ a → (b : Bool) → nat_le (gap + 1) (gap_of x) ≡ b
+        → (e : Bool) → nat_le gap (gap_of x) ≡ e
+        → length now + length behind ≤ length all
+        → length (cond a (x ∷ now) now) + length (cond b (x ∷ behind) behind) ≤ length (cond e (x ∷ all) all)
+    by true is true above e at rest = absurd (omega (arith, eqb-true (gap_of x) gap is, leb-true (gap + 1) (gap_of x) above))
+    by true is false above true at rest = omega (arith, rest)
+    by true is false above false at rest = let yes = le-leb gap (gap_of x) (omega (arith, eqb-true (gap_of x) gap is)) in cc
+    by false is true above true at rest = omega (arith, rest)
+    by false is true above false at rest =
+        let yes = le-leb gap (gap_of x) (omega (arith, leb-true (gap + 1) (gap_of x) above)) in cc
+    by false is false above true at rest = omega (arith, rest)
+    by false is false above false at rest = rest
+
+-- and in all at most the list.
+filter_most : {X : Type 0} (passes : X → Bool) (xs : List X) → length (filter passes xs) ≤ length xs
+filter_most passes xs = rw (length-filter passes xs) (count_by-le-length passes xs)
+
+-- ---- the bound
+
+-- From a gap on, what happens unseen is implied, or listed for this gap or a later one.
+from_gap : (table : Table) (c : Certificate) (items more : List Item) (gap : ℕ) (before events : List Event) (v w : World)
+    → Runs table before v → played table events v ≡ Some w → FollowsFrom c items gap more (without_losses events)
+    → total hides events ≤ count_components more + later (λ x. x.gap) gap c.expire + later (λ x. x.gap) gap c.close
+from_gap table c items [] gap before events v w runs is follows = omega (arith, losses_apart events,
+    here_most c items gap (without_losses events) follows, now_and_later (λ (x : Closing). x.gap) gap c.close,
+    now_and_later (λ (x : Expiry). x.gap) gap c.expire)
+from_gap table c items (item ∷ more) gap before events v w runs is
+    (here, implied, rest, sends, here_is, all, sends_is, events_is, on) =
+    let first = run_in_parts table events (here ++ implied) (sends ∷ rest) v w events_is is in
+    let second = run_in_parts table first.first here implied v first.mid first.first_is first.ran in
+    let third = run_in_parts table first.rest (sends ∷ []) rest first.mid w first.rest_is first.on in
+    let to_here = onward table before second.first v second.mid runs second.ran in
+    let to_sends = onward table before first.first v first.mid runs first.ran in
+    let to_rest = onward table (before ++ first.first) third.first first.mid third.mid to_sends third.ran in
+    let listed : total hides second.first ≤ length (filter (λ x. x.gap == gap) c.close)
+        + length (filter (λ x. x.gap == gap) c.expire) =
+        omega (arith, losses_apart second.first, ap (total hides) second.first_is, here_most c items gap here here_is) in
+    let implies : total hides second.rest ≤ components_of item =
+        implied_most table item second.rest second.mid first.mid (ends_sound table (before ++ second.first) second.mid to_here)
+        second.on (rw (second.rest_is) all) in
+    let last : total hides third.first ≡ 0 =
+        losses_apart third.first ∙ ap (total hides) third.first_is ∙ omega (arith, sends_none c gap item sends sends_is) in
+    let behind = from_gap table c items more (gap + 1) ((before ++ first.first) ++ third.first) third.rest third.mid w
+    to_rest third.on (rw (third.rest_is) on) in
+    omega (arith, count_more item more, listed, implies, last, behind, first.count, second.count, third.count,
+    now_and_later (λ (x : Closing). x.gap) gap c.close, now_and_later (λ (x : Expiry). x.gap) gap c.expire)
+
+-- So it is in all.
+hidden_most : (table : Table) (c : Certificate) (items : List Item) (events : List Event) (w : World) → Runs table events w
+    → Follows c items events → total hides events ≤ count_components items + length c.expire + length c.close
+hidden_most table c items events w runs follows = omega (arith,
+    from_gap table c items items 0 [] events empty w refl runs follows.gaps,
+    filter_most (λ x. nat_le 0 x.gap) c.expire, filter_most (λ x. nat_le 0 x.gap) c.close)
+
+-- A run that a certificate describes has at most so many steps.
 pub described_bound : (table : Table) (c : Certificate) (items : List Item) (events : List Event) → IsRunOf items table events
     → Follows c items events → length events ≤ 2 * length items + count_components items + length c.expire + length c.close
-described_bound table c items events run follows = ?
+described_bound table c items events (w, runs, sent) follows = omega (arith, steps_most events, taken_most table events w runs,
+    joins_most table events w runs, hidden_most table c items events w runs follows, ap length sent)
