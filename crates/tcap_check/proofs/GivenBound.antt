@@ -1,41 +1,23 @@
 -- How many steps a run has that a certificate describes.
 use Rattle.std.proofs.Common.{arith, ◌≡◌, ◌≤◌, ◌<◌, ◌+◌, ◌*◌, ◌==◌, ℕ, ℤ, zero, suc, Bool, true, false, cond, nat_le, List, [], ◌∷◌, ◌++◌, map, filter, filter_map, length, Option, Some, None, Ok, refl, sym, ap, ◌∙◌}
-use Rattle.std.specs.Prelude.{Contains, is_some, ok_or, slice_get, slice_index_or}
+use Rattle.std.specs.Prelude.{Contains, is_some, slice_get, slice_index_or}
 use Rattle.std.specs.List.{AllByRecursion, cons_option}
-use Rattle.std.specs.Map.{keys_of, lookup, remove_entry}
-use Rattle.std.specs.Ordering.{eq_by_cmp, int_cmp, match_ordering}
-use Rattle.std.specs.declared.cmp.Ordering.{Ordering}
-use Rattle.std.specs.declared.cmp.Ordering.TheVariants.{Less, Equal, Greater}
-use Rattle.std.specs.BTreeMap.{insert_entry, is_at}
 use Rattle.std.proofs.lemmas.Bool.{eqb-true, le-leb, leb-true}
-use Rattle.std.proofs.lemmas.Cmp.{eq_by_cmp_equiv, int_cmp_total, tied_itself}
 use Rattle.std.proofs.lemmas.List.{length-append, length-map}
 use Rattle.std.proofs.lemmas.List.Sums.{count_by-le-length, length-filter}
-use Rattle.std.proofs.lemmas.Map.{lookup-remove_entry}
-use Rattle.std.proofs.lemmas.Map.Keys.{IsDistinct-from_sorted}
-use Rattle.std.proofs.lemmas.Map.Lookups.{exact_signed}
-use Rattle.std.proofs.lemmas.Map.Views.{tells_apart}
 use Rattle.tcap_msg.specs.declared.message.AbortReason.TheVariants.{Cause, Dialogue as ByDialogue}
 use Rattle.tcap_msg.specs.declared.message.Message.{Message}
 use Rattle.tcap_msg.specs.declared.message.Message.TheVariants.{Unidirectional, Begin, Continue, End as EndMessage, Abort}
 use Rattle.tcap_msg.specs.Parts.{components_in}
 use Rattle.tcap_record.specs.declared.entry.End.{End as Side}
 use Rattle.tcap_record.specs.declared.entry.End.TheVariants.{A, B}
-use Rattle.tcap_end.specs.declared.fault.EndFault.TheVariants as faults
 use Rattle.tcap_end.specs.declared.half.HalfName.{HalfName}
-use Rattle.tcap_end.specs.declared.half.HalfName.TheVariants as names
-use Rattle.tcap_end.specs.declared.half.Slot.{Slot}
-use Rattle.tcap_end.specs.declared.half.Slot.TheVariants.{Begun, Accepted}
 use Rattle.tcap_end.specs.declared.outs.OwnInvocation.{OwnInvocation}
 use Rattle.tcap_end.specs.Component.{own_invocation}
-use Rattle.tcap_end.specs.End.{End, KeptHalf, first_half, half_where, is_id, named, put}
-use Rattle.tcap_end.specs.Half.{Half}
-use Rattle.tcap_end.specs.Hidden.{expire, without_invocation}
-use Rattle.tcap_end.specs.Sound.{IsEnd, Rises}
-use Rattle.tcap_end.specs.Table.{Table, octets_cmp}
-use Rattle.tcap_end.proofs.AnsweringLaws.{needs_ok, ok_same, some_ok, then_ok}
-use Rattle.tcap_end.proofs.FoundLaws.{named_has, octets_total}
-use Rattle.tcap_end.proofs.HiddenLaws.{expires_some}
+use Rattle.tcap_end.specs.End.{End, KeptHalf, named, put}
+use Rattle.tcap_end.specs.Hidden.{expire}
+use Rattle.tcap_end.specs.Sound.{IsEnd}
+use Rattle.tcap_end.specs.Table.{Table}
 use Rattle.tcap_end.proofs.StepLaws.{expires}
 use Rattle.tcap_check.specs.World.{Item, OnItsWay, Sent, World, channel_from, empty, end_at, other, with_channel, with_end}
 use Rattle.tcap_check.specs.Run.{Adds, Event, Sends, Receives, Replies, Loses, Expires, Closes, Quiet, Tells, IsRunOf, Runs, after, numbers_of, numbers_sent, numbers_taken, played, takes_from, then_so, where_so}
@@ -46,7 +28,9 @@ use Rattle.tcap_check.specs.declared.certificate.Fate.TheVariants.{Gap, Lost, By
 use Rattle.tcap_check.specs.Certificate.{Certificate}
 use Rattle.tcap_check.specs.Entries.{count_components}
 use Rattle.tcap_check.specs.Follows.{Follows, FollowsFrom, IsImplied, closing_event, deliveries, expiry_event, gap_events, invoke_id, invoking_half, is_loss, quiet_by, sending, sending_by, taken_by, without_losses}
+use Rattle.tcap_check.specs.Given.{IsInUse}
 use Rattle.tcap_check.proofs.ChannelLaws.{are_whole}
+use Rattle.tcap_check.proofs.ExpiryLaws.{ends_in_use, not_in_use, was_in_use}
 use Rattle.tcap_check.proofs.ReplayLaws.{played_on}
 use Rattle.tcap_check.proofs.RunLaws.{expiry, grows, loss, runs_keep, sound as ends_sound}
 
@@ -195,114 +179,29 @@ joins_most table = runs_keep table (λ events w. total joins events ≤ length w
         let last : total joins (event ∷ []) ≡ joins event = omega arith in
         rw (adds.2, length-append w.sent adds.0, total_both joins before (event ∷ [])) (omega (arith, last, new, kept))
 
--- ---- a half that is put again
-
--- A half that is found passes, and stands in that slot.
-first_passes : (passes : Half → Bool) (slot : Slot) (es : List (List ℕ × Half)) (f : KeptHalf)
-    → first_half passes slot es ≡ Some f → (passes f.half ≡ true) × (f.slot ≡ slot)
-first_passes passes slot [] f is = cc
-first_passes passes slot ((key, half) ∷ es) f is = by (passes half) refl is (first_passes passes slot es f)
-  where
-    first : KeptHalf
-    first = record { slot = slot; key = key; half = half }
-
-    by : (b : Bool) → passes half ≡ b → cond b (Some first) (first_half passes slot es) ≡ Some f
-        → (first_half passes slot es ≡ Some f → (passes f.half ≡ true) × (f.slot ≡ slot))
-        → (passes f.half ≡ true) × (f.slot ≡ slot)
-    by true so is rest = let same : first ≡ f = cc in rw (← same) (so, refl)
-    by false so is rest = rest is
-
--- Where one that passes is put in its place, it is found.
-first_put : (passes : Half → Bool) (slot : Slot) (es : List (List ℕ × Half)) (f : KeptHalf) (h : Half)
-    → first_half passes slot es ≡ Some f → passes h ≡ true
-    → (g : KeptHalf) × (first_half passes slot (insert_entry octets_cmp es f.key h) ≡ Some g) × (g.half ≡ h)
-first_put passes slot [] f h is pass = cc
-first_put passes slot ((key, half) ∷ es) f h is pass = by (passes half) refl is (first_put passes slot es f h)
-  where
-    first : KeptHalf
-    first = record { slot = slot; key = key; half = half }
-
-    found : (q : List ℕ) (more : List (List ℕ × Half))
-        → (g : KeptHalf) × (first_half passes slot ((q, h) ∷ more) ≡ Some g) × (g.half ≡ h)
-    found q more = (record { slot = slot; key = q; half = h }, rw pass refl, refl)
-
-    at : (r : Ordering) → passes half ≡ false
-        → (g : KeptHalf) × (first_half passes slot (insert_entry octets_cmp es f.key h) ≡ Some g) × (g.half ≡ h)
-        → (g : KeptHalf) × (first_half passes slot (match_ordering r ((f.key, h) ∷ (key, half) ∷ es) ((key, h) ∷ es)
-        ((key, half) ∷ insert_entry octets_cmp es f.key h)) ≡ Some g) × (g.half ≡ h)
-    at Less so rest = found f.key ((key, half) ∷ es)
-    at Equal so rest = found key es
-    at Greater so rest = (rest.0, rw so (rest.1), rest.2)
-
-    here : first ≡ f → (r : Ordering) → octets_cmp f.key key ≡ r
-        → (g : KeptHalf) × (first_half passes slot (match_ordering r ((f.key, h) ∷ (key, half) ∷ es) ((key, h) ∷ es)
-        ((key, half) ∷ insert_entry octets_cmp es f.key h)) ≡ Some g) × (g.half ≡ h)
-    here same Less is = found f.key ((key, half) ∷ es)
-    here same Equal is = found key es
-    here same Greater is =
-        let keys : f.key ≡ key = ap (λ (x : KeptHalf). x.key) (sym same) in
-        let tie : octets_cmp f.key key ≡ Equal = rw keys (tied_itself octets_total key) in cc
-
-    by : (b : Bool) → passes half ≡ b → cond b (Some first) (first_half passes slot es) ≡ Some f
-        → (first_half passes slot es ≡ Some f → passes h ≡ true
-        → (g : KeptHalf) × (first_half passes slot (insert_entry octets_cmp es f.key h) ≡ Some g) × (g.half ≡ h))
-        → (g : KeptHalf) × (first_half passes slot (insert_entry octets_cmp ((key, half) ∷ es) f.key h) ≡ Some g) × (g.half ≡ h)
-    by true so is rest = let same : first ≡ f = cc in here same (octets_cmp f.key key) refl
-    by false so is rest = at (octets_cmp f.key key) so (rest is pass)
-
--- So it is in an end,
-half_put : (passes : Half → Bool) (e : End) (f : KeptHalf) (h : Half) → half_where passes e ≡ Some f
-    → (passes f.half ≡ true → passes h ≡ true)
-    → (g : KeptHalf) × (half_where passes (put e f.slot f.key h) ≡ Some g) × (g.half ≡ h)
-half_put passes e f h is pass = by (first_half passes Begun e.begun) refl
-  where
-    at_begun : (slot : Slot) (key : List ℕ) (g : KeptHalf) → slot ≡ Begun
-        → first_half passes Begun (insert_entry octets_cmp e.begun key h) ≡ Some g → half_where passes (put e slot key h) ≡ Some g
-    at_begun Begun key g so found = rw found refl
-    at_begun Accepted key g so found = cc
-
-    at_accepted : (slot : Slot) (key : List ℕ) (g : KeptHalf) → slot ≡ Accepted → first_half passes Begun e.begun ≡ None
-        → first_half passes Accepted (insert_entry octets_cmp e.accepted key h) ≡ Some g
-        → half_where passes (put e slot key h) ≡ Some g
-    at_accepted Begun key g so none found = cc
-    at_accepted Accepted key g so none found = rw none found
-
-    by : (o : Option KeptHalf) → first_half passes Begun e.begun ≡ o
-        → (g : KeptHalf) × (half_where passes (put e f.slot f.key h) ≡ Some g) × (g.half ≡ h)
-    by None none =
-        let there = rw none at is in
-        let had = first_passes passes Accepted e.accepted f there in
-        let g = first_put passes Accepted e.accepted f h there (pass had.0) in
-        (g.0, at_accepted f.slot f.key g.0 had.1 none g.1, g.2)
-    by (Some k) some =
-        let there : first_half passes Begun e.begun ≡ Some f = some ∙ (rw some at is) in
-        let had = first_passes passes Begun e.begun f there in
-        let g = first_put passes Begun e.begun f h there (pass had.0) in
-        (g.0, at_begun f.slot f.key g.0 had.1 g.1, g.2)
-
--- by its name, where it has the IDs of the one that was there.
-named_put : (e : End) (name : HalfName) (f : KeptHalf) (h : Half) → named e name ≡ Some f
-    → h.own ≡ f.half.own → h.peer ≡ f.half.peer
-    → (g : KeptHalf) × (named (put e f.slot f.key h) name ≡ Some g) × (g.half ≡ h)
-named_put e (names.Own id) f h is own peer = half_put (λ x. is_id id x.own) e f h is (λ was. rw own was)
-named_put e (names.Peer id) f h is own peer = half_put (λ x. is_id id x.peer) e f h is (λ was. rw peer was)
-
 -- ---- own invocations that are in use
 
 -- whether one of that ID is, in the half of that name
 abbrev in_use : End → Option HalfName → ℤ → Bool
 in_use e name id = is_some (then_so (then_so name (named e)) (λ kept. own_invocation kept.half id))
 
--- What is left where one is removed.
-lookup_left : {X : Type 0} (id q : ℤ) (items : List (ℤ × X)) → Rises int_cmp items
-    → lookup (is_at (int_cmp q)) (remove_entry (is_at (int_cmp id)) items)
-    ≡ cond (is_at (int_cmp id) q) None (lookup (is_at (int_cmp q)) items)
-lookup_left id q items rises =
-    lookup-remove_entry (eq_by_cmp_equiv int_cmp_total) (is_at (int_cmp id)) alike q items
-    (IsDistinct-from_sorted int_cmp (keys_of items) rises)
+-- It is, where the half is there and has one,
+is_used : (e : End) (name : HalfName) (id : ℤ) → IsInUse e name id → in_use e (Some name) id ≡ true
+is_used e name id (kept, own, found, has) = rw (found, has) refl
+
+-- and there alone.
+used_is : (e : End) (name : HalfName) (id : ℤ) → in_use e (Some name) id ≡ true → IsInUse e name id
+used_is e name id is = by (named e name) refl is
   where
-    alike : (x y : ℤ) → is_at (int_cmp id) x ≡ true → is_at (int_cmp id) y ≡ eq_by_cmp int_cmp x y
-    alike x y is = rw (tells_apart exact_signed id x is) refl
+    found : (kept : KeptHalf) (o : Option OwnInvocation) → named e name ≡ Some kept → own_invocation kept.half id ≡ o
+        → is_some o ≡ true → IsInUse e name id
+    found kept None at has so = cc
+    found kept (Some own) at has so = (kept, own, at, has)
+
+    by : (o : Option KeptHalf) → named e name ≡ o → is_some (then_so o (λ kept. own_invocation kept.half id)) ≡ true
+        → IsInUse e name id
+    by None at so = cc
+    by (Some kept) at so = found kept (own_invocation kept.half id) at refl so
 
 -- One that was in use ended, and none began.
 record EndsOne (name : HalfName) (id : ℤ) (e next : End) : Type 0 where
@@ -310,38 +209,18 @@ record EndsOne (name : HalfName) (id : ℤ) (e next : End) : Type 0 where
   gone : in_use next (Some name) id ≡ false
   others : (q : ℤ) → in_use next (Some name) q ≡ true → in_use e (Some name) q ≡ true
 
--- So it is where the half is put again without it,
-ends_one : (name : HalfName) (id : ℤ) (e next : End) (f : KeptHalf) → named e name ≡ Some f
-    → is_some (own_invocation f.half id) ≡ true
-    → Rises int_cmp f.half.out → put e f.slot f.key (without_invocation id f.half) ≡ next → EndsOne name id e next
-ends_one name id e next f found was rises is = record {
-  was = rw found was;
-  gone = rw (now id, tied_itself int_cmp_total id) refl;
-  others = λ q so. rw found (by (is_at (int_cmp id) q) (own_invocation f.half q) (sym (now q) ∙ so));
-}
-  where
-    left : (g : KeptHalf) × (named (put e f.slot f.key (without_invocation id f.half)) name ≡ Some g)
-        × (g.half ≡ without_invocation id f.half)
-    left = named_put e name f (without_invocation id f.half) found refl refl
-
-    now : (q : ℤ) → in_use next (Some name) q ≡ is_some (cond (is_at (int_cmp id) q) None (own_invocation f.half q))
-    now q = rw (← is, left.1, left.2) (ap is_some (lookup_left id q f.half.out rises))
-
-    by : (b : Bool) (o : Option OwnInvocation) → is_some (cond b None o) ≡ true → is_some o ≡ true
-    by true o so = cc
-    by false o so = so
-
--- and that is what an expiry does.
+-- That is what an expiry does.
 expired : (table : Table) (e next : End) (name : HalfName) (id : ℤ) → IsEnd e
     → expire table e name id ≡ Ok next → EndsOne name id e next
-expired table e next name id sound is =
-    let (f, ok, step) = then_ok (ok_or (named e name) faults.CannotExpire) _ next is in
-    let found = some_ok _ _ f ok in
-    let open_one = needs_ok _ _ _ next step in
-    let may = needs_ok _ _ _ next open_one.1 in
-    let put_is = ok_same _ next may.1 in
-    ends_one name id e next f found (expires_some table (own_invocation f.half id) may.0)
-    (sound.halves f (named_has e name sound f found)).out put_is
+expired table e next name id sound is = record {
+  was = is_used e name id (ends_in_use table e name id next is);
+  gone = by (in_use next (Some name) id) refl;
+  others = λ q so. is_used e name q (was_in_use table e name id q next is (used_is next name q so));
+}
+  where
+    by : (b : Bool) → in_use next (Some name) id ≡ b → b ≡ false
+    by true so = absurd (not_in_use table e name id next sound is (used_is next name id so))
+    by false so = refl
 
 -- ---- runs in parts
 

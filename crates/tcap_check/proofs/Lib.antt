@@ -16,6 +16,7 @@ pub mod NotDescribed
 pub mod ReplayLaws
 pub mod ReplayGaps
 pub mod ReplayEntries
+pub mod ExpiryLaws
 pub mod ImpliedLaws
 pub mod OrderLaws
 pub mod DescribedLaws
@@ -23,7 +24,6 @@ pub mod GivenBound
 pub mod GivenRuns
 pub mod DescribedRuns
 pub mod NamedLaws
-pub mod ExpiryLaws
 pub mod AtOnceRuns
 pub mod AtOnceLaws
 pub mod ReasonLaws
