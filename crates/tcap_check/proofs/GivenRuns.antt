@@ -1,4 +1,5 @@
 -- A run from any certificate.
+use Rattle.tcap_check.proofs.GivenLosses.{is_lost}
 use Rattle.std.proofs.Common.{◌≡◌, List, Ok}
 use Rattle.tcap_record.specs.declared.entry.Entry.{Entry}
 use Rattle.tcap_end.specs.Table.{Table}

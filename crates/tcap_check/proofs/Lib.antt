@@ -19,6 +19,7 @@ pub mod ReplayEntries
 pub mod ImpliedLaws
 pub mod DescribedLaws
 pub mod GivenBound
+pub mod GivenLosses
 pub mod GivenRuns
 pub mod DescribedRuns
 pub mod AtOnceLaws
