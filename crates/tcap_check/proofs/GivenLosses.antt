@@ -40,7 +40,7 @@ IsAmong n [] = ⊥
 IsAmong n (x ∷ xs) = (n ≡ x) ⊎ IsAmong n xs
 
 -- It is one of two lists together where it is one of the first,
-among_left : (n : ℕ) (xs ys : List ℕ) → IsAmong n xs → IsAmong n (xs ++ ys)
+pub among_left : (n : ℕ) (xs ys : List ℕ) → IsAmong n xs → IsAmong n (xs ++ ys)
 among_left n [] ys is = absurd is
 among_left n (x ∷ xs) ys (inl e) = inl e
 among_left n (x ∷ xs) ys (inr is) = inr (among_left n xs ys is)
