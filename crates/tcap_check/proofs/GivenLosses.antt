@@ -1,36 +1,24 @@
 -- Losses: where a run follows a certificate but for losses, and nothing is left on its way, a message is lost exactly
 -- where its fate says so.
-use Rattle.std.proofs.Common.{arith, ◌≡◌, ◌≤◌, ◌<◌, ◌⊎◌, inl, inr, ℕ, zero, suc, ◌+◌, ◌==◌, Bool, true, false, cond, List, [], ◌∷◌, ◌++◌, map, filter, length, Option, Some, None, refl, sym, ap, ap₂, subst, ◌∙◌, append_assoc, append-nil}
+use Rattle.std.proofs.Common.{arith, ◌≡◌, ◌≤◌, ◌<◌, ◌⊎◌, inl, inr, ℕ, zero, suc, ◌+◌, ◌==◌, Bool, true, false, cond, List, [], ◌∷◌, ◌++◌, filter, length, Option, Some, None, refl, sym, ap, subst, ◌∙◌, append_assoc, append-nil}
 use Rattle.std.specs.Prelude.{slice_get}
 use Rattle.std.specs.Cmp.{nat_cmp_is}
 use Rattle.std.specs.List.{AllByRecursion}
 use Rattle.std.specs.List.Sorted.{IsStrictlySortedBy}
 use Rattle.std.specs.Ordering.{nat_cmp}
 use Rattle.std.specs.declared.cmp.Ordering.TheVariants.{Less, Equal}
-use Rattle.std.proofs.Math.Nat.{eq-or-lt_of_le}
-use Rattle.std.proofs.lemmas.Bool.{eq-eqb}
 use Rattle.std.proofs.lemmas.List.Elements.{filter-append}
-use Rattle.std.proofs.lemmas.Option.{slice_get_cases, slice_get_within}
-use Rattle.tcap_msg.specs.declared.message.AbortReason.TheVariants.{Cause, Dialogue as ByDialogue}
 use Rattle.tcap_msg.specs.declared.message.Message.{Message}
-use Rattle.tcap_msg.specs.declared.message.Message.TheVariants.{Unidirectional, Begin, Continue, End as EndMessage, Abort}
-use Rattle.tcap_msg.specs.Parts.{components_in}
 use Rattle.tcap_record.specs.declared.entry.End.{End as Side}
 use Rattle.tcap_record.specs.declared.entry.End.TheVariants.{A, B}
-use Rattle.tcap_end.specs.declared.half.HalfName.TheVariants as names
 use Rattle.tcap_end.specs.Table.{Table}
 use Rattle.tcap_check.specs.World.{Item, OnItsWay, Sent, World, channel_from, is_side, other}
-use Rattle.tcap_check.specs.Run.{Event, Sends, Receives, Replies, Loses, Expires, Closes, Quiet, Tells, KeepsRules, Runs, numbers_of, numbers_sent, numbers_taken, takes_from, then_so, where_so}
-use Rattle.tcap_check.specs.declared.certificate.Closing.{Closing}
-use Rattle.tcap_check.specs.declared.certificate.Expiry.{Expiry}
+use Rattle.tcap_check.specs.Run.{Event, Sends, Receives, Replies, Loses, Expires, Closes, Quiet, Tells, KeepsRules, Runs, numbers_of, numbers_sent, numbers_taken, takes_from}
 use Rattle.tcap_check.specs.declared.certificate.Fate.{Fate}
 use Rattle.tcap_check.specs.declared.certificate.Fate.TheVariants.{Gap, Lost, By}
-use Rattle.tcap_check.specs.Certificate.{Certificate}
-use Rattle.tcap_check.specs.Follows.{FatesFit, FollowsFrom, IsImplied, closing_by, closing_event, deliveries, expiry_by, expiry_event, gap_events, half_begun, invoke_id, is_loss, losses_from, lost_from, named_entry, originating, quiet_by, sending, sending_by, taken_by, without_losses}
+use Rattle.tcap_check.specs.Follows.{FatesFit, deliveries, is_loss, losses_from, lost_from, taken_by, without_losses}
 use Rattle.tcap_check.specs.Since.{WasSent}
 use Rattle.tcap_check.proofs.ChannelLaws.{are_whole, in_order, were_sent}
-use Rattle.tcap_check.proofs.ListLaws.{all_both}
-use Rattle.tcap_check.proofs.RunLaws.{where_some}
 
 -- ---- numbers
 
@@ -217,10 +205,10 @@ is_lost fates n = says_lost (slice_get fates n)
 abbrev pub IsFrom : List Fate → ℕ → List Fate → Type 0
 IsFrom all n fates = (i : ℕ) → slice_get fates i ≡ slice_get all (n + i)
 
-pub from_head : (all : List Fate) (n : ℕ) (fate : Fate) (fates : List Fate) → IsFrom all n (fate ∷ fates) → slice_get all n ≡ Some fate
+from_head : (all : List Fate) (n : ℕ) (fate : Fate) (fates : List Fate) → IsFrom all n (fate ∷ fates) → slice_get all n ≡ Some fate
 from_head all n fate fates from = let e : n + 0 ≡ n = omega arith in sym (from 0 ∙ ap (slice_get all) e)
 
-pub from_tail : (all : List Fate) (n : ℕ) (fate : Fate) (fates : List Fate) → IsFrom all n (fate ∷ fates) → IsFrom all (n + 1) fates
+from_tail : (all : List Fate) (n : ℕ) (fate : Fate) (fates : List Fate) → IsFrom all n (fate ∷ fates) → IsFrom all (n + 1) fates
 from_tail all n fate fates from i = let e : n + suc i ≡ (n + 1) + i = omega arith in from (suc i) ∙ ap (slice_get all) e
 
 -- The messages that an end sent and whose fate says so are those that are lost.
@@ -321,6 +309,72 @@ fated_keeps fates side (Expires place name id ∷ events) all = fated_keeps fate
 fated_keeps fates side (Closes place name ∷ events) all = fated_keeps fates side events all.1
 fated_keeps fates side (Quiet ∷ events) all = fated_keeps fates side events all.1
 fated_keeps fates side (Tells place m ∷ events) all = absurd all.0
+
+-- Deliveries fit the fates, which say where.
+pub deliveries_fated : (all : List Fate) (gap n : ℕ) (fates : List Fate) (items : List Item) → IsFrom all n fates
+    → AllByRecursion (IsFated all) (deliveries gap n fates items)
+deliveries_fated all gap n [] items from = tt
+deliveries_fated all gap n (fate ∷ fates) [] from = tt
+deliveries_fated all gap n (fate ∷ fates) (item ∷ items) from =
+    by item fate (ap says_lost (from_head all n fate fates from)) (deliveries_fated all gap (n + 1) fates items (from_tail all n fate fates from))
+  where
+    others : List Event
+    others = deliveries gap (n + 1) fates items
+
+    if_so : (side : Side) (b : Bool) → is_lost all n ≡ false → AllByRecursion (IsFated all) others
+        → AllByRecursion (IsFated all) (cond b (Receives (other side) n ∷ others) others)
+    if_so side true says rest = (says, rest)
+    if_so side false says rest = rest
+
+    by : (item : Item) (fate : Fate) → is_lost all n ≡ says_lost (Some fate) → AllByRecursion (IsFated all) others
+        → AllByRecursion (IsFated all) (deliveries gap n (fate ∷ fates) (item ∷ items))
+    by (Sent side message) (Gap g) says rest = if_so side (g == gap) says rest
+    by (Sent side message) (By k) says rest = rest
+    by (Sent side message) Lost says rest = rest
+    by Item.Quiet (Gap g) says rest = rest
+    by Item.Quiet (By k) says rest = rest
+    by Item.Quiet Lost says rest = rest
+
+-- What a reply takes is not lost by its fate.
+pub taken_fated : (all : List Fate) (reply n : ℕ) (fates : List Fate) → IsFrom all n fates
+    → AllByRecursion (λ k. is_lost all k ≡ false) (taken_by reply n fates)
+taken_fated all reply n [] from = tt
+taken_fated all reply n (fate ∷ fates) from =
+    by fate (ap says_lost (from_head all n fate fates from)) (taken_fated all reply (n + 1) fates (from_tail all n fate fates from))
+  where
+    others : List ℕ
+    others = taken_by reply (n + 1) fates
+
+    if_so : (b : Bool) → is_lost all n ≡ false → AllByRecursion (λ k. is_lost all k ≡ false) others
+        → AllByRecursion (λ k. is_lost all k ≡ false) (cond b (n ∷ others) others)
+    if_so true says rest = (says, rest)
+    if_so false says rest = rest
+
+    by : (fate : Fate) → is_lost all n ≡ says_lost (Some fate) → AllByRecursion (λ k. is_lost all k ≡ false) others
+        → AllByRecursion (λ k. is_lost all k ≡ false) (taken_by reply n (fate ∷ fates))
+    by (Gap g) says rest = rest
+    by (By k) says rest = if_so (k == reply) says rest
+    by Lost says rest = rest
+
+-- A gap that a fate names is no later than the last,
+pub fits_gap : (count n : ℕ) (fates : List Fate) (i g : ℕ) → FatesFit count n fates → slice_get fates i ≡ Some (Gap g) → g ≤ count
+fits_gap count n [] i g fit at = cc
+fits_gap count n (Gap h ∷ fates) zero g fit at = let same : h ≡ g = cc in subst (λ (x : ℕ). x ≤ count) same fit.1
+fits_gap count n (By k ∷ fates) zero g fit at = cc
+fits_gap count n (Lost ∷ fates) zero g fit at = cc
+fits_gap count n (Gap h ∷ fates) (suc i) g fit at = fits_gap count (n + 1) fates i g fit.2 at
+fits_gap count n (By k ∷ fates) (suc i) g fit at = fits_gap count (n + 1) fates i g fit.2 at
+fits_gap count n (Lost ∷ fates) (suc i) g fit at = fits_gap count (n + 1) fates i g fit at
+
+-- and an entry is there.
+pub fits_reply : (count n : ℕ) (fates : List Fate) (i k : ℕ) → FatesFit count n fates → slice_get fates i ≡ Some (By k) → k < count
+fits_reply count n [] i k fit at = cc
+fits_reply count n (By h ∷ fates) zero k fit at = let same : h ≡ k = cc in subst (λ (x : ℕ). x < count) same fit.1
+fits_reply count n (Gap g ∷ fates) zero k fit at = cc
+fits_reply count n (Lost ∷ fates) zero k fit at = cc
+fits_reply count n (Gap g ∷ fates) (suc i) k fit at = fits_reply count (n + 1) fates i k fit.2 at
+fits_reply count n (By h ∷ fates) (suc i) k fit at = fits_reply count (n + 1) fates i k fit.2 at
+fits_reply count n (Lost ∷ fates) (suc i) k fit at = fits_reply count (n + 1) fates i k fit at
 
 -- ---- losses
 

@@ -18,7 +18,7 @@ use Rattle.tcap_end.specs.declared.half.HalfName.TheVariants as names
 use Rattle.tcap_end.specs.Step.{◌>>◌}
 use Rattle.tcap_end.specs.Table.{Table}
 use Rattle.tcap_end.proofs.AnsweringLaws.{ok_same, then_ok}
-use Rattle.tcap_check.specs.World.{Item, OnItsWay, Sent, World, channel_from, empty, is_side, other, with_channel}
+use Rattle.tcap_check.specs.World.{Item, OnItsWay, Sent, World, channel_from, is_side, other}
 use Rattle.tcap_check.specs.Run.{Event, Sends, Receives, Replies, Loses, Expires, Closes, Quiet, Tells, Runs, numbers_taken, takes_from, then_so, where_so}
 use Rattle.tcap_check.specs.declared.certificate.Closing.{Closing}
 use Rattle.tcap_check.specs.declared.certificate.Expiry.{Expiry}
@@ -28,11 +28,11 @@ use Rattle.tcap_check.specs.declared.fault.CheckFault.{CheckFault}
 use Rattle.tcap_check.specs.declared.fault.Reason.{Reason}
 use Rattle.tcap_check.specs.Certificate.{Certificate}
 use Rattle.tcap_check.specs.Entries.{AreItems, IsItem, count_components, item_by, item_of}
-use Rattle.tcap_check.specs.Follows.{FatesFit, Follows, FollowsFrom, IsImplied, closing_by, closing_event, deliveries, expiry_by, expiry_event, gap_events, half_begun, invoke_id, losses_from, lost_from, named_entry, originating, quiet_by, sending, sending_by, taken_by, without_losses}
+use Rattle.tcap_check.specs.Follows.{FatesFit, Follows, FollowsFrom, IsImplied, closing_by, closing_event, deliveries, expiry_by, expiry_event, gap_events, half_begun, invoke_id, named_entry, originating, quiet_by, sending, sending_by, taken_by, without_losses}
 use Rattle.tcap_check.specs.Given.{IsGiven}
-use Rattle.tcap_check.specs.Replayed.{Replay, all_fit, certificate_fits, entries_replayed, fates_fit, if_lost, lost_from_both, lost_from_front, lost_front, nothing_replayed, replayed}
+use Rattle.tcap_check.specs.Replayed.{Replay, all_fit, certificate_fits, entries_replayed, fates_fit, if_lost, lost_from_both, lost_front, nothing_replayed, replayed}
 use Rattle.tcap_check.proofs.GivenBound.{described_bound}
-use Rattle.tcap_check.proofs.GivenLosses.{IsAmong, IsFated, IsFrom, IsSettled, among_left, among_plain, among_right, fated_keeps, from_head, from_tail, is_lost, left_lost, losses_are, says_lost, taken_left, taken_right, taken_sent}
+use Rattle.tcap_check.proofs.GivenLosses.{IsAmong, IsFated, IsSettled, among_left, among_plain, among_right, deliveries_fated, fated_keeps, fits_gap, fits_reply, is_lost, left_lost, losses_are, says_lost, taken_fated, taken_left, taken_right, taken_sent}
 use Rattle.tcap_check.proofs.ListLaws.{all_both}
 use Rattle.tcap_check.proofs.ReplayEntries.{entries_replay}
 use Rattle.tcap_check.proofs.ReplayGaps.{fates_ok, listed_ok}
@@ -72,31 +72,6 @@ expiry_fated fates items x event is = let found = then_some (named_entry items x
         let id = then_some (then_so (slice_get (components_in message) x.component) invoke_id) _ event named.2 in
         subst (IsFated fates) (let same : Expires x.side (names.Own named.0) id.0 ≡ event = some_is id.2 in same) tt
     by Item.Quiet e = cc
-
--- Deliveries fit the fates, which say where.
-deliveries_fated : (all : List Fate) (gap n : ℕ) (fates : List Fate) (items : List Item) → IsFrom all n fates
-    → AllByRecursion (IsFated all) (deliveries gap n fates items)
-deliveries_fated all gap n [] items from = tt
-deliveries_fated all gap n (fate ∷ fates) [] from = tt
-deliveries_fated all gap n (fate ∷ fates) (item ∷ items) from =
-    by item fate (ap says_lost (from_head all n fate fates from)) (deliveries_fated all gap (n + 1) fates items (from_tail all n fate fates from))
-  where
-    others : List Event
-    others = deliveries gap (n + 1) fates items
-
-    if_so : (side : Side) (b : Bool) → is_lost all n ≡ false → AllByRecursion (IsFated all) others
-        → AllByRecursion (IsFated all) (cond b (Receives (other side) n ∷ others) others)
-    if_so side true says rest = (says, rest)
-    if_so side false says rest = rest
-
-    by : (item : Item) (fate : Fate) → is_lost all n ≡ says_lost (Some fate) → AllByRecursion (IsFated all) others
-        → AllByRecursion (IsFated all) (deliveries gap n (fate ∷ fates) (item ∷ items))
-    by (Sent side message) (Gap g) says rest = if_so side (g == gap) says rest
-    by (Sent side message) (By k) says rest = rest
-    by (Sent side message) Lost says rest = rest
-    by Item.Quiet (Gap g) says rest = rest
-    by Item.Quiet (By k) says rest = rest
-    by Item.Quiet Lost says rest = rest
 
 -- Events that are the same as options are the same.
 same_events : (xs ys : List Event) → map Some xs ≡ map Some ys → xs ≡ ys
@@ -150,27 +125,6 @@ gap_fated c items gap here is =
     subst (AllByRecursion (IsFated c.fates)) (sym parts.2) (all_both (IsFated c.fates) parts.0 (deliveries gap 0 c.fates items) first last)
 
 -- ---- what sends an item
-
--- What a reply takes is not lost by its fate.
-taken_fated : (all : List Fate) (reply n : ℕ) (fates : List Fate) → IsFrom all n fates
-    → AllByRecursion (λ k. is_lost all k ≡ false) (taken_by reply n fates)
-taken_fated all reply n [] from = tt
-taken_fated all reply n (fate ∷ fates) from =
-    by fate (ap says_lost (from_head all n fate fates from)) (taken_fated all reply (n + 1) fates (from_tail all n fate fates from))
-  where
-    others : List ℕ
-    others = taken_by reply (n + 1) fates
-
-    if_so : (b : Bool) → is_lost all n ≡ false → AllByRecursion (λ k. is_lost all k ≡ false) others
-        → AllByRecursion (λ k. is_lost all k ≡ false) (cond b (n ∷ others) others)
-    if_so true says rest = (says, rest)
-    if_so false says rest = rest
-
-    by : (fate : Fate) → is_lost all n ≡ says_lost (Some fate) → AllByRecursion (λ k. is_lost all k ≡ false) others
-        → AllByRecursion (λ k. is_lost all k ≡ false) (taken_by reply n (fate ∷ fates))
-    by (Gap g) says rest = rest
-    by (By k) says rest = if_so (k == reply) says rest
-    by Lost says rest = rest
 
 -- What sends an item: it sends the message and nothing is taken, or it replies to the one that is taken, or it is a mark.
 data IsSender (taken : List ℕ) : Event → Type 0 where
@@ -325,26 +279,6 @@ sender_at c items gap k (item ∷ more) events (here, implied, rest, sends, gap_
     }
 
 -- ---- each message is settled
-
--- A gap that a fate names is no later than the last,
-fits_gap : (count n : ℕ) (fates : List Fate) (i g : ℕ) → FatesFit count n fates → slice_get fates i ≡ Some (Gap g) → g ≤ count
-fits_gap count n [] i g fit at = cc
-fits_gap count n (Gap h ∷ fates) zero g fit at = let same : h ≡ g = cc in subst (λ (x : ℕ). x ≤ count) same fit.1
-fits_gap count n (By k ∷ fates) zero g fit at = cc
-fits_gap count n (Lost ∷ fates) zero g fit at = cc
-fits_gap count n (Gap h ∷ fates) (suc i) g fit at = fits_gap count (n + 1) fates i g fit.2 at
-fits_gap count n (By k ∷ fates) (suc i) g fit at = fits_gap count (n + 1) fates i g fit.2 at
-fits_gap count n (Lost ∷ fates) (suc i) g fit at = fits_gap count (n + 1) fates i g fit at
-
--- and an entry is there.
-fits_reply : (count n : ℕ) (fates : List Fate) (i k : ℕ) → FatesFit count n fates → slice_get fates i ≡ Some (By k) → k < count
-fits_reply count n [] i k fit at = cc
-fits_reply count n (By h ∷ fates) zero k fit at = let same : h ≡ k = cc in subst (λ (x : ℕ). x < count) same fit.1
-fits_reply count n (Gap g ∷ fates) zero k fit at = cc
-fits_reply count n (Lost ∷ fates) zero k fit at = cc
-fits_reply count n (Gap g ∷ fates) (suc i) k fit at = fits_reply count (n + 1) fates i k fit.2 at
-fits_reply count n (By h ∷ fates) (suc i) k fit at = fits_reply count (n + 1) fates i k fit.2 at
-fits_reply count n (Lost ∷ fates) (suc i) k fit at = fits_reply count (n + 1) fates i k fit at
 
 is_other : (side : Side) → is_side side (other (other side)) ≡ true
 is_other A = refl
