@@ -82,27 +82,37 @@ filter_all p (x ∷ xs) pass = rw (pass x (inl refl)) (ap (λ more. x ∷ more) 
 -- ---- what was taken
 
 -- What two runs of events take, one behind the other.
-taken_both : (side : Side) (xs ys : List Event) → numbers_taken side (xs ++ ys) ≡ numbers_taken side xs ++ numbers_taken side ys
+taken_both : (side : Side) (xs ys : List Event)
+    → numbers_taken side (xs ++ ys) ≡ numbers_taken side xs ++ numbers_taken side ys
 taken_both side [] ys = refl
 taken_both side (x ∷ xs) ys =
     ap (λ more. takes_from side x ++ more) (taken_both side xs ys)
     ∙ sym (append_assoc (takes_from side x) (numbers_taken side xs) (numbers_taken side ys))
 
-pub taken_left : (side : Side) (n : ℕ) (xs ys : List Event) → IsAmong n (numbers_taken side xs) → IsAmong n (numbers_taken side (xs ++ ys))
-taken_left side n xs ys is = rw (taken_both side xs ys) (among_left n (numbers_taken side xs) (numbers_taken side ys) is)
+-- What the first takes is taken,
+pub taken_left : (side : Side) (n : ℕ) (xs ys : List Event) → IsAmong n (numbers_taken side xs)
+    → IsAmong n (numbers_taken side (xs ++ ys))
+taken_left side n xs ys is =
+    rw (taken_both side xs ys) (among_left n (numbers_taken side xs) (numbers_taken side ys) is)
 
-pub taken_right : (side : Side) (n : ℕ) (xs ys : List Event) → IsAmong n (numbers_taken side ys) → IsAmong n (numbers_taken side (xs ++ ys))
-taken_right side n xs ys is = rw (taken_both side xs ys) (among_right n (numbers_taken side xs) (numbers_taken side ys) is)
+-- and what the second takes.
+pub taken_right : (side : Side) (n : ℕ) (xs ys : List Event) → IsAmong n (numbers_taken side ys)
+    → IsAmong n (numbers_taken side (xs ++ ys))
+taken_right side n xs ys is =
+    rw (taken_both side xs ys) (among_right n (numbers_taken side xs) (numbers_taken side ys) is)
 
 -- what a loss takes
 abbrev loss_of : Side → Event → List ℕ
 loss_of side event = cond (is_loss event) (takes_from side event) []
 
 -- The losses are what each loss takes.
-losses_first : (side : Side) (event : Event) (events : List Event) → losses_from side (event ∷ events) ≡ loss_of side event ++ losses_from side events
+losses_first : (side : Side) (event : Event) (events : List Event)
+    → losses_from side (event ∷ events) ≡ loss_of side event ++ losses_from side events
 losses_first side (Loses sender number) events = by (is_side side sender)
   where
-    by : (b : Bool) → cond b (number ∷ losses_from side events) (losses_from side events) ≡ cond b (number ∷ []) [] ++ losses_from side events
+    by : (b : Bool)
+        → cond b (number ∷ losses_from side events) (losses_from side events)
+        ≡ cond b (number ∷ []) [] ++ losses_from side events
     by true = refl
     by false = refl
 losses_first side (Sends place m) events = refl
@@ -114,7 +124,8 @@ losses_first side Quiet events = refl
 losses_first side (Tells place m) events = refl
 
 -- What is taken without the losses is taken,
-pub among_plain : (side : Side) (n : ℕ) (events : List Event) → IsAmong n (numbers_taken side (without_losses events)) → IsAmong n (numbers_taken side events)
+pub among_plain : (side : Side) (n : ℕ) (events : List Event) → IsAmong n (numbers_taken side (without_losses events))
+    → IsAmong n (numbers_taken side events)
 among_plain side n [] is = is
 among_plain side n (event ∷ events) is = by (is_loss event) (among_plain side n events) is
   where
@@ -132,12 +143,14 @@ among_plain side n (event ∷ events) is = by (is_loss event) (among_plain side 
     by_parts on (inr more) = among_right n first rest (on more)
 
     by : (b : Bool) → (IsAmong n plain → IsAmong n rest)
-        → IsAmong n (numbers_taken side (cond b (without_losses events) (event ∷ without_losses events))) → IsAmong n (first ++ rest)
+        → IsAmong n (numbers_taken side (cond b (without_losses events) (event ∷ without_losses events)))
+        → IsAmong n (first ++ rest)
     by true on is = among_right n first rest (on is)
     by false on is = by_parts on (among_parts n first plain is)
 
 -- and so is what is lost.
-among_losses : (side : Side) (n : ℕ) (events : List Event) → IsAmong n (losses_from side events) → IsAmong n (numbers_taken side events)
+among_losses : (side : Side) (n : ℕ) (events : List Event) → IsAmong n (losses_from side events)
+    → IsAmong n (numbers_taken side events)
 among_losses side n [] is = is
 among_losses side n (event ∷ events) is =
     by (is_loss event) (among_losses side n events)
@@ -152,7 +165,8 @@ among_losses side n (event ∷ events) is =
     lost : List ℕ
     lost = losses_from side events
 
-    by : (b : Bool) → (IsAmong n lost → IsAmong n rest) → IsAmong n (cond b first []) ⊎ IsAmong n lost → IsAmong n (first ++ rest)
+    by : (b : Bool) → (IsAmong n lost → IsAmong n rest) → IsAmong n (cond b first []) ⊎ IsAmong n lost
+        → IsAmong n (first ++ rest)
     by true on (inl here) = among_left n first rest here
     by false on (inl here) = absurd here
     by b on (inr more) = among_right n first rest (on more)
@@ -162,7 +176,8 @@ losses_apart : (side : Side) (n : ℕ) (events : List Event) → IsStrictlySorte
     → IsAmong n (losses_from side events) → IsAmong n (numbers_taken side (without_losses events)) → ⊥
 losses_apart side n [] rises lost plain = lost
 losses_apart side n (event ∷ events) rises lost plain =
-    by (is_loss event) (losses_apart side n events (rises_behind (takes_from side event) (numbers_taken side events) rises))
+    by (is_loss event)
+    (losses_apart side n events (rises_behind (takes_from side event) (numbers_taken side events) rises))
     (among_parts n (loss_of side event) (losses_from side events) (rw (losses_first side event events) at lost)) plain
   where
     first : List ℕ
@@ -205,14 +220,19 @@ is_lost fates n = says_lost (slice_get fates n)
 abbrev pub IsFrom : List Fate → ℕ → List Fate → Type 0
 IsFrom all n fates = (i : ℕ) → slice_get fates i ≡ slice_get all (n + i)
 
-from_head : (all : List Fate) (n : ℕ) (fate : Fate) (fates : List Fate) → IsFrom all n (fate ∷ fates) → slice_get all n ≡ Some fate
+-- The first of them is the one of that number,
+from_head : (all : List Fate) (n : ℕ) (fate : Fate) (fates : List Fate) → IsFrom all n (fate ∷ fates)
+    → slice_get all n ≡ Some fate
 from_head all n fate fates from = let e : n + 0 ≡ n = omega arith in sym (from 0 ∙ ap (slice_get all) e)
 
-from_tail : (all : List Fate) (n : ℕ) (fate : Fate) (fates : List Fate) → IsFrom all n (fate ∷ fates) → IsFrom all (n + 1) fates
+-- and the rest are those from the next number on.
+from_tail : (all : List Fate) (n : ℕ) (fate : Fate) (fates : List Fate) → IsFrom all n (fate ∷ fates)
+    → IsFrom all (n + 1) fates
 from_tail all n fate fates from i = let e : n + suc i ≡ (n + 1) + i = omega arith in from (suc i) ∙ ap (slice_get all) e
 
 -- The messages that an end sent and whose fate says so are those that are lost.
-filter_sent : (side : Side) (all : List Fate) (n : ℕ) (fates : List Fate) (items : List Item) → IsFrom all n fates → length fates ≡ length items
+filter_sent : (side : Side) (all : List Fate) (n : ℕ) (fates : List Fate) (items : List Item) → IsFrom all n fates
+    → length fates ≡ length items
     → filter (is_lost all) (numbers_sent side n items) ≡ lost_from side n fates items
 filter_sent side all n [] [] from counted = refl
 filter_sent side all n [] (item ∷ items) from counted = absurd (omega (arith, counted))
@@ -232,7 +252,8 @@ filter_sent side all n (fate ∷ fates) (item ∷ items) from counted =
     keeps true says rest = rw says (ap (λ more. n ∷ more) rest)
     keeps false says rest = rest
 
-    drops : (b : Bool) → is_lost all n ≡ false → filter (is_lost all) sent ≡ lost → filter (is_lost all) (cond b (n ∷ sent) sent) ≡ lost
+    drops : (b : Bool) → is_lost all n ≡ false → filter (is_lost all) sent ≡ lost
+        → filter (is_lost all) (cond b (n ∷ sent) sent) ≡ lost
     drops true says rest = rw says rest
     drops false says rest = rest
 
@@ -259,7 +280,8 @@ IsFated fates Quiet = Unit {0}
 IsFated fates (Tells side m) = ⊥
 
 -- No number that such an event takes is lost by its fate.
-none_fated : (fates : List Fate) (side : Side) (event : Event) → IsFated fates event → filter (is_lost fates) (takes_from side event) ≡ []
+none_fated : (fates : List Fate) (side : Side) (event : Event) → IsFated fates event
+    → filter (is_lost fates) (takes_from side event) ≡ []
 none_fated fates side (Receives place n) is = by (is_side side (other place))
   where
     by : (b : Bool) → filter (is_lost fates) (cond b (n ∷ []) []) ≡ []
@@ -278,7 +300,8 @@ none_fated fates side Quiet is = refl
 none_fated fates side (Tells place m) is = refl
 
 -- So of all that is taken, what is lost by its fate is among the losses.
-filter_taken : (fates : List Fate) (side : Side) (events : List Event) → AllByRecursion (IsFated fates) (without_losses events)
+filter_taken : (fates : List Fate) (side : Side) (events : List Event)
+    → AllByRecursion (IsFated fates) (without_losses events)
     → filter (is_lost fates) (numbers_taken side events) ≡ filter (is_lost fates) (losses_from side events)
 filter_taken fates side [] all = refl
 filter_taken fates side (event ∷ events) all =
@@ -291,7 +314,8 @@ filter_taken fates side (event ∷ events) all =
     kept = filter (is_lost fates)
 
     by : (b : Bool) → AllByRecursion (IsFated fates) (cond b (without_losses events) (event ∷ without_losses events))
-        → (AllByRecursion (IsFated fates) (without_losses events) → kept (numbers_taken side events) ≡ kept (losses_from side events))
+        → (AllByRecursion (IsFated fates) (without_losses events)
+        → kept (numbers_taken side events) ≡ kept (losses_from side events))
         → kept (takes_from side event) ++ kept (numbers_taken side events)
         ≡ kept (cond b (takes_from side event) []) ++ kept (losses_from side events)
     by true all on = ap (λ more. kept (takes_from side event) ++ more) (on all)
@@ -299,7 +323,8 @@ filter_taken fates side (event ∷ events) all =
         ap (λ first. first ++ kept (numbers_taken side events)) (none_fated fates side event all.0) ∙ on all.1
 
 -- Nothing is told.
-pub fated_keeps : (fates : List Fate) (side : Side) (events : List Event) → AllByRecursion (IsFated fates) (without_losses events) → KeepsRules side events
+pub fated_keeps : (fates : List Fate) (side : Side) (events : List Event)
+    → AllByRecursion (IsFated fates) (without_losses events) → KeepsRules side events
 fated_keeps fates side [] all = refl
 fated_keeps fates side (Loses place n ∷ events) all = fated_keeps fates side events all
 fated_keeps fates side (Sends place m ∷ events) all = fated_keeps fates side events all.1
@@ -316,7 +341,8 @@ pub deliveries_fated : (all : List Fate) (gap n : ℕ) (fates : List Fate) (item
 deliveries_fated all gap n [] items from = tt
 deliveries_fated all gap n (fate ∷ fates) [] from = tt
 deliveries_fated all gap n (fate ∷ fates) (item ∷ items) from =
-    by item fate (ap says_lost (from_head all n fate fates from)) (deliveries_fated all gap (n + 1) fates items (from_tail all n fate fates from))
+    by item fate (ap says_lost (from_head all n fate fates from))
+    (deliveries_fated all gap (n + 1) fates items (from_tail all n fate fates from))
   where
     others : List Event
     others = deliveries gap (n + 1) fates items
@@ -340,7 +366,8 @@ pub taken_fated : (all : List Fate) (reply n : ℕ) (fates : List Fate) → IsFr
     → AllByRecursion (λ k. is_lost all k ≡ false) (taken_by reply n fates)
 taken_fated all reply n [] from = tt
 taken_fated all reply n (fate ∷ fates) from =
-    by fate (ap says_lost (from_head all n fate fates from)) (taken_fated all reply (n + 1) fates (from_tail all n fate fates from))
+    by fate (ap says_lost (from_head all n fate fates from))
+    (taken_fated all reply (n + 1) fates (from_tail all n fate fates from))
   where
     others : List ℕ
     others = taken_by reply (n + 1) fates
@@ -357,7 +384,8 @@ taken_fated all reply n (fate ∷ fates) from =
     by Lost says rest = rest
 
 -- A gap that a fate names is no later than the last,
-pub fits_gap : (count n : ℕ) (fates : List Fate) (i g : ℕ) → FatesFit count n fates → slice_get fates i ≡ Some (Gap g) → g ≤ count
+pub fits_gap : (count n : ℕ) (fates : List Fate) (i g : ℕ) → FatesFit count n fates → slice_get fates i ≡ Some (Gap g)
+    → g ≤ count
 fits_gap count n [] i g fit at = cc
 fits_gap count n (Gap h ∷ fates) zero g fit at = let same : h ≡ g = cc in subst (λ (x : ℕ). x ≤ count) same fit.1
 fits_gap count n (By k ∷ fates) zero g fit at = cc
@@ -367,7 +395,8 @@ fits_gap count n (By k ∷ fates) (suc i) g fit at = fits_gap count (n + 1) fate
 fits_gap count n (Lost ∷ fates) (suc i) g fit at = fits_gap count (n + 1) fates i g fit at
 
 -- and an entry is there.
-pub fits_reply : (count n : ℕ) (fates : List Fate) (i k : ℕ) → FatesFit count n fates → slice_get fates i ≡ Some (By k) → k < count
+pub fits_reply : (count n : ℕ) (fates : List Fate) (i k : ℕ) → FatesFit count n fates → slice_get fates i ≡ Some (By k)
+    → k < count
 fits_reply count n [] i k fit at = cc
 fits_reply count n (By h ∷ fates) zero k fit at = let same : h ≡ k = cc in subst (λ (x : ℕ). x < count) same fit.1
 fits_reply count n (Gap g ∷ fates) zero k fit at = cc
@@ -397,8 +426,10 @@ sent_at side n k (item ∷ items) is = by item (sent_at side (n + 1) k items) is
     behind : (first : Item) → IsSentAt side (n + 1) items k → IsSentAt side n (first ∷ items) k
     behind first (i, m, e, at) = (suc i, m, omega (arith, e), at)
 
-    here : (sender : Side) (message : Message) (b : Bool) → is_side side sender ≡ b → (IsAmong k (numbers_sent side (n + 1) items) → IsSentAt side (n + 1) items k)
-        → IsAmong k (cond b (n ∷ numbers_sent side (n + 1) items) (numbers_sent side (n + 1) items)) → IsSentAt side n (Sent sender message ∷ items) k
+    here : (sender : Side) (message : Message) (b : Bool) → is_side side sender ≡ b
+        → (IsAmong k (numbers_sent side (n + 1) items) → IsSentAt side (n + 1) items k)
+        → IsAmong k (cond b (n ∷ numbers_sent side (n + 1) items) (numbers_sent side (n + 1) items))
+        → IsSentAt side n (Sent sender message ∷ items) k
     here sender message true same on (inl e) =
         (0, message, omega (arith, e), ap (λ (x : Side). Some (Sent x message)) (sym (same_side side sender same)))
     here sender message true same on (inr is) = behind (Sent sender message) (on is)
@@ -410,7 +441,8 @@ sent_at side n k (item ∷ items) is = by item (sent_at side (n + 1) k items) is
     by (Sent sender message) on is = here sender message (is_side side sender) refl on is
 
 -- What was taken from an end's channel was a message of it.
-pub taken_sent : (table : Table) (events : List Event) (w : World) (side : Side) (k : ℕ) → Runs table events w → IsAmong k (numbers_taken side events)
+pub taken_sent : (table : Table) (events : List Event) (w : World) (side : Side) (k : ℕ) → Runs table events w
+    → IsAmong k (numbers_taken side events)
     → (m : Message) × (slice_get w.sent k ≡ Some (Sent side m))
 taken_sent table events w side k runs is =
     let among = rw (are_whole table events w runs side) at
@@ -428,30 +460,36 @@ IsSettled fates w plain = (side : Side) (n : ℕ) (m : Message) → slice_get w.
 all_numbered : (P : OnItsWay → Type 0) (Q : OnItsWay → Type 0) (messages : List OnItsWay) → AllByRecursion P messages
     → ((m : OnItsWay) → P m → IsAmong m.number (numbers_of messages) → Q m) → AllByRecursion Q messages
 all_numbered P Q [] all on = tt
-all_numbered P Q (first ∷ more) all on = (on first all.0 (inl refl), all_numbered P Q more all.1 (λ m is there. on m is (inr there)))
+all_numbered P Q (first ∷ more) all on =
+    (on first all.0 (inl refl), all_numbered P Q more all.1 (λ m is there. on m is (inr there)))
 
 -- So what is still on its way is lost by its fate.
 pub left_lost : (table : Table) (fates : List Fate) (events : List Event) (w : World) → Runs table events w
     → IsSettled fates w (without_losses events) → (side : Side)
     → AllByRecursion (λ m. is_lost fates m.number ≡ true) (channel_from side w)
 left_lost table fates events w runs settled side =
-    all_numbered (WasSent w side) (λ m. is_lost fates m.number ≡ true) (channel_from side w) (were_sent table events w runs side)
+    all_numbered (WasSent w side) (λ m. is_lost fates m.number ≡ true) (channel_from side w)
+    (were_sent table events w runs side)
     (λ m was there. by m there (settled side m.number m.message was.listed))
   where
     by : (m : OnItsWay) → IsAmong m.number (numbers_of (channel_from side w))
-        → (is_lost fates m.number ≡ true) ⊎ IsAmong m.number (numbers_taken side (without_losses events)) → is_lost fates m.number ≡ true
+        → (is_lost fates m.number ≡ true) ⊎ IsAmong m.number (numbers_taken side (without_losses events))
+        → is_lost fates m.number ≡ true
     by m there (inl says) = says
     by m there (inr taken) = absurd
-        (parts_apart m.number (numbers_taken side events) (numbers_of (channel_from side w)) (in_order table events w runs side)
+        (parts_apart m.number (numbers_taken side events) (numbers_of (channel_from side w))
+        (in_order table events w runs side)
         (among_plain side m.number events taken) there)
 
 -- A list with nothing behind it rises by itself.
 rises_alone : (xs ys : List ℕ) → ys ≡ [] → IsStrictlySortedBy nat_cmp (xs ++ ys) → IsStrictlySortedBy nat_cmp xs
-rises_alone xs ys none rises = subst (IsStrictlySortedBy nat_cmp) (ap (λ (more : List ℕ). xs ++ more) none ∙ append-nil xs) rises
+rises_alone xs ys none rises =
+    subst (IsStrictlySortedBy nat_cmp) (ap (λ (more : List ℕ). xs ++ more) none ∙ append-nil xs) rises
 
 -- What is lost in a run is what is lost by its fate, where nothing is left on its way.
 pub losses_are : (table : Table) (fates : List Fate) (events : List Event) (w : World) → Runs table events w
-    → length fates ≡ length w.sent → AllByRecursion (IsFated fates) (without_losses events) → IsSettled fates w (without_losses events)
+    → length fates ≡ length w.sent → AllByRecursion (IsFated fates) (without_losses events)
+    → IsSettled fates w (without_losses events)
     → (side : Side) → channel_from side w ≡ [] → losses_from side events ≡ lost_from side 0 fates w.sent
 losses_are table fates events w runs counted fated settled side none =
     sym (filter_all (is_lost fates) lost says)
@@ -469,7 +507,8 @@ losses_are table fates events w runs counted fated settled side none =
     on_way = ap numbers_of none
 
     all_taken : taken ≡ numbers_sent side 0 w.sent
-    all_taken = sym (ap (λ (more : List ℕ). taken ++ more) on_way ∙ append-nil taken) ∙ are_whole table events w runs side
+    all_taken =
+        sym (ap (λ (more : List ℕ). taken ++ more) on_way ∙ append-nil taken) ∙ are_whole table events w runs side
 
     says : (n : ℕ) → IsAmong n lost → is_lost fates n ≡ true
     says n is =
@@ -479,4 +518,5 @@ losses_are table fates events w runs counted fated settled side none =
         by : (is_lost fates n ≡ true) ⊎ IsAmong n (numbers_taken side (without_losses events)) → is_lost fates n ≡ true
         by (inl says) = says
         by (inr plain) = absurd
-            (losses_apart side n events (rises_alone taken (numbers_of (channel_from side w)) on_way (in_order table events w runs side)) is plain)
+            (losses_apart side n events
+            (rises_alone taken (numbers_of (channel_from side w)) on_way (in_order table events w runs side)) is plain)

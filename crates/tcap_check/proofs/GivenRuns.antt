@@ -39,18 +39,23 @@ use Rattle.tcap_check.proofs.ReplayGaps.{fates_ok, listed_ok}
 use Rattle.tcap_check.proofs.ReplayLaws.{Extends, both_replay, extends_then, without_both}
 use Rattle.tcap_check.proofs.RunLaws.{where_some}
 
+-- Two options that are there are the same where what is in them is.
 some_is : {A : Type 0} {x y : A} → (let o : Option A = Some x in o) ≡ Some y → x ≡ y
 some_is e = cc
 
 -- ---- gaps
 
-then_some : {A B : Type 0} (o : Option A) (step : A → Option B) (y : B) → then_so o step ≡ Some y → (x : A) × (o ≡ Some x) × (step x ≡ Some y)
+-- A step behind an option is there where both are.
+then_some : {A B : Type 0} (o : Option A) (step : A → Option B) (y : B) → then_so o step ≡ Some y
+    → (x : A) × (o ≡ Some x) × (step x ≡ Some y)
 then_some None step y is = cc
 then_some (Some x) step y is = (x, refl, is)
 
 -- A closing that is listed fits the fates,
-closing_fated : (fates : List Fate) (items : List Item) (x : Closing) (event : Event) → closing_event items x ≡ Some event → IsFated fates event
-closing_fated fates items x event is = let found = then_some (named_entry items x.gap x.entry) (closing_by x) event is in by found.0 found.2
+closing_fated : (fates : List Fate) (items : List Item) (x : Closing) (event : Event)
+    → closing_event items x ≡ Some event → IsFated fates event
+closing_fated fates items x event is =
+    let found = then_some (named_entry items x.gap x.entry) (closing_by x) event is in by found.0 found.2
   where
     by : (item : Item) → closing_by x item ≡ Some event → IsFated fates event
     by (Sent sender (Begin otid dialogue components)) e =
@@ -62,8 +67,10 @@ closing_fated fates items x event is = let found = then_some (named_entry items 
     by Item.Quiet e = cc
 
 -- and so does an expiry.
-expiry_fated : (fates : List Fate) (items : List Item) (x : Expiry) (event : Event) → expiry_event items x ≡ Some event → IsFated fates event
-expiry_fated fates items x event is = let found = then_some (named_entry items x.gap x.entry) (expiry_by x) event is in by found.0 found.2
+expiry_fated : (fates : List Fate) (items : List Item) (x : Expiry) (event : Event) → expiry_event items x ≡ Some event
+    → IsFated fates event
+expiry_fated fates items x event is =
+    let found = then_some (named_entry items x.gap x.entry) (expiry_by x) event is in by found.0 found.2
   where
     by : (item : Item) → expiry_by x item ≡ Some event → IsFated fates event
     by (Sent sender message) e =
@@ -81,7 +88,8 @@ same_events (x ∷ xs) [] same = cc
 same_events (x ∷ xs) (y ∷ ys) same = let rest = same_events xs ys cc in cc
 
 -- Events that are some options and then others are parts.
-some_parts : (here : List Event) (options : List (Option Event)) (behind : List Event) → map Some here ≡ options ++ map Some behind
+some_parts : (here : List Event) (options : List (Option Event)) (behind : List Event)
+    → map Some here ≡ options ++ map Some behind
     → (before : List Event) × (map Some before ≡ options) × (here ≡ before ++ behind)
 some_parts here [] behind is = ([], refl, same_events here behind is)
 some_parts [] (o ∷ options) behind is = cc
@@ -95,6 +103,7 @@ some_parts (first ∷ here) (o ∷ options) behind is =
 abbrev IfThere : (Event → Type 0) → Option Event → Type 0
 IfThere P o = (event : Event) → o ≡ Some event → P event
 
+-- What holds of each option, where it is there, holds of the events that are these options.
 all_there : (P : Event → Type 0) (events : List Event) (options : List (Option Event)) → map Some events ≡ options
     → AllByRecursion (IfThere P) options → AllByRecursion P events
 all_there P [] options is all = tt
@@ -102,7 +111,8 @@ all_there P (event ∷ events) [] is all = cc
 all_there P (event ∷ events) (o ∷ options) is all = (all.0 event (cc), all_there P events options (cc) all.1)
 
 -- What holds of what each gives holds of all.
-all_listed : {C : Type 0} (P : Event → Type 0) (f : C → Option Event) (xs : List C) → ((x : C) (event : Event) → f x ≡ Some event → P event)
+all_listed : {C : Type 0} (P : Event → Type 0) (f : C → Option Event) (xs : List C)
+    → ((x : C) (event : Event) → f x ≡ Some event → P event)
     → AllByRecursion (IfThere P) (map f xs)
 all_listed P f [] on = tt
 all_listed P f (x ∷ xs) on = (on x, all_listed P f xs on)
@@ -118,40 +128,55 @@ gap_fated : (c : Certificate) (items : List Item) (gap : ℕ) (here : List Event
     → AllByRecursion (IsFated c.fates) here
 gap_fated c items gap here is =
     let parts = some_parts here (unseen c items gap) (deliveries gap 0 c.fates items) is in
-    let closings = all_listed (IsFated c.fates) (closing_event items) (filter (λ (x : Closing). x.gap == gap) c.close) (closing_fated c.fates items) in
-    let expiries = all_listed (IsFated c.fates) (expiry_event items) (filter (λ (x : Expiry). x.gap == gap) c.expire) (expiry_fated c.fates items) in
-    let first = all_there (IsFated c.fates) parts.0 (unseen c items gap) parts.1 (all_both (IfThere (IsFated c.fates)) _ _ closings expiries) in
-    let last = deliveries_fated c.fates gap 0 c.fates items (λ i. let e : i ≡ 0 + i = omega arith in ap (slice_get c.fates) e) in
-    subst (AllByRecursion (IsFated c.fates)) (sym parts.2) (all_both (IsFated c.fates) parts.0 (deliveries gap 0 c.fates items) first last)
+    let closings = all_listed (IsFated c.fates) (closing_event items) (filter (λ (x : Closing). x.gap == gap) c.close)
+    (closing_fated c.fates items) in
+    let expiries = all_listed (IsFated c.fates) (expiry_event items) (filter (λ (x : Expiry). x.gap == gap) c.expire)
+    (expiry_fated c.fates items) in
+    let first = all_there (IsFated c.fates) parts.0 (unseen c items gap) parts.1
+    (all_both (IfThere (IsFated c.fates)) _ _ closings expiries) in
+    let last = deliveries_fated c.fates gap 0 c.fates items
+    (λ i. let e : i ≡ 0 + i = omega arith in ap (slice_get c.fates) e) in
+    subst (AllByRecursion (IsFated c.fates)) (sym parts.2)
+    (all_both (IsFated c.fates) parts.0 (deliveries gap 0 c.fates items) first last)
 
 -- ---- what sends an item
 
--- What sends an item: it sends the message and nothing is taken, or it replies to the one that is taken, or it is a mark.
+-- What sends an item: it sends the message and nothing is taken, or it replies to the one that is taken, or it is a
+-- mark.
 data IsSender (taken : List ℕ) : Event → Type 0 where
   by_send : (side : Side) (m : Message) → taken ≡ [] → IsSender taken (Sends side m)
   by_reply : (side : Side) (n : ℕ) → taken ≡ n ∷ [] → IsSender taken (Replies side n)
   by_mark : taken ≡ [] → IsSender taken Quiet
 
+-- The same event sends it.
 sender_as : (taken : List ℕ) (made event : Event) → Some made ≡ Some event → IsSender taken made → IsSender taken event
 sender_as taken made event is of_made = subst (IsSender taken) (let same : made ≡ event = some_is is in same) of_made
 
-sender_is : (c : Certificate) (number : ℕ) (item : Item) (taken : List ℕ) (event : Event) → sending_by c number item taken ≡ Some event
+-- That is how the event which sends an item does it.
+sender_is : (c : Certificate) (number : ℕ) (item : Item) (taken : List ℕ) (event : Event)
+    → sending_by c number item taken ≡ Some event
     → IsSender taken event
 sender_is c number (Sent side (Abort dtid (Some (Cause cause)))) [] event is = cc
 sender_is c number (Sent side (Abort dtid (Some (Cause cause)))) (t ∷ []) event is =
     sender_as (t ∷ []) (Replies side t) event is (by_reply side t refl)
 sender_is c number (Sent side (Abort dtid (Some (Cause cause)))) (t ∷ u ∷ more) event is = cc
-sender_is c number (Sent side (Abort dtid (Some (ByDialogue d)))) [] event is = sender_as [] (Sends side _) event is (by_send side _ refl)
+sender_is c number (Sent side (Abort dtid (Some (ByDialogue d)))) [] event is =
+    sender_as [] (Sends side _) event is (by_send side _ refl)
 sender_is c number (Sent side (Abort dtid (Some (ByDialogue d)))) (t ∷ more) event is = cc
-sender_is c number (Sent side (Abort dtid None)) [] event is = sender_as [] (Sends side _) event is (by_send side _ refl)
+sender_is c number (Sent side (Abort dtid None)) [] event is =
+    sender_as [] (Sends side _) event is (by_send side _ refl)
 sender_is c number (Sent side (Abort dtid None)) (t ∷ more) event is = cc
-sender_is c number (Sent side (Unidirectional dialogue components)) [] event is = sender_as [] (Sends side _) event is (by_send side _ refl)
+sender_is c number (Sent side (Unidirectional dialogue components)) [] event is =
+    sender_as [] (Sends side _) event is (by_send side _ refl)
 sender_is c number (Sent side (Unidirectional dialogue components)) (t ∷ more) event is = cc
-sender_is c number (Sent side (Begin otid dialogue components)) [] event is = sender_as [] (Sends side _) event is (by_send side _ refl)
+sender_is c number (Sent side (Begin otid dialogue components)) [] event is =
+    sender_as [] (Sends side _) event is (by_send side _ refl)
 sender_is c number (Sent side (Begin otid dialogue components)) (t ∷ more) event is = cc
-sender_is c number (Sent side (Continue otid dtid dialogue components)) [] event is = sender_as [] (Sends side _) event is (by_send side _ refl)
+sender_is c number (Sent side (Continue otid dtid dialogue components)) [] event is =
+    sender_as [] (Sends side _) event is (by_send side _ refl)
 sender_is c number (Sent side (Continue otid dtid dialogue components)) (t ∷ more) event is = cc
-sender_is c number (Sent side (EndMessage dtid dialogue components)) [] event is = sender_as [] (Sends side _) event is (by_send side _ refl)
+sender_is c number (Sent side (EndMessage dtid dialogue components)) [] event is =
+    sender_as [] (Sends side _) event is (by_send side _ refl)
 sender_is c number (Sent side (EndMessage dtid dialogue components)) (t ∷ more) event is = cc
 sender_is c number Item.Quiet (t ∷ more) event is = cc
 sender_is c number Item.Quiet [] event is = by (slice_get c.fates number) is
@@ -167,10 +192,12 @@ sender_is c number Item.Quiet [] event is = by (slice_get c.fates number) is
     by (Some Lost) e = cc
 
 -- It fits the fates where those that it takes are not lost by them,
-sender_fated : (fates : List Fate) (taken : List ℕ) (event : Event) → AllByRecursion (λ k. is_lost fates k ≡ false) taken
+sender_fated : (fates : List Fate) (taken : List ℕ) (event : Event)
+    → AllByRecursion (λ k. is_lost fates k ≡ false) taken
     → IsSender taken event → IsFated fates event
 sender_fated fates taken event all (by_send side m none) = tt
-sender_fated fates taken event all (by_reply side n one) = (subst (AllByRecursion (λ k. is_lost fates k ≡ false)) one all).0
+sender_fated fates taken event all (by_reply side n one) =
+    (subst (AllByRecursion (λ k. is_lost fates k ≡ false)) one all).0
 sender_fated fates taken event all (by_mark none) = tt
 
 -- and takes them, from the one end or the other.
@@ -190,7 +217,8 @@ sender_takes side taken event n is (by_mark none) = absurd (subst (IsAmong n) no
 -- ---- all that follows the certificate
 
 -- Expiries that an item implies fit the fates.
-implied_fated : (fates : List Fate) (item : Item) (events : List Event) → AllByRecursion (IsImplied item) events → AllByRecursion (IsFated fates) events
+implied_fated : (fates : List Fate) (item : Item) (events : List Event) → AllByRecursion (IsImplied item) events
+    → AllByRecursion (IsFated fates) events
 implied_fated fates item [] all = tt
 implied_fated fates item (event ∷ events) all = (by item event all.0, implied_fated fates item events all.1)
   where
@@ -206,23 +234,26 @@ implied_fated fates item (event ∷ events) all = (by item event all.0, implied_
     by Item.Quiet event is = absurd is
 
 -- From each gap on all events fit them.
-follows_fated : (c : Certificate) (items : List Item) (gap : ℕ) (left : List Item) (events : List Event) → FollowsFrom c items gap left events
+follows_fated : (c : Certificate) (items : List Item) (gap : ℕ) (left : List Item) (events : List Event)
+    → FollowsFrom c items gap left events
     → AllByRecursion (IsFated c.fates) events
 follows_fated c items gap [] events follows = gap_fated c items gap events follows
 follows_fated c items gap (item ∷ more) events (here, implied, rest, sends, gap_is, all, sends_is, events_are, on) =
     let taken = taken_fated c.fates gap 0 c.fates (λ i. let e : i ≡ 0 + i = omega arith in ap (slice_get c.fates) e) in
-    let sender = sender_fated c.fates (taken_by gap 0 c.fates) sends taken (sender_is c gap item (taken_by gap 0 c.fates) sends sends_is) in
-    let before = all_both (IsFated c.fates) here implied (gap_fated c items gap here gap_is) (implied_fated c.fates item implied all) in
+    let sender = sender_fated c.fates (taken_by gap 0 c.fates) sends taken
+    (sender_is c gap item (taken_by gap 0 c.fates) sends sends_is) in
+    let before = all_both (IsFated c.fates) here implied (gap_fated c items gap here gap_is)
+    (implied_fated c.fates item implied all) in
     let behind = follows_fated c items (gap + 1) more rest on in
     rw events_are (all_both (IsFated c.fates) (here ++ implied) (sends ∷ rest) before (sender, behind))
 
--- Each gap is there, and what it takes is taken;
+-- A gap is there, and what it takes is taken.
 record HasGap (c : Certificate) (items : List Item) (gap : ℕ) (events : List Event) : Type 0 where
   here : List Event
   is : map Some here ≡ gap_events c items gap
   takes : (side : Side) (n : ℕ) → IsAmong n (numbers_taken side here) → IsAmong n (numbers_taken side events)
 
--- so is what sends each item.
+-- What sends an item is there, and what it takes is taken.
 record HasSender (c : Certificate) (number : ℕ) (events : List Event) : Type 0 where
   item : Item
   sends : Event
@@ -230,19 +261,27 @@ record HasSender (c : Certificate) (number : ℕ) (events : List Event) : Type 0
   takes : (side : Side) (n : ℕ) → IsAmong n (takes_from side sends) → IsAmong n (numbers_taken side events)
 
 -- What the rest takes is taken.
-taken_behind : (side : Side) (n : ℕ) (first : List Event) (sends : Event) (rest events : List Event) → events ≡ first ++ sends ∷ rest
+taken_behind : (side : Side) (n : ℕ) (first : List Event) (sends : Event) (rest events : List Event)
+    → events ≡ first ++ sends ∷ rest
     → IsAmong n (numbers_taken side rest) → IsAmong n (numbers_taken side events)
 taken_behind side n first sends rest events are is =
     subst (λ (x : List Event). IsAmong n (numbers_taken side x)) (sym are)
     (taken_right side n first (sends ∷ rest) (among_right n (takes_from side sends) (numbers_taken side rest) is))
 
-gap_at : (c : Certificate) (items : List Item) (gap g : ℕ) (left : List Item) (events : List Event) → FollowsFrom c items gap left events
+-- Each gap from the first on is there,
+gap_at : (c : Certificate) (items : List Item) (gap g : ℕ) (left : List Item) (events : List Event)
+    → FollowsFrom c items gap left events
     → gap ≤ g → g ≤ gap + length left → HasGap c items g events
 gap_at c items gap g [] events follows low high =
     let same : gap ≡ g = omega (arith, low, high) in
-    record { here = events; is = subst (λ (x : ℕ). map Some events ≡ gap_events c items x) same follows; takes = λ side n is. is }
+    record {
+      here = events;
+      is = subst (λ (x : ℕ). map Some events ≡ gap_events c items x) same follows;
+      takes = λ side n is. is;
+    }
 gap_at c items gap g (item ∷ more) events (here, implied, rest, sends, gap_is, all, sends_is, events_are, on) low high =
-    by (eq-or-lt_of_le low) (λ behind. gap_at c items (gap + 1) g more rest on (omega (arith, behind)) (omega (arith, high)))
+    by (eq-or-lt_of_le low)
+    (λ behind. gap_at c items (gap + 1) g more rest on (omega (arith, behind)) (omega (arith, high)))
   where
     by : (gap ≡ g) ⊎ (gap < g) → (gap < g → HasGap c items g rest) → HasGap c items g events
     by (inl same) later = record {
@@ -257,11 +296,15 @@ gap_at c items gap g (item ∷ more) events (here, implied, rest, sends, gap_is,
       takes = λ side n is. taken_behind side n (here ++ implied) sends rest events events_are (found.takes side n is);
     }
 
-sender_at : (c : Certificate) (items : List Item) (gap k : ℕ) (left : List Item) (events : List Event) → FollowsFrom c items gap left events
+-- and so is what sends each item.
+sender_at : (c : Certificate) (items : List Item) (gap k : ℕ) (left : List Item) (events : List Event)
+    → FollowsFrom c items gap left events
     → gap ≤ k → k < gap + length left → HasSender c k events
 sender_at c items gap k [] events follows low high = absurd (omega (arith, low, high))
-sender_at c items gap k (item ∷ more) events (here, implied, rest, sends, gap_is, all, sends_is, events_are, on) low high =
-    by (eq-or-lt_of_le low) (λ behind. sender_at c items (gap + 1) k more rest on (omega (arith, behind)) (omega (arith, high)))
+sender_at c items gap k (item ∷ more) events (here, implied, rest, sends, gap_is, all, sends_is, events_are, on) low
+    high =
+    by (eq-or-lt_of_le low)
+    (λ behind. sender_at c items (gap + 1) k more rest on (omega (arith, behind)) (omega (arith, high)))
   where
     by : (gap ≡ k) ⊎ (gap < k) → (gap < k → HasSender c k rest) → HasSender c k events
     by (inl same) later = record {
@@ -269,7 +312,8 @@ sender_at c items gap k (item ∷ more) events (here, implied, rest, sends, gap_
       sends = sends;
       is = subst (λ (x : ℕ). sending c x item ≡ Some sends) same sends_is;
       takes = λ side n is. subst (λ (x : List Event). IsAmong n (numbers_taken side x)) (sym events_are)
-          (taken_right side n (here ++ implied) (sends ∷ rest) (among_left n (takes_from side sends) (numbers_taken side rest) is));
+          (taken_right side n (here ++ implied) (sends ∷ rest)
+          (among_left n (takes_from side sends) (numbers_taken side rest) is));
     }
     by (inr behind) later = let found = later behind in record {
       item = found.item;
@@ -280,12 +324,14 @@ sender_at c items gap k (item ∷ more) events (here, implied, rest, sends, gap_
 
 -- ---- each message is settled
 
+-- The other of the other end is the end.
 is_other : (side : Side) → is_side side (other (other side)) ≡ true
 is_other A = refl
 is_other B = refl
 
 -- A message is delivered in the gap that its fate names,
-delivered_at : (side : Side) (m : Message) (g n i : ℕ) (fates : List Fate) (items : List Item) → slice_get fates i ≡ Some (Gap g)
+delivered_at : (side : Side) (m : Message) (g n i : ℕ) (fates : List Fate) (items : List Item)
+    → slice_get fates i ≡ Some (Gap g)
     → slice_get items i ≡ Some (Sent side m) → IsAmong (n + i) (numbers_taken side (deliveries g n fates items))
 delivered_at side m g n i [] items fate_is item_is = cc
 delivered_at side m g n i (fate ∷ fates) [] fate_is item_is = cc
@@ -297,7 +343,8 @@ delivered_at side m g n zero (fate ∷ fates) (item ∷ items) fate_is item_is =
     let here : IsAmong (n + 0) (numbers_taken side (deliveries g n (Gap g ∷ fates) (Sent side m ∷ items))) =
     rw (eq-eqb g g refl, is_other side) (inl e) in
     subst (λ (x : Fate). IsAmong (n + 0) (numbers_taken side (deliveries g n (x ∷ fates) (item ∷ items)))) same_fate
-    (subst (λ (x : Item). IsAmong (n + 0) (numbers_taken side (deliveries g n (Gap g ∷ fates) (x ∷ items)))) same_item here)
+    (subst (λ (x : Item). IsAmong (n + 0) (numbers_taken side (deliveries g n (Gap g ∷ fates) (x ∷ items))))
+    same_item here)
 delivered_at side m g n (suc i) (fate ∷ fates) (item ∷ items) fate_is item_is =
     let e : (n + 1) + i ≡ n + suc i = omega arith in
     by item fate (subst (λ (k : ℕ). IsAmong k (numbers_taken side (deliveries g (n + 1) fates items))) e
@@ -308,7 +355,8 @@ delivered_at side m g n (suc i) (fate ∷ fates) (item ∷ items) fate_is item_i
 
     if_so : (sender : Side) (b : Bool) → IsAmong (n + suc i) (numbers_taken side others)
         → IsAmong (n + suc i) (numbers_taken side (cond b (Receives (other sender) n ∷ others) others))
-    if_so sender true rest = among_right (n + suc i) (takes_from side (Receives (other sender) n)) (numbers_taken side others) rest
+    if_so sender true rest =
+        among_right (n + suc i) (takes_from side (Receives (other sender) n)) (numbers_taken side others) rest
     if_so sender false rest = rest
 
     by : (item : Item) (fate : Fate) → IsAmong (n + suc i) (numbers_taken side others)
@@ -345,14 +393,17 @@ replied_at k n (suc i) (fate ∷ fates) is =
     by Lost rest = rest
 
 -- No message is of both ends.
-one_sender : (side : Side) (m other_one : Message) (o : Option Item) → o ≡ Some (Sent side m) → o ≡ Some (Sent (other side) other_one) → ⊥
+one_sender : (side : Side) (m other_one : Message) (o : Option Item) → o ≡ Some (Sent side m)
+    → o ≡ Some (Sent (other side) other_one) → ⊥
 one_sender A m n o is also = cc
 one_sender B m n o is also = cc
 
 -- Each message is lost by its fate or taken.
-settled_by : (c : Certificate) (w : World) (plain : List Event) → length c.fates ≡ length w.sent → FatesFit (length w.sent) 0 c.fates
+settled_by : (c : Certificate) (w : World) (plain : List Event) → length c.fates ≡ length w.sent
+    → FatesFit (length w.sent) 0 c.fates
     → FollowsFrom c w.sent 0 w.sent plain
-    → ((side : Side) (n : ℕ) → IsAmong n (numbers_taken side plain) → (m : Message) × (slice_get w.sent n ≡ Some (Sent side m)))
+    → ((side : Side) (n : ℕ) → IsAmong n (numbers_taken side plain)
+    → (m : Message) × (slice_get w.sent n ≡ Some (Sent side m)))
     → IsSettled c.fates w plain
 settled_by c w plain counted fit follows sent side n m at = by (slice_get c.fates n) refl
   where
@@ -373,7 +424,8 @@ settled_by c w plain counted fit follows sent side n m at = by (slice_get c.fate
         let found = gap_at c w.sent 0 g w.sent plain follows (omega arith) (omega (arith, high)) in
         let parts = some_parts found.here (unseen c w.sent g) (deliveries g 0 c.fates w.sent) found.is in
         let e : 0 + n ≡ n = omega arith in
-        let among = subst (λ (k : ℕ). IsAmong k (numbers_taken side (deliveries g 0 c.fates w.sent))) e (delivered_at side m g 0 n c.fates w.sent is at) in
+        let among = subst (λ (k : ℕ). IsAmong k (numbers_taken side (deliveries g 0 c.fates w.sent))) e
+        (delivered_at side m g 0 n c.fates w.sent is at) in
         found.takes side n (subst (λ (x : List Event). IsAmong n (numbers_taken side x)) (sym parts.2)
         (taken_right side n parts.0 (deliveries g 0 c.fates w.sent) among))
 
@@ -389,10 +441,12 @@ settled_by c w plain counted fit follows sent side n m at = by (slice_get c.fate
       where
         which : (sends : Event) → (IsAmong n (takes_from side sends) → IsAmong n (numbers_taken side plain))
             → (IsAmong n (takes_from (other side) sends) → IsAmong n (numbers_taken (other side) plain))
-            → IsAmong n (takes_from side sends) ⊎ IsAmong n (takes_from (other side) sends) → IsAmong n (numbers_taken side plain)
+            → IsAmong n (takes_from side sends) ⊎ IsAmong n (takes_from (other side) sends)
+            → IsAmong n (numbers_taken side plain)
         which sends here away (inl one) = here one
         which sends here away (inr one) =
-            let found = sent (other side) n (away one) in absurd (one_sender side m found.0 (slice_get w.sent n) at found.1)
+            let found = sent (other side) n (away one) in
+            absurd (one_sender side m found.0 (slice_get w.sent n) at found.1)
 
     by : (o : Option Fate) → slice_get c.fates n ≡ o → (is_lost c.fates n ≡ true) ⊎ IsAmong n (numbers_taken side plain)
     by None is = absurd (there is)
@@ -403,7 +457,8 @@ settled_by c w plain counted fit follows sent side n m at = by (slice_get c.fate
 -- ---- the end
 
 -- Where all on a channel is lost, the lost front of it is all.
-front_empty : (fates : List Fate) (channel : List OnItsWay) → AllByRecursion (λ m. is_lost fates m.number ≡ true) channel
+front_empty : (fates : List Fate) (channel : List OnItsWay)
+    → AllByRecursion (λ m. is_lost fates m.number ≡ true) channel
     → drop (length (lost_front fates channel)) channel ≡ []
 front_empty fates [] all = refl
 front_empty fates (first ∷ more) all = by (slice_get fates first.number) all.0 (front_empty fates more all.1)
@@ -416,16 +471,18 @@ front_empty fates (first ∷ more) all = by (slice_get fates first.number) all.0
     by (Some Lost) says rest = rest
 
 -- So nothing is left.
-none_left : (c : Certificate) (r : Replay) → ((side : Side) → AllByRecursion (λ m. is_lost c.fates m.number ≡ true) (channel_from side r.world))
+none_left : (c : Certificate) (r : Replay)
+    → ((side : Side) → AllByRecursion (λ m. is_lost c.fates m.number ≡ true) (channel_from side r.world))
     → (side : Side) → channel_from side (lost_from_both c r).world ≡ []
 none_left c r all A = front_empty c.fates r.world.from_a (all A)
 none_left c r all B = front_empty c.fates r.world.from_b (all B)
 
--- What items are that are Ok.
+-- An entry is the item that it gives.
 item_is : (entry : Entry) (item : Item) → item_of entry ≡ Ok item → IsItem entry item
 item_is entry item is = by entry.side entry.body refl refl is
   where
-    by : (side : Option Side) (body : Body) → entry.side ≡ side → entry.body ≡ body → item_by side body ≡ Ok item → IsItem entry item
+    by : (side : Option Side) (body : Body) → entry.side ≡ side → entry.body ≡ body → item_by side body ≡ Ok item
+        → IsItem entry item
     by (Some side) (Good message) a b e = subst (IsItem entry) (ok_same (Sent side message) item e) (a, b)
     by None (Good message) a b e = cc
     by (Some side) (Bad fault) a b e = cc
@@ -433,7 +490,9 @@ item_is entry item is = by entry.side entry.body refl refl is
     by (Some side) QuietMark a b e = cc
     by None QuietMark a b e = subst (IsItem entry) (ok_same Item.Quiet item e) (a, b)
 
-are_items : (entries : List Entry) (items : List Item) → map (λ (x : Item). let r : Result Item Reason = Ok x in r) items ≡ map item_of entries
+-- Entries are the items that they give.
+are_items : (entries : List Entry) (items : List Item)
+    → map (λ (x : Item). let r : Result Item Reason = Ok x in r) items ≡ map item_of entries
     → AreItems entries items × (length items ≡ length entries)
 are_items [] [] is = (tt, refl)
 are_items [] (item ∷ items) is = cc
@@ -443,15 +502,21 @@ are_items (entry ∷ entries) (item ∷ items) is =
     let rest = are_items entries items (cc) in
     ((item_is entry item first, rest.0), ap suc rest.1)
 
-both_ok : {X Y F : Type 0} (step : Result X F) (rest : Result Y F) (y : Y) → (step >> rest) ≡ Ok y → (x : X) × (step ≡ Ok x) × (rest ≡ Ok y)
+-- One step and then another is Ok where both are.
+both_ok : {X Y F : Type 0} (step : Result X F) (rest : Result Y F) (y : Y) → (step >> rest) ≡ Ok y
+    → (x : X) × (step ≡ Ok x) × (rest ≡ Ok y)
 both_ok (Ok x) rest y is = (x, refl, is)
 both_ok (Err reason) rest y is = cc
 
 -- A run that leaves nothing on its way and follows the certificate but for losses is one that it gives.
-given_run : (table : Table) (c : Certificate) (entries : List Entry) (events : List Event) (w : World) → Runs table events w
-    → AreItems entries w.sent → length w.sent ≡ length entries → length c.fates ≡ length w.sent → FatesFit (length w.sent) 0 c.fates
-    → AllByRecursion (λ (x : Closing). x.gap ≤ length w.sent) c.close → AllByRecursion (λ (x : Expiry). x.gap ≤ length w.sent) c.expire
-    → FollowsFrom c w.sent 0 w.sent (without_losses events) → ((side : Side) → channel_from side w ≡ []) → IsGiven table c entries events
+given_run : (table : Table) (c : Certificate) (entries : List Entry) (events : List Event) (w : World)
+    → Runs table events w
+    → AreItems entries w.sent → length w.sent ≡ length entries → length c.fates ≡ length w.sent
+    → FatesFit (length w.sent) 0 c.fates
+    → AllByRecursion (λ (x : Closing). x.gap ≤ length w.sent) c.close
+    → AllByRecursion (λ (x : Expiry). x.gap ≤ length w.sent) c.expire
+    → FollowsFrom c w.sent 0 w.sent (without_losses events) → ((side : Side) → channel_from side w ≡ [])
+    → IsGiven table c entries events
 given_run table c entries events w runs are number counted fit closings expiries gaps none = record {
   items = w.sent;
   are = are;
@@ -480,19 +545,25 @@ given_run table c entries events w runs are number counted fit closings expiries
     }
 
 -- What is replayed is such a run, once what is still on its way is lost.
-given_here : (table : Table) (c : Certificate) (entries : List Entry) (r : Replay) (steps : List Event) → Extends table nothing_replayed steps r
-    → AreItems entries r.world.sent → length r.world.sent ≡ length entries → length c.fates ≡ length r.world.sent → FatesFit (length r.world.sent) 0 c.fates
-    → AllByRecursion (λ (x : Closing). x.gap ≤ length r.world.sent) c.close → AllByRecursion (λ (x : Expiry). x.gap ≤ length r.world.sent) c.expire
-    → FollowsFrom c r.world.sent 0 r.world.sent (without_losses steps) → IsGiven table c entries (lost_from_both c r).events
+given_here : (table : Table) (c : Certificate) (entries : List Entry) (r : Replay) (steps : List Event)
+    → Extends table nothing_replayed steps r
+    → AreItems entries r.world.sent → length r.world.sent ≡ length entries → length c.fates ≡ length r.world.sent
+    → FatesFit (length r.world.sent) 0 c.fates
+    → AllByRecursion (λ (x : Closing). x.gap ≤ length r.world.sent) c.close
+    → AllByRecursion (λ (x : Expiry). x.gap ≤ length r.world.sent) c.expire
+    → FollowsFrom c r.world.sent 0 r.world.sent (without_losses steps)
+    → IsGiven table c entries (lost_from_both c r).events
 given_here table c entries r steps extends are number counted fit closings expiries gaps =
     let both = both_replay table c r in
     let all = extends_then table nothing_replayed r (lost_from_both c r) steps both.steps extends both.extends in
     let settled = settled_by c r.world (without_losses steps) counted fit gaps
     (λ side n is. taken_sent table steps r.world side n extends.plays (among_plain side n steps is)) in
     let plain : without_losses (steps ++ both.steps) ≡ without_losses steps =
-    without_both steps both.steps ∙ ap (λ (x : List Event). without_losses steps ++ x) both.are ∙ append-nil (without_losses steps) in
+    without_both steps both.steps ∙ ap (λ (x : List Event). without_losses steps ++ x) both.are
+    ∙ append-nil (without_losses steps) in
     subst (IsGiven table c entries) (sym all.events)
-    (given_run table c entries (steps ++ both.steps) (lost_from_both c r).world all.plays are number counted fit closings expiries
+    (given_run table c entries (steps ++ both.steps) (lost_from_both c r).world all.plays are number counted fit
+    closings expiries
     (subst (FollowsFrom c r.world.sent 0 r.world.sent) (sym plain) gaps)
     (none_left c r (left_lost table c.fates steps r.world extends.plays settled)))
 
@@ -502,6 +573,7 @@ record AreFit (c : Certificate) (count : ℕ) : Type 0 where
   closings : AllByRecursion (λ (x : Closing). x.gap ≤ count) c.close
   expiries : AllByRecursion (λ (x : Expiry). x.gap ≤ count) c.expire
 
+-- They fit where the test of the certificate says so.
 are_fit : (c : Certificate) → certificate_fits c ≡ Ok tt → AreFit c (length c.fates)
 are_fit c is =
     let count = length c.fates in
@@ -515,7 +587,8 @@ are_fit c is =
 
 -- Entries that are replayed are given.
 entries_given : (table : Table) (c : Certificate) (entries : List Entry) (r : Replay) → AreFit c (length c.fates)
-    → entries_replayed table c (map item_of entries) nothing_replayed ≡ Ok r → IsGiven table c entries (lost_from_both c r).events
+    → entries_replayed table c (map item_of entries) nothing_replayed ≡ Ok r
+    → IsGiven table c entries (lost_from_both c r).events
 entries_given table c entries r fit is =
     let done = entries_replay table c (map item_of entries) nothing_replayed r (length c.fates) fit.fates is in
     let are = are_items entries done.items done.are in
@@ -528,7 +601,8 @@ entries_given table c entries r fit is =
     (subst (λ (x : List Item). FollowsFrom c x 0 x (without_losses done.steps)) sent done.follows)
 
 -- What is replayed is a run that sends the entries, as the certificate describes it.
-pub gives : (table : Table) (c : Certificate) (entries : List Entry) (events : List Event) → replayed table c entries ≡ Ok events
+pub gives : (table : Table) (c : Certificate) (entries : List Entry) (events : List Event)
+    → replayed table c entries ≡ Ok events
     → IsGiven table c entries events
 gives table c entries events is =
     let fits = both_ok (certificate_fits c) _ events is in
