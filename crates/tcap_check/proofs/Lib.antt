@@ -21,6 +21,7 @@ pub mod ImpliedLaws
 pub mod OrderLaws
 pub mod DescribedLaws
 pub mod GivenBound
+pub mod GivenLosses
 pub mod GivenRuns
 pub mod DescribedRuns
 pub mod NamedLaws

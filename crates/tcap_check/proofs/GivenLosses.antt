@@ -1,0 +1,522 @@
+-- Losses: where a run follows a certificate but for losses, and nothing is left on its way, a message is lost exactly
+-- where its fate says so.
+use Rattle.std.proofs.Common.{arith, ◌≡◌, ◌≤◌, ◌<◌, ◌⊎◌, inl, inr, ℕ, zero, suc, ◌+◌, ◌==◌, Bool, true, false, cond, List, [], ◌∷◌, ◌++◌, filter, length, Option, Some, None, refl, sym, ap, subst, ◌∙◌, append_assoc, append-nil}
+use Rattle.std.specs.Prelude.{slice_get}
+use Rattle.std.specs.Cmp.{nat_cmp_is}
+use Rattle.std.specs.List.{AllByRecursion}
+use Rattle.std.specs.List.Sorted.{IsStrictlySortedBy}
+use Rattle.std.specs.Ordering.{nat_cmp}
+use Rattle.std.specs.declared.cmp.Ordering.TheVariants.{Less, Equal}
+use Rattle.std.proofs.lemmas.List.Elements.{filter-append}
+use Rattle.tcap_msg.specs.declared.message.Message.{Message}
+use Rattle.tcap_record.specs.declared.entry.End.{End as Side}
+use Rattle.tcap_record.specs.declared.entry.End.TheVariants.{A, B}
+use Rattle.tcap_end.specs.Table.{Table}
+use Rattle.tcap_check.specs.World.{Item, OnItsWay, Sent, World, channel_from, is_side, other}
+use Rattle.tcap_check.specs.Run.{Event, Sends, Receives, Replies, Loses, Expires, Closes, Quiet, Tells, KeepsRules, Runs, numbers_of, numbers_sent, numbers_taken, takes_from}
+use Rattle.tcap_check.specs.declared.certificate.Fate.{Fate}
+use Rattle.tcap_check.specs.declared.certificate.Fate.TheVariants.{Gap, Lost, By}
+use Rattle.tcap_check.specs.Follows.{FatesFit, deliveries, is_loss, losses_from, lost_from, taken_by, without_losses}
+use Rattle.tcap_check.specs.Since.{WasSent}
+use Rattle.tcap_check.proofs.ChannelLaws.{are_whole, in_order, were_sent}
+
+-- ---- numbers
+
+-- The number is one of these.
+abbrev pub IsAmong : ℕ → List ℕ → Type 0
+IsAmong n [] = ⊥
+IsAmong n (x ∷ xs) = (n ≡ x) ⊎ IsAmong n xs
+
+-- It is one of two lists together where it is one of the first,
+pub among_left : (n : ℕ) (xs ys : List ℕ) → IsAmong n xs → IsAmong n (xs ++ ys)
+among_left n [] ys is = absurd is
+among_left n (x ∷ xs) ys (inl e) = inl e
+among_left n (x ∷ xs) ys (inr is) = inr (among_left n xs ys is)
+
+-- or of the second,
+pub among_right : (n : ℕ) (xs ys : List ℕ) → IsAmong n ys → IsAmong n (xs ++ ys)
+among_right n [] ys is = is
+among_right n (x ∷ xs) ys is = inr (among_right n xs ys is)
+
+-- and not else.
+among_parts : (n : ℕ) (xs ys : List ℕ) → IsAmong n (xs ++ ys) → IsAmong n xs ⊎ IsAmong n ys
+among_parts n [] ys is = inr is
+among_parts n (x ∷ xs) ys (inl e) = inl (inl e)
+among_parts n (x ∷ xs) ys (inr is) = by (among_parts n xs ys is)
+  where
+    by : IsAmong n xs ⊎ IsAmong n ys → IsAmong n (x ∷ xs) ⊎ IsAmong n ys
+    by (inl left) = inl (inr left)
+    by (inr right) = inr right
+
+-- What holds of each holds of it.
+each_among : (P : ℕ → Type 0) (xs : List ℕ) (n : ℕ) → AllByRecursion P xs → IsAmong n xs → P n
+each_among P [] n all is = absurd is
+each_among P (x ∷ xs) n all (inl e) = subst P (sym e) all.0
+each_among P (x ∷ xs) n all (inr is) = each_among P xs n all.1 is
+
+-- No number is below itself.
+not_below : (n x : ℕ) → n ≡ x → nat_cmp x n ≡ Less → ⊥
+not_below n x e below =
+    let here : nat_cmp x x ≡ Less = rw e at below in
+    let same = nat_cmp_is x x Equal refl in cc
+
+-- Where two lists together rise, no number is in both,
+parts_apart : (n : ℕ) (xs ys : List ℕ) → IsStrictlySortedBy nat_cmp (xs ++ ys) → IsAmong n xs → IsAmong n ys → ⊥
+unfolding IsStrictlySortedBy
+parts_apart n [] ys rises left right = left
+parts_apart n (x ∷ xs) ys rises (inl e) right =
+    not_below n x e (each_among (λ y. nat_cmp x y ≡ Less) (xs ++ ys) n rises.0 (among_right n xs ys right))
+parts_apart n (x ∷ xs) ys rises (inr left) right = parts_apart n xs ys rises.1 left right
+
+-- and the second rises.
+rises_behind : (xs ys : List ℕ) → IsStrictlySortedBy nat_cmp (xs ++ ys) → IsStrictlySortedBy nat_cmp ys
+unfolding IsStrictlySortedBy
+rises_behind [] ys rises = rises
+rises_behind (x ∷ xs) ys rises = rises_behind xs ys rises.1
+
+-- A test that all of these pass leaves all of them.
+filter_all : (p : ℕ → Bool) (xs : List ℕ) → ((n : ℕ) → IsAmong n xs → p n ≡ true) → filter p xs ≡ xs
+filter_all p [] pass = refl
+filter_all p (x ∷ xs) pass = rw (pass x (inl refl)) (ap (λ more. x ∷ more) (filter_all p xs (λ n is. pass n (inr is))))
+
+-- ---- what was taken
+
+-- What two runs of events take, one behind the other.
+taken_both : (side : Side) (xs ys : List Event)
+    → numbers_taken side (xs ++ ys) ≡ numbers_taken side xs ++ numbers_taken side ys
+taken_both side [] ys = refl
+taken_both side (x ∷ xs) ys =
+    ap (λ more. takes_from side x ++ more) (taken_both side xs ys)
+    ∙ sym (append_assoc (takes_from side x) (numbers_taken side xs) (numbers_taken side ys))
+
+-- What the first takes is taken,
+pub taken_left : (side : Side) (n : ℕ) (xs ys : List Event) → IsAmong n (numbers_taken side xs)
+    → IsAmong n (numbers_taken side (xs ++ ys))
+taken_left side n xs ys is =
+    rw (taken_both side xs ys) (among_left n (numbers_taken side xs) (numbers_taken side ys) is)
+
+-- and what the second takes.
+pub taken_right : (side : Side) (n : ℕ) (xs ys : List Event) → IsAmong n (numbers_taken side ys)
+    → IsAmong n (numbers_taken side (xs ++ ys))
+taken_right side n xs ys is =
+    rw (taken_both side xs ys) (among_right n (numbers_taken side xs) (numbers_taken side ys) is)
+
+-- what a loss takes
+abbrev loss_of : Side → Event → List ℕ
+loss_of side event = cond (is_loss event) (takes_from side event) []
+
+-- The losses are what each loss takes.
+losses_first : (side : Side) (event : Event) (events : List Event)
+    → losses_from side (event ∷ events) ≡ loss_of side event ++ losses_from side events
+losses_first side (Loses sender number) events = by (is_side side sender)
+  where
+    by : (b : Bool)
+        → cond b (number ∷ losses_from side events) (losses_from side events)
+        ≡ cond b (number ∷ []) [] ++ losses_from side events
+    by true = refl
+    by false = refl
+losses_first side (Sends place m) events = refl
+losses_first side (Receives place number) events = refl
+losses_first side (Replies place number) events = refl
+losses_first side (Expires place name id) events = refl
+losses_first side (Closes place name) events = refl
+losses_first side Quiet events = refl
+losses_first side (Tells place m) events = refl
+
+-- What is taken without the losses is taken,
+pub among_plain : (side : Side) (n : ℕ) (events : List Event) → IsAmong n (numbers_taken side (without_losses events))
+    → IsAmong n (numbers_taken side events)
+among_plain side n [] is = is
+among_plain side n (event ∷ events) is = by (is_loss event) (among_plain side n events) is
+  where
+    first : List ℕ
+    first = takes_from side event
+
+    rest : List ℕ
+    rest = numbers_taken side events
+
+    plain : List ℕ
+    plain = numbers_taken side (without_losses events)
+
+    by_parts : (IsAmong n plain → IsAmong n rest) → IsAmong n first ⊎ IsAmong n plain → IsAmong n (first ++ rest)
+    by_parts on (inl here) = among_left n first rest here
+    by_parts on (inr more) = among_right n first rest (on more)
+
+    by : (b : Bool) → (IsAmong n plain → IsAmong n rest)
+        → IsAmong n (numbers_taken side (cond b (without_losses events) (event ∷ without_losses events)))
+        → IsAmong n (first ++ rest)
+    by true on is = among_right n first rest (on is)
+    by false on is = by_parts on (among_parts n first plain is)
+
+-- and so is what is lost.
+among_losses : (side : Side) (n : ℕ) (events : List Event) → IsAmong n (losses_from side events)
+    → IsAmong n (numbers_taken side events)
+among_losses side n [] is = is
+among_losses side n (event ∷ events) is =
+    by (is_loss event) (among_losses side n events)
+    (among_parts n (loss_of side event) (losses_from side events) (rw (losses_first side event events) at is))
+  where
+    first : List ℕ
+    first = takes_from side event
+
+    rest : List ℕ
+    rest = numbers_taken side events
+
+    lost : List ℕ
+    lost = losses_from side events
+
+    by : (b : Bool) → (IsAmong n lost → IsAmong n rest) → IsAmong n (cond b first []) ⊎ IsAmong n lost
+        → IsAmong n (first ++ rest)
+    by true on (inl here) = among_left n first rest here
+    by false on (inl here) = absurd here
+    by b on (inr more) = among_right n first rest (on more)
+
+-- No message is lost and taken else, where the numbers rise.
+losses_apart : (side : Side) (n : ℕ) (events : List Event) → IsStrictlySortedBy nat_cmp (numbers_taken side events)
+    → IsAmong n (losses_from side events) → IsAmong n (numbers_taken side (without_losses events)) → ⊥
+losses_apart side n [] rises lost plain = lost
+losses_apart side n (event ∷ events) rises lost plain =
+    by (is_loss event)
+    (losses_apart side n events (rises_behind (takes_from side event) (numbers_taken side events) rises))
+    (among_parts n (loss_of side event) (losses_from side events) (rw (losses_first side event events) at lost)) plain
+  where
+    first : List ℕ
+    first = takes_from side event
+
+    also : List ℕ
+    also = losses_from side events
+
+    left : List ℕ
+    left = numbers_taken side (without_losses events)
+
+    apart : IsAmong n first → IsAmong n (numbers_taken side events) → ⊥
+    apart = parts_apart n first (numbers_taken side events) rises
+
+    by_plain : (IsAmong n also → IsAmong n left → ⊥) → IsAmong n also → IsAmong n first ⊎ IsAmong n left → ⊥
+    by_plain on lost (inl here) = apart here (among_losses side n events lost)
+    by_plain on lost (inr more) = on lost more
+
+    by : (b : Bool) → (IsAmong n also → IsAmong n left → ⊥) → IsAmong n (cond b first []) ⊎ IsAmong n also
+        → IsAmong n (numbers_taken side (cond b (without_losses events) (event ∷ without_losses events))) → ⊥
+    by true on (inl here) plain = apart here (among_plain side n events plain)
+    by true on (inr lost) plain = on lost plain
+    by false on (inl here) plain = here
+    by false on (inr lost) plain = by_plain on lost (among_parts n first left plain)
+
+-- ---- fates
+
+-- The fate says that the message is lost.
+abbrev pub says_lost : Option Fate → Bool
+says_lost None = false
+says_lost (Some (Gap g)) = false
+says_lost (Some (By k)) = false
+says_lost (Some Lost) = true
+
+-- The fate of that number does.
+abbrev pub is_lost : List Fate → ℕ → Bool
+is_lost fates n = says_lost (slice_get fates n)
+
+-- These are the fates from that number on.
+abbrev pub IsFrom : List Fate → ℕ → List Fate → Type 0
+IsFrom all n fates = (i : ℕ) → slice_get fates i ≡ slice_get all (n + i)
+
+-- The first of them is the one of that number,
+from_head : (all : List Fate) (n : ℕ) (fate : Fate) (fates : List Fate) → IsFrom all n (fate ∷ fates)
+    → slice_get all n ≡ Some fate
+from_head all n fate fates from = let e : n + 0 ≡ n = omega arith in sym (from 0 ∙ ap (slice_get all) e)
+
+-- and the rest are those from the next number on.
+from_tail : (all : List Fate) (n : ℕ) (fate : Fate) (fates : List Fate) → IsFrom all n (fate ∷ fates)
+    → IsFrom all (n + 1) fates
+from_tail all n fate fates from i = let e : n + suc i ≡ (n + 1) + i = omega arith in from (suc i) ∙ ap (slice_get all) e
+
+-- The messages that an end sent and whose fate says so are those that are lost.
+filter_sent : (side : Side) (all : List Fate) (n : ℕ) (fates : List Fate) (items : List Item) → IsFrom all n fates
+    → length fates ≡ length items
+    → filter (is_lost all) (numbers_sent side n items) ≡ lost_from side n fates items
+filter_sent side all n [] [] from counted = refl
+filter_sent side all n [] (item ∷ items) from counted = absurd (omega (arith, counted))
+filter_sent side all n (fate ∷ fates) [] from counted = absurd (omega (arith, counted))
+filter_sent side all n (fate ∷ fates) (item ∷ items) from counted =
+    by item fate (ap says_lost (from_head all n fate fates from))
+    (filter_sent side all (n + 1) fates items (from_tail all n fate fates from) (omega (arith, counted)))
+  where
+    sent : List ℕ
+    sent = numbers_sent side (n + 1) items
+
+    lost : List ℕ
+    lost = lost_from side (n + 1) fates items
+
+    keeps : (b : Bool) → is_lost all n ≡ true → filter (is_lost all) sent ≡ lost
+        → filter (is_lost all) (cond b (n ∷ sent) sent) ≡ cond b (n ∷ lost) lost
+    keeps true says rest = rw says (ap (λ more. n ∷ more) rest)
+    keeps false says rest = rest
+
+    drops : (b : Bool) → is_lost all n ≡ false → filter (is_lost all) sent ≡ lost
+        → filter (is_lost all) (cond b (n ∷ sent) sent) ≡ lost
+    drops true says rest = rw says rest
+    drops false says rest = rest
+
+    by : (item : Item) (fate : Fate) → is_lost all n ≡ says_lost (Some fate) → filter (is_lost all) sent ≡ lost
+        → filter (is_lost all) (numbers_sent side n (item ∷ items)) ≡ lost_from side n (fate ∷ fates) (item ∷ items)
+    by (Sent sender message) (Gap g) says rest = drops (is_side side sender) says rest
+    by (Sent sender message) (By k) says rest = drops (is_side side sender) says rest
+    by (Sent sender message) Lost says rest = keeps (is_side side sender) says rest
+    by Item.Quiet (Gap g) says rest = rest
+    by Item.Quiet (By k) says rest = rest
+    by Item.Quiet Lost says rest = rest
+
+-- ---- events that fit the fates
+
+-- What is received or replied to is not lost by its fate; there is no loss, and nothing is told.
+abbrev pub IsFated : List Fate → Event → Type 0
+IsFated fates (Sends side m) = Unit {0}
+IsFated fates (Receives side n) = is_lost fates n ≡ false
+IsFated fates (Replies side n) = is_lost fates n ≡ false
+IsFated fates (Loses side n) = ⊥
+IsFated fates (Expires side name id) = Unit {0}
+IsFated fates (Closes side name) = Unit {0}
+IsFated fates Quiet = Unit {0}
+IsFated fates (Tells side m) = ⊥
+
+-- No number that such an event takes is lost by its fate.
+none_fated : (fates : List Fate) (side : Side) (event : Event) → IsFated fates event
+    → filter (is_lost fates) (takes_from side event) ≡ []
+none_fated fates side (Receives place n) is = by (is_side side (other place))
+  where
+    by : (b : Bool) → filter (is_lost fates) (cond b (n ∷ []) []) ≡ []
+    by true = rw is refl
+    by false = refl
+none_fated fates side (Replies place n) is = by (is_side side (other place))
+  where
+    by : (b : Bool) → filter (is_lost fates) (cond b (n ∷ []) []) ≡ []
+    by true = rw is refl
+    by false = refl
+none_fated fates side (Sends place m) is = refl
+none_fated fates side (Loses place n) is = absurd is
+none_fated fates side (Expires place name id) is = refl
+none_fated fates side (Closes place name) is = refl
+none_fated fates side Quiet is = refl
+none_fated fates side (Tells place m) is = refl
+
+-- So of all that is taken, what is lost by its fate is among the losses.
+filter_taken : (fates : List Fate) (side : Side) (events : List Event)
+    → AllByRecursion (IsFated fates) (without_losses events)
+    → filter (is_lost fates) (numbers_taken side events) ≡ filter (is_lost fates) (losses_from side events)
+filter_taken fates side [] all = refl
+filter_taken fates side (event ∷ events) all =
+    filter-append (is_lost fates) (takes_from side event) (numbers_taken side events)
+    ∙ by (is_loss event) all (filter_taken fates side events)
+    ∙ sym (filter-append (is_lost fates) (loss_of side event) (losses_from side events))
+    ∙ ap (filter (is_lost fates)) (sym (losses_first side event events))
+  where
+    kept : List ℕ → List ℕ
+    kept = filter (is_lost fates)
+
+    by : (b : Bool) → AllByRecursion (IsFated fates) (cond b (without_losses events) (event ∷ without_losses events))
+        → (AllByRecursion (IsFated fates) (without_losses events)
+        → kept (numbers_taken side events) ≡ kept (losses_from side events))
+        → kept (takes_from side event) ++ kept (numbers_taken side events)
+        ≡ kept (cond b (takes_from side event) []) ++ kept (losses_from side events)
+    by true all on = ap (λ more. kept (takes_from side event) ++ more) (on all)
+    by false all on =
+        ap (λ first. first ++ kept (numbers_taken side events)) (none_fated fates side event all.0) ∙ on all.1
+
+-- Nothing is told.
+pub fated_keeps : (fates : List Fate) (side : Side) (events : List Event)
+    → AllByRecursion (IsFated fates) (without_losses events) → KeepsRules side events
+fated_keeps fates side [] all = refl
+fated_keeps fates side (Loses place n ∷ events) all = fated_keeps fates side events all
+fated_keeps fates side (Sends place m ∷ events) all = fated_keeps fates side events all.1
+fated_keeps fates side (Receives place n ∷ events) all = fated_keeps fates side events all.1
+fated_keeps fates side (Replies place n ∷ events) all = fated_keeps fates side events all.1
+fated_keeps fates side (Expires place name id ∷ events) all = fated_keeps fates side events all.1
+fated_keeps fates side (Closes place name ∷ events) all = fated_keeps fates side events all.1
+fated_keeps fates side (Quiet ∷ events) all = fated_keeps fates side events all.1
+fated_keeps fates side (Tells place m ∷ events) all = absurd all.0
+
+-- Deliveries fit the fates, which say where.
+pub deliveries_fated : (all : List Fate) (gap n : ℕ) (fates : List Fate) (items : List Item) → IsFrom all n fates
+    → AllByRecursion (IsFated all) (deliveries gap n fates items)
+deliveries_fated all gap n [] items from = tt
+deliveries_fated all gap n (fate ∷ fates) [] from = tt
+deliveries_fated all gap n (fate ∷ fates) (item ∷ items) from =
+    by item fate (ap says_lost (from_head all n fate fates from))
+    (deliveries_fated all gap (n + 1) fates items (from_tail all n fate fates from))
+  where
+    others : List Event
+    others = deliveries gap (n + 1) fates items
+
+    if_so : (side : Side) (b : Bool) → is_lost all n ≡ false → AllByRecursion (IsFated all) others
+        → AllByRecursion (IsFated all) (cond b (Receives (other side) n ∷ others) others)
+    if_so side true says rest = (says, rest)
+    if_so side false says rest = rest
+
+    by : (item : Item) (fate : Fate) → is_lost all n ≡ says_lost (Some fate) → AllByRecursion (IsFated all) others
+        → AllByRecursion (IsFated all) (deliveries gap n (fate ∷ fates) (item ∷ items))
+    by (Sent side message) (Gap g) says rest = if_so side (g == gap) says rest
+    by (Sent side message) (By k) says rest = rest
+    by (Sent side message) Lost says rest = rest
+    by Item.Quiet (Gap g) says rest = rest
+    by Item.Quiet (By k) says rest = rest
+    by Item.Quiet Lost says rest = rest
+
+-- What a reply takes is not lost by its fate.
+pub taken_fated : (all : List Fate) (reply n : ℕ) (fates : List Fate) → IsFrom all n fates
+    → AllByRecursion (λ k. is_lost all k ≡ false) (taken_by reply n fates)
+taken_fated all reply n [] from = tt
+taken_fated all reply n (fate ∷ fates) from =
+    by fate (ap says_lost (from_head all n fate fates from))
+    (taken_fated all reply (n + 1) fates (from_tail all n fate fates from))
+  where
+    others : List ℕ
+    others = taken_by reply (n + 1) fates
+
+    if_so : (b : Bool) → is_lost all n ≡ false → AllByRecursion (λ k. is_lost all k ≡ false) others
+        → AllByRecursion (λ k. is_lost all k ≡ false) (cond b (n ∷ others) others)
+    if_so true says rest = (says, rest)
+    if_so false says rest = rest
+
+    by : (fate : Fate) → is_lost all n ≡ says_lost (Some fate) → AllByRecursion (λ k. is_lost all k ≡ false) others
+        → AllByRecursion (λ k. is_lost all k ≡ false) (taken_by reply n (fate ∷ fates))
+    by (Gap g) says rest = rest
+    by (By k) says rest = if_so (k == reply) says rest
+    by Lost says rest = rest
+
+-- A gap that a fate names is no later than the last,
+pub fits_gap : (count n : ℕ) (fates : List Fate) (i g : ℕ) → FatesFit count n fates → slice_get fates i ≡ Some (Gap g)
+    → g ≤ count
+fits_gap count n [] i g fit at = cc
+fits_gap count n (Gap h ∷ fates) zero g fit at = let same : h ≡ g = cc in subst (λ (x : ℕ). x ≤ count) same fit.1
+fits_gap count n (By k ∷ fates) zero g fit at = cc
+fits_gap count n (Lost ∷ fates) zero g fit at = cc
+fits_gap count n (Gap h ∷ fates) (suc i) g fit at = fits_gap count (n + 1) fates i g fit.2 at
+fits_gap count n (By k ∷ fates) (suc i) g fit at = fits_gap count (n + 1) fates i g fit.2 at
+fits_gap count n (Lost ∷ fates) (suc i) g fit at = fits_gap count (n + 1) fates i g fit at
+
+-- and an entry is there.
+pub fits_reply : (count n : ℕ) (fates : List Fate) (i k : ℕ) → FatesFit count n fates → slice_get fates i ≡ Some (By k)
+    → k < count
+fits_reply count n [] i k fit at = cc
+fits_reply count n (By h ∷ fates) zero k fit at = let same : h ≡ k = cc in subst (λ (x : ℕ). x < count) same fit.1
+fits_reply count n (Gap g ∷ fates) zero k fit at = cc
+fits_reply count n (Lost ∷ fates) zero k fit at = cc
+fits_reply count n (Gap g ∷ fates) (suc i) k fit at = fits_reply count (n + 1) fates i k fit.2 at
+fits_reply count n (By h ∷ fates) (suc i) k fit at = fits_reply count (n + 1) fates i k fit.2 at
+fits_reply count n (Lost ∷ fates) (suc i) k fit at = fits_reply count (n + 1) fates i k fit at
+
+-- ---- losses
+
+-- Two ends are the same where the test says so.
+same_side : (side sender : Side) → is_side side sender ≡ true → side ≡ sender
+same_side A A is = refl
+same_side B B is = refl
+same_side A B is = cc
+same_side B A is = cc
+
+-- The item of that number, counted from another on, is a message of the end.
+abbrev IsSentAt : Side → ℕ → List Item → ℕ → Type 0
+IsSentAt side n items k = (i : ℕ) × (m : Message) × (k ≡ n + i) × (slice_get items i ≡ Some (Sent side m))
+
+-- A number that an end sent names a message of it.
+sent_at : (side : Side) (n k : ℕ) (items : List Item) → IsAmong k (numbers_sent side n items) → IsSentAt side n items k
+sent_at side n k [] is = absurd is
+sent_at side n k (item ∷ items) is = by item (sent_at side (n + 1) k items) is
+  where
+    behind : (first : Item) → IsSentAt side (n + 1) items k → IsSentAt side n (first ∷ items) k
+    behind first (i, m, e, at) = (suc i, m, omega (arith, e), at)
+
+    here : (sender : Side) (message : Message) (b : Bool) → is_side side sender ≡ b
+        → (IsAmong k (numbers_sent side (n + 1) items) → IsSentAt side (n + 1) items k)
+        → IsAmong k (cond b (n ∷ numbers_sent side (n + 1) items) (numbers_sent side (n + 1) items))
+        → IsSentAt side n (Sent sender message ∷ items) k
+    here sender message true same on (inl e) =
+        (0, message, omega (arith, e), ap (λ (x : Side). Some (Sent x message)) (sym (same_side side sender same)))
+    here sender message true same on (inr is) = behind (Sent sender message) (on is)
+    here sender message false same on is = behind (Sent sender message) (on is)
+
+    by : (item : Item) → (IsAmong k (numbers_sent side (n + 1) items) → IsSentAt side (n + 1) items k)
+        → IsAmong k (numbers_sent side n (item ∷ items)) → IsSentAt side n (item ∷ items) k
+    by Item.Quiet on is = behind Item.Quiet (on is)
+    by (Sent sender message) on is = here sender message (is_side side sender) refl on is
+
+-- What was taken from an end's channel was a message of it.
+pub taken_sent : (table : Table) (events : List Event) (w : World) (side : Side) (k : ℕ) → Runs table events w
+    → IsAmong k (numbers_taken side events)
+    → (m : Message) × (slice_get w.sent k ≡ Some (Sent side m))
+taken_sent table events w side k runs is =
+    let among = rw (are_whole table events w runs side) at
+    (among_left k (numbers_taken side events) (numbers_of (channel_from side w)) is) in
+    let found = sent_at side 0 k w.sent among in
+    let e : k ≡ found.0 = omega (arith, found.2) in
+    (found.1, ap (slice_get w.sent) e ∙ found.3)
+
+-- Each message that an end sent is lost by its fate, or taken by an event that is no loss.
+abbrev pub IsSettled : List Fate → World → List Event → Type 0
+IsSettled fates w plain = (side : Side) (n : ℕ) (m : Message) → slice_get w.sent n ≡ Some (Sent side m)
+    → (is_lost fates n ≡ true) ⊎ IsAmong n (numbers_taken side plain)
+
+-- What holds of each of these numbers and messages holds of the messages.
+all_numbered : (P : OnItsWay → Type 0) (Q : OnItsWay → Type 0) (messages : List OnItsWay) → AllByRecursion P messages
+    → ((m : OnItsWay) → P m → IsAmong m.number (numbers_of messages) → Q m) → AllByRecursion Q messages
+all_numbered P Q [] all on = tt
+all_numbered P Q (first ∷ more) all on =
+    (on first all.0 (inl refl), all_numbered P Q more all.1 (λ m is there. on m is (inr there)))
+
+-- So what is still on its way is lost by its fate.
+pub left_lost : (table : Table) (fates : List Fate) (events : List Event) (w : World) → Runs table events w
+    → IsSettled fates w (without_losses events) → (side : Side)
+    → AllByRecursion (λ m. is_lost fates m.number ≡ true) (channel_from side w)
+left_lost table fates events w runs settled side =
+    all_numbered (WasSent w side) (λ m. is_lost fates m.number ≡ true) (channel_from side w)
+    (were_sent table events w runs side)
+    (λ m was there. by m there (settled side m.number m.message was.listed))
+  where
+    by : (m : OnItsWay) → IsAmong m.number (numbers_of (channel_from side w))
+        → (is_lost fates m.number ≡ true) ⊎ IsAmong m.number (numbers_taken side (without_losses events))
+        → is_lost fates m.number ≡ true
+    by m there (inl says) = says
+    by m there (inr taken) = absurd
+        (parts_apart m.number (numbers_taken side events) (numbers_of (channel_from side w))
+        (in_order table events w runs side)
+        (among_plain side m.number events taken) there)
+
+-- A list with nothing behind it rises by itself.
+rises_alone : (xs ys : List ℕ) → ys ≡ [] → IsStrictlySortedBy nat_cmp (xs ++ ys) → IsStrictlySortedBy nat_cmp xs
+rises_alone xs ys none rises =
+    subst (IsStrictlySortedBy nat_cmp) (ap (λ (more : List ℕ). xs ++ more) none ∙ append-nil xs) rises
+
+-- What is lost in a run is what is lost by its fate, where nothing is left on its way.
+pub losses_are : (table : Table) (fates : List Fate) (events : List Event) (w : World) → Runs table events w
+    → length fates ≡ length w.sent → AllByRecursion (IsFated fates) (without_losses events)
+    → IsSettled fates w (without_losses events)
+    → (side : Side) → channel_from side w ≡ [] → losses_from side events ≡ lost_from side 0 fates w.sent
+losses_are table fates events w runs counted fated settled side none =
+    sym (filter_all (is_lost fates) lost says)
+    ∙ sym (filter_taken fates side events fated)
+    ∙ ap (filter (is_lost fates)) all_taken
+    ∙ filter_sent side fates 0 fates w.sent (λ i. let e : i ≡ 0 + i = omega arith in ap (slice_get fates) e) counted
+  where
+    lost : List ℕ
+    lost = losses_from side events
+
+    taken : List ℕ
+    taken = numbers_taken side events
+
+    on_way : numbers_of (channel_from side w) ≡ []
+    on_way = ap numbers_of none
+
+    all_taken : taken ≡ numbers_sent side 0 w.sent
+    all_taken =
+        sym (ap (λ (more : List ℕ). taken ++ more) on_way ∙ append-nil taken) ∙ are_whole table events w runs side
+
+    says : (n : ℕ) → IsAmong n lost → is_lost fates n ≡ true
+    says n is =
+        let sent = taken_sent table events w side n runs (among_losses side n events is) in
+        by (settled side n sent.0 sent.1)
+      where
+        by : (is_lost fates n ≡ true) ⊎ IsAmong n (numbers_taken side (without_losses events)) → is_lost fates n ≡ true
+        by (inl says) = says
+        by (inr plain) = absurd
+            (losses_apart side n events
+            (rises_alone taken (numbers_of (channel_from side w)) on_way (in_order table events w runs side)) is plain)
