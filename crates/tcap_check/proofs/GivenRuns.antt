@@ -12,6 +12,7 @@ use Rattle.tcap_msg.specs.Parts.{components_in}
 use Rattle.tcap_record.specs.declared.entry.Body.{Body}
 use Rattle.tcap_record.specs.declared.entry.Body.TheVariants.{Good, Bad, Quiet as QuietMark}
 use Rattle.tcap_record.specs.declared.entry.End.{End as Side}
+use Rattle.tcap_record.specs.declared.entry.End.TheVariants as sides
 use Rattle.tcap_record.specs.declared.entry.End.TheVariants.{A, B}
 use Rattle.tcap_record.specs.declared.entry.Entry.{Entry}
 use Rattle.tcap_end.specs.declared.half.HalfName.TheVariants as names
@@ -19,7 +20,7 @@ use Rattle.tcap_end.specs.Step.{◌>>◌}
 use Rattle.tcap_end.specs.Table.{Table}
 use Rattle.tcap_end.proofs.AnsweringLaws.{ok_same, then_ok}
 use Rattle.tcap_check.specs.World.{Item, OnItsWay, Sent, World, channel_from, is_side, other}
-use Rattle.tcap_check.specs.Run.{Event, Sends, Receives, Replies, Loses, Expires, Closes, Quiet, Tells, Runs, numbers_taken, takes_from, then_so, where_so}
+use Rattle.tcap_check.specs.Run.{BothKeepRules, Event, Sends, Receives, Replies, Loses, Expires, Closes, Quiet, Tells, Runs, numbers_taken, takes_from, then_so, where_so}
 use Rattle.tcap_check.specs.declared.certificate.Closing.{Closing}
 use Rattle.tcap_check.specs.declared.certificate.Expiry.{Expiry}
 use Rattle.tcap_check.specs.declared.certificate.Fate.{Fate}
@@ -609,3 +610,9 @@ gives table c entries events is =
     let r = then_ok (entries_replayed table c (map item_of entries) nothing_replayed) _ events fits.2 in
     subst (IsGiven table c entries) (ok_same {F = CheckFault} (lost_from_both c r.0).events events r.2)
     (entries_given table c entries r.0 (are_fit c fits.1) r.1)
+
+-- In what a certificate describes both ends keep the rules.
+pub described_keeps : (c : Certificate) (items : List Item) (events : List Event) → Follows c items events → BothKeepRules events
+described_keeps c items events follows =
+    let fated = follows_fated c items 0 items (without_losses events) follows.gaps in
+    (fated_keeps c.fates sides.A events fated, fated_keeps c.fates sides.B events fated)

@@ -17,6 +17,7 @@ use Rattle.tcap_check.specs.World.{Item, World, empty, end_at, with_end}
 use Rattle.tcap_check.specs.Run.{Event, Sends, Receives, Replies, Loses, Expires, Closes, Quiet, Tells, IsRunOf, after, played, then_so}
 use Rattle.tcap_check.specs.Certificate.{Certificate}
 use Rattle.tcap_check.specs.Entries.{AreItems}
+use Rattle.tcap_check.specs.Follows.{Follows}
 use Rattle.tcap_check.specs.Named.{AreSameEvents, IsDescribedBy, IsSameEvent}
 use Rattle.tcap_check.specs.Replayed.{replayed}
 use Rattle.tcap_check.proofs.DescribedRuns.{followed_is_given}
@@ -87,3 +88,22 @@ pub described_is_given : (table : Table) (c : Certificate) (entries : List Entry
 described_is_given table c entries items events are (w, runs, sent) (others, same, follows) =
     let (given, is, count) = followed_is_given table c entries items others are (w, same_runs table empty events others same ∙ runs, sent) follows in
     (given, is, count ∙ same_count table empty w events others same runs)
+
+-- Events are the same as themselves.
+same_itself : (table : Table) (w : World) (events : List Event) → AreSameEvents table w events events
+same_itself table w [] = refl
+same_itself table w (event ∷ events) = (event, events, refl, one event, λ next at. same_itself table next events)
+  where
+    one : (event : Event) → IsSameEvent w event event
+    one (Expires side name id) = (name, refl, refl)
+    one (Closes side name) = (name, refl, refl)
+    one (Sends side message) = refl
+    one (Receives side number) = refl
+    one (Replies side number) = refl
+    one (Loses side number) = refl
+    one Quiet = refl
+    one (Tells side message) = refl
+
+pub follows_is_described : (table : Table) (c : Certificate) (items : List Item) (events : List Event) → Follows c items events
+    → IsDescribedBy table c items events
+follows_is_described table c items events follows = (events, same_itself table empty events, follows)

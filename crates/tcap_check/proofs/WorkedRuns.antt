@@ -186,7 +186,7 @@ both_close_runs =
     ((_, refl, refl), (refl, refl), refl, follows both_close refl (search rules) (search rules) (search rules) both_close_gaps refl refl)
 
 pub continues_behind_its_end_runs : IsWorkedFor table continues_behind_its_end
-continues_behind_its_end_runs = ((_, refl, refl), refl)
+continues_behind_its_end_runs = ((_, refl, refl), refl, (_, (_, refl, refl), refl))
 
 pub end_is_not_heard_runs : IsWorkedFor table end_is_not_heard
-end_is_not_heard_runs = ((_, refl, refl), refl)
+end_is_not_heard_runs = ((_, refl, refl), refl, (_, (_, refl, refl), refl))

@@ -124,7 +124,7 @@ invoking_half _ = None
 
 -- An expiry right before an item is sent, of an ID that this item invokes, on its half. Where a run makes these and then
 -- sends the item, they are exactly the IDs that the item invokes and that were in use: each has to end, and no other
--- can (`laws::implied_are_needed`).
+-- can (`given::implied_are_needed`).
 abbrev pub IsImplied : Item → Event → Type 0
 IsImplied (Sent sender message) (Expires side name id) =
     (side ≡ sender) × (invoking_half message ≡ Some name) × Contains (filter_map invoke_id (components_in message)) id

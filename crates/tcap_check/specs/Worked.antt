@@ -14,11 +14,12 @@ use Rattle.tcap_record.specs.declared.entry.End.TheVariants.{A, B}
 use Rattle.tcap_end.specs.declared.half.HalfName.TheVariants.{Own, Peer}
 use Rattle.tcap_end.specs.Table.{Table, Operation}
 use Rattle.tcap_check.specs.World.{Item, Sent}
-use Rattle.tcap_check.specs.Run.{BothKeepRules, Event, Sends, Receives, Replies, Loses, Expires, Closes, Quiet, Tells, IsRunOf, KeepsRules, provider_abort}
+use Rattle.tcap_check.specs.Run.{BothKeepRules, Event, Sends, Receives, Replies, Loses, Expires, Closes, Quiet, Tells, IsLawfulFor, IsRunOf, KeepsRules, provider_abort}
 use Rattle.tcap_check.specs.declared.certificate.Fate.{Fate}
 use Rattle.tcap_check.specs.declared.certificate.Fate.TheVariants.{Gap, Lost, By}
 use Rattle.tcap_check.specs.Certificate.{Certificate}
 use Rattle.tcap_check.specs.Follows.{Follows}
+use Rattle.tcap_check.specs.Named.{IsDescribedBy}
 
 -- ---- the table, and messages
 
@@ -226,6 +227,20 @@ both_close = record {
       ∷ Sends B (Unidirectional None (invoke 48 ∷ [])) ∷ Closes A (Own (id 1)) ∷ Closes B (Peer (id 1)) ∷ Receives A 2 ∷ Quiet ∷ [];
 }
 
+-- A's Continue invokes an ID again, and the run calls the half in which the earlier invocation ends by its peer's ID.
+abbrev pub by_the_other_name : Worked
+by_the_other_name = record {
+  items = Sent A (begin None (Some (invoke 45 ∷ []))) ∷ Sent B (answer None None) ∷ Sent A (further (invoke 45)) ∷ [];
+  certificate = by_fates (Gap 1 ∷ Gap 2 ∷ Gap 3 ∷ []);
+  events = Sends A (begin None (Some (invoke 45 ∷ []))) ∷ Receives B 0 ∷ Sends B (answer None None) ∷ Receives A 1
+      ∷ Expires A (Peer (id 2)) (pos 1) ∷ Sends A (further (invoke 45)) ∷ Receives B 2 ∷ [];
+}
+
+-- It is a run of so many steps, and the certificate describes it, by other names.
+abbrev pub IsDescribedRun : Worked → ℕ → Type 0
+IsDescribedRun w moves =
+    IsRunOf w.items table w.events × (length w.events ≡ moves) × IsDescribedBy table w.certificate w.items w.events
+
 -- ---- an end that keeps the rules, and one that does not
 
 -- A run in which this end keeps the rules sends the items, whatever the other sends.
@@ -234,8 +249,9 @@ pub record OneSided : Type 0 where
   pub items : List Item
   pub events : List Event
 
+-- So that end may have sent its part.
 abbrev pub IsWorkedFor : Table → OneSided → Type 0
-IsWorkedFor table w = IsRunOf w.items table w.events × KeepsRules w.side w.events
+IsWorkedFor table w = IsRunOf w.items table w.events × KeepsRules w.side w.events × IsLawfulFor w.side w.items table
 
 -- B tells a Begin, an End and then a Continue, which it may not. A's half has closed by the End: its provider answers
 -- the Continue by an Abort with cause 1.

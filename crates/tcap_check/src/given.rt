@@ -1,7 +1,7 @@
 //! What a certificate gives: a run of two ends that sends the items of a record, or the reason why it gives none. Each
 //! function says by its contract alone what holds of the definitions.
 
-ghost use Rattle.std.specs.Prelude.{◌≡◌, ℕ, ℤ, List, length, filter_map, Contains, Some, Ok, Err};
+ghost use Rattle.std.specs.Prelude.{◌≡◌, ℕ, ℤ, List, [], length, filter_map, Contains, Some, Ok, Err};
 ghost use Rattle.std.specs.List.{AllByRecursion};
 ghost use Rattle.tcap_msg.specs.declared.message.Message.{Message};
 ghost use Rattle.tcap_msg.specs.Parts.{components_in};
@@ -13,7 +13,7 @@ ghost use Rattle.tcap_end.specs.Message.{send};
 ghost use Rattle.tcap_end.specs.Table.{Table};
 ghost use Rattle.tcap_check.specs.declared.fault.CheckFault.{CheckFault};
 ghost use Rattle.tcap_check.specs.World.{Item, Sent, World, end_at};
-ghost use Rattle.tcap_check.specs.Run.{BothKeepRules, Event, Expires, IsLawful, IsRunOf, played};
+ghost use Rattle.tcap_check.specs.Run.{BothKeepRules, Event, Expires, IsLawful, IsRunOf, Runs, played};
 ghost use Rattle.tcap_check.specs.Certificate.{Certificate, IsPrompt, prompt};
 ghost use Rattle.tcap_check.specs.Entries.{AreItems};
 ghost use Rattle.tcap_check.specs.Follows.{Follows, IsImplied, IsPlain, invoke_id, invoking_half};
@@ -43,6 +43,20 @@ pub fn gives_where_a_run_is_described()
     ensures { (table : Table) (c : Certificate) (entries : List Entry) (items : List Item) (events : List Event)
         → AreItems entries items → IsRunOf items table events → IsDescribedBy table c items events
         → (given : List Event) × (replayed table c entries ≡ Ok given) × (length given ≡ length events) }
+{}
+
+/// A run that a certificate describes, and that sends the items, takes every message: it is delivered, answered or lost,
+/// and nothing is left on its way.
+pub fn described_runs_take_all()
+    ensures { (table : Table) (c : Certificate) (items : List Item) (events : List Event) (w : World)
+        → Runs table events w → w.sent ≡ items → Follows c items events
+        → (w.from_a ≡ []) × (w.from_b ≡ []) }
+{}
+
+/// What follows a certificate is described by it, with the names that it has.
+pub fn what_follows_is_described()
+    ensures { (table : Table) (c : Certificate) (items : List Item) (events : List Event) → Follows c items events
+        → IsDescribedBy table c items events }
 {}
 
 /// A run may call a half by either of its names: what is behind it is the same.

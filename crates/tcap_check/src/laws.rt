@@ -12,7 +12,7 @@ ghost use Rattle.tcap_end.specs.Table.{Table};
 ghost use Rattle.tcap_end.specs.End.{KeptHalf};
 ghost use Rattle.tcap_end.specs.Sound.{Has, IsEnd};
 ghost use Rattle.tcap_check.specs.World.{Item, World, channel_from, end_at};
-ghost use Rattle.tcap_check.specs.Run.{Adds, Event, IsLawful, KeepsRules, Runs, after, numbers_of, numbers_sent, numbers_taken};
+ghost use Rattle.tcap_check.specs.Run.{Adds, Event, IsLawful, IsLawfulFor, KeepsRules, Runs, after, numbers_of, numbers_sent, numbers_taken};
 ghost use Rattle.tcap_check.specs.Certificate.{Certificate, IsPrompt};
 ghost use Rattle.tcap_check.specs.Follows.{Follows, IsPlain};
 ghost use Rattle.tcap_check.specs.Since.{
@@ -35,6 +35,12 @@ pub fn sent_list_grows()
 /// A run of two ends has at least as many steps as it sends items.
 pub fn steps_at_least_items()
     ensures { (items : List Item) (table : Table) (moves : ℕ) → IsLawful items table moves → length items ≤ moves }
+{}
+
+/// What two lawful ends may have sent, each of them may have sent.
+pub fn lawful_for_each()
+    ensures { (items : List Item) (table : Table) (moves : ℕ) (side : Side) → IsLawful items table moves
+        → IsLawfulFor side items table }
 {}
 
 /// Each end is one of which the laws of one end speak (`tcap_end::laws`): no two halves have one own transaction ID,

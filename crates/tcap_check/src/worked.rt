@@ -3,7 +3,7 @@
 
 ghost use Rattle.tcap_check.specs.Worked as worked;
 ghost use Rattle.tcap_check.specs.Certificate.{IsPrompt};
-ghost use Rattle.tcap_check.specs.Worked.{IsWorked, IsWorkedBy, IsWorkedFor};
+ghost use Rattle.tcap_check.specs.Worked.{IsDescribedRun, IsWorked, IsWorkedBy, IsWorkedFor};
 
 /// The record without entries has the run of no steps.
 pub fn empty_record()
@@ -73,6 +73,11 @@ pub fn end_implies()
 /// Both ends close by prearrangement, and a quiet mark comes: 9 steps.
 pub fn both_close()
     ensures { IsWorkedBy worked.prearranged worked.both_close 9 }
+{}
+
+/// A run that calls a half by its peer's ID, which the certificate describes too: 7 steps.
+pub fn by_the_other_name()
+    ensures { IsDescribedRun worked.by_the_other_name 7 }
 {}
 
 /// A peer continues behind its own End, and the end that keeps the rules answers by an Abort with cause 1 (Q.774 3.3).

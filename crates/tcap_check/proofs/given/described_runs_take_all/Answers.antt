@@ -1,0 +1,4 @@
+use Rattle.tcap_check.proofs.given.described_runs_take_all.Goals as goal
+
+pub returns : goal.returns
+returns c = ?
