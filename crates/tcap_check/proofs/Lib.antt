@@ -22,4 +22,5 @@ pub mod GivenBound
 pub mod GivenRuns
 pub mod DescribedRuns
 pub mod AtOnceLaws
+pub mod PendingLaws
 pub mod ReasonLaws

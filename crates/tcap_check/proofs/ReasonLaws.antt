@@ -6,6 +6,7 @@ use Rattle.tcap_check.specs.declared.fault.CheckFault.{CheckFault}
 use Rattle.tcap_check.specs.Certificate.{Certificate}
 use Rattle.tcap_check.specs.Given.{IsReason}
 use Rattle.tcap_check.specs.Replayed.{replayed}
+use Rattle.tcap_check.proofs.PendingLaws.{stands_still}
 
 pub refusal_says : (table : Table) (c : Certificate) (entries : List Entry) (fault : CheckFault) → replayed table c entries ≡ Err fault
     → IsReason table c entries fault.entry fault.reason
