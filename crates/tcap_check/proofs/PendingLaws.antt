@@ -7,8 +7,9 @@ use Rattle.std.specs.List.{AllByRecursion}
 use Rattle.std.specs.List.Sorted.{IsStrictlySortedBy}
 use Rattle.std.specs.Ordering.{nat_cmp}
 use Rattle.std.specs.declared.cmp.Ordering.TheVariants.{Less, Equal}
-use Rattle.std.proofs.lemmas.Bool.{eq-eqb}
+use Rattle.std.proofs.lemmas.Bool.{cases_lt, eq-eqb}
 use Rattle.std.proofs.lemmas.List.{length-append}
+use Rattle.std.proofs.lemmas.Option.{slice_get_within}
 use Rattle.std.proofs.lemmas.List.Elements.{Contains-append_right}
 use Rattle.tcap_msg.specs.declared.message.AbortReason.TheVariants.{Cause, Dialogue as ByDialogue}
 use Rattle.tcap_msg.specs.declared.message.Message.{Message}
@@ -19,6 +20,8 @@ use Rattle.tcap_record.specs.declared.entry.Entry.{Entry}
 use Rattle.tcap_end.specs.Table.{Table}
 use Rattle.tcap_check.specs.World.{Item, OnItsWay, Sent, World, channel_from, empty, is_side, other}
 use Rattle.tcap_check.specs.Run.{Event, Receives, Replies, Runs, numbers_of, numbers_sent, numbers_taken, takes_from}
+use Rattle.tcap_check.specs.declared.certificate.Closing.{Closing}
+use Rattle.tcap_check.specs.declared.certificate.Expiry.{Expiry}
 use Rattle.tcap_check.specs.declared.certificate.Fate.{Fate}
 use Rattle.tcap_check.specs.declared.certificate.Fate.TheVariants.{Gap, Lost, By}
 use Rattle.tcap_check.specs.Certificate.{Certificate}
@@ -165,6 +168,14 @@ taken_is_gone table events w side head more runs channel is =
     (subst (λ (x : List OnItsWay). IsStrictlySortedBy nat_cmp (numbers_taken side events ++ numbers_of x)) channel
     (in_order table events w runs side)) is
 
+takes_received : (side : Side) (n : ℕ) → takes_from side (Receives (other side) n) ≡ n ∷ []
+takes_received sides.A n = refl
+takes_received sides.B n = refl
+
+takes_replied : (side : Side) (n : ℕ) → takes_from (other side) (Replies side n) ≡ n ∷ []
+takes_replied sides.A n = refl
+takes_replied sides.B n = refl
+
 -- ---- fates
 
 -- A fate that fits is behind its entry.
@@ -307,11 +318,146 @@ stands_still table c front gaps r next plain old on =
 pub stands_behind : (table : Table) (c : Certificate) (front : List Entry) (r next : Replay) (here : List Event)
     → Stands table c front (next_entry r) r → map Some here ≡ gap_events c r.world.sent (next_entry r)
     → Replays table r here [] next → Stands table c front (next_entry r + 1) next
-stands_behind table c front r next here old here_is on = ?
+stands_behind table c front r next here old here_is on =
+    let gap = next_entry r in
+    let still = stands_still table c front gap r next here old on in
+    let same : next.world.sent ≡ r.world.sent = on.sent ∙ append-nil r.world.sent in
+    record {
+      runs = still.runs;
+      are = still.are;
+      counted = still.counted;
+      marks = still.marks;
+      taken = λ n side message fate is has over.
+          by n side message fate is has (ap (λ (x : List Item). slice_get x n) (sym same) ∙ is) still.taken over;
+    }
+  where
+    new : (n g : ℕ) (side : Side) (message : Message) → slice_get c.fates n ≡ Some (Gap g)
+        → slice_get r.world.sent n ≡ Some (Sent side message) → g ≡ next_entry r → IsIn n (numbers_taken side next.events)
+    new n g side message has was is_gap =
+        let event = Receives (other side) n in
+        let gap = next_entry r in
+        let items = r.world.sent in
+        let closings = map (closing_event items) (filter (λ (x : Closing). x.gap == gap) c.close) in
+        let expiries = map (expiry_event items) (filter (λ (x : Expiry). x.gap == gap) c.expire) in
+        let delivered = map Some (deliveries gap 0 c.fates items) in
+        let number : 0 + n ≡ n = omega arith in
+        let found = subst (λ (k : ℕ). IsIn (Receives (other side) k) (deliveries gap 0 c.fates items)) number
+        (delivered_in gap 0 n c.fates items side message (has ∙ ap (λ (k : ℕ). Some (Gap k)) is_gap) was) in
+        let listed : IsIn (Some event) (gap_events c items gap) =
+        in_right (Some event) (closings ++ expiries) delivered (in_some event (deliveries gap 0 c.fates items) found) in
+        let in_here = in_events event here (subst (λ (x : List (Option Event)). IsIn (Some event) x) (sym here_is) listed) in
+        let in_steps = in_all event on.steps (subst (λ (x : List Event). IsIn event x) (sym on.are) in_here) in
+        subst (λ (x : List Event). IsIn n (numbers_taken side x)) (sym on.extends.events)
+        (taken_behind side n r.events on.steps (in_taken side n event on.steps (takes_received side n) in_steps))
+
+    by : (n : ℕ) (side : Side) (message : Message) (fate : Fate) → slice_get next.world.sent n ≡ Some (Sent side message)
+        → slice_get c.fates n ≡ Some fate → slice_get r.world.sent n ≡ Some (Sent side message)
+        → AreTaken c (next_entry r) (next_entry next) next.world.sent next.events → IsOver (next_entry r + 1) (next_entry next) fate
+        → IsIn n (numbers_taken side next.events)
+    by n side message Lost is has was still over = absurd over
+    by n side message (By k) is has was still over = still n side message (By k) is has over
+    by n side message (Gap g) is has was still over = which (cases_lt g (next_entry r))
+      where
+        which : (g < next_entry r) ⊎ (next_entry r ≤ g) → IsIn n (numbers_taken side next.events)
+        which (inl before) = still n side message (Gap g) is has before
+        which (inr not_before) = new n g side message has was (omega (arith, over, not_before))
+
+-- One entry more is one item more.
+one_more : (front : List Entry) (items : List Item) (entry : Entry) (item : Item) → AreItems front items → IsItem entry item
+    → AreItems (front ++ entry ∷ []) (items ++ item ∷ [])
+one_more [] [] entry item are is = (is, tt)
+one_more [] (i ∷ items) entry item are is = absurd are
+one_more (e ∷ front) [] entry item are is = absurd are
+one_more (e ∷ front) (i ∷ items) entry item are is = (are.0, one_more front items entry item are.1 is)
+
+-- What is found among one item more was there, or is that item.
+old_or_new : (items : List Item) (item found : Item) (n : ℕ) → slice_get (items ++ item ∷ []) n ≡ Some found
+    → (slice_get items n ≡ Some found) ⊎ ((n ≡ length items) × (item ≡ found))
+old_or_new [] item found zero is = inr (refl, cc)
+old_or_new [] item found (suc n) is = cc
+old_or_new (i ∷ items) item found zero is = inl is
+old_or_new (i ∷ items) item found (suc n) is = by (old_or_new items item found n is)
+  where
+    by : (slice_get items n ≡ Some found) ⊎ ((n ≡ length items) × (item ≡ found))
+        → (slice_get items n ≡ Some found) ⊎ ((suc n ≡ length (i ∷ items)) × (item ≡ found))
+    by (inl was) = inl was
+    by (inr new) = inr (ap suc new.0, new.1)
+
+-- A message has one sender.
+same_sender : (s t : Side) (m n : Message) → Some (Sent s m) ≡ Some (Sent t n) → s ≡ t
+same_sender s t m n is = cc
+
+-- The fate of the newest message is not over.
+not_yet : (number n : ℕ) (fate : Fate) → IsAhead (0 + n) fate → n ≡ number → IsOver (number + 1) (number + 1) fate → ⊥
+not_yet number n (Gap g) ahead same over = omega (arith, ahead, same, over)
+not_yet number n (By k) ahead same over = omega (arith, ahead, same, over)
+not_yet number n Lost ahead same over = over
 
 -- Behind the next entry, what it takes was taken.
 pub stands_next : (table : Table) (c : Certificate) (count : ℕ) (front : List Entry) (entry : Entry) (item : Item) (fate : Fate)
     (r next : Replay) → FatesFit count 0 c.fates → Stands table c front (next_entry r + 1) r → IsItem entry item
     → slice_get c.fates (next_entry r) ≡ Some fate → (item ≡ Item.Quiet → fate ≡ Gap (next_entry r + 1))
     → IsSentBy table c item r next → Stands table c (front ++ entry ∷ []) (next_entry next) next
-stands_next table c count front entry item fate r next fit old is has mark sent = ?
+stands_next table c count front entry item fate r next fit old is has mark sent =
+    let items = r.world.sent in
+    let number = next_entry r in
+    let on = sent.replays in
+    let grown : next.world.sent ≡ items ++ item ∷ [] = on.sent in
+    let more : next_entry next ≡ number + 1 = ap length grown ∙ length-append items (item ∷ []) in
+    let runs = runs_on table r next on.steps old.runs on.extends in
+    let within : number < length c.fates = slice_get_within c.fates number fate has in
+    record {
+      runs = runs;
+      are = subst (AreItems (front ++ entry ∷ [])) (sym grown) (one_more front items entry item old.are is);
+      counted = omega (arith, more, within);
+      marks = λ n at. mark_more n (old_or_new items item Item.Quiet n (ap (λ (x : List Item). slice_get x n) (sym grown) ∙ at));
+      taken = λ n side message fate_n at has_n over.
+          by n side message fate_n runs at has_n
+          (old_or_new items item (Sent side message) n (ap (λ (x : List Item). slice_get x n) (sym grown) ∙ at))
+          (subst (λ (k : ℕ). IsOver k k fate_n) more over);
+    }
+  where
+    mark_more : (n : ℕ) → (slice_get r.world.sent n ≡ Some Item.Quiet) ⊎ ((n ≡ length r.world.sent) × (item ≡ Item.Quiet))
+        → slice_get c.fates n ≡ Some (Gap (n + 1))
+    mark_more n (inl was) = old.marks n was
+    mark_more n (inr new) =
+        ap (slice_get c.fates) new.0 ∙ has ∙ ap Some (mark new.1) ∙ ap (λ (k : ℕ). Some (Gap (k + 1))) (sym new.0)
+
+    before : (n : ℕ) (side : Side) → IsIn n (numbers_taken side r.events) → IsIn n (numbers_taken side next.events)
+    before n side was = subst (λ (x : List Event). IsIn n (numbers_taken side x)) (sym sent.replays.extends.events)
+        (taken_before side n r.events sent.replays.steps was)
+
+    -- the reply that takes it is the one of this item
+    taken_here : (n : ℕ) (side : Side) (message : Message) → Runs table next.events next.world
+        → slice_get next.world.sent n ≡ Some (Sent side message) → slice_get c.fates n ≡ Some (By (next_entry r))
+        → IsIn n (numbers_taken side next.events)
+    taken_here n side message runs at has_n =
+        let number = next_entry r in
+        let zero_n : 0 + n ≡ n = omega arith in
+        let listed = subst (λ (k : ℕ). IsIn k (taken_by number 0 c.fates)) zero_n (taken_in number 0 n c.fates has_n) in
+        let reply = replied c number n item sent.sends (taken_by number 0 c.fates) sent.sends_is listed in
+        let event = Replies reply.0 n in
+        let last = in_right event sent.implied (sent.sends ∷ []) (inl (sym reply.1)) in
+        let in_steps = in_all event sent.replays.steps (subst (λ (x : List Event). IsIn event x) (sym sent.replays.are) last) in
+        let was = subst (λ (x : List Event). IsIn n (numbers_taken (other reply.0) x)) (sym sent.replays.extends.events)
+        (taken_behind (other reply.0) n r.events sent.replays.steps
+        (in_taken (other reply.0) n event sent.replays.steps (takes_replied reply.0 n) in_steps)) in
+        let of_other = taken_sent table next.events next.world (other reply.0) n runs was in
+        let same : other reply.0 ≡ side = same_sender (other reply.0) side of_other.0 message (sym of_other.1 ∙ at) in
+        subst (λ (s : Side). IsIn n (numbers_taken s next.events)) same was
+
+    by : (n : ℕ) (side : Side) (message : Message) (fate_n : Fate) → Runs table next.events next.world
+        → slice_get next.world.sent n ≡ Some (Sent side message) → slice_get c.fates n ≡ Some fate_n
+        → (slice_get r.world.sent n ≡ Some (Sent side message)) ⊎ ((n ≡ length r.world.sent) × (item ≡ Sent side message))
+        → IsOver (next_entry r + 1) (next_entry r + 1) fate_n → IsIn n (numbers_taken side next.events)
+    by n side message fate_n runs at has_n (inr new) over =
+        absurd (not_yet (next_entry r) n fate_n (ahead count 0 n c.fates fate_n fit has_n) new.0 over)
+    by n side message Lost runs at has_n (inl was) over = absurd over
+    by n side message (Gap g) runs at has_n (inl was) over = before n side (old.taken n side message (Gap g) was has_n over)
+    by n side message (By k) runs at has_n (inl was) over = which (cases_lt k (next_entry r))
+      where
+        which : (k < next_entry r) ⊎ (next_entry r ≤ k) → IsIn n (numbers_taken side next.events)
+        which (inl earlier) = before n side (old.taken n side message (By k) was has_n earlier)
+        which (inr not_before) =
+            let same : k ≡ next_entry r = omega (arith, over, not_before) in
+            taken_here n side message runs at (has_n ∙ ap (λ (x : ℕ). Some (By x)) same)
