@@ -114,7 +114,7 @@ taken_behind side n [] more is = is
 taken_behind side n (event ∷ events) more is =
     in_right n (takes_from side event) (numbers_taken side (events ++ more)) (taken_behind side n events more is)
 
-same_side : (side sender : Side) → is_side side sender ≡ true → side ≡ sender
+pub same_side : (side sender : Side) → is_side side sender ≡ true → side ≡ sender
 same_side sides.A sides.A is = refl
 same_side sides.A sides.B is = cc
 same_side sides.B sides.A is = cc
