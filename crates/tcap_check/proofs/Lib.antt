@@ -23,4 +23,5 @@ pub mod GivenRuns
 pub mod DescribedRuns
 pub mod AtOnceLaws
 pub mod PendingLaws
+pub mod ReasonGaps
 pub mod ReasonLaws

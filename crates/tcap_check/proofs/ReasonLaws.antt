@@ -1,8 +1,8 @@
 -- What a refusal says of the certificate and the entries.
-use Rattle.std.proofs.Common.{◌≡◌, ◌⊎◌, inl, inr, ℕ, zero, suc, ◌+◌, ◌<◌, ◌≤◌, ◌==◌, nat_lt, nat_le, arith, Bool, true, false, cond, List, [], ◌∷◌, ◌++◌, map, filter, take, drop, length, Option, Some, None, Result, Ok, Err, refl, sym, ap, subst, ◌∙◌, append-nil, append_assoc}
+use Rattle.std.proofs.Common.{get_or, ◌≡◌, ◌⊎◌, inl, inr, ℕ, zero, suc, ◌+◌, ◌<◌, ◌≤◌, ◌==◌, nat_lt, nat_le, arith, Bool, true, false, cond, List, [], ◌∷◌, ◌++◌, map, filter, take, drop, length, Option, Some, None, Result, Ok, Err, refl, sym, ap, subst, ◌∙◌, append-nil, append_assoc}
 use Rattle.std.specs.Prelude.{◌&&◌, ◌||◌, not, Contains, ok_or, slice_get}
 use Rattle.std.specs.List.{AllByRecursion}
-use Rattle.std.proofs.lemmas.Bool.{and_cases, and_parts, cases_lt, eqb-false, eqb-true, leb-false, ltb-false, or_cases}
+use Rattle.std.proofs.lemmas.Bool.{and_cases, and_parts, cases_lt, eq-eqb, eqb-false, eqb-true, leb-false, ltb-false, not-false, or_cases}
 use Rattle.std.proofs.lemmas.Option.{slice_get_cases, slice_get_within}
 use lib.Seq.{take-append_seam}
 use Rattle.tcap_ber.specs.declared.fault.Fault.{Fault}
@@ -30,387 +30,301 @@ use Rattle.tcap_check.specs.World.{Item, OnItsWay, Sent, World, channel_from, em
 use Rattle.tcap_check.specs.Run.{Event, Sends, Receives, Replies, Loses, Expires, Closes, Quiet, Tells, Runs, after, after_quiet}
 use Rattle.tcap_check.specs.Certificate.{Certificate}
 use Rattle.tcap_check.specs.Entries.{AreItems, IsItem, item_by, item_of}
-use Rattle.tcap_check.specs.Follows.{FatesFit, closing_event, expiry_event, sending, taken_by}
+use Rattle.tcap_check.specs.Follows.{FatesFit, closing_event, expiry_event, invoking_half, quiet_by, sending, sending_by, taken_by}
 use Rattle.tcap_check.specs.Given.{IsAt, IsBeforeEarlier, IsNoClosing, IsNoExpiry, IsNoFate, IsOutOfRange, IsOutside, IsPending, IsReason, IsStillOpen}
-use Rattle.tcap_check.specs.Replayed.{Replay, all_fit, certificate_fits, closings_replayed, deliveries_replayed, entries_replayed, entry_replayed, expiries_replayed, fate_fits, fates_fit, fault_at, gap_replayed, happens, is_gap, is_later, is_nothing, is_overtaking, item_replayed, lost_before, lost_from_both, lost_front, message_by, message_replayed, next_entry, nothing_replayed, quiet_replayed, refused, replayed, reply_replayed, send_replayed, sent_or_refused, sent_replayed, stepped, time_of}
+use Rattle.tcap_check.specs.Replayed.{Replay, all_fit, certificate_fits, closings_replayed, deliveries_replayed, entries_replayed, entry_replayed, expiries_replayed, fate_fits, fates_fit, fault_at, gap_replayed, happens, if_lost, implied_over, is_abort, is_gap, is_later, is_nothing, is_overtaking, item_replayed, lost_before, lost_from_both, lost_front, message_by, message_replayed, next_entry, nothing_replayed, quiet_replayed, refused, replayed, reply_replayed, send_replayed, sent_or_refused, sent_replayed, stepped, time_of}
+use Rattle.tcap_check.specs.Since.{WasSent}
+use Rattle.tcap_check.proofs.ChannelLaws.{were_sent}
 use Rattle.tcap_check.proofs.ReplayGaps.{fates_ok}
 use Rattle.tcap_check.proofs.ReplayLaws.{Replays, closings_replay, expiries_replay, both_replay, gap_replays}
-use Rattle.tcap_check.proofs.PendingLaws.{IsIn, Stands, ahead, contained, same_side, stands_behind, stands_next, stands_still}
-
--- ---- answers that are reasons
-
--- A step that needs something is refused where it is not so, or where the rest is.
-needs_err : {A F : Type 0} (so : Bool) (reason : F) (rest : Result A F) (f : F) → (needs so reason >> rest) ≡ Err f
-    → ((so ≡ false) × (reason ≡ f)) ⊎ ((so ≡ true) × (rest ≡ Err f))
-needs_err true reason rest f is = inr (refl, is)
-needs_err false reason rest f is = inl (refl, cc)
-
--- Of two steps the first is refused, or it is Ok and the second is.
-then_err : {A B F : Type 0} (step : Result A F) (rest : A → Result B F) (f : F) → (step >>= rest) ≡ Err f
-    → (step ≡ Err f) ⊎ ((x : A) × (step ≡ Ok x) × (rest x ≡ Err f))
-then_err (Ok x) rest f is = inr (x, refl, is)
-then_err (Err reason) rest f is = inl cc
-
--- the same, where the second needs nothing of the first
-both_err : {B F : Type 0} (step : Result (Unit {0}) F) (rest : Result B F) (f : F) → (step >> rest) ≡ Err f
-    → (step ≡ Err f) ⊎ ((step ≡ Ok tt) × (rest ≡ Err f))
-both_err (Ok tt) rest f is = inr (refl, is)
-both_err (Err reason) rest f is = inl cc
-
--- What is not there is refused for that reason.
-none_err : {A F : Type 0} (o : Option A) (reason f : F) → ok_or o reason ≡ Err f → (o ≡ None) × (reason ≡ f)
-none_err None reason f is = (refl, cc)
-none_err (Some x) reason f is = cc
-
--- what a refusal says
-abbrev Says : Table → Certificate → List Entry → CheckFault → Type 0
-Says table c entries fault = IsReason table c entries fault.entry fault.reason
-
--- It is that refusal, and so says this.
-says : (table : Table) (c : Certificate) (entries : List Entry) (reason : Reason) (number : ℕ) (fault : CheckFault)
-    → fault_at reason number ≡ fault → IsReason table c entries number reason → Says table c entries fault
-says table c entries reason number fault same is = subst (Says table c entries) same is
-
--- ---- ranges
-
--- A number below the gap, and the gap not behind the end; else it lies outside.
-outside : (count entry gap : ℕ) → (nat_lt entry gap && nat_le gap count) ≡ false → IsOutside count entry gap
-outside count entry gap is = by (and_cases (nat_lt entry gap) (nat_le gap count) is)
-  where
-    by : (nat_lt entry gap ≡ false) ⊎ (nat_le gap count ≡ false) → IsOutside count entry gap
-    by (inl before) = inl (ltb-false entry gap before)
-    by (inr behind) = inr (leb-false gap count behind)
-
--- A fate that lies outside,
-fates_say : (table : Table) (c : Certificate) (entries : List Entry) (n : ℕ) (fates : List Fate) (fault : CheckFault)
-    → ((i : ℕ) (fate : Fate) → slice_get fates i ≡ Some fate → slice_get c.fates (n + i) ≡ Some fate)
-    → fates_fit (length c.fates) n fates ≡ Err fault → Says table c entries fault
-fates_say table c entries n [] fault there is = cc
-fates_say table c entries n (fate ∷ fates) fault there is =
-    by (needs_err (fate_fits (length c.fates) n fate) (fault_at reasons.FateRange n) (fates_fit (length c.fates) (n + 1) fates) fault is)
-    (fates_say table c entries (n + 1) fates fault next)
-  where
-    here : n + 0 ≡ n
-    here = omega arith
-
-    further : (i : ℕ) → (n + 1) + i ≡ n + suc i
-    further i = omega arith
-
-    next : (i : ℕ) (f : Fate) → slice_get fates i ≡ Some f → slice_get c.fates ((n + 1) + i) ≡ Some f
-    next i f at = ap (slice_get c.fates) (further i) ∙ there (suc i) f at
-
-    by : ((fate_fits (length c.fates) n fate ≡ false) × (fault_at reasons.FateRange n ≡ fault))
-        ⊎ ((fate_fits (length c.fates) n fate ≡ true) × (fates_fit (length c.fates) (n + 1) fates ≡ Err fault))
-        → (fates_fit (length c.fates) (n + 1) fates ≡ Err fault → Says table c entries fault) → Says table c entries fault
-    by (inl (outside, same)) on =
-        says table c entries reasons.FateRange n fault same
-        (inl (fate, ap (slice_get c.fates) (sym here) ∙ there 0 fate refl, inl outside))
-    by (inr (fits, rest)) on = on rest
-
--- a closing that does,
-closings_say : (table : Table) (c : Certificate) (entries : List Entry) (listed : List Closing) (fault : CheckFault)
-    → ((x : Closing) → IsIn x listed → IsIn x c.close)
-    → all_fit (length c.fates) (map (λ x. (x.entry, x.gap)) listed) ≡ Err fault → Says table c entries fault
-closings_say table c entries [] fault there is = cc
-closings_say table c entries (x ∷ listed) fault there is =
-    by (needs_err (nat_lt x.entry x.gap && nat_le x.gap (length c.fates)) (fault_at reasons.FateRange x.entry)
-    (all_fit (length c.fates) (map (λ (y : Closing). (y.entry, y.gap)) listed)) fault is)
-    (closings_say table c entries listed fault (λ y found. there y (inr found)))
-  where
-    by : (((nat_lt x.entry x.gap && nat_le x.gap (length c.fates)) ≡ false) × (fault_at reasons.FateRange x.entry ≡ fault))
-        ⊎ (((nat_lt x.entry x.gap && nat_le x.gap (length c.fates)) ≡ true)
-        × (all_fit (length c.fates) (map (λ (y : Closing). (y.entry, y.gap)) listed) ≡ Err fault))
-        → (all_fit (length c.fates) (map (λ (y : Closing). (y.entry, y.gap)) listed) ≡ Err fault → Says table c entries fault)
-        → Says table c entries fault
-    by (inl (no_fit, same)) on =
-        says table c entries reasons.FateRange x.entry fault same
-        (inr (inl (x, contained x c.close (there x (inl refl)), refl, inl (outside (length c.fates) x.entry x.gap no_fit))))
-    by (inr (fits, rest)) on = on rest
-
--- and an expiry that does.
-expiries_say : (table : Table) (c : Certificate) (entries : List Entry) (listed : List Expiry) (fault : CheckFault)
-    → ((x : Expiry) → IsIn x listed → IsIn x c.expire)
-    → all_fit (length c.fates) (map (λ x. (x.entry, x.gap)) listed) ≡ Err fault → Says table c entries fault
-expiries_say table c entries [] fault there is = cc
-expiries_say table c entries (x ∷ listed) fault there is =
-    by (needs_err (nat_lt x.entry x.gap && nat_le x.gap (length c.fates)) (fault_at reasons.FateRange x.entry)
-    (all_fit (length c.fates) (map (λ (y : Expiry). (y.entry, y.gap)) listed)) fault is)
-    (expiries_say table c entries listed fault (λ y found. there y (inr found)))
-  where
-    by : (((nat_lt x.entry x.gap && nat_le x.gap (length c.fates)) ≡ false) × (fault_at reasons.FateRange x.entry ≡ fault))
-        ⊎ (((nat_lt x.entry x.gap && nat_le x.gap (length c.fates)) ≡ true)
-        × (all_fit (length c.fates) (map (λ (y : Expiry). (y.entry, y.gap)) listed) ≡ Err fault))
-        → (all_fit (length c.fates) (map (λ (y : Expiry). (y.entry, y.gap)) listed) ≡ Err fault → Says table c entries fault)
-        → Says table c entries fault
-    by (inl (no_fit, same)) on =
-        says table c entries reasons.FateRange x.entry fault same
-        (inr (inr (x, contained x c.expire (there x (inl refl)), refl, inl (outside (length c.fates) x.entry x.gap no_fit))))
-    by (inr (fits, rest)) on = on rest
-
--- What a certificate that does not fit says.
-certificate_says : (table : Table) (c : Certificate) (entries : List Entry) (fault : CheckFault) → certificate_fits c ≡ Err fault
-    → Says table c entries fault
-certificate_says table c entries fault is = by (both_err fates _ fault is)
-  where
-    count : ℕ
-    count = length c.fates
-
-    fates : Result (Unit {0}) CheckFault
-    fates = fates_fit count 0 c.fates
-
-    closings : Result (Unit {0}) CheckFault
-    closings = all_fit count (map (λ (x : Closing). (x.entry, x.gap)) c.close)
-
-    expiries : Result (Unit {0}) CheckFault
-    expiries = all_fit count (map (λ (x : Expiry). (x.entry, x.gap)) c.expire)
-
-    zero_and : (i : ℕ) → 0 + i ≡ i
-    zero_and i = omega arith
-
-    listed : (closings ≡ Err fault) ⊎ ((closings ≡ Ok tt) × (expiries ≡ Err fault)) → Says table c entries fault
-    listed (inl refuses) = closings_say table c entries c.close fault (λ x h. h) refuses
-    listed (inr (ok, refuses)) = expiries_say table c entries c.expire fault (λ x h. h) refuses
-
-    by : (fates ≡ Err fault) ⊎ ((fates ≡ Ok tt) × ((closings >> expiries) ≡ Err fault)) → Says table c entries fault
-    by (inl refuses) =
-        fates_say table c entries 0 c.fates fault (λ i f at. ap (slice_get c.fates) (zero_and i) ∙ at) refuses
-    by (inr (ok, refuses)) = listed (both_err closings expiries fault refuses)
-
--- ---- entries
-
--- The items so far are at their entries,
-at_front : (front rest : List Entry) (items : List Item) (item : Item) (n : ℕ) → AreItems front items → slice_get items n ≡ Some item
-    → IsAt (front ++ rest) n item
-at_front [] rest [] item n are is = cc
-at_front [] rest (i ∷ items) item n are is = absurd are
-at_front (e ∷ front) rest [] item n are is = absurd are
-at_front (e ∷ front) rest (i ∷ items) item zero are is =
-    let same : i ≡ item = cc in (e, refl, subst (IsItem e) same are.0)
-at_front (e ∷ front) rest (i ∷ items) item (suc n) are is = at_front front rest items item n are.1 is
-
--- as many,
-as_many : (front : List Entry) (items : List Item) → AreItems front items → length front ≡ length items
-as_many [] [] are = refl
-as_many [] (i ∷ items) are = absurd are
-as_many (e ∷ front) [] are = absurd are
-as_many (e ∷ front) (i ∷ items) are = ap suc (as_many front items are.1)
-
--- and the next entry is behind them.
-next_at : (front rest : List Entry) (entry : Entry) (n : ℕ) → n ≡ length front → slice_get (front ++ entry ∷ rest) n ≡ Some entry
-next_at front rest entry n is = ap (slice_get (front ++ entry ∷ rest)) is ∙ at_end front
-  where
-    at_end : (before : List Entry) → slice_get (before ++ entry ∷ rest) (length before) ≡ Some entry
-    at_end [] = refl
-    at_end (e ∷ before) = at_end before
-
--- Those before the next are these.
-taken_front : (front rest : List Entry) (n : ℕ) → n ≡ length front → take n (front ++ rest) ≡ front
-taken_front front rest n is = ap (λ (k : ℕ). take k (front ++ rest)) is ∙ take-append_seam front rest
-
--- ---- a gap
-
--- What is left by a test was there, and passed it.
-in_filter : {A : Type 0} (p : A → Bool) (x : A) (xs : List A) → IsIn x (filter p xs) → IsIn x xs × (p x ≡ true)
-in_filter p x [] is = absurd is
-in_filter p x (y ∷ ys) is = by (p y) refl (in_filter p x ys) is
-  where
-    by : (b : Bool) → p y ≡ b → (IsIn x (filter p ys) → IsIn x ys × (p x ≡ true)) → IsIn x (cond b (y ∷ filter p ys) (filter p ys))
-        → IsIn x (y ∷ ys) × (p x ≡ true)
-    by true passes on (inl same) = (inl same, ap p same ∙ passes)
-    by true passes on (inr more) = let found = on more in (inr found.0, found.1)
-    by false passes on more = let found = on more in (inr found.0, found.1)
-
--- A closing of a gap that names none, for the items before it.
-closings_gap_say : (table : Table) (c : Certificate) (front rest : List Entry) (items : List Item) (listed : List Closing) (r : Replay)
-    (fault : CheckFault) → AreItems front items → ((x : Closing) → IsIn x listed → IsIn x c.close × (x.gap ≡ length front))
-    → r.world.sent ≡ items → closings_replayed table c listed r ≡ Err fault → Says table c (front ++ rest) fault
-closings_gap_say table c front rest items [] r fault are there so is = cc
-closings_gap_say table c front rest items (x ∷ listed) r fault are there so is =
-    by (then_err (ok_or (closing_event r.world.sent x) (fault_at reasons.FateRange x.entry)) _ fault is)
-    (λ next. closings_gap_say table c front rest items listed next fault are (λ y found. there y (inr found)))
-  where
-    reason : Reason
-    reason = reasons.HiddenRefused faults.CannotClose
-
-    named : (event : Event) → ok_or (closing_event r.world.sent x) (fault_at reasons.FateRange x.entry) ≡ Ok event
-        → (happens table c event reason x.entry r ≡ Err fault)
-        ⊎ ((next : Replay) × (happens table c event reason x.entry r ≡ Ok next) × (closings_replayed table c listed next ≡ Err fault))
-        → ((next : Replay) → next.world.sent ≡ items → closings_replayed table c listed next ≡ Err fault → Says table c (front ++ rest) fault)
-        → Says table c (front ++ rest) fault
-    named event event_is (inl refuses) on =
-        says table c (front ++ rest) reason x.entry fault
-        (none_err (stepped table event (lost_before c event r)) (fault_at reason x.entry) fault refuses).1 tt
-    named event event_is (inr (next, goes, refuses)) on =
-        let one : closings_replayed table c (x ∷ []) r ≡ Ok next = rw (event_is, goes) refl in
-        let replayed_one = closings_replay table c (x ∷ []) items r next so one in
-        on next (replayed_one.2.sent ∙ append-nil r.world.sent ∙ so) refuses
-
-    by : (ok_or (closing_event r.world.sent x) (fault_at reasons.FateRange x.entry) ≡ Err fault)
-        ⊎ ((event : Event) × (ok_or (closing_event r.world.sent x) (fault_at reasons.FateRange x.entry) ≡ Ok event)
-        × ((happens table c event reason x.entry r >>= closings_replayed table c listed) ≡ Err fault))
-        → ((next : Replay) → next.world.sent ≡ items → closings_replayed table c listed next ≡ Err fault → Says table c (front ++ rest) fault)
-        → Says table c (front ++ rest) fault
-    by (inl refuses) on =
-        let none = none_err (closing_event r.world.sent x) (fault_at reasons.FateRange x.entry) fault refuses in
-        let found = there x (inl refl) in
-        let before = subst (λ (es : List Entry). AreItems es items) (sym (taken_front front rest x.gap found.1)) are in
-        says table c (front ++ rest) reasons.FateRange x.entry fault none.1
-        (inr (inl (
-          x,
-          contained x c.close found.0,
-          refl,
-          inr (items, before, ap (λ (s : List Item). closing_event s x) (sym so) ∙ none.0),
-        )))
-    by (inr (event, event_is, refuses)) on = named event event_is (then_err (happens table c event reason x.entry r) _ fault refuses) on
-
--- An expiry that names none.
-expiries_gap_say : (table : Table) (c : Certificate) (front rest : List Entry) (items : List Item) (listed : List Expiry) (r : Replay)
-    (fault : CheckFault) → AreItems front items → ((x : Expiry) → IsIn x listed → IsIn x c.expire × (x.gap ≡ length front))
-    → r.world.sent ≡ items → expiries_replayed table c listed r ≡ Err fault → Says table c (front ++ rest) fault
-expiries_gap_say table c front rest items [] r fault are there so is = cc
-expiries_gap_say table c front rest items (x ∷ listed) r fault are there so is =
-    by (then_err (ok_or (expiry_event r.world.sent x) (fault_at reasons.FateRange x.entry)) _ fault is)
-    (λ next. expiries_gap_say table c front rest items listed next fault are (λ y found. there y (inr found)))
-  where
-    reason : Reason
-    reason = reasons.HiddenRefused faults.CannotExpire
-
-    named : (event : Event) → ok_or (expiry_event r.world.sent x) (fault_at reasons.FateRange x.entry) ≡ Ok event
-        → (happens table c event reason x.entry r ≡ Err fault)
-        ⊎ ((next : Replay) × (happens table c event reason x.entry r ≡ Ok next) × (expiries_replayed table c listed next ≡ Err fault))
-        → ((next : Replay) → next.world.sent ≡ items → expiries_replayed table c listed next ≡ Err fault → Says table c (front ++ rest) fault)
-        → Says table c (front ++ rest) fault
-    named event event_is (inl refuses) on =
-        says table c (front ++ rest) reason x.entry fault
-        (none_err (stepped table event (lost_before c event r)) (fault_at reason x.entry) fault refuses).1 tt
-    named event event_is (inr (next, goes, refuses)) on =
-        let one : expiries_replayed table c (x ∷ []) r ≡ Ok next = rw (event_is, goes) refl in
-        let replayed_one = expiries_replay table c (x ∷ []) items r next so one in
-        on next (replayed_one.2.sent ∙ append-nil r.world.sent ∙ so) refuses
-
-    by : (ok_or (expiry_event r.world.sent x) (fault_at reasons.FateRange x.entry) ≡ Err fault)
-        ⊎ ((event : Event) × (ok_or (expiry_event r.world.sent x) (fault_at reasons.FateRange x.entry) ≡ Ok event)
-        × ((happens table c event reason x.entry r >>= expiries_replayed table c listed) ≡ Err fault))
-        → ((next : Replay) → next.world.sent ≡ items → expiries_replayed table c listed next ≡ Err fault → Says table c (front ++ rest) fault)
-        → Says table c (front ++ rest) fault
-    by (inl refuses) on =
-        let none = none_err (expiry_event r.world.sent x) (fault_at reasons.FateRange x.entry) fault refuses in
-        let found = there x (inl refl) in
-        let before = subst (λ (es : List Entry). AreItems es items) (sym (taken_front front rest x.gap found.1)) are in
-        says table c (front ++ rest) reasons.FateRange x.entry fault none.1
-        (inr (inr (
-          x,
-          contained x c.expire found.0,
-          refl,
-          inr (items, before, ap (λ (s : List Item). expiry_event s x) (sym so) ∙ none.0),
-        )))
-    by (inr (event, event_is, refuses)) on = named event event_is (then_err (happens table c event reason x.entry r) _ fault refuses) on
-
--- A delivery that may not happen.
-deliveries_refused : (table : Table) (c : Certificate) (gap number : ℕ) (fates : List Fate) (items : List Item) (r : Replay) (fault : CheckFault)
-    → deliveries_replayed table c gap number fates items r ≡ Err fault → (n : ℕ) × (fault_at reasons.BadReply n ≡ fault)
-deliveries_refused table c gap number [] items r fault is = cc
-deliveries_refused table c gap number (fate ∷ fates) [] r fault is = cc
-deliveries_refused table c gap number (Gap g ∷ fates) (Sent side message ∷ items) r fault is =
-    by (g == gap) (λ mid. deliveries_refused table c gap (number + 1) fates items mid fault) is
-  where
-    event : Event
-    event = Receives (other side) number
-
-    either : (happens table c event reasons.BadReply number r ≡ Err fault)
-        ⊎ ((mid : Replay) × (happens table c event reasons.BadReply number r ≡ Ok mid)
-        × (deliveries_replayed table c gap (number + 1) fates items mid ≡ Err fault))
-        → ((mid : Replay) → deliveries_replayed table c gap (number + 1) fates items mid ≡ Err fault
-        → (n : ℕ) × (fault_at reasons.BadReply n ≡ fault))
-        → (n : ℕ) × (fault_at reasons.BadReply n ≡ fault)
-    either (inl refuses) on =
-        (number, (none_err (stepped table event (lost_before c event r)) (fault_at reasons.BadReply number) fault refuses).1)
-    either (inr (mid, goes, refuses)) on = on mid refuses
-
-    by : (b : Bool)
-        → ((mid : Replay) → deliveries_replayed table c gap (number + 1) fates items mid ≡ Err fault
-        → (n : ℕ) × (fault_at reasons.BadReply n ≡ fault))
-        → (cond b (happens table c event reasons.BadReply number r) (Ok r) >>= deliveries_replayed table c gap (number + 1) fates items)
-        ≡ Err fault
-        → (n : ℕ) × (fault_at reasons.BadReply n ≡ fault)
-    by true on refuses = either (then_err (happens table c event reasons.BadReply number r) _ fault refuses) on
-    by false on refuses = on r refuses
-deliveries_refused table c gap number (Gap g ∷ fates) (Item.Quiet ∷ items) r fault is =
-    deliveries_refused table c gap (number + 1) fates items r fault is
-deliveries_refused table c gap number (Lost ∷ fates) (Sent side message ∷ items) r fault is =
-    deliveries_refused table c gap (number + 1) fates items r fault is
-deliveries_refused table c gap number (Lost ∷ fates) (Item.Quiet ∷ items) r fault is =
-    deliveries_refused table c gap (number + 1) fates items r fault is
-deliveries_refused table c gap number (By k ∷ fates) (Sent side message ∷ items) r fault is =
-    deliveries_refused table c gap (number + 1) fates items r fault is
-deliveries_refused table c gap number (By k ∷ fates) (Item.Quiet ∷ items) r fault is =
-    deliveries_refused table c gap (number + 1) fates items r fault is
-
--- What the gap before the next entry says.
-gap_says : (table : Table) (c : Certificate) (front rest : List Entry) (r : Replay) (fault : CheckFault) → AreItems front r.world.sent
-    → gap_replayed table c r ≡ Err fault → Says table c (front ++ rest) fault
-gap_says table c front rest r fault are is = by (then_err (closings_replayed table c closing r) _ fault is)
-  where
-    items : List Item
-    items = r.world.sent
-
-    closing : List Closing
-    closing = filter (λ (x : Closing). x.gap == next_entry r) c.close
-
-    expiring : List Expiry
-    expiring = filter (λ (x : Expiry). x.gap == next_entry r) c.expire
-
-    closings_of : (x : Closing) → IsIn x closing → IsIn x c.close × (x.gap ≡ length front)
-    closings_of x found =
-        let there = in_filter (λ (y : Closing). y.gap == next_entry r) x c.close found in
-        (there.0, eqb-true x.gap (next_entry r) there.1 ∙ sym (as_many front items are))
-
-    expiries_of : (x : Expiry) → IsIn x expiring → IsIn x c.expire × (x.gap ≡ length front)
-    expiries_of x found =
-        let there = in_filter (λ (y : Expiry). y.gap == next_entry r) x c.expire found in
-        (there.0, eqb-true x.gap (next_entry r) there.1 ∙ sym (as_many front items are))
-
-    behind : (closed : Replay) → closed.world.sent ≡ items
-        → (expiries_replayed table c expiring closed ≡ Err fault)
-        ⊎ ((expired : Replay) × (expiries_replayed table c expiring closed ≡ Ok expired)
-        × (deliveries_replayed table c (next_entry r) 0 c.fates items expired ≡ Err fault))
-        → Says table c (front ++ rest) fault
-    behind closed so (inl refuses) = expiries_gap_say table c front rest items expiring closed fault are expiries_of so refuses
-    behind closed so (inr (expired, goes, refuses)) =
-        let found = deliveries_refused table c (next_entry r) 0 c.fates items expired fault refuses in
-        says table c (front ++ rest) reasons.BadReply found.0 fault found.1 tt
-
-    by : (closings_replayed table c closing r ≡ Err fault)
-        ⊎ ((closed : Replay) × (closings_replayed table c closing r ≡ Ok closed)
-        × ((expiries_replayed table c expiring closed >>= deliveries_replayed table c (next_entry r) 0 c.fates items) ≡ Err fault))
-        → Says table c (front ++ rest) fault
-    by (inl refuses) = closings_gap_say table c front rest items closing r fault are closings_of refl refuses
-    by (inr (closed, goes, refuses)) =
-        let so = closings_replay table c closing items r closed refl goes in
-        behind closed (so.2.sent ∙ append-nil items) (then_err (expiries_replayed table c expiring closed) _ fault refuses)
+use Rattle.tcap_check.proofs.PendingLaws.{IsIn, IsOver, Stands, ahead, contained, same_side, taken_is_gone, stands_behind, stands_next, stands_still}
+use Rattle.tcap_check.proofs.ReasonGaps.{Says, as_many, at_front, both_err, certificate_says, gap_says, needs_err, next_at, none_err, says, taken_front, then_err}
 
 -- ---- an item
 
+-- What the refusal of a message says: nothing.
 message_says : (table : Table) (c : Certificate) (entries : List Entry) (side : Side) (message : Message) (r : Replay) (fault : CheckFault)
     → message_replayed table c side message r ≡ Err fault → Says table c entries fault
-message_says table c entries side message r fault is = ?
+message_says table c entries side message r fault is = by (sending c (next_entry r) (Sent side message)) is
+  where
+    sent : (mid : Replay) (o : Result End EndFault) → sent_or_refused side message mid o ≡ Err fault → Says table c entries fault
+    sent mid (Ok e) refuses = cc
+    sent mid (Err reason) refuses = says table c entries (reasons.SendRefused reason) (next_entry mid) fault (cc) tt
 
+    answered : (next : Replay)
+        → ((is_abort message (slice_get next.world.sent (next_entry r)) ≡ false) × (fault_at reasons.BadReply (next_entry r) ≡ fault))
+        ⊎ ((is_abort message (slice_get next.world.sent (next_entry r)) ≡ true)
+        × ((let o : Result Replay CheckFault = Ok next in o) ≡ Err fault))
+        → Says table c entries fault
+    answered next (inl (other_one, same)) = says table c entries reasons.BadReply (next_entry r) fault same tt
+    answered next (inr (fits, differ)) = cc
+
+    replied : (number : ℕ)
+        → (happens table c (Replies side number) reasons.BadReply (next_entry r) r ≡ Err fault)
+        ⊎ ((next : Replay) × (happens table c (Replies side number) reasons.BadReply (next_entry r) r ≡ Ok next)
+        × ((needs (is_abort message (slice_get next.world.sent (next_entry r))) (fault_at reasons.BadReply (next_entry r)) >> Ok next)
+        ≡ Err fault))
+        → Says table c entries fault
+    replied number (inl refuses) =
+        let event = Replies side number in
+        says table c entries reasons.BadReply (next_entry r) fault
+        (none_err (stepped table event (lost_before c event r)) (fault_at reasons.BadReply (next_entry r)) fault refuses).1 tt
+    replied number (inr (next, goes, refuses)) =
+        answered next (needs_err (is_abort message (slice_get next.world.sent (next_entry r)))
+        (fault_at reasons.BadReply (next_entry r)) (Ok next) fault refuses)
+
+    bad : refused {A = Replay} reasons.BadReply (next_entry r) ≡ Err fault → Says table c entries fault
+    bad refuses = says table c entries reasons.BadReply (next_entry r) fault (cc) tt
+
+    by : (o : Option Event) → message_by table c side message o r ≡ Err fault → Says table c entries fault
+    by None refuses = bad refuses
+    by (Some (Sends sender m)) refuses =
+        let mid = implied_over table side message (invoking_half message) r in
+        sent mid (send table (end_at side mid.world) message) refuses
+    by (Some (Replies replier number)) refuses =
+        replied number (then_err (happens table c (Replies side number) reasons.BadReply (next_entry r) r) _ fault refuses)
+    by (Some (Receives receiver number)) refuses = bad refuses
+    by (Some (Loses sender number)) refuses = bad refuses
+    by (Some (Expires sender name id)) refuses = bad refuses
+    by (Some (Closes sender name)) refuses = bad refuses
+    by (Some Quiet) refuses = bad refuses
+    by (Some (Tells sender m)) refuses = bad refuses
+
+-- A message that overtakes one comes before an earlier one of its end.
 overtaking : (side : Side) (fate : Fate) (fates : List Fate) (items : List Item) → is_overtaking side fate fates items ≡ true
     → (n : ℕ) × (later : Fate) × (message : Message) × (slice_get fates n ≡ Some later)
     × (slice_get items n ≡ Some (Sent side message)) × (is_later (time_of fate) (time_of later) ≡ true)
-overtaking side fate fates items is = ?
+overtaking side fate [] items is = cc
+overtaking side fate (first ∷ fates) [] is = cc
+overtaking side fate (first ∷ fates) (Item.Quiet ∷ items) is =
+    let found = overtaking side fate fates items is in (suc found.0, found.1, found.2, found.3, found.4, found.5)
+overtaking side fate (first ∷ fates) (Sent sender message ∷ items) is =
+    by (or_cases (is_side side sender && is_later (time_of fate) (time_of first)) (is_overtaking side fate fates items) is)
+    (overtaking side fate fates items)
+  where
+    by : ((is_side side sender && is_later (time_of fate) (time_of first)) ≡ true) ⊎ (is_overtaking side fate fates items ≡ true)
+        → (is_overtaking side fate fates items ≡ true
+        → (n : ℕ) × (later : Fate) × (m : Message) × (slice_get fates n ≡ Some later)
+        × (slice_get items n ≡ Some (Sent side m)) × (is_later (time_of fate) (time_of later) ≡ true))
+        → (n : ℕ) × (later : Fate) × (m : Message) × (slice_get (first ∷ fates) n ≡ Some later)
+        × (slice_get (Sent sender message ∷ items) n ≡ Some (Sent side m)) × (is_later (time_of fate) (time_of later) ≡ true)
+    by (inl here) on =
+        let both = and_parts (is_side side sender) (is_later (time_of fate) (time_of first)) here in
+        (0, first, message, refl, ap (λ (s : Side). Some (Sent s message)) (sym (same_side side sender both.0)), both.1)
+    by (inr rest) on = let found = on rest in (suc found.0, found.1, found.2, found.3, found.4, found.5)
 
+-- What the refusal of an entry says that is a message.
 sent_says : (table : Table) (c : Certificate) (front rest : List Entry) (entry : Entry) (fate : Fate) (side : Side) (message : Message)
     (r : Replay) (fault : CheckFault) → Stands table c front (next_entry r) r → IsItem entry (Sent side message)
     → slice_get c.fates (next_entry r) ≡ Some fate → sent_replayed table c fate side message r ≡ Err fault
     → Says table c (front ++ entry ∷ rest) fault
-sent_says table c front rest entry fate side message r fault old is has refuses = ?
+sent_says table c front rest entry fate side message r fault old is has refuses =
+    by (needs_err (not (is_overtaking side fate c.fates r.world.sent)) (fault_at reasons.OutOfOrder (next_entry r)) _ fault refuses)
+  where
+    all : List Entry
+    all = front ++ entry ∷ rest
 
+    behind : (gap_replayed table c r ≡ Err fault)
+        ⊎ ((mid : Replay) × (gap_replayed table c r ≡ Ok mid) × (message_replayed table c side message mid ≡ Err fault))
+        → Says table c all fault
+    behind (inl no_gap) = gap_says table c front (entry ∷ rest) r fault old.are no_gap
+    behind (inr (mid, goes, no_message)) = message_says table c all side message mid fault no_message
+
+    by : ((not (is_overtaking side fate c.fates r.world.sent) ≡ false) × (fault_at reasons.OutOfOrder (next_entry r) ≡ fault))
+        ⊎ ((not (is_overtaking side fate c.fates r.world.sent) ≡ true)
+        × ((gap_replayed table c r >>= message_replayed table c side message) ≡ Err fault))
+        → Says table c all fault
+    by (inl (overtakes, same)) =
+        let found = overtaking side fate c.fates r.world.sent (not-false (is_overtaking side fate c.fates r.world.sent) overtakes) in
+        let here : IsAt all (next_entry r) (Sent side message) =
+        (entry, next_at front rest entry (next_entry r) (sym (as_many front r.world.sent old.are)), is) in
+        let earlier = at_front front (entry ∷ rest) r.world.sent (Sent side found.2) found.0 old.are found.4 in
+        let before = slice_get_within r.world.sent found.0 (Sent side found.2) found.4 in
+        says table c all reasons.OutOfOrder (next_entry r) fault same
+        (side, message, found.2, found.0, fate, found.1, here, earlier, before, has, found.3, found.5)
+    by (inr (keeps, rest_refuses)) = behind (then_err (gap_replayed table c r) _ fault rest_refuses)
+
+-- ---- a quiet mark
+
+-- A number that is taken by a reply has it as its fate.
+taken_from : (reply k : ℕ) (fates : List Fate) → is_nothing (taken_by reply k fates) ≡ false
+    → (n : ℕ) × (slice_get fates n ≡ Some (By reply))
+taken_from reply k [] is = cc
+taken_from reply k (Gap g ∷ fates) is = let found = taken_from reply (k + 1) fates is in (suc found.0, found.1)
+taken_from reply k (Lost ∷ fates) is = let found = taken_from reply (k + 1) fates is in (suc found.0, found.1)
+taken_from reply k (By r ∷ fates) is = by (r == reply) refl (taken_from reply (k + 1) fates) is
+  where
+    by : (b : Bool) → (r == reply) ≡ b
+        → (is_nothing (taken_by reply (k + 1) fates) ≡ false → (n : ℕ) × (slice_get fates n ≡ Some (By reply)))
+        → is_nothing (cond b (k ∷ taken_by reply (k + 1) fates) (taken_by reply (k + 1) fates)) ≡ false
+        → (n : ℕ) × (slice_get (By r ∷ fates) n ≡ Some (By reply))
+    by true same on found = (0, ap (λ (x : ℕ). Some (By x)) (eqb-true r reply same))
+    by false other on found = let rest = on found in (suc rest.0, rest.1)
+
+-- So a mark that takes a message stands before it.
+taken_pends : (table : Table) (c : Certificate) (front rest : List Entry) (r : Replay) → FatesFit (length c.fates) 0 c.fates
+    → Stands table c front (next_entry r) r → is_nothing (taken_by (next_entry r) 0 c.fates) ≡ false
+    → IsPending c (front ++ rest) (next_entry r)
+taken_pends table c front rest r fit old is =
+    let found = taken_from (next_entry r) 0 c.fates is in
+    let number : 0 + found.0 ≡ found.0 = omega arith in
+    let before : found.0 < next_entry r =
+    subst (λ (n : ℕ). n < next_entry r) number (ahead (length c.fates) 0 found.0 c.fates (By (next_entry r)) fit found.1) in
+    by found.0 found.1 before (slice_get_cases r.world.sent found.0).1
+  where
+    one : (n : ℕ) (item : Item) → slice_get c.fates n ≡ Some (By (next_entry r)) → n < next_entry r → slice_get r.world.sent n ≡ Some item
+        → IsPending c (front ++ rest) (next_entry r)
+    one n (Sent side message) has before at =
+        let same : next_entry r ≤ next_entry r = omega arith in
+        (side, message, n, By (next_entry r), at_front front rest r.world.sent (Sent side message) n old.are at, before, has, same)
+    one n Item.Quiet has before at = let no_reply = sym (old.marks n at) ∙ has in cc
+
+    by : (n : ℕ) → slice_get c.fates n ≡ Some (By (next_entry r)) → n < next_entry r
+        → ((item : Item) × (n < length r.world.sent) × (slice_get r.world.sent n ≡ Some item) × (get_or r.world.sent n item ≡ item))
+        ⊎ ((length r.world.sent ≤ n) × (slice_get r.world.sent n ≡ None))
+        → IsPending c (front ++ rest) (next_entry r)
+    by n has before (inl (item, within, at, same)) = one n item has before at
+    by n has before (inr (past, none)) = absurd (omega (arith, before, past))
+
+-- Where it is not quiet, something is on its way, or a half is open.
+not_quiet : (w : World) → after_quiet w ≡ None
+    → ((side : Side) × (head : OnItsWay) × (more : List OnItsWay) × (channel_from side w ≡ head ∷ more))
+    ⊎ ((side : Side) × (quiet (end_at side w) ≡ Err faults.StillOpen))
+not_quiet w is = by w.from_a w.from_b is
+  where
+    Busy : World → Type 0
+    Busy v = ((side : Side) × (head : OnItsWay) × (more : List OnItsWay) × (channel_from side v ≡ head ∷ more))
+        ⊎ ((side : Side) × (quiet (end_at side v) ≡ Err faults.StillOpen))
+
+    by : (a b : List OnItsWay) → after_quiet (record w { from_a = a; from_b = b }) ≡ None → Busy (record w { from_a = a; from_b = b })
+    by (m ∷ a) b is = ?
+    by [] (m ∷ b) is = ?
+    by [] [] is = ?
+
+-- What is left on a channel behind the lost ones does not begin with one that is lost.
+not_lost : (fates : List Fate) (channel : List OnItsWay) (head : OnItsWay) (more : List OnItsWay)
+    → drop (length (lost_front fates channel)) channel ≡ head ∷ more → slice_get fates head.number ≡ Some Lost → ⊥
+not_lost fates [] head more is lost = cc
+not_lost fates (first ∷ channel) head more is lost = by (slice_get fates first.number) refl (not_lost fates channel head more) is
+  where
+    stays : (o : Option Fate) → slice_get fates first.number ≡ o → (o ≡ Some Lost → ⊥) → first ∷ channel ≡ head ∷ more → ⊥
+    stays o at kept is =
+        let same : head ≡ first = cc in kept (sym at ∙ ap (λ (m : OnItsWay). slice_get fates m.number) (sym same) ∙ lost)
+
+    by : (o : Option Fate) → slice_get fates first.number ≡ o
+        → (drop (length (lost_front fates channel)) channel ≡ head ∷ more → slice_get fates head.number ≡ Some Lost → ⊥)
+        → drop (length (if_lost o (first.number ∷ lost_front fates channel))) (first ∷ channel) ≡ head ∷ more → ⊥
+    by None at on is = stays None at (λ e. cc) is
+    by (Some (Gap g)) at on is = stays (Some (Gap g)) at (λ e. cc) is
+    by (Some (By k)) at on is = stays (Some (By k)) at (λ e. cc) is
+    by (Some Lost) at on is = on is lost
+
+left_behind : (c : Certificate) (side : Side) (r : Replay) → channel_from side (lost_from_both c r).world
+    ≡ drop (length (lost_front c.fates (channel_from side r.world))) (channel_from side r.world)
+left_behind c sides.A r = refl
+left_behind c sides.B r = refl
+
+-- So what is on its way is pending.
+head_pends : (table : Table) (c : Certificate) (front rest : List Entry) (r : Replay) (side : Side) (head : OnItsWay) (more : List OnItsWay)
+    → Stands table c front (next_entry r + 1) r → channel_from side r.world ≡ head ∷ more
+    → (slice_get c.fates head.number ≡ Some Lost → ⊥) → IsPending c (front ++ rest) (next_entry r)
+head_pends table c front rest r side head more old channel kept = by (slice_get_cases c.fates head.number).1
+  where
+    listed : slice_get r.world.sent head.number ≡ Some (Sent side head.message)
+    listed = (subst (λ (x : List OnItsWay). AllByRecursion (WasSent r.world side) x) channel
+        (were_sent table r.events r.world old.runs side)).0.listed
+
+    before : head.number < next_entry r
+    before = slice_get_within r.world.sent head.number (Sent side head.message) listed
+
+    over : (fate : Fate) → slice_get c.fates head.number ≡ Some fate → IsOver (next_entry r + 1) (next_entry r) fate → ⊥
+    over fate has is = taken_is_gone table r.events r.world side head more old.runs channel
+        (old.taken head.number side head.message fate listed has is)
+
+    pends : (fate : Fate) → slice_get c.fates head.number ≡ Some fate → IsPending c (front ++ rest) (next_entry r)
+    pends Lost has = absurd (kept has)
+    pends (Gap g) has = which (cases_lt g (next_entry r + 1))
+      where
+        which : (g < next_entry r + 1) ⊎ (next_entry r + 1 ≤ g) → IsPending c (front ++ rest) (next_entry r)
+        which (inl delivered) = absurd (over (Gap g) has delivered)
+        which (inr not_yet) =
+            let later : next_entry r < g = omega (arith, not_yet) in
+            (side, head.message, head.number, Gap g, at_front front rest r.world.sent (Sent side head.message) head.number old.are listed, before, has, later)
+    pends (By k) has = which (cases_lt k (next_entry r))
+      where
+        which : (k < next_entry r) ⊎ (next_entry r ≤ k) → IsPending c (front ++ rest) (next_entry r)
+        which (inl taken) = absurd (over (By k) has taken)
+        which (inr not_yet) =
+            (side, head.message, head.number, By k, at_front front rest r.world.sent (Sent side head.message) head.number old.are listed, before, has, not_yet)
+
+    by : ((fate : Fate) × (head.number < length c.fates) × (slice_get c.fates head.number ≡ Some fate) × (get_or c.fates head.number fate ≡ fate))
+        ⊎ ((length c.fates ≤ head.number) × (slice_get c.fates head.number ≡ None))
+        → IsPending c (front ++ rest) (next_entry r)
+    by (inl (fate, within, has, same)) = pends fate has
+    by (inr (past, none)) = absurd (omega (arith, before, past, old.counted))
+
+-- A mark that is refused behind its gap: a message is pending, or a half is open.
+mark_refused : (table : Table) (c : Certificate) (front rest : List Entry) (r : Replay) → Stands table c front (next_entry r + 1) r
+    → ((side : Side) (head : OnItsWay) (more : List OnItsWay) → channel_from side r.world ≡ head ∷ more
+    → slice_get c.fates head.number ≡ Some Lost → ⊥)
+    → after_quiet r.world ≡ None
+    → IsPending c (front ++ rest) (next_entry r) ⊎ IsStillOpen table (front ++ rest) (next_entry r)
+mark_refused table c front rest r old kept refuses = by (not_quiet r.world refuses)
+  where
+    by : ((side : Side) × (head : OnItsWay) × (more : List OnItsWay) × (channel_from side r.world ≡ head ∷ more))
+        ⊎ ((side : Side) × (quiet (end_at side r.world) ≡ Err faults.StillOpen))
+        → IsPending c (front ++ rest) (next_entry r) ⊎ IsStillOpen table (front ++ rest) (next_entry r)
+    by (inl (side, head, more, channel)) = inl (head_pends table c front rest r side head more old channel (kept side head more channel))
+    by (inr (side, is_open)) =
+        let number : next_entry r ≡ length front = sym (as_many front r.world.sent old.are) in
+        let are = subst (λ (es : List Entry). AreItems es r.world.sent) (sym (taken_front front rest (next_entry r) number)) old.are in
+        inr (side, r.events, r.world, old.runs, are, is_open)
+
+-- What the refusal of an entry says that is a mark.
 quiet_says : (table : Table) (c : Certificate) (front rest : List Entry) (entry : Entry) (fate : Fate) (r : Replay) (fault : CheckFault)
     → FatesFit (length c.fates) 0 c.fates → Stands table c front (next_entry r) r → IsItem entry Item.Quiet
     → slice_get c.fates (next_entry r) ≡ Some fate → quiet_replayed table c fate r ≡ Err fault
     → Says table c (front ++ entry ∷ rest) fault
-quiet_says table c front rest entry fate r fault fit old is has refuses = ?
+quiet_says table c front rest entry fate r fault fit old is has refuses =
+    by (needs_err (is_gap (next_entry r + 1) fate) (fault_at reasons.FateRange (next_entry r)) _ fault refuses)
+  where
+    all : List Entry
+    all = front ++ entry ∷ rest
+
+    here : IsAt all (next_entry r) Item.Quiet
+    here = (entry, next_at front rest entry (next_entry r) (sym (as_many front r.world.sent old.are)), is)
+
+    gap_is : fate ≡ Gap (next_entry r + 1) → is_gap (next_entry r + 1) fate ≡ true
+    gap_is same = ap (is_gap (next_entry r + 1)) same ∙ eq-eqb (next_entry r + 1) (next_entry r + 1) refl
+
+    behind : (mid : Replay) → gap_replayed table c r ≡ Ok mid
+        → ((is_nothing (taken_by (next_entry r) 0 c.fates) ≡ false) × (fault_at reasons.NotQuiet (next_entry r) ≡ fault))
+        ⊎ ((is_nothing (taken_by (next_entry r) 0 c.fates) ≡ true)
+        × (happens table c Quiet reasons.NotQuiet (next_entry r) mid ≡ Err fault))
+        → Says table c all fault
+    behind mid goes (inl (takes, same)) =
+        says table c all reasons.NotQuiet (next_entry r) fault same (here, inl (taken_pends table c front (entry ∷ rest) r fit old takes))
+    behind mid goes (inr (takes_none, no_mark)) = ?
+
+    gap : (gap_replayed table c r ≡ Err fault)
+        ⊎ ((mid : Replay) × (gap_replayed table c r ≡ Ok mid)
+        × ((needs (is_nothing (taken_by (next_entry r) 0 c.fates)) (fault_at reasons.NotQuiet (next_entry r))
+        >> happens table c Quiet reasons.NotQuiet (next_entry r) mid) ≡ Err fault))
+        → Says table c all fault
+    gap (inl no_gap) = gap_says table c front (entry ∷ rest) r fault old.are no_gap
+    gap (inr (mid, goes, no_mark)) =
+        behind mid goes (needs_err (is_nothing (taken_by (next_entry r) 0 c.fates)) (fault_at reasons.NotQuiet (next_entry r)) _ fault no_mark)
+
+    by : ((is_gap (next_entry r + 1) fate ≡ false) × (fault_at reasons.FateRange (next_entry r) ≡ fault))
+        ⊎ ((is_gap (next_entry r + 1) fate ≡ true)
+        × ((gap_replayed table c r >>= λ mid.
+        needs (is_nothing (taken_by (next_entry r) 0 c.fates)) (fault_at reasons.NotQuiet (next_entry r))
+        >> happens table c Quiet reasons.NotQuiet (next_entry r) mid) ≡ Err fault))
+        → Says table c all fault
+    by (inl (not_next, same)) =
+        says table c all reasons.FateRange (next_entry r) fault same
+        (inl (fate, has, inr (here, λ e. let both = sym (gap_is e) ∙ not_next in cc)))
+    by (inr (next, rest_refuses)) = gap (then_err (gap_replayed table c r) _ fault rest_refuses)
 
 -- ---- entries, one after the other
 
