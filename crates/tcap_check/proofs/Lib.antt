@@ -24,4 +24,5 @@ pub mod DescribedRuns
 pub mod AtOnceLaws
 pub mod PendingLaws
 pub mod ReasonGaps
+pub mod ReasonItems
 pub mod ReasonLaws

@@ -26,7 +26,7 @@ use Rattle.tcap_check.specs.declared.certificate.Fate.{Fate}
 use Rattle.tcap_check.specs.declared.certificate.Fate.TheVariants.{Gap, Lost, By}
 use Rattle.tcap_check.specs.Certificate.{Certificate}
 use Rattle.tcap_check.specs.Entries.{AreItems, IsItem}
-use Rattle.tcap_check.specs.Follows.{FatesFit, closing_event, deliveries, expiry_event, gap_events, is_loss, sending, sending_by, taken_by, without_losses}
+use Rattle.tcap_check.specs.Follows.{FatesFit, closing_event, deliveries, expiry_event, gap_events, is_loss, sending_by, taken_by, without_losses}
 use Rattle.tcap_check.specs.Replayed.{Replay, next_entry}
 use Rattle.tcap_check.proofs.ChannelLaws.{are_whole, in_order}
 use Rattle.tcap_check.proofs.ReplayLaws.{Extends, IsSentBy, Replays, played_on}

@@ -1,24 +1,12 @@
 -- What a refusal says where a number of the certificate lies outside, and what one in a gap does.
-use Rattle.std.proofs.Common.{◌≡◌, ◌⊎◌, inl, inr, ℕ, zero, suc, ◌+◌, ◌<◌, ◌≤◌, ◌==◌, nat_lt, nat_le, arith, Bool, true, false, cond, List, [], ◌∷◌, ◌++◌, map, filter, take, drop, length, Option, Some, None, Result, Ok, Err, refl, sym, ap, subst, ◌∙◌, append-nil, append_assoc}
-use Rattle.std.specs.Prelude.{◌&&◌, ◌||◌, not, Contains, ok_or, slice_get}
-use Rattle.std.specs.List.{AllByRecursion}
-use Rattle.std.proofs.lemmas.Bool.{and_cases, and_parts, cases_lt, eqb-false, eqb-true, leb-false, ltb-false, or_cases}
-use Rattle.std.proofs.lemmas.Option.{slice_get_cases, slice_get_within}
+use Rattle.std.proofs.Common.{◌≡◌, ◌⊎◌, inl, inr, ℕ, zero, suc, ◌+◌, ◌==◌, nat_lt, nat_le, arith, Bool, true, false, cond, List, [], ◌∷◌, ◌++◌, map, filter, take, length, Option, Some, None, Result, Ok, Err, refl, sym, ap, subst, ◌∙◌, append-nil}
+use Rattle.std.specs.Prelude.{◌&&◌, ok_or, slice_get}
+use Rattle.std.proofs.lemmas.Bool.{and_cases, eqb-true, leb-false, ltb-false}
 use lib.Seq.{take-append_seam}
-use Rattle.tcap_ber.specs.declared.fault.Fault.{Fault}
-use Rattle.tcap_msg.specs.declared.message.Message.{Message}
-use Rattle.tcap_record.specs.declared.entry.End.{End as Side}
-use Rattle.tcap_record.specs.declared.entry.End.TheVariants as sides
-use Rattle.tcap_record.specs.declared.entry.Body.{Body}
-use Rattle.tcap_record.specs.declared.entry.Body.TheVariants.{Good, Bad, Quiet as QuietMark}
 use Rattle.tcap_record.specs.declared.entry.Entry.{Entry}
-use Rattle.tcap_end.specs.declared.fault.EndFault.{EndFault}
 use Rattle.tcap_end.specs.declared.fault.EndFault.TheVariants as faults
-use Rattle.tcap_end.specs.End.{End, quiet}
-use Rattle.tcap_end.specs.Message.{send}
 use Rattle.tcap_end.specs.Step.{needs, ◌>>◌, ◌>>=◌}
 use Rattle.tcap_end.specs.Table.{Table}
-use Rattle.tcap_end.proofs.AnsweringLaws.{some_ok}
 use Rattle.tcap_check.specs.declared.fault.CheckFault.{CheckFault}
 use Rattle.tcap_check.specs.declared.fault.Reason.{Reason}
 use Rattle.tcap_check.specs.declared.fault.Reason.TheVariants as reasons
@@ -26,16 +14,15 @@ use Rattle.tcap_check.specs.declared.certificate.Closing.{Closing}
 use Rattle.tcap_check.specs.declared.certificate.Expiry.{Expiry}
 use Rattle.tcap_check.specs.declared.certificate.Fate.{Fate}
 use Rattle.tcap_check.specs.declared.certificate.Fate.TheVariants.{Gap, Lost, By}
-use Rattle.tcap_check.specs.World.{Item, OnItsWay, Sent, World, channel_from, empty, end_at, is_side, other}
-use Rattle.tcap_check.specs.Run.{Event, Sends, Receives, Replies, Loses, Expires, Closes, Quiet, Tells, Runs, after, after_quiet}
+use Rattle.tcap_check.specs.World.{Item, Sent, other}
+use Rattle.tcap_check.specs.Run.{Event, Receives, Quiet}
 use Rattle.tcap_check.specs.Certificate.{Certificate}
-use Rattle.tcap_check.specs.Entries.{AreItems, IsItem, item_by, item_of}
-use Rattle.tcap_check.specs.Follows.{FatesFit, closing_event, expiry_event, sending, taken_by}
-use Rattle.tcap_check.specs.Given.{IsAt, IsBeforeEarlier, IsNoClosing, IsNoExpiry, IsNoFate, IsOutOfRange, IsOutside, IsPending, IsReason, IsStillOpen}
-use Rattle.tcap_check.specs.Replayed.{Replay, all_fit, certificate_fits, closings_replayed, deliveries_replayed, entries_replayed, entry_replayed, expiries_replayed, fate_fits, fates_fit, fault_at, gap_replayed, happens, is_gap, is_later, is_nothing, is_overtaking, item_replayed, lost_before, lost_from_both, lost_front, message_by, message_replayed, next_entry, nothing_replayed, quiet_replayed, refused, replayed, reply_replayed, send_replayed, sent_or_refused, sent_replayed, stepped, time_of}
-use Rattle.tcap_check.proofs.ReplayGaps.{fates_ok}
-use Rattle.tcap_check.proofs.ReplayLaws.{Replays, closings_replay, expiries_replay, both_replay, gap_replays}
-use Rattle.tcap_check.proofs.PendingLaws.{IsIn, Stands, ahead, contained, same_side, stands_behind, stands_next, stands_still}
+use Rattle.tcap_check.specs.Entries.{AreItems, IsItem}
+use Rattle.tcap_check.specs.Follows.{closing_event, expiry_event}
+use Rattle.tcap_check.specs.Given.{IsAt, IsOutside, IsReason}
+use Rattle.tcap_check.specs.Replayed.{Replay, all_fit, certificate_fits, closings_replayed, deliveries_replayed, expiries_replayed, fate_fits, fates_fit, fault_at, gap_replayed, happens, lost_before, next_entry, stepped}
+use Rattle.tcap_check.proofs.ReplayLaws.{closings_replay, expiries_replay}
+use Rattle.tcap_check.proofs.PendingLaws.{IsIn, contained}
 
 -- ---- answers that are reasons
 
