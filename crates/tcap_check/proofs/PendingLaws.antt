@@ -1,5 +1,5 @@
--- What was taken so far: behind a gap, each message whose fate is that gap or an earlier one; behind an entry, each that
--- it takes. So what is on its way before a quiet mark, and is not lost, is pending.
+-- What was taken so far: behind a gap, each message whose fate is that gap or an earlier one; behind an entry, each
+-- that it takes.
 use Rattle.std.proofs.Common.{◌≡◌, ◌⊎◌, inl, inr, ℕ, zero, suc, ◌+◌, ◌<◌, ◌≤◌, ◌==◌, arith, Bool, true, false, cond, List, [], ◌∷◌, ◌++◌, map, filter, length, Option, Some, None, refl, sym, ap, subst, ◌∙◌, append-nil}
 use Rattle.std.specs.Prelude.{Contains, slice_get}
 use Rattle.std.specs.Cmp.{nat_cmp_is}
@@ -114,6 +114,7 @@ taken_behind side n [] more is = is
 taken_behind side n (event ∷ events) more is =
     in_right n (takes_from side event) (numbers_taken side (events ++ more)) (taken_behind side n events more is)
 
+-- A test of ends that passes.
 pub same_side : (side sender : Side) → is_side side sender ≡ true → side ≡ sender
 same_side sides.A sides.A is = refl
 same_side sides.A sides.B is = cc
@@ -150,9 +151,11 @@ taken_sent table events w side n runs is =
     let same : n ≡ found.1 = omega (arith, found.2) in
     (found.0, ap (slice_get w.sent) same ∙ found.3)
 
+-- No number is below itself,
 not_below_itself : (n : ℕ) → nat_cmp n n ≡ Less → ⊥
 not_below_itself n below = let same : Equal ≡ nat_cmp n n = nat_cmp_is n n Equal refl in cc
 
+-- so none stands again in a list that rises,
 none_again : (n : ℕ) (xs ys : List ℕ) → IsStrictlySortedBy nat_cmp (xs ++ n ∷ ys) → IsIn n xs → ⊥
 unfolding IsStrictlySortedBy
 none_again n [] ys rises is = is
@@ -168,10 +171,12 @@ taken_is_gone table events w side head more runs channel is =
     (subst (λ (x : List OnItsWay). IsStrictlySortedBy nat_cmp (numbers_taken side events ++ numbers_of x)) channel
     (in_order table events w runs side)) is
 
+-- What is received is taken from the other end's channel,
 takes_received : (side : Side) (n : ℕ) → takes_from side (Receives (other side) n) ≡ n ∷ []
 takes_received sides.A n = refl
 takes_received sides.B n = refl
 
+-- and so is what is answered.
 takes_replied : (side : Side) (n : ℕ) → takes_from (other side) (Replies side n) ≡ n ∷ []
 takes_replied sides.A n = refl
 takes_replied sides.B n = refl
@@ -184,12 +189,15 @@ IsAhead number (Gap gap) = number < gap
 IsAhead number (By reply) = number < reply
 IsAhead number Lost = Unit {0}
 
+-- The next number is that of the next item.
 further_on : (k i : ℕ) → (k + 1) + i ≡ k + suc i
 further_on k i = omega arith
 
+-- one number further
 further : (k i : ℕ) (fate : Fate) → IsAhead ((k + 1) + i) fate → IsAhead (k + suc i) fate
 further k i fate is = subst (λ (n : ℕ). IsAhead n fate) (further_on k i) is
 
+-- In fates that fit each is behind its entry.
 pub ahead : (count k i : ℕ) (fates : List Fate) (fate : Fate) → FatesFit count k fates → slice_get fates i ≡ Some fate → IsAhead (k + i) fate
 ahead count k i [] fate fit is = cc
 ahead count k zero (Gap g ∷ fates) fate fit is =

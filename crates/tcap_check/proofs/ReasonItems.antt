@@ -233,6 +233,7 @@ not_lost fates (first ∷ channel) head more is lost = by (slice_get fates first
     by (Some (By k)) at on is = stays (Some (By k)) at (λ e. cc) is
     by (Some Lost) at on is = on is lost
 
+-- What is left on each channel behind the lost ones.
 left_behind : (c : Certificate) (side : Side) (r : Replay) → channel_from side (lost_from_both c r).world
     ≡ drop (length (lost_front c.fates (channel_from side r.world))) (channel_from side r.world)
 left_behind c sides.A r = refl
@@ -251,6 +252,9 @@ head_pends table c front rest r side head more old channel kept = by (slice_get_
     before : head.number < next_entry r
     before = slice_get_within r.world.sent head.number (Sent side head.message) listed
 
+    there : IsAt (front ++ rest) head.number (Sent side head.message)
+    there = at_front front rest r.world.sent (Sent side head.message) head.number old.are listed
+
     over : (fate : Fate) → slice_get c.fates head.number ≡ Some fate → IsOver (next_entry r + 1) (next_entry r) fate → ⊥
     over fate has is = taken_is_gone table r.events r.world side head more old.runs channel
         (old.taken head.number side head.message fate listed has is)
@@ -263,13 +267,13 @@ head_pends table c front rest r side head more old channel kept = by (slice_get_
         which (inl delivered) = absurd (over (Gap g) has delivered)
         which (inr not_yet) =
             let later : next_entry r < g = omega (arith, not_yet) in
-            (side, head.message, head.number, Gap g, at_front front rest r.world.sent (Sent side head.message) head.number old.are listed, before, has, later)
+            (side, head.message, head.number, Gap g, there, before, has, later)
     pends (By k) has = which (cases_lt k (next_entry r))
       where
         which : (k < next_entry r) ⊎ (next_entry r ≤ k) → IsPending c (front ++ rest) (next_entry r)
         which (inl taken) = absurd (over (By k) has taken)
         which (inr not_yet) =
-            (side, head.message, head.number, By k, at_front front rest r.world.sent (Sent side head.message) head.number old.are listed, before, has, not_yet)
+            (side, head.message, head.number, By k, there, before, has, not_yet)
 
     by : ((fate : Fate) × (head.number < length c.fates) × (slice_get c.fates head.number ≡ Some fate) × (get_or c.fates head.number fate ≡ fate))
         ⊎ ((length c.fates ≤ head.number) × (slice_get c.fates head.number ≡ None))
@@ -303,6 +307,7 @@ gap_stands table c front r mid old goes =
     let stands = stands_behind table c front r mid here.0 old here.1 here.2 in
     (subst (λ (n : ℕ). Stands table c front (n + 1) mid) (sym same) stands, same)
 
+-- What is made of nothing is nothing.
 not_there : {A B : Type 0} (f : A → B) (o : Option A) → option_map f o ≡ None → o ≡ None
 not_there f None is = refl
 not_there f (Some x) is = cc

@@ -98,6 +98,7 @@ gap_of gap (Gap g) is = ap Gap (eqb-true g gap is)
 gap_of gap Lost is = cc
 gap_of gap (By k) is = cc
 
+-- No number is taken (as in ReplayEntries).
 nothing_is : (numbers : List ℕ) → is_nothing numbers ≡ true → numbers ≡ []
 nothing_is [] is = refl
 nothing_is (n ∷ numbers) is = cc
@@ -164,6 +165,7 @@ entry_stands table c front entry fate r next fit old has is = by (item_of entry)
     by (Ok Item.Quiet) at goes = quiet_stands table c front entry fate r next fit old (item_is entry Item.Quiet at) has goes
     by (Err reason) at goes = cc
 
+-- As many at most, and not as many: fewer.
 more_left : (n count : ℕ) → n ≤ count → (n ≡ count → ⊥) → n < count
 more_left n count within apart = by (cases_lt n count)
   where
@@ -223,7 +225,6 @@ entries_say table c front (entry ∷ rest) r fault fit old is =
         behind fate has (then_err (entry_replayed table c fate (item_of entry) r) _ fault refuses) on
 
 -- In the beginning it stands.
-
 nothing_stands : (table : Table) (c : Certificate) → Stands table c [] (next_entry nothing_replayed) nothing_replayed
 nothing_stands table c = record {
   runs = refl;
@@ -233,10 +234,12 @@ nothing_stands table c = record {
   taken = λ n side message fate is has over. cc;
 }
 
+-- Of two steps that answer Ok the first does.
 first_ok : {B F : Type 0} (step : Result (Unit {0}) F) (rest : Result B F) {x : B} → (step >> rest) ≡ Ok x → step ≡ Ok tt
 first_ok (Ok tt) rest is = refl
 first_ok (Err reason) rest is = cc
 
+-- What a refusal says.
 pub refusal_says : (table : Table) (c : Certificate) (entries : List Entry) (fault : CheckFault) → replayed table c entries ≡ Err fault
     → IsReason table c entries fault.entry fault.reason
 refusal_says table c entries fault is =
