@@ -27,4 +27,7 @@ pub mod DescribedRuns
 pub mod NamedLaws
 pub mod AtOnceRuns
 pub mod AtOnceLaws
+pub mod PendingLaws
+pub mod ReasonGaps
+pub mod ReasonItems
 pub mod ReasonLaws
