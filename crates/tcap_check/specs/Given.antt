@@ -4,7 +4,7 @@ use Rattle.std.specs.List.{AllByRecursion}
 use Rattle.tcap_ber.specs.declared.fault.Fault.{Fault}
 use Rattle.tcap_msg.specs.declared.message.Message.{Message}
 use Rattle.tcap_record.specs.declared.entry.End.{End as Side}
-use Rattle.tcap_record.specs.declared.entry.Body.TheVariants.{Bad}
+use Rattle.tcap_record.specs.declared.entry.Body.TheVariants.{Bad, Good, Quiet as QuietMark}
 use Rattle.tcap_record.specs.declared.entry.Entry.{Entry}
 use Rattle.tcap_end.specs.declared.fault.EndFault.TheVariants as faults
 use Rattle.tcap_end.specs.declared.half.HalfName.{HalfName}
@@ -21,8 +21,8 @@ use Rattle.tcap_check.specs.declared.fault.Reason.TheVariants as reasons
 use Rattle.tcap_check.specs.World.{Item, Sent, World, end_at}
 use Rattle.tcap_check.specs.Run.{BothKeepRules, Event, IsRunOf, Runs, Sends, Replies, Loses, Expires, Closes, Quiet, Tells}
 use Rattle.tcap_check.specs.Certificate.{Certificate}
-use Rattle.tcap_check.specs.Entries.{AreItems, IsItem, count_components, item_of}
-use Rattle.tcap_check.specs.Follows.{Follows, closing_event, expiry_event}
+use Rattle.tcap_check.specs.Entries.{AreItems, IsItem, count_components}
+use Rattle.tcap_check.specs.Follows.{Follows, FollowsFrom, closing_event, expiry_event, without_losses}
 use Rattle.tcap_check.specs.Replayed.{fate_fits, is_later, time_of}
 
 -- ---- a run
@@ -47,14 +47,14 @@ is_over_or_sends (Quiet ∷ events) = true
 is_over_or_sends (Tells side message ∷ events) = true
 is_over_or_sends (event ∷ events) = false
 
--- Each message, the last one too, is delivered before another is sent: where something is sent, and at the end, nothing
--- is on its way.
+-- Each message, the last one too, leaves its channel before another is sent: where something is sent, and at the end,
+-- nothing is on its way. With no loss and no reply, it is delivered.
 abbrev pub DeliversAtOnce : Table → List Event → Type 0
 DeliversAtOnce table events = (before behind : List Event) (w : World) → events ≡ before ++ behind
     → is_over_or_sends behind ≡ true → Runs table before w
     → (w.from_a ≡ []) × (w.from_b ≡ [])
 
--- A step of two ends that keep the rules, and none that a record does not show: a loss, an expiry or a closing.
+-- No hidden step, which is a loss, an expiry or a closing, and none of an end that keeps no rule.
 abbrev pub IsSeen : Event → Type 0
 IsSeen (Loses side number) = ⊥
 IsSeen (Expires side name id) = ⊥
@@ -123,11 +123,18 @@ IsPending c entries number =
     by_fate (By reply) = number ≤ reply
     by_fate Lost = ⊥
 
--- A run that sends the entries before that one leaves a half open.
-abbrev pub IsStillOpen : Table → List Entry → ℕ → Type 0
-IsStillOpen table entries number =
+-- A run that sends the entries before that one, and is up to the gap before it what the certificate says, leaves a half
+-- open.
+abbrev pub IsStillOpen : Table → Certificate → List Entry → ℕ → Type 0
+IsStillOpen table c entries number =
     (side : Side) × (events : List Event) × (w : World) × Runs table events w × AreItems (take number entries) w.sent
+    × FollowsFrom c w.sent 0 w.sent (without_losses events)
     × (quiet (end_at side w) ≡ Err faults.StillOpen)
+
+-- An entry has a message and no end, or an end and a quiet mark.
+abbrev pub IsNoItem : Entry → Type 0
+IsNoItem entry = ((message : Message) × (entry.side ≡ None) × (entry.body ≡ Good message))
+    ⊎ ((side : Side) × (entry.side ≡ Some side) × (entry.body ≡ QuietMark))
 
 -- What a refusal of that entry for that reason says of the certificate and the entries.
 abbrev pub IsReason : Table → Certificate → List Entry → ℕ → Reason → Type 0
@@ -137,11 +144,11 @@ IsReason table c entries number reasons.FateCount =
 IsReason table c entries number reasons.FateRange = IsOutOfRange c entries number
 IsReason table c entries number reasons.OutOfOrder = IsBeforeEarlier c entries number
 IsReason table c entries number reasons.NotQuiet =
-    IsAt entries number Item.Quiet × (IsPending c entries number ⊎ IsStillOpen table entries number)
+    IsAt entries number Item.Quiet × (IsPending c entries number ⊎ IsStillOpen table c entries number)
 IsReason table c entries number (reasons.BadMessage fault) =
     (entry : Entry) × (slice_get entries number ≡ Some entry) × (entry.body ≡ Bad fault)
 IsReason table c entries number reasons.NoItem =
-    (entry : Entry) × (slice_get entries number ≡ Some entry) × (item_of entry ≡ Err reasons.NoItem)
+    (entry : Entry) × (slice_get entries number ≡ Some entry) × IsNoItem entry
 IsReason table c entries number reasons.CertificateShape = ⊥
 IsReason table c entries number reasons.Memory = ⊥
 IsReason table c entries number reason = Unit {0}
