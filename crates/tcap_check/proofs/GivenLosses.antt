@@ -61,7 +61,7 @@ not_below n x e below =
     let same = nat_cmp_is x x Equal refl in cc
 
 -- Where two lists together rise, no number is in both,
-parts_apart : (n : ℕ) (xs ys : List ℕ) → IsStrictlySortedBy nat_cmp (xs ++ ys) → IsAmong n xs → IsAmong n ys → ⊥
+pub parts_apart : (n : ℕ) (xs ys : List ℕ) → IsStrictlySortedBy nat_cmp (xs ++ ys) → IsAmong n xs → IsAmong n ys → ⊥
 unfolding IsStrictlySortedBy
 parts_apart n [] ys rises left right = left
 parts_apart n (x ∷ xs) ys rises (inl e) right =
@@ -149,7 +149,7 @@ among_plain side n (event ∷ events) is = by (is_loss event) (among_plain side 
     by false on is = by_parts on (among_parts n first plain is)
 
 -- and so is what is lost.
-among_losses : (side : Side) (n : ℕ) (events : List Event) → IsAmong n (losses_from side events)
+pub among_losses : (side : Side) (n : ℕ) (events : List Event) → IsAmong n (losses_from side events)
     → IsAmong n (numbers_taken side events)
 among_losses side n [] is = is
 among_losses side n (event ∷ events) is =
@@ -231,7 +231,7 @@ from_tail : (all : List Fate) (n : ℕ) (fate : Fate) (fates : List Fate) → Is
 from_tail all n fate fates from i = let e : n + suc i ≡ (n + 1) + i = omega arith in from (suc i) ∙ ap (slice_get all) e
 
 -- The messages that an end sent and whose fate says so are those that are lost.
-filter_sent : (side : Side) (all : List Fate) (n : ℕ) (fates : List Fate) (items : List Item) → IsFrom all n fates
+pub filter_sent : (side : Side) (all : List Fate) (n : ℕ) (fates : List Fate) (items : List Item) → IsFrom all n fates
     → length fates ≡ length items
     → filter (is_lost all) (numbers_sent side n items) ≡ lost_from side n fates items
 filter_sent side all n [] [] from counted = refl

@@ -235,7 +235,7 @@ implied_fated fates item (event ∷ events) all = (by item event all.0, implied_
     by Item.Quiet event is = absurd is
 
 -- From each gap on all events fit them.
-follows_fated : (c : Certificate) (items : List Item) (gap : ℕ) (left : List Item) (events : List Event)
+pub follows_fated : (c : Certificate) (items : List Item) (gap : ℕ) (left : List Item) (events : List Event)
     → FollowsFrom c items gap left events
     → AllByRecursion (IsFated c.fates) events
 follows_fated c items gap [] events follows = gap_fated c items gap events follows
@@ -400,7 +400,7 @@ one_sender A m n o is also = cc
 one_sender B m n o is also = cc
 
 -- Each message is lost by its fate or taken.
-settled_by : (c : Certificate) (w : World) (plain : List Event) → length c.fates ≡ length w.sent
+pub settled_by : (c : Certificate) (w : World) (plain : List Event) → length c.fates ≡ length w.sent
     → FatesFit (length w.sent) 0 c.fates
     → FollowsFrom c w.sent 0 w.sent plain
     → ((side : Side) (n : ℕ) → IsAmong n (numbers_taken side plain)

@@ -23,6 +23,7 @@ pub mod DescribedLaws
 pub mod GivenBound
 pub mod GivenLosses
 pub mod GivenRuns
+pub mod LeftLaws
 pub mod DescribedRuns
 pub mod NamedLaws
 pub mod AtOnceRuns

@@ -1,4 +1,5 @@
+use Rattle.tcap_check.proofs.LeftLaws.{nothing_left}
 use Rattle.tcap_check.proofs.given.described_runs_take_all.Goals as goal
 
 pub returns : goal.returns
-returns c = ?
+returns c = nothing_left
