@@ -8,6 +8,7 @@ use Rattle.tcap_check.specs.Certificate.{Certificate}
 use Rattle.tcap_check.specs.Entries.{AreItems}
 use Rattle.tcap_check.specs.Follows.{Follows}
 use Rattle.tcap_check.specs.Replayed.{replayed}
+use Rattle.tcap_check.proofs.AlikeLaws.{Ahead, next_step, go_on}
 
 pub followed_is_given : (table : Table) (c : Certificate) (entries : List Entry) (items : List Item) (events : List Event)
     → AreItems entries items → IsRunOf items table events → Follows c items events

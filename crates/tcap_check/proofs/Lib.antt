@@ -20,6 +20,7 @@ pub mod ImpliedLaws
 pub mod DescribedLaws
 pub mod GivenBound
 pub mod GivenRuns
+pub mod AlikeLaws
 pub mod DescribedRuns
 pub mod AtOnceLaws
 pub mod ReasonLaws
