@@ -161,7 +161,7 @@ alike_joined fates side m w v is = by side
     }
 
 -- A world that is the same is like it too.
-to_same : (fates : List Fate) (w same v : World) → same ≡ w → Alike fates w v → Alike fates same v
+pub to_same : (fates : List Fate) (w same v : World) → same ≡ w → Alike fates w v → Alike fates same v
 to_same fates w same v is alike = subst (λ (x : World). Alike fates x v) (sym is) alike
 
 -- a channel that was put in
