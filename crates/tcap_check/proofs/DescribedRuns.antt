@@ -1,10 +1,9 @@
 -- The other way: what a certificate describes, it gives.
-use Rattle.std.proofs.Common.{arith, ◌≡◌, ◌⊎◌, inl, inr, ℕ, ℤ, zero, suc, ◌+◌, ◌<◌, ◌==◌, Bool, true, false, cond, List, [], ◌∷◌, ◌++◌, map, filter, filter_map, length, Option, Some, None, Result, Ok, Err, refl, sym, ap, ap₂, subst, ◌∙◌, append_assoc, append-nil}
+use Rattle.std.proofs.Common.{arith, ◌≡◌, ◌⊎◌, inl, inr, ℕ, ℤ, zero, suc, ◌+◌, ◌<◌, ◌==◌, Bool, true, false, cond, List, [], ◌∷◌, ◌++◌, map, filter, filter_map, length, Option, Some, None, Result, Ok, refl, sym, ap, ap₂, subst, ◌∙◌, append_assoc, append-nil}
 use Rattle.std.specs.Prelude.{not, ok_or, slice_get}
-use Rattle.std.specs.Str.{bytes_eq}
 use Rattle.std.specs.List.{AllByRecursion}
 use Rattle.std.proofs.lemmas.Bool.{eq-eqb, eqb-true}
-use Rattle.std.proofs.lemmas.List.{append_cancel_left, length-append, length-map}
+use Rattle.std.proofs.lemmas.List.{append_cancel_left, length-append}
 use Rattle.std.proofs.lemmas.Slice.Eq.{bytes_eq-Decides}
 use Rattle.tcap_msg.specs.declared.message.AbortReason.TheVariants.{Cause, Dialogue as ByDialogue}
 use Rattle.tcap_msg.specs.declared.message.Message.{Message}
@@ -38,10 +37,10 @@ use Rattle.tcap_check.proofs.ChannelLaws.{get_new}
 use Rattle.tcap_check.proofs.RunLaws.{expiry, grows, map_some, sending as sending_of, sound, where_some}
 use Rattle.tcap_check.proofs.ReplayLaws.{Replays, both_replay, gap_replays, reply_replays, send_replays, without_both}
 use Rattle.tcap_check.proofs.ReplayGaps.{gap_events_before}
-use Rattle.tcap_check.proofs.ImpliedLaws.{AreMade, implied_same}
+use Rattle.tcap_check.proofs.ImpliedLaws.{implied_same}
 use Rattle.tcap_check.proofs.DescribedLaws.{described_fits, none_overtakes}
 use Rattle.tcap_check.proofs.GivenRuns.{gives}
-use Rattle.tcap_check.proofs.AlikeLaws.{Ahead, Alike, Goes, IsNext, LossFits, alike_end, alike_joined, alike_same, to_same, closes_goes, ends_same, expires_goes, go_on, next_step, quiet_goes, receives_goes, replies_goes}
+use Rattle.tcap_check.proofs.AlikeLaws.{Ahead, Alike, LossFits, alike_end, alike_joined, alike_same, to_same, closes_goes, ends_same, expires_goes, go_on, next_step, quiet_goes, receives_goes, replies_goes}
 
 -- ---- answers that are Ok
 
