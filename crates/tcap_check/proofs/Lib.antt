@@ -24,6 +24,7 @@ pub mod GivenBound
 pub mod GivenLosses
 pub mod GivenRuns
 pub mod LeftLaws
+pub mod AlikeLaws
 pub mod DescribedRuns
 pub mod NamedLaws
 pub mod AtOnceRuns
