@@ -1,14 +1,16 @@
 -- The worked runs follow their certificates: gap by gap, what happens in it, the expiries right before the next item, and that item.
-use Rattle.std.proofs.Common.{rules, ◌≡◌, ℕ, ◌+◌, ◌≤◌, pos, List, [], ◌∷◌, ◌++◌, length, map, Some, refl}
+use Rattle.std.proofs.Common.{rules, ◌≡◌, ℕ, ◌+◌, ◌≤◌, pos, List, [], ◌∷◌, ◌++◌, length, map, None, Some, refl, subst}
 use Rattle.std.specs.List.{AllByRecursion}
 use Rattle.std.proofs.lemmas.List.{append-nil}
 use Rattle.tcap_record.specs.declared.entry.End.{End as Side}
 use Rattle.tcap_record.specs.declared.entry.End.TheVariants.{A, B}
 use Rattle.tcap_end.specs.declared.half.HalfName.TheVariants.{Own, Peer}
-use Rattle.tcap_check.specs.World.{Item}
-use Rattle.tcap_check.specs.Run.{Event, Receives, Expires, Closes}
+use Rattle.tcap_check.specs.World.{Item, World, empty}
+use Rattle.tcap_check.specs.Run.{Event, Sends, Receives, Expires, Closes, IsRunOf, KeepsRules, after}
+use Rattle.tcap_check.specs.Named.{AreSameEvents, IsSameEvent}
 use Rattle.tcap_check.specs.Follows.{FatesFit, Follows, FollowsFrom, IsImplied, gap_events, losses_from, lost_from, sending, without_losses}
-use Rattle.tcap_check.specs.Worked.{IsWorked, IsWorkedBy, Worked, IsWorkedFor, continues_behind_its_end, end_is_not_heard, empty_record, two_entries, three_entries, crossing, late_reject, delayed, closed_half, refused_begin, lost_begin, over_a_mark, both_again, in_a_row, end_implies, both_close, prearranged, table}
+use Rattle.tcap_end.specs.Table.{Table}
+use Rattle.tcap_check.specs.Worked.{IsDescribedRun, OneSided, answer, begin, by_the_other_name, further, invoke, IsWorked, IsWorkedBy, Worked, IsWorkedFor, continues_behind_its_end, end_is_not_heard, empty_record, two_entries, three_entries, crossing, late_reject, delayed, closed_half, refused_begin, lost_begin, over_a_mark, both_again, in_a_row, end_implies, both_close, prearranged, table}
 
 -- From a gap on, the events are what the certificate says, with the items that are left between.
 record From (w : Worked) (n : ℕ) (left : List Item) (events : List Event) : Type 0 where
@@ -185,8 +187,50 @@ pub both_close_runs : IsWorkedBy prearranged both_close 9
 both_close_runs =
     ((_, refl, refl), (refl, refl), refl, follows both_close refl (search rules) (search rules) (search rules) both_close_gaps refl refl)
 
+lawful_for : (operations : Table) (w : OneSided) → IsRunOf w.items operations w.events → KeepsRules w.side w.events → IsWorkedFor operations w
+lawful_for operations w run keeps = (run, keeps, (w.events, run, keeps))
+
 pub continues_behind_its_end_runs : IsWorkedFor table continues_behind_its_end
-continues_behind_its_end_runs = ((_, refl, refl), refl, (_, (_, refl, refl), refl))
+continues_behind_its_end_runs = lawful_for table continues_behind_its_end (_, refl, refl) refl
 
 pub end_is_not_heard_runs : IsWorkedFor table end_is_not_heard
-end_is_not_heard_runs = ((_, refl, refl), refl, (_, (_, refl, refl), refl))
+end_is_not_heard_runs = lawful_for table end_is_not_heard (_, refl, refl) refl
+
+-- What a run calls by the other name is followed by the name that the certificate uses.
+abbrev named_by_own : Worked
+named_by_own = record by_the_other_name {
+  events = Sends A (begin None (Some (invoke 45 ∷ []))) ∷ Receives B 0 ∷ Sends B (answer None None) ∷ Receives A 1
+      ∷ Expires A (Own (1 ∷ [])) (pos 1) ∷ Sends A (further (invoke 45)) ∷ Receives B 2 ∷ [];
+}
+
+named_by_own_gaps : Gaps named_by_own
+named_by_own_gaps =
+    gap [] refl refl (gap (Receives B 0 ∷ []) refl refl
+    (implying (Receives A 1 ∷ []) (Expires A (Own (1 ∷ [])) (pos 1) ∷ []) ((refl, refl, (0, search rules, refl)), tt) refl refl
+    (last refl)))
+
+named_by_own_follows : Follows by_the_other_name.certificate by_the_other_name.items named_by_own.events
+named_by_own_follows = follows named_by_own refl (search rules) (search rules) (search rules) named_by_own_gaps refl refl
+
+-- From a world on, events are the same but for names.
+record SameFrom (w : World) (events others : List Event) : Type 0 where
+  are : AreSameEvents table w events others
+
+no_more : {w : World} → SameFrom w [] []
+no_more = record { are = refl }
+
+-- One event more.
+one_same : {w next : World} {event first : Event} {events rest : List Event} → after table event w ≡ Some next
+    → IsSameEvent w event first → SameFrom next events rest → SameFrom w (event ∷ events) (first ∷ rest)
+one_same {w} {next} {event} {first} {events} {rest} is same on = record {
+  are =
+      (first, rest, refl, same, λ found at. let one : next ≡ found = cc in subst (λ (x : World). AreSameEvents table x events rest) one on.are);
+}
+
+by_the_other_name_same : SameFrom empty by_the_other_name.events named_by_own.events
+by_the_other_name_same =
+    one_same refl refl (one_same refl refl (one_same refl refl (one_same refl refl
+    (one_same refl (Own (1 ∷ []), refl, refl) (one_same refl refl (one_same refl refl no_more))))))
+
+pub by_the_other_name_runs : IsDescribedRun by_the_other_name 7
+by_the_other_name_runs = ((_, refl, refl), refl, (named_by_own.events, by_the_other_name_same.are, named_by_own_follows))
