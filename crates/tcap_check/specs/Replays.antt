@@ -17,7 +17,7 @@ use Rattle.tcap_check.specs.declared.certificate.Expiry.{Expiry}
 use Rattle.tcap_check.specs.declared.certificate.Fate.{Fate}
 use Rattle.tcap_check.specs.declared.certificate.Fate.TheVariants.{Gap, Lost, By}
 use Rattle.tcap_check.specs.Certificate.{Certificate}
-use Rattle.tcap_check.specs.Worked.{Worked, answer, begin, by_fates, crossing, end_to, further, id, invoke, lasting, late_reject, prearranged, result, table, two_entries}
+use Rattle.tcap_check.specs.Worked.{Worked, answer, begin, by_fates, crossing, end_to, further, id, invoke, lasting, late_reject, prearranged, rejects_result, result, table, two_entries}
 use Rattle.tcap_check.specs.declared.fault.Reason.{Reason}
 use Rattle.tcap_check.specs.declared.fault.Reason.TheVariants.{FateCount, FateRange, OutOfOrder, BadReply, SendRefused, HiddenRefused, NotQuiet, BadMessage, NoItem}
 use Rattle.tcap_check.specs.Entries.{entry_of}
@@ -62,6 +62,41 @@ abbrev pub closes_what_is_not_there : Type 0
 closes_what_is_not_there =
     Refuses table (closing (record { gap = 1; side = B; entry = 0 } ∷ []) two_entries.certificate) two_entries.items (HiddenRefused faults.CannotClose) 0
 
+-- A closing names a Begin alone.
+abbrev pub closes_by_a_continue : Type 0
+closes_by_a_continue =
+    Refuses table (closing (record { gap = 2; side = B; entry = 1 } ∷ []) late_reject.certificate) late_reject.items FateRange 1
+
+-- ---- the first of two reasons
+
+abbrev out_of_range : Expiry
+out_of_range = record { gap = 9; side = A; entry = 0; component = 0 }
+
+-- Fates are looked at before what is listed,
+abbrev pub fates_first : Type 0
+fates_first = Refuses table (expiring (out_of_range ∷ []) (by_fates (Gap 1 ∷ Gap 1 ∷ []))) two_entries.items FateRange 1
+
+-- closings before expiries,
+abbrev pub closings_first : Type 0
+closings_first =
+    Refuses table (closing (record { gap = 9; side = A; entry = 1 } ∷ []) (expiring (out_of_range ∷ []) two_entries.certificate)) two_entries.items FateRange 1
+
+-- the order of messages before the gap, where B has no half to close,
+abbrev pub order_before_the_gap : Type 0
+order_before_the_gap = Refuses table (closing (record { gap = 1; side = B; entry = 0 } ∷ []) (by_fates (Gap 3 ∷ Gap 2 ∷ Gap 3 ∷ [])))
+    (Sent A (begin None None) ∷ Sent A (Begin (id 3) None None) ∷ Sent A (Begin (id 4) None None) ∷ []) OutOfOrder 1
+
+-- the fate of a quiet mark before its gap, where the half has closed,
+abbrev pub fate_of_a_mark_first : Type 0
+fate_of_a_mark_first =
+    Refuses table (closing (record { gap = 2; side = A; entry = 0 } ∷ record { gap = 2; side = A; entry = 0 } ∷ []) (by_fates (Gap 1 ∷ Gap 2 ∷ Lost ∷ [])))
+    (two_entries.items ++ Item.Quiet ∷ []) FateRange 2
+
+-- and the count of fates before the last gap.
+abbrev pub count_before_the_last_gap : Type 0
+count_before_the_last_gap =
+    Refuses table (closing (record { gap = 2; side = B; entry = 0 } ∷ []) (by_fates (Gap 1 ∷ Gap 2 ∷ Gap 3 ∷ []))) two_entries.items FateCount 2
+
 -- ---- an invocation that ends unseen
 
 abbrev pub expires_twice : Type 0
@@ -73,6 +108,38 @@ does_not_expire = Refuses lasting late_reject.certificate late_reject.items (Hid
 
 abbrev pub no_expiry_is_listed : Type 0
 no_expiry_is_listed = Refuses table (expiring [] late_reject.certificate) late_reject.items (SendRefused faults.RejectNotAllowed) 2
+
+-- The expiry that is listed names an entry of the other end,
+abbrev pub expiry_of_the_other_end : Type 0
+expiry_of_the_other_end =
+    Refuses table (expiring (record { gap = 2; side = B; entry = 0; component = 0 } ∷ []) late_reject.certificate) late_reject.items FateRange 0
+
+-- or a component that is no Invoke.
+abbrev pub expiry_of_a_result : Type 0
+expiry_of_a_result =
+    Refuses table (expiring (record { gap = 2; side = B; entry = 1; component = 0 } ∷ []) late_reject.certificate) late_reject.items FateRange 1
+
+-- A component's number counts all components of the message: here the Invoke behind a result.
+abbrev pub expiry_behind_a_result : Type 0
+expiry_behind_a_result = Gives table
+    (expiring (record { gap = 2; side = B; entry = 1; component = 1 } ∷ []) (by_fates (Gap 1 ∷ Gap 2 ∷ [])))
+    (Sent A (begin None (Some (invoke 45 ∷ []))) ∷ Sent B (answer None (Some (result ∷ invoke 45 ∷ []))) ∷ []) 5
+
+-- Of two invocations the second expires, and its result is rejected,
+abbrev two_invocations : List Item
+two_invocations = Sent A (begin None (Some (Invoke (pos 2) None (Local (pos 45)) None ∷ invoke 45 ∷ [])))
+    ∷ Sent B (answer None (Some (result ∷ []))) ∷ Sent A (end_to 2 (Some (rejects_result 0 ∷ []))) ∷ []
+
+abbrev expires_one : ℕ → Certificate
+expires_one component =
+    expiring (record { gap = 2; side = A; entry = 0; component = component } ∷ []) (by_fates (Gap 1 ∷ Gap 2 ∷ Gap 3 ∷ []))
+
+abbrev pub second_expires : Type 0
+second_expires = Gives table (expires_one 1) two_invocations 7
+
+-- or the first, and then that Reject may not be.
+abbrev pub first_expires : Type 0
+first_expires = Refuses table (expires_one 0) two_invocations (SendRefused faults.RejectNotAllowed) 2
 
 -- a Begin that invokes one ID twice
 abbrev pub invokes_twice : Type 0
@@ -100,6 +167,16 @@ links_without_leave = Refuses table (by_fates (Gap 1 ∷ Gap 2 ∷ [])) (links_t
 abbrev pub comes_before_the_first : Type 0
 comes_before_the_first = Refuses table (by_fates (Gap 3 ∷ Gap 2 ∷ Gap 3 ∷ []))
     (Sent A (begin None None) ∷ Sent A (Begin (id 3) None None) ∷ Sent A (Begin (id 4) None None) ∷ []) OutOfOrder 1
+
+-- the third of four Begins before the first, with one of the other end between
+abbrev pub comes_before_an_earlier_one : Type 0
+comes_before_an_earlier_one = Refuses table (by_fates (Gap 4 ∷ Gap 4 ∷ Gap 3 ∷ Gap 4 ∷ []))
+    (Sent A (begin None None) ∷ Sent B (Begin (id 5) None None) ∷ Sent A (Begin (id 3) None None) ∷ Sent A (Begin (id 4) None None) ∷ []) OutOfOrder 2
+
+-- A Begin that comes in the gap before the reply that takes an earlier one: a reply is later than the gap before it.
+abbrev pub comes_before_a_reply : Type 0
+comes_before_a_reply = Refuses table (by_fates (By 3 ∷ Gap 3 ∷ Gap 4 ∷ Gap 4 ∷ []))
+    (Sent A (begin None None) ∷ Sent A (Begin (id 3) None None) ∷ Sent A (Begin (id 4) None None) ∷ Sent B (provider_abort (id 1) 4) ∷ []) OutOfOrder 1
 
 -- a Continue that is to come where the half is closed
 abbrev pub comes_where_it_may_not : Type 0
@@ -193,6 +270,13 @@ no_message = replayed table (by_fates (Gap 1 ∷ [])) (bad ∷ []) ≡ refused (
 
     bad : Entry
     bad = record { side = Some A; place = 1; body = Bad fault }
+
+-- There is no fate for an entry that is no message.
+abbrev pub no_fate_for_no_message : Type 0
+no_fate_for_no_message = replayed table (by_fates []) (bad ∷ []) ≡ refused FateCount 0
+  where
+    bad : Entry
+    bad = record { side = Some A; place = 1; body = Bad (record { reason = element.EmptyComponents; place = 6 }) }
 
 -- an entry with a message and no end, and one with an end and a quiet mark
 abbrev pub no_item : Type 0

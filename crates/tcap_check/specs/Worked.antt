@@ -56,7 +56,7 @@ invoke code = Invoke (pos 1) None (Local (pos code)) None
 abbrev pub result : Component
 result = ReturnResult true (pos 1) None
 
-abbrev rejects_result : ℕ → Component
+abbrev pub rejects_result : ℕ → Component
 rejects_result problem = Reject (Some (pos 1)) (problems.ReturnResult problem)
 
 abbrev context : List ℕ

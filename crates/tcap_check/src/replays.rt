@@ -150,3 +150,59 @@ pub fn continue_is_lost()
 pub fn mark_alone()
     ensures { replays.mark_alone }
 {}
+
+pub fn expiry_of_the_other_end()
+    ensures { replays.expiry_of_the_other_end }
+{}
+
+pub fn expiry_of_a_result()
+    ensures { replays.expiry_of_a_result }
+{}
+
+pub fn expiry_behind_a_result()
+    ensures { replays.expiry_behind_a_result }
+{}
+
+pub fn second_expires()
+    ensures { replays.second_expires }
+{}
+
+pub fn first_expires()
+    ensures { replays.first_expires }
+{}
+
+pub fn comes_before_an_earlier_one()
+    ensures { replays.comes_before_an_earlier_one }
+{}
+
+pub fn comes_before_a_reply()
+    ensures { replays.comes_before_a_reply }
+{}
+
+pub fn closes_by_a_continue()
+    ensures { replays.closes_by_a_continue }
+{}
+
+pub fn fates_first()
+    ensures { replays.fates_first }
+{}
+
+pub fn closings_first()
+    ensures { replays.closings_first }
+{}
+
+pub fn order_before_the_gap()
+    ensures { replays.order_before_the_gap }
+{}
+
+pub fn fate_of_a_mark_first()
+    ensures { replays.fate_of_a_mark_first }
+{}
+
+pub fn count_before_the_last_gap()
+    ensures { replays.count_before_the_last_gap }
+{}
+
+pub fn no_fate_for_no_message()
+    ensures { replays.no_fate_for_no_message }
+{}
