@@ -3,6 +3,7 @@ pub mod Run
 pub mod Certificate
 pub mod CertificateText
 pub mod Entries
+pub mod Fault
 pub mod Follows
 pub mod Named
 pub mod Worked

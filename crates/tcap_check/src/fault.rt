@@ -1,5 +1,8 @@
 //! Why a certificate gives no run.
 
+ghost use Rattle.std.specs.Prelude.{◌≡◌};
+ghost use Rattle.tcap_check.specs.Fault.{reason_number};
+
 use tcap_ber::Fault;
 use tcap_end::EndFault;
 
@@ -14,7 +17,8 @@ pub enum Reason {
     FateRange,
     /// A message comes before an earlier one of the same end.
     OutOfOrder,
-    /// A message is received, or answered by the provider, where it may not be.
+    /// A message is received, or answered by the provider, where it may not be; or an entry takes a message that is no
+    /// provider's reply, or a provider's reply does not take one message.
     BadReply,
     /// An entry is sent where it may not be.
     SendRefused(EndFault),
@@ -28,6 +32,27 @@ pub enum Reason {
     NoItem,
     /// Memory ran out.
     Memory,
+}
+
+impl Reason {
+    /// The number that a line of output gives for this reason.
+    pub fn number(self) -> u8
+        ensures { result ≡ reason_number self }
+    {
+        match self {
+            Reason::CertificateShape => 60,
+            Reason::FateCount => 61,
+            Reason::FateRange => 62,
+            Reason::OutOfOrder => 63,
+            Reason::BadReply => 64,
+            Reason::SendRefused(_) => 65,
+            Reason::HiddenRefused(_) => 66,
+            Reason::NotQuiet => 67,
+            Reason::BadMessage(_) => 68,
+            Reason::NoItem => 69,
+            Reason::Memory => 99,
+        }
+    }
 }
 
 /// A refusal: why, and at which entry.
