@@ -2,11 +2,14 @@
 use Rattle.std.proofs.Common.{◌≡◌, ℕ, ◌+◌, List, [], ◌∷◌, ◌++◌, map, length, Some, refl, sym, ap, subst, ◌∙◌, append_assoc, append-nil}
 use Rattle.std.specs.List.{AllByRecursion}
 use Rattle.std.proofs.lemmas.List.{length-append}
+use Rattle.tcap_end.specs.Table.{Table}
 use Rattle.tcap_check.specs.World.{Item}
 use Rattle.tcap_check.specs.Run.{Event}
 use Rattle.tcap_check.specs.Certificate.{Certificate}
-use Rattle.tcap_check.specs.Follows.{FatesFit, FollowsFrom, IsImplied, gap_events, sending}
+use Rattle.tcap_check.specs.Follows.{FatesFit, FollowsFrom, IsImplied, gap_events, sending, without_losses}
+use Rattle.tcap_check.specs.Replayed.{Replay}
 use Rattle.tcap_check.proofs.ReplayGaps.{gap_events_before}
+use Rattle.tcap_check.proofs.ReplayLaws.{Replays, without_both}
 
 -- Events up to the last of these items: whatever goes on behind them as the certificate says makes with them a whole
 -- that is what it says.
@@ -74,3 +77,10 @@ follows_more c count items item plain implied sends fit behind are_implied sends
 pub record IsUpTo (c : Certificate) (gaps : ℕ) (items : List Item) (plain : List Event) : Type 0 where
   pub before : gaps ≡ length items → FollowsSo c items plain
   pub behind : gaps ≡ length items + 1 → FollowsBehind c items plain
+
+-- Without the losses, what was replayed goes on by these events.
+pub plain_on : (table : Table) (r next : Replay) (plain : List Event) (items : List Item) → Replays table r plain items next
+    → without_losses next.events ≡ without_losses r.events ++ plain
+plain_on table r next plain items on =
+    ap without_losses on.extends.events ∙ without_both r.events on.steps
+    ∙ ap (λ (x : List Event). without_losses r.events ++ x) on.are

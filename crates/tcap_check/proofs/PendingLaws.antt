@@ -29,8 +29,8 @@ use Rattle.tcap_check.specs.Entries.{AreItems, IsItem}
 use Rattle.tcap_check.specs.Follows.{FatesFit, closing_event, deliveries, expiry_event, gap_events, is_loss, sending_by, taken_by, without_losses}
 use Rattle.tcap_check.specs.Replayed.{Replay, next_entry}
 use Rattle.tcap_check.proofs.ChannelLaws.{are_whole, in_order}
-use Rattle.tcap_check.proofs.ReplayLaws.{Extends, IsSentBy, Replays, played_on, without_both}
-use Rattle.tcap_check.proofs.FollowingLaws.{FollowsBehind, FollowsSo, IsUpTo, follows_gap, follows_more}
+use Rattle.tcap_check.proofs.ReplayLaws.{Extends, IsSentBy, Replays, played_on}
+use Rattle.tcap_check.proofs.FollowingLaws.{FollowsBehind, FollowsSo, IsUpTo, follows_gap, follows_more, plain_on}
 
 -- ---- what is in a list
 
@@ -305,13 +305,6 @@ pub record Stands (table : Table) (c : Certificate) (front : List Entry) (gaps :
 pub runs_on : (table : Table) (r next : Replay) (more : List Event) → Runs table r.events r.world → Extends table r more next
     → Runs table next.events next.world
 runs_on table r next more runs on = rw on.events (played_on table r.events more empty r.world runs ∙ on.plays)
-
--- Losses left out, they go on so.
-plain_on : (table : Table) (r next : Replay) (plain : List Event) (items : List Item) → Replays table r plain items next
-    → without_losses next.events ≡ without_losses r.events ++ plain
-plain_on table r next plain items on =
-    ap without_losses on.extends.events ∙ without_both r.events on.steps
-    ∙ ap (λ (x : List Event). without_losses r.events ++ x) on.are
 
 -- Steps that send nothing leave taken what was taken.
 taken_still : (table : Table) (c : Certificate) (gaps : ℕ) (r next : Replay) (plain : List Event)
