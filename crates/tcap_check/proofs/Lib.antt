@@ -29,6 +29,7 @@ pub mod DescribedRuns
 pub mod NamedLaws
 pub mod AtOnceRuns
 pub mod AtOnceLaws
+pub mod FollowingLaws
 pub mod PendingLaws
 pub mod ReasonGaps
 pub mod ReasonItems

@@ -30,6 +30,7 @@ use Rattle.tcap_check.specs.Follows.{FatesFit, closing_event, deliveries, expiry
 use Rattle.tcap_check.specs.Replayed.{Replay, next_entry}
 use Rattle.tcap_check.proofs.ChannelLaws.{are_whole, in_order}
 use Rattle.tcap_check.proofs.ReplayLaws.{Extends, IsSentBy, Replays, played_on}
+use Rattle.tcap_check.proofs.FollowingLaws.{FollowsBehind, FollowsSo, IsUpTo, follows_gap, follows_more, plain_on}
 
 -- ---- what is in a list
 
@@ -290,36 +291,49 @@ AreTaken c gaps replies items events = (n : ℕ) (side : Side) (message : Messag
     → slice_get items n ≡ Some (Sent side message) → slice_get c.fates n ≡ Some fate → IsOver gaps replies fate
     → IsIn n (numbers_taken side events)
 
--- What was replayed so far, behind so many gaps: a run that sends the entries so far; there is a fate for each, that of
--- a mark is the next gap, and what is over was taken.
+-- What was replayed so far, behind so many gaps: a run that sends the entries so far, and is but for losses what the
+-- certificate says; there is a fate for each entry, that of a mark is the next gap, and what is over was taken.
 pub record Stands (table : Table) (c : Certificate) (front : List Entry) (gaps : ℕ) (r : Replay) : Type 0 where
   pub runs : Runs table r.events r.world
   pub are : AreItems front r.world.sent
   pub counted : next_entry r ≤ length c.fates
   pub marks : (n : ℕ) → slice_get r.world.sent n ≡ Some Item.Quiet → slice_get c.fates n ≡ Some (Gap (n + 1))
   pub taken : AreTaken c gaps (next_entry r) r.world.sent r.events
+  pub follows : IsUpTo c gaps r.world.sent (without_losses r.events)
 
 -- Steps that go on from a run make a run.
 pub runs_on : (table : Table) (r next : Replay) (more : List Event) → Runs table r.events r.world → Extends table r more next
     → Runs table next.events next.world
 runs_on table r next more runs on = rw on.events (played_on table r.events more empty r.world runs ∙ on.plays)
 
--- Steps that send nothing keep it.
-pub stands_still : (table : Table) (c : Certificate) (front : List Entry) (gaps : ℕ) (r next : Replay) (plain : List Event)
-    → Stands table c front gaps r → Replays table r plain [] next → Stands table c front gaps next
-stands_still table c front gaps r next plain old on =
+-- Steps that send nothing leave taken what was taken.
+taken_still : (table : Table) (c : Certificate) (gaps : ℕ) (r next : Replay) (plain : List Event)
+    → AreTaken c gaps (next_entry r) r.world.sent r.events → Replays table r plain [] next
+    → AreTaken c gaps (next_entry next) next.world.sent next.events
+taken_still table c gaps r next plain old on n side message fate is has over =
     let same : next.world.sent ≡ r.world.sent = on.sent ∙ append-nil r.world.sent in
     let number : next_entry next ≡ next_entry r = ap length same in
+    let was = old n side message fate (ap (λ (x : List Item). slice_get x n) (sym same) ∙ is) has
+    (subst (λ (k : ℕ). IsOver gaps k fate) number over) in
+    subst (λ (x : List Event). IsIn n (numbers_taken side x)) (sym on.extends.events)
+    (taken_before side n r.events on.steps was)
+
+-- Steps that send nothing and are losses keep it.
+pub stands_still : (table : Table) (c : Certificate) (front : List Entry) (gaps : ℕ) (r next : Replay)
+    → Stands table c front gaps r → Replays table r [] [] next → Stands table c front gaps next
+stands_still table c front gaps r next old on =
+    let same : next.world.sent ≡ r.world.sent = on.sent ∙ append-nil r.world.sent in
+    let number : next_entry next ≡ next_entry r = ap length same in
+    let plain : without_losses next.events ≡ without_losses r.events =
+    plain_on table r next [] [] on ∙ append-nil (without_losses r.events) in
     record {
       runs = runs_on table r next on.steps old.runs on.extends;
       are = subst (AreItems front) (sym same) old.are;
       counted = omega (arith, old.counted, number);
       marks = λ n is. old.marks n (ap (λ (x : List Item). slice_get x n) (sym same) ∙ is);
-      taken = λ n side message fate is has over.
-          let was = old.taken n side message fate (ap (λ (x : List Item). slice_get x n) (sym same) ∙ is) has
-          (subst (λ (k : ℕ). IsOver gaps k fate) number over) in
-          subst (λ (x : List Event). IsIn n (numbers_taken side x)) (sym on.extends.events)
-          (taken_before side n r.events on.steps was);
+      taken = taken_still table c gaps r next [] old.taken on;
+      follows = subst (λ (x : List Item). IsUpTo c gaps x (without_losses next.events)) (sym same)
+          (subst (IsUpTo c gaps r.world.sent) (sym plain) old.follows);
     }
 
 -- Behind a gap, what is delivered in it was taken.
@@ -327,16 +341,23 @@ pub stands_behind : (table : Table) (c : Certificate) (front : List Entry) (r ne
     → Stands table c front (next_entry r) r → map Some here ≡ gap_events c r.world.sent (next_entry r)
     → Replays table r here [] next → Stands table c front (next_entry r + 1) next
 stands_behind table c front r next here old here_is on =
-    let gap = next_entry r in
-    let still = stands_still table c front gap r next here old on in
     let same : next.world.sent ≡ r.world.sent = on.sent ∙ append-nil r.world.sent in
+    let number : next_entry next ≡ next_entry r = ap length same in
+    let still = taken_still table c (next_entry r) r next here old.taken on in
+    let behind : FollowsBehind c r.world.sent (without_losses next.events) =
+    subst (FollowsBehind c r.world.sent) (sym (plain_on table r next here [] on))
+    (follows_gap c r.world.sent (without_losses r.events) here (old.follows.before refl) here_is) in
     record {
-      runs = still.runs;
-      are = still.are;
-      counted = still.counted;
-      marks = still.marks;
+      runs = runs_on table r next on.steps old.runs on.extends;
+      are = subst (AreItems front) (sym same) old.are;
+      counted = omega (arith, old.counted, number);
+      marks = λ n is. old.marks n (ap (λ (x : List Item). slice_get x n) (sym same) ∙ is);
       taken = λ n side message fate is has over.
-          by n side message fate is has (ap (λ (x : List Item). slice_get x n) (sym same) ∙ is) still.taken over;
+          by n side message fate is has (ap (λ (x : List Item). slice_get x n) (sym same) ∙ is) still over;
+      follows = record {
+        before = λ is. absurd (omega (arith, is, number));
+        behind = λ is. subst (λ (x : List Item). FollowsBehind c x (without_losses next.events)) (sym same) behind;
+      };
     }
   where
     new : (n g : ℕ) (side : Side) (message : Message) → slice_get c.fates n ≡ Some (Gap g)
@@ -414,6 +435,10 @@ stands_next table c count front entry item fate r next fit old is has mark sent 
     let more : next_entry next ≡ number + 1 = ap length grown ∙ length-append items (item ∷ []) in
     let runs = runs_on table r next on.steps old.runs on.extends in
     let within : number < length c.fates = slice_get_within c.fates number fate has in
+    let so : FollowsSo c (items ++ item ∷ []) (without_losses next.events) =
+    subst (FollowsSo c (items ++ item ∷ [])) (sym (plain_on table r next (sent.implied ++ sent.sends ∷ []) (item ∷ []) on))
+    (follows_more c count items item (without_losses r.events) sent.implied sent.sends fit (old.follows.behind refl)
+    sent.are_implied sent.sends_is) in
     record {
       runs = runs;
       are = subst (AreItems (front ++ entry ∷ [])) (sym grown) (one_more front items entry item old.are is);
@@ -423,6 +448,10 @@ stands_next table c count front entry item fate r next fit old is has mark sent 
           by n side message fate_n runs at has_n
           (old_or_new items item (Sent side message) n (ap (λ (x : List Item). slice_get x n) (sym grown) ∙ at))
           (subst (λ (k : ℕ). IsOver k k fate_n) more over);
+      follows = record {
+        before = λ is. subst (λ (x : List Item). FollowsSo c x (without_losses next.events)) (sym grown) so;
+        behind = λ is. absurd (omega (arith, is));
+      };
     }
   where
     mark_more : (n : ℕ) → (slice_get r.world.sent n ≡ Some Item.Quiet) ⊎ ((n ≡ length r.world.sent) × (item ≡ Item.Quiet))

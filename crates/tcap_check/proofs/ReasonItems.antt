@@ -23,12 +23,13 @@ use Rattle.tcap_check.specs.World.{Item, OnItsWay, Sent, World, channel_from, en
 use Rattle.tcap_check.specs.Run.{Event, Sends, Receives, Replies, Loses, Expires, Closes, Quiet, Tells, after, after_quiet, then_so}
 use Rattle.tcap_check.specs.Certificate.{Certificate}
 use Rattle.tcap_check.specs.Entries.{AreItems, IsItem}
-use Rattle.tcap_check.specs.Follows.{FatesFit, invoking_half, sending, taken_by}
+use Rattle.tcap_check.specs.Follows.{FatesFit, invoking_half, sending, taken_by, without_losses}
 use Rattle.tcap_check.specs.Given.{IsAt, IsPending, IsStillOpen}
 use Rattle.tcap_check.specs.Replayed.{Replay, fault_at, gap_replayed, happens, if_lost, implied_over, is_abort, is_gap, is_later, is_nothing, is_overtaking, lost_before, lost_from_both, lost_front, message_by, message_replayed, next_entry, quiet_replayed, refused, sent_or_refused, sent_replayed, stepped, time_of, with_step}
 use Rattle.tcap_check.specs.Since.{WasSent}
 use Rattle.tcap_check.proofs.ChannelLaws.{were_sent}
 use Rattle.tcap_check.proofs.ReplayLaws.{both_replay, gap_replays}
+use Rattle.tcap_check.proofs.FollowingLaws.{follows_all}
 use Rattle.tcap_check.proofs.PendingLaws.{IsOver, Stands, ahead, same_side, taken_is_gone, stands_behind, stands_still}
 use Rattle.tcap_check.proofs.ReasonGaps.{Says, as_many, at_front, gap_says, needs_err, next_at, none_err, says, taken_front, then_err}
 
@@ -286,17 +287,18 @@ mark_refused : (table : Table) (c : Certificate) (front rest : List Entry) (r : 
     → ((side : Side) (head : OnItsWay) (more : List OnItsWay) → channel_from side r.world ≡ head ∷ more
     → slice_get c.fates head.number ≡ Some Lost → ⊥)
     → after_quiet r.world ≡ None
-    → IsPending c (front ++ rest) (next_entry r) ⊎ IsStillOpen table (front ++ rest) (next_entry r)
+    → IsPending c (front ++ rest) (next_entry r) ⊎ IsStillOpen table c (front ++ rest) (next_entry r)
 mark_refused table c front rest r old kept refuses = by (not_quiet r.world refuses)
   where
     by : ((side : Side) × (head : OnItsWay) × (more : List OnItsWay) × (channel_from side r.world ≡ head ∷ more))
         ⊎ ((side : Side) × (quiet (end_at side r.world) ≡ Err faults.StillOpen))
-        → IsPending c (front ++ rest) (next_entry r) ⊎ IsStillOpen table (front ++ rest) (next_entry r)
+        → IsPending c (front ++ rest) (next_entry r) ⊎ IsStillOpen table c (front ++ rest) (next_entry r)
     by (inl (side, head, more, channel)) = inl (head_pends table c front rest r side head more old channel (kept side head more channel))
     by (inr (side, is_open)) =
         let number : next_entry r ≡ length front = sym (as_many front r.world.sent old.are) in
         let are = subst (λ (es : List Entry). AreItems es r.world.sent) (sym (taken_front front rest (next_entry r) number)) old.are in
-        inr (side, r.events, r.world, old.runs, are, is_open)
+        let follows = follows_all c r.world.sent (without_losses r.events) (old.follows.behind refl) in
+        inr (side, r.events, r.world, old.runs, are, follows, is_open)
 
 -- Behind a gap what was replayed stands.
 pub gap_stands : (table : Table) (c : Certificate) (front : List Entry) (r mid : Replay) → Stands table c front (next_entry r) r
@@ -340,14 +342,14 @@ quiet_says table c front rest entry fate r fault fit old is has refuses =
         let last = lost_from_both c mid in
         let none = none_err (stepped table Quiet last) (fault_at reasons.NotQuiet (next_entry r)) fault no_mark in
         let stands = gap_stands table c front r mid old goes in
-        let still = stands_still table c front (next_entry mid + 1) mid last [] stands.0 (both_replay table c mid) in
+        let still = stands_still table c front (next_entry mid + 1) mid last stands.0 (both_replay table c mid) in
         let same : next_entry last ≡ next_entry mid = ap length ((both_replay table c mid).sent ∙ append-nil mid.world.sent) in
         let so = subst (λ (n : ℕ). Stands table c front (n + 1) last) (sym same) still in
         let kept = λ (side : Side) (head : OnItsWay) (more : List OnItsWay) (on : channel_from side last.world ≡ head ∷ more).
         not_lost c.fates (channel_from side mid.world) head more (sym (left_behind c side mid) ∙ on) in
         let why = mark_refused table c front (entry ∷ rest) last so kept (not_there (with_step Quiet last) (after table Quiet last.world) none.0) in
         says table c all reasons.NotQuiet (next_entry r) fault none.1
-        (here, subst (λ (n : ℕ). IsPending c all n ⊎ IsStillOpen table all n) (same ∙ stands.1) why)
+        (here, subst (λ (n : ℕ). IsPending c all n ⊎ IsStillOpen table c all n) (same ∙ stands.1) why)
 
     gap : (gap_replayed table c r ≡ Err fault)
         ⊎ ((mid : Replay) × (gap_replayed table c r ≡ Ok mid)

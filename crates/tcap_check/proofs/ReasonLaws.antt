@@ -22,11 +22,12 @@ use Rattle.tcap_check.specs.Run.{Event, Quiet, after}
 use Rattle.tcap_check.specs.Certificate.{Certificate}
 use Rattle.tcap_check.specs.Entries.{IsItem, item_by, item_of}
 use Rattle.tcap_check.specs.Follows.{FatesFit, quiet_by, sending, sending_by, taken_by}
-use Rattle.tcap_check.specs.Given.{IsReason}
+use Rattle.tcap_check.specs.Given.{IsNoItem, IsReason}
 use Rattle.tcap_check.specs.Replayed.{Replay, certificate_fits, entries_replayed, entry_replayed, fates_fit, fault_at, gap_replayed, happens, is_gap, is_nothing, is_overtaking, lost_from_both, next_entry, nothing_replayed, quiet_replayed, replayed, sent_replayed, stepped}
 use Rattle.tcap_check.proofs.ReplayGaps.{fates_ok}
 use Rattle.tcap_check.proofs.ReplayLaws.{IsSentBy, Replays, both_replay, message_replays, replays_then, stepped_replays}
 use Rattle.tcap_check.proofs.RunLaws.{grows, map_some}
+use Rattle.tcap_check.proofs.FollowingLaws.{follows_nothing}
 use Rattle.tcap_check.proofs.PendingLaws.{Stands, stands_next}
 use Rattle.tcap_check.proofs.ReasonGaps.{Says, as_many, both_err, certificate_says, gap_says, needs_err, next_at, none_err, says, then_err}
 use Rattle.tcap_check.proofs.ReasonItems.{gap_stands, quiet_says, sent_says}
@@ -48,21 +49,22 @@ item_is entry item is = by entry.side entry.body refl refl is
 -- and one that is none says why.
 no_item_says : (table : Table) (c : Certificate) (entries : List Entry) (entry : Entry) (number : ℕ) (reason : Reason)
     → slice_get entries number ≡ Some entry → item_of entry ≡ Err reason → IsReason table c entries number reason
-no_item_says table c entries entry number reason there is = by entry.side entry.body refl is
+no_item_says table c entries entry number reason there is = by entry.side entry.body refl refl is
   where
     bad : (fault : Fault) → entry.body ≡ Bad fault → reasons.BadMessage fault ≡ reason → IsReason table c entries number reason
     bad fault at same = subst (IsReason table c entries number) same (entry, there, at)
 
-    none : reasons.NoItem ≡ reason → IsReason table c entries number reason
-    none same = subst (IsReason table c entries number) same (entry, there, is ∙ ap (λ (x : Reason). Err x) (sym same))
+    none : IsNoItem entry → reasons.NoItem ≡ reason → IsReason table c entries number reason
+    none why same = subst (IsReason table c entries number) same (entry, there, why)
 
-    by : (side : Option Side) (body : Body) → entry.body ≡ body → item_by side body ≡ Err reason → IsReason table c entries number reason
-    by (Some side) (Good message) at refuses = cc
-    by (Some side) (Bad fault) at refuses = bad fault at cc
-    by (Some side) QuietMark at refuses = none cc
-    by None (Good message) at refuses = none cc
-    by None (Bad fault) at refuses = bad fault at cc
-    by None QuietMark at refuses = cc
+    by : (side : Option Side) (body : Body) → entry.side ≡ side → entry.body ≡ body → item_by side body ≡ Err reason
+        → IsReason table c entries number reason
+    by (Some side) (Good message) of at refuses = cc
+    by (Some side) (Bad fault) of at refuses = bad fault at cc
+    by (Some side) QuietMark of at refuses = none (inr (side, of, at)) cc
+    by None (Good message) of at refuses = none (inl (message, of, at)) cc
+    by None (Bad fault) of at refuses = bad fault at cc
+    by None QuietMark of at refuses = cc
 
 -- What the refusal of an entry says.
 entry_says : (table : Table) (c : Certificate) (front rest : List Entry) (entry : Entry) (fate : Fate) (r : Replay) (fault : CheckFault)
@@ -232,6 +234,7 @@ nothing_stands table c = record {
   counted = omega arith;
   marks = λ n is. cc;
   taken = λ n side message fate is has over. cc;
+  follows = record { before = λ is. follows_nothing c; behind = λ is. absurd (omega (arith, is)) };
 }
 
 -- Of two steps that answer Ok the first does.
