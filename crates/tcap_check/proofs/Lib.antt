@@ -23,3 +23,4 @@ pub mod GivenRuns
 pub mod DescribedRuns
 pub mod AtOnceLaws
 pub mod ReasonLaws
+pub mod CertificateTextLaws

@@ -158,9 +158,15 @@ FateFits (Gap gap) = gap ≤ number_limit
 FateFits Lost = Unit {0}
 FateFits (By reply) = reply ≤ number_limit
 
+abbrev pub ClosingFits : Closing → Type 0
+ClosingFits x = (x.gap ≤ number_limit) × (x.entry ≤ number_limit)
+
+abbrev pub ExpiryFits : Expiry → Type 0
+ExpiryFits x = (x.gap ≤ number_limit) × (x.component ≤ number_limit) × (x.entry ≤ number_limit)
+
 -- No number is over the limit, and there are not too many fates.
 pub record IsInLimits (c : Certificate) : Type 0 where
   pub count : length c.fates ≤ fates_limit
   pub fates : AllByRecursion FateFits c.fates
-  pub closings : AllByRecursion (λ x. (x.gap ≤ number_limit) × (x.entry ≤ number_limit)) c.close
-  pub expiries : AllByRecursion (λ x. (x.gap ≤ number_limit) × (x.component ≤ number_limit) × (x.entry ≤ number_limit)) c.expire
+  pub closings : AllByRecursion ClosingFits c.close
+  pub expiries : AllByRecursion ExpiryFits c.expire

@@ -3,12 +3,14 @@
 #![tactic(auto)]
 
 mod certificate;
+mod certificate_text;
 mod fault;
 pub mod given;
 pub mod laws;
 pub mod refused;
 pub mod replays;
+pub mod texts;
 pub mod worked;
 
-pub use certificate::{Closing, Expiry, Fate};
+pub use certificate::{Certificate, Closing, Expiry, Fate};
 pub use fault::{CheckFault, Reason};
