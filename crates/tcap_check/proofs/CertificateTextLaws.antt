@@ -1,12 +1,14 @@
 -- The text of a certificate: what is written is read again, and what is read is within the limits.
-use Rattle.std.proofs.Common.{◌≡◌, ◌≤◌, ℕ, ℤ, pos, negsuc, Bool, true, false, cond, nat_le, codes, length, List, [], ◌∷◌, map, max, Option, Some, None, option_map, option_and_then, bytes_eq, ◌&&◌, ◌||◌, refl, sym, ap, subst, ◌∙◌, arith, le-leb}
+use Rattle.std.proofs.Common.{◌≡◌, ◌≤◌, ℕ, ℤ, pos, negsuc, Bool, true, false, cond, nat_le, codes, length, List, [], ◌∷◌, map, max, Option, Some, None, option_map, option_and_then, Result, Ok, Err, IfOk, String, Global, string_bytes, bytes_eq, ◌&&◌, ◌||◌, refl, sym, ap, subst, ◌∙◌, arith, le-leb}
 use Rattle.std.proofs.lemmas.Bool.{leb-true}
+use Rattle.std.proofs.lemmas.Str.{IsUtf8-string_bytes}
 use Rattle.std.proofs.lemmas.Option.{same_Some}
 use Rattle.std.specs.List.{AllByRecursion}
 use Rattle.serde_json.specs.Data.{Data, null, boolean, number, string, array, object, Num, unsigned, negative, float, Items, no_items, item, Members, depth, items_depth}
 use Rattle.serde_json.specs.Find.{get_member}
+use Rattle.serde_json.specs.Read.{read}
 use Rattle.serde_json.specs.View.{view, items_view}
-use Rattle.serde_json.specs.Written.{has_float, items_have_float}
+use Rattle.serde_json.specs.Written.{compact_text, has_float, items_have_float}
 use Rattle.serde_json.specs.declared.value.Value.{Value}
 use Rattle.tcap_record.specs.declared.entry.End.{End as Side}
 use Rattle.tcap_record.specs.declared.entry.End.TheVariants.{A, B}
@@ -16,7 +18,7 @@ use Rattle.tcap_check.specs.declared.certificate.Expiry.{Expiry}
 use Rattle.tcap_check.specs.declared.certificate.Fate.{Fate}
 use Rattle.tcap_check.specs.declared.certificate.Fate.TheVariants.{Gap, Lost, By}
 use Rattle.tcap_check.specs.Certificate.{Certificate}
-use Rattle.tcap_check.specs.CertificateText.{IsInLimits, certificate_by, certificate_keys, closing_by, expiry_by, fates_limit, is_version, list_in, side_at, ClosingFits, ExpiryFits, FateFits, certificate_data, certificate_in, closing_data, closing_in, each_in, expiry_data, expiry_in, fate_data, fate_in, items_of, list_at, list_data, number_by, number_data, number_in, number_at, number_limit, side_data, side_in}
+use Rattle.tcap_check.specs.CertificateText.{IsCertificateText, IsInLimits, certificate_by, certificate_keys, closing_by, expiry_by, fates_limit, is_version, list_in, side_at, ClosingFits, ExpiryFits, FateFits, certificate_data, certificate_in, closing_data, closing_in, each_in, expiry_data, expiry_in, fate_data, fate_in, items_of, list_at, list_data, number_by, number_data, number_in, number_at, number_limit, side_data, side_in}
 
 -- ---- what is written is read again
 
@@ -276,3 +278,18 @@ certificate_shallow c =
     omega (arith, items_shallow closing_data (λ x. rw (side_shallow x.side) (omega arith)) c.close,
     items_shallow expiry_data (λ x. rw (side_shallow x.side) (omega arith)) c.expire,
     items_shallow fate_data fate_shallow c.fates)
+
+-- The text of a value that is that of a certificate.
+pub text_written : {E : Type 0} (d : Data) (c : Certificate) (r : Result (String Global) E) → d ≡ certificate_data c
+    → IfOk r (λ s. has_float d ≡ false → string_bytes s ≡ compact_text d)
+    → IfOk r (λ s. string_bytes s ≡ compact_text (certificate_data c))
+text_written d c (Err e) is text = tt
+text_written d c (Ok s) is text = text (ap has_float is ∙ certificate_plain c) ∙ ap compact_text is
+
+-- The text of a value that is that of a certificate within the limits says that certificate.
+pub text_read : {E : Type 0} (d : Data) (c : Certificate) (r : Result (String Global) E) → d ≡ certificate_data c
+    → IsInLimits c → IfOk r (λ s. depth d ≤ 127 → read (string_bytes s) ≡ Some d)
+    → IfOk r (λ s. IsCertificateText (string_bytes s) c)
+text_read d c (Err e) is inside back = tt
+text_read d c (Ok s) is inside back =
+    (d, (IsUtf8-string_bytes s, back (rw is (certificate_shallow c))), ap certificate_in is ∙ certificate_again c inside)
