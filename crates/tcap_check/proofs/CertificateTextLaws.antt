@@ -1,15 +1,13 @@
 -- The text of a certificate: what is written is read again, and what is read is within the limits.
-use Rattle.std.proofs.Common.{◌≡◌, ◌≤◌, ℕ, ℤ, pos, negsuc, Bool, true, false, cond, nat_le, codes, length, List, [], ◌∷◌, map, max, Option, Some, None, option_map, option_and_then, Result, Ok, Err, IfOk, String, Global, string_bytes, bytes_eq, ◌&&◌, ◌||◌, refl, sym, ap, subst, ◌∙◌, arith, le-leb}
+use Rattle.std.proofs.Common.{◌≡◌, ◌≤◌, ℕ, ℤ, pos, negsuc, Bool, true, false, cond, nat_le, codes, length, List, [], ◌∷◌, map, Option, Some, None, option_map, option_and_then, Result, Ok, Err, IfOk, String, Global, string_bytes, bytes_eq, ◌&&◌, refl, ap, subst, ◌∙◌, arith, le-leb}
 use Rattle.std.proofs.lemmas.Bool.{leb-true}
 use Rattle.std.proofs.lemmas.Str.{IsUtf8-string_bytes}
 use Rattle.std.proofs.lemmas.Option.{same_Some}
 use Rattle.std.specs.List.{AllByRecursion}
-use Rattle.serde_json.specs.Data.{Data, null, boolean, number, string, array, object, Num, unsigned, negative, float, Items, no_items, item, Members, depth, items_depth}
+use Rattle.serde_json.specs.Data.{Data, null, boolean, number, string, array, object, Items, no_items, item, Members, depth, items_depth}
 use Rattle.serde_json.specs.Find.{get_member}
 use Rattle.serde_json.specs.Read.{read}
-use Rattle.serde_json.specs.View.{view, items_view}
 use Rattle.serde_json.specs.Written.{compact_text, has_float, items_have_float}
-use Rattle.serde_json.specs.declared.value.Value.{Value}
 use Rattle.tcap_record.specs.declared.entry.End.{End as Side}
 use Rattle.tcap_record.specs.declared.entry.End.TheVariants.{A, B}
 use Rattle.tcap_end.specs.TableText.{has_only, whole_in}
@@ -18,7 +16,7 @@ use Rattle.tcap_check.specs.declared.certificate.Expiry.{Expiry}
 use Rattle.tcap_check.specs.declared.certificate.Fate.{Fate}
 use Rattle.tcap_check.specs.declared.certificate.Fate.TheVariants.{Gap, Lost, By}
 use Rattle.tcap_check.specs.Certificate.{Certificate}
-use Rattle.tcap_check.specs.CertificateText.{IsCertificateText, IsInLimits, certificate_by, certificate_keys, closing_by, expiry_by, fates_limit, is_version, list_in, side_at, ClosingFits, ExpiryFits, FateFits, certificate_data, certificate_in, closing_data, closing_in, each_in, expiry_data, expiry_in, fate_data, fate_in, items_of, list_at, list_data, number_by, number_data, number_in, number_at, number_limit, side_data, side_in}
+use Rattle.tcap_check.specs.CertificateText.{IsCertificateText, IsInLimits, certificate_by, certificate_keys, closing_by, expiry_by, fates_limit, is_version, list_in, side_at, ClosingFits, ExpiryFits, FateFits, certificate_data, certificate_in, closing_data, closing_in, each_in, expiry_data, expiry_in, fate_data, fate_in, items_of, list_at, number_by, number_data, number_in, number_at, number_limit, side_data, side_in}
 
 -- ---- what is written is read again
 
@@ -71,6 +69,7 @@ number_by_fits (pos m) n e = by (nat_le m number_limit) refl e
     by false f g = absurd cc
     by true f g = subst (λ k. k ≤ number_limit) (same_Some _ _ g) (leb-true _ _ f)
 
+-- data that is read as a number is a number within the limit
 number_in_fits : (d : Data) (n : ℕ) → number_in d ≡ Some n → n ≤ number_limit
 number_in_fits d n e = by (whole_in d) e
   where
@@ -113,7 +112,8 @@ fate_fits (object members) fate e = by (has_only (codes "by" ∷ []) members) e
 closing_by_fits : (gap : Option ℕ) (side : Option Side) (entry : Option ℕ) (x : Closing)
     → ((n : ℕ) → gap ≡ Some n → n ≤ number_limit) → ((n : ℕ) → entry ≡ Some n → n ≤ number_limit)
     → closing_by gap side entry ≡ Some x → ClosingFits x
-closing_by_fits (Some gap) (Some side) (Some entry) x g h e = subst ClosingFits (same_Some _ _ e) (g gap refl, h entry refl)
+closing_by_fits (Some gap) (Some side) (Some entry) x g h e =
+    subst ClosingFits (same_Some _ _ e) (g gap refl, h entry refl)
 closing_by_fits None side entry x g h e = absurd cc
 closing_by_fits (Some gap) None entry x g h e = absurd cc
 closing_by_fits (Some gap) (Some side) None x g h e = absurd cc
@@ -159,8 +159,8 @@ expiry_fits (object members) x e =
         (number_at_fits (codes "component") members) (number_at_fits (codes "entry") members) f
     by false f = absurd cc
 
--- each part of a list fits, where each that is read does
 module _ {A : Type 0} (P : A → Type 0) (one : Data → Option A) (fits : (d : Data) (x : A) → one d ≡ Some x → P x) where
+  -- each part of a list fits, where each that is read does
   each_fits : (ds : Items) (xs : List A) → each_in one ds ≡ Some xs → AllByRecursion P xs
   each_fits no_items xs e = subst (AllByRecursion P) (same_Some _ _ e) tt
   each_fits (item d ds) xs e = by (one d) (each_in one ds) refl (each_fits ds) e
@@ -171,6 +171,7 @@ module _ {A : Type 0} (P : A → Type 0) (one : Data → Option A) (fits : (d : 
       by (Some x) None f g h = absurd cc
       by (Some x) (Some rest) f g h = subst (AllByRecursion P) (same_Some _ _ h) (fits d x f, g rest refl)
 
+  -- the same, for data that is a list
   list_fits : (d : Data) (xs : List A) → list_in one d ≡ Some xs → AllByRecursion P xs
   list_fits null xs e = absurd cc
   list_fits (boolean b) xs e = absurd cc
@@ -179,6 +180,7 @@ module _ {A : Type 0} (P : A → Type 0) (one : Data → Option A) (fits : (d : 
   list_fits (object ms) xs e = absurd cc
   list_fits (array ds) xs e = each_fits ds xs e
 
+  -- the same, for the list at a key
   list_at_fits : (key : List ℕ) (members : Members) (xs : List A) → list_at one key members ≡ Some xs
       → AllByRecursion P xs
   list_at_fits key members xs e = by (get_member key members) e
@@ -237,16 +239,19 @@ certificate_fits (object members) c e =
 
 -- ---- what is written has no float, and is not deep
 
+-- a list has no float, where no item has one
 items_plain : {A : Type 0} (back : A → Data) → ((x : A) → has_float (back x) ≡ false) → (xs : List A)
     → items_have_float (items_of (map back xs)) ≡ false
 items_plain back plain [] = refl
 items_plain back plain (x ∷ xs) = rw (plain x, items_plain back plain xs) refl
 
+-- a fate's data has no float
 fate_plain : (fate : Fate) → has_float (fate_data fate) ≡ false
 fate_plain (Gap gap) = refl
 fate_plain Lost = refl
 fate_plain (By reply) = refl
 
+-- an end's data has no float
 side_plain : (side : Side) → has_float (side_data side) ≡ false
 side_plain A = refl
 side_plain B = refl
@@ -258,16 +263,19 @@ certificate_plain c =
     items_plain expiry_data (λ x. rw (side_plain x.side) refl) c.expire,
     items_plain fate_data fate_plain c.fates) refl
 
+-- items are no deeper than 1, where none of them is
 items_shallow : {A : Type 0} (back : A → Data) → ((x : A) → depth (back x) ≤ 1) → (xs : List A)
     → items_depth (items_of (map back xs)) ≤ 1
 items_shallow back shallow [] = omega arith
 items_shallow back shallow (x ∷ xs) = omega (arith, shallow x, items_shallow back shallow xs)
 
+-- a fate's data is no deeper than 1
 fate_shallow : (fate : Fate) → depth (fate_data fate) ≤ 1
 fate_shallow (Gap gap) = omega arith
 fate_shallow Lost = omega arith
 fate_shallow (By reply) = omega arith
 
+-- an end's data has no depth
 side_shallow : (side : Side) → depth (side_data side) ≡ 0
 side_shallow A = refl
 side_shallow B = refl
@@ -292,4 +300,5 @@ pub text_read : {E : Type 0} (d : Data) (c : Certificate) (r : Result (String Gl
     → IfOk r (λ s. IsCertificateText (string_bytes s) c)
 text_read d c (Err e) is inside back = tt
 text_read d c (Ok s) is inside back =
-    (d, (IsUtf8-string_bytes s, back (rw is (certificate_shallow c))), ap certificate_in is ∙ certificate_again c inside)
+    (d, (IsUtf8-string_bytes s, back (rw is (certificate_shallow c))),
+    ap certificate_in is ∙ certificate_again c inside)

@@ -76,7 +76,8 @@ impl Model for Certificate {
 
     ghost view = { λ c. record { fates = c.fates.items; expire = c.expire.items; close = c.close.items } };
 
-    ghost invariant = { λ c. IsInLimits (record { fates = c.fates.items; expire = c.expire.items; close = c.close.items }) };
+    ghost invariant = { λ c. IsInLimits
+        (record { fates = c.fates.items; expire = c.expire.items; close = c.close.items }) };
 }
 
 /// Whether the number of a fate is within the limit.
@@ -126,8 +127,8 @@ fn closings_fit(close: &[Closing]) -> bool
 }
 
 impl Certificate {
-    /// The certificate of these fates, one for each entry, and of what is listed. `None` exactly where a number is over
-    /// 100,000 or there are over 100,000 fates.
+    /// The certificate of these fates, one for each entry, and of what is listed. `None` exactly where a number is
+    /// over 100,000 or there are over 100,000 fates.
     pub fn new(fates: Vec<Fate>, expire: Vec<Expiry>, close: Vec<Closing>) -> Option<Certificate>
         ensures made { (c : Meant) → result ≡ Some c
             → (c ≡ record { fates = fates.items; expire = expire.items; close = close.items }) × IsInLimits c }

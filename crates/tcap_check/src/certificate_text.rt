@@ -1,21 +1,23 @@
 //! Reading a certificate from a text of JSON (RFC 8259), and what is written for one.
 
-ghost use Rattle.std.specs.Prelude.{◌≡◌, ◌≢◌, ◌&&◌, codes, Option, Some, None, Ok, Err, IfOk, List, map, option_map, option_and_then};
+ghost use Rattle.std.specs.Prelude.{◌≡◌, ◌≢◌, ◌&&◌, codes, Option, Some, None, Ok, Err, IfOk, map, option_map};
 ghost use Rattle.std.specs.List.{list_any};
 ghost use Rattle.std.specs.Str.{bytes_eq};
 ghost use Rattle.serde_json.specs.Data.{Data, object};
 ghost use Rattle.serde_json.specs.Find.{get_member};
 ghost use Rattle.serde_json.specs.View.{view, items_view, members_view};
 ghost use Rattle.tcap_end.specs.TableText.{has_only};
-ghost use Rattle.tcap_check.specs.CertificateText.{number_in, side_in, fate_in, closing_in, expiry_in, each_in, list_at, certificate_in, if_text};
-ghost use Rattle.tcap_check.specs.CertificateText.{side_data, fate_data, closing_data, expiry_data, list_data, certificate_data};
-ghost use Rattle.tcap_check.specs.CertificateText.{IsCertificateText, certificate_keys, is_version, number_at, side_at};
+ghost use Rattle.tcap_check.specs.CertificateText.{IsCertificateText, certificate_in, certificate_keys, closing_in};
+ghost use Rattle.tcap_check.specs.CertificateText.{each_in, expiry_in, fate_in, if_text, is_version, list_at};
+ghost use Rattle.tcap_check.specs.CertificateText.{number_at, number_in, side_at, side_in};
+ghost use Rattle.tcap_check.specs.CertificateText.{certificate_data, closing_data, expiry_data, fate_data};
+ghost use Rattle.tcap_check.specs.CertificateText.{list_data, side_data};
 ghost use Rattle.tcap_check.specs.Certificate.{Certificate as Meant};
 ghost use Rattle.tcap_check.specs.Replayed.{fault_at};
 ghost use Rattle.tcap_check.specs.declared.fault.CheckFault.{CheckFault};
 ghost use Rattle.tcap_check.specs.declared.fault.Reason.TheVariants as reasons;
 
-use crate::certificate::{Certificate, Closing, Expiry, FATES_LIMIT, Fate};
+use crate::certificate::{Certificate, Closing, Expiry, FATES_LIMIT, Fate, NUMBER_LIMIT};
 use crate::fault::{CheckFault, Reason};
 use serde_json::{Map, Value, json};
 use std::alloc::{AllocError, Global};
@@ -59,10 +61,11 @@ fn has_only(keys: &[&str], members: &Map<String, Value>) -> bool
 fn number_in(value: &Value) -> Option<u32>
     ensures { result ≡ number_in (view value.now) }
 {
-    match value.as_number()?.as_i128()? {
-        number @ 0..=100_000 => Some(number as u32),
-        _ => None,
+    let number = u32::try_from(value.as_number()?.as_i128()?).ok()?;
+    if number > NUMBER_LIMIT {
+        return None;
     }
+    Some(number)
 }
 
 /// The value at a key of an object.
@@ -98,7 +101,7 @@ fn side_at(members: &Map<String, Value>, key: &str) -> Option<End>
 }
 
 /// The letter of an end.
-fn side_value(side: End, alloc: Global) -> Result<Value, AllocError>
+fn side_value(alloc: Global, side: End) -> Result<Value, AllocError>
     ensures { IfOk result (λ v. view v ≡ side_data side) }
 {
     match side {
@@ -176,7 +179,7 @@ impl Part for Closing {
     }
 
     fn to_value(&self, alloc: Global) -> Result<Value, AllocError> {
-        let side = side_value(self.side, alloc)?;
+        let side = side_value(alloc, self.side)?;
         json!(in alloc; {"at": self.gap, "end": side, "entry": self.entry})
     }
 }
@@ -209,7 +212,7 @@ impl Part for Expiry {
     }
 
     fn to_value(&self, alloc: Global) -> Result<Value, AllocError> {
-        let side = side_value(self.side, alloc)?;
+        let side = side_value(alloc, self.side)?;
         json!(in alloc; {"at": self.gap, "component": self.component, "end": side, "entry": self.entry})
     }
 }

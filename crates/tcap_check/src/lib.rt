@@ -1,5 +1,5 @@
 //! Two ends of TCAP dialogues over two channels: which lists of messages two lawful ends may have sent (Q.771, Q.774),
-//! with laws over all runs and worked runs. Definitions and theorems alone: nothing of it runs.
+//! with laws over all runs and worked runs; and certificates, which are read from a text and written.
 #![tactic(auto)]
 
 mod certificate;

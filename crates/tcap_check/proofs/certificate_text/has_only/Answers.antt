@@ -9,5 +9,6 @@ loop-key-init c =
       can = tt;
       finite = tt;
       left = are_keys_of keys c.args.members.now.entries
-          ∙ ap (are_keys keys) (sym c.keys-key-items.ensures.rest ∙ sym c.into_iter-key-iterator.ensures.into_iter_gives);
+          ∙ ap (are_keys keys) (sym c.keys-key-items.ensures.rest
+          ∙ sym c.into_iter-key-iterator.ensures.into_iter_gives);
     }

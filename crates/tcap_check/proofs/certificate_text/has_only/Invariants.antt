@@ -9,5 +9,6 @@ abbrev pub invariant-loop-key : goal.invariant-loop-key
 invariant-loop-key l = record {
   can : (goal.iterator-loop-key).can_next l.key-iterator;
   finite : (goal.iterator-loop-key).is_finite l.key-iterator;
-  left : has_only (map (λ k. k.now) l.keys) (members_view l.members.entries) ≡ are_keys (map (λ k. k.now) l.keys) l.key-iterator;
+  left : has_only (map (λ k. k.now) l.keys) (members_view l.members.entries)
+      ≡ are_keys (map (λ k. k.now) l.keys) l.key-iterator;
 }

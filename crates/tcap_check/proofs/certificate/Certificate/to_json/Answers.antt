@@ -1,4 +1,4 @@
-use Rattle.std.proofs.Common.{◌≡◌, subst, sym, ap, ◌∙◌}
+use Rattle.std.proofs.Common.{◌≡◌, subst, ap, ◌∙◌}
 use Rattle.serde_json.specs.View.{view}
 use Rattle.tcap_check.specs.CertificateText.{IsInLimits, certificate_data}
 use Rattle.tcap_check.proofs.CertificateTextLaws.{text_read, text_written}
