@@ -54,9 +54,12 @@ each_again P one back again (x ∷ xs) h = rw (again x h.0, each_again P one bac
 -- What is written for a certificate within the limits says that certificate.
 pub certificate_again : (c : Certificate) → IsInLimits c → certificate_in (certificate_data c) ≡ Some c
 certificate_again c h =
-    rw (each_again ClosingFits closing_in closing_data closing_again c.close h.closings,
-    each_again ExpiryFits expiry_in expiry_data expiry_again c.expire h.expiries,
-    each_again FateFits fate_in fate_data fate_again c.fates h.fates, le-leb _ _ h.count) refl
+    rw (
+      each_again ClosingFits closing_in closing_data closing_again c.close h.closings,
+      each_again ExpiryFits expiry_in expiry_data expiry_again c.expire h.expiries,
+      each_again FateFits fate_in fate_data fate_again c.fates h.fates,
+      le-leb _ _ h.count,
+    ) refl
 
 -- ---- what is read is within the limits
 
@@ -217,6 +220,7 @@ certificate_by_fits members (Some close) (Some expire) (Some fates) c e f g h =
   where
     made : Certificate
     made = record { fates = fates; expire = expire; close = close }
+
     by : (b : Bool) → nat_le (length fates) fates_limit ≡ b → cond b (Some made) None ≡ Some c → IsInLimits c
     by false i j = absurd cc
     by true i j = subst IsInLimits (same_Some _ _ j) (lists_fit members close expire fates e f g (leb-true _ _ i))
@@ -259,9 +263,11 @@ side_plain B = refl
 -- What is written for a certificate has no float.
 pub certificate_plain : (c : Certificate) → has_float (certificate_data c) ≡ false
 certificate_plain c =
-    rw (items_plain closing_data (λ x. rw (side_plain x.side) refl) c.close,
-    items_plain expiry_data (λ x. rw (side_plain x.side) refl) c.expire,
-    items_plain fate_data fate_plain c.fates) refl
+    rw (
+      items_plain closing_data (λ x. rw (side_plain x.side) refl) c.close,
+      items_plain expiry_data (λ x. rw (side_plain x.side) refl) c.expire,
+      items_plain fate_data fate_plain c.fates,
+    ) refl
 
 -- items are no deeper than 1, where none of them is
 items_shallow : {A : Type 0} (back : A → Data) → ((x : A) → depth (back x) ≤ 1) → (xs : List A)
@@ -283,9 +289,12 @@ side_shallow B = refl
 -- What is written for a certificate is not deep.
 pub certificate_shallow : (c : Certificate) → depth (certificate_data c) ≤ 127
 certificate_shallow c =
-    omega (arith, items_shallow closing_data (λ x. rw (side_shallow x.side) (omega arith)) c.close,
-    items_shallow expiry_data (λ x. rw (side_shallow x.side) (omega arith)) c.expire,
-    items_shallow fate_data fate_shallow c.fates)
+    omega (
+      arith,
+      items_shallow closing_data (λ x. rw (side_shallow x.side) (omega arith)) c.close,
+      items_shallow expiry_data (λ x. rw (side_shallow x.side) (omega arith)) c.expire,
+      items_shallow fate_data fate_shallow c.fates,
+    )
 
 -- The text of a value that is that of a certificate.
 pub text_written : {E : Type 0} (d : Data) (c : Certificate) (r : Result (String Global) E) → d ≡ certificate_data c
@@ -299,6 +308,8 @@ pub text_read : {E : Type 0} (d : Data) (c : Certificate) (r : Result (String Gl
     → IsInLimits c → IfOk r (λ s. depth d ≤ 127 → read (string_bytes s) ≡ Some d)
     → IfOk r (λ s. IsCertificateText (string_bytes s) c)
 text_read d c (Err e) is inside back = tt
-text_read d c (Ok s) is inside back =
-    (d, (IsUtf8-string_bytes s, back (rw is (certificate_shallow c))),
-    ap certificate_in is ∙ certificate_again c inside)
+text_read d c (Ok s) is inside back = (
+  d,
+  (IsUtf8-string_bytes s, back (rw is (certificate_shallow c))),
+  ap certificate_in is ∙ certificate_again c inside,
+)

@@ -232,7 +232,11 @@ fn each_in<T: Part>(alloc: Global, items: &[Value]) -> Result<Option<Vec<T>>, Al
 }
 
 /// The parts of the list at a key of an object.
-fn list_at<T: Part>(alloc: Global, key: &str, members: &Map<String, Value>) -> Result<Option<Vec<T>>, AllocError>
+fn list_at<T: Part>(
+    alloc: Global,
+    key: &str,
+    members: &Map<String, Value>,
+) -> Result<Option<Vec<T>>, AllocError>
     ensures { IfOk result (λ parts. option_map (λ v. v.items) parts
         ≡ list_at T.part_in key.now (members_view members.now.entries)) }
 {
