@@ -34,3 +34,4 @@ pub mod PendingLaws
 pub mod ReasonGaps
 pub mod ReasonItems
 pub mod ReasonLaws
+pub mod CertificateTextLaws

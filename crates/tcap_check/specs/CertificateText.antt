@@ -1,5 +1,5 @@
 -- What the text of a certificate says: a JSON object (RFC 8259) of this profile.
-use Rattle.std.specs.Prelude.{◌≡◌, ◌≤◌, ℕ, ℤ, pos, Bool, true, false, List, [], ◌∷◌, codes, length, map, Option, Some, None, option_and_then, option_map, cond, nat_le, ◌&&◌, ◌==◌}
+use Rattle.std.specs.Prelude.{◌≡◌, ◌≤◌, ℕ, ℤ, pos, Bool, false, List, [], ◌∷◌, codes, length, map, Option, Some, None, option_and_then, option_map, cond, nat_le, ◌&&◌, ◌==◌}
 use Rattle.std.specs.List.{AllByRecursion}
 use Rattle.std.specs.Str.{bytes_eq}
 use Rattle.serde_json.specs.Data.{Data, number, unsigned, string, array, object, Items, no_items, item, Members, no_members, member}
@@ -47,7 +47,8 @@ side_in _ = None
 abbrev pub fate_in : Data → Option Fate
 fate_in (string text) = if_text (codes "lost") Lost text None
 fate_in (object members) =
-    cond (has_only (codes "by" ∷ []) members) (option_map By (option_and_then number_in (get_member (codes "by") members))) None
+    cond (has_only (codes "by" ∷ []) members)
+    (option_map By (option_and_then number_in (get_member (codes "by") members))) None
 fate_in d = option_map Gap (number_in d)
 
 -- the number at a key of an object
@@ -158,9 +159,15 @@ FateFits (Gap gap) = gap ≤ number_limit
 FateFits Lost = Unit {0}
 FateFits (By reply) = reply ≤ number_limit
 
+abbrev pub ClosingFits : Closing → Type 0
+ClosingFits x = (x.gap ≤ number_limit) × (x.entry ≤ number_limit)
+
+abbrev pub ExpiryFits : Expiry → Type 0
+ExpiryFits x = (x.gap ≤ number_limit) × (x.component ≤ number_limit) × (x.entry ≤ number_limit)
+
 -- No number is over the limit, and there are not too many fates.
 pub record IsInLimits (c : Certificate) : Type 0 where
   pub count : length c.fates ≤ fates_limit
   pub fates : AllByRecursion FateFits c.fates
-  pub closings : AllByRecursion (λ x. (x.gap ≤ number_limit) × (x.entry ≤ number_limit)) c.close
-  pub expiries : AllByRecursion (λ x. (x.gap ≤ number_limit) × (x.component ≤ number_limit) × (x.entry ≤ number_limit)) c.expire
+  pub closings : AllByRecursion ClosingFits c.close
+  pub expiries : AllByRecursion ExpiryFits c.expire

@@ -1,6 +1,26 @@
 //! Certificates: what became of each message of a record, and what happened unseen.
 
+ghost use Rattle.std.specs.Prelude.{◌≡◌, ◌≢◌, ◌↔◌, Some, None, Ok, Err, IfOk, IsTrue, string_bytes};
+ghost use Rattle.std.specs.List.{AllByRecursion};
+ghost use Rattle.serde_json.specs.Written.{compact_text};
+ghost use Rattle.tcap_check.specs.CertificateText.{IsCertificateText, IsInLimits, certificate_data};
+ghost use Rattle.tcap_check.specs.CertificateText.{ClosingFits, ExpiryFits, FateFits};
+ghost use Rattle.tcap_check.specs.Certificate.{Certificate as Meant};
+ghost use Rattle.tcap_check.specs.Replayed.{fault_at};
+ghost use Rattle.tcap_check.specs.declared.fault.CheckFault.{CheckFault};
+ghost use Rattle.tcap_check.specs.declared.fault.Reason.TheVariants as reasons;
+
+use crate::certificate_text::{certificate_value, read_certificate};
+use crate::fault::CheckFault;
+use std::alloc::{AllocError, Global};
+use std::marker::Model;
 use tcap_record::End;
+
+/// The greatest number in a certificate.
+pub(crate) const NUMBER_LIMIT: u32 = 100_000;
+
+/// The greatest count of fates.
+pub(crate) const FATES_LIMIT: usize = 100_000;
 
 /// What became of an entry. Entries are counted from 0. Gap 0 is before the first entry, gap g between the entries
 /// g - 1 and g, the last gap behind the last entry.
@@ -37,4 +57,132 @@ pub struct Closing {
     pub side: End,
     /// The number of the Begin that began the transaction.
     pub entry: u32,
+}
+
+/// What became of each entry of a record, and what happened unseen: an untrusted claim, which is replayed. Its numbers
+/// are at most 100,000, and it has at most 100,000 fates.
+#[derive(Debug, Drop)]
+pub struct Certificate {
+    pub(crate) fates: Vec<Fate>,
+    pub(crate) expire: Vec<Expiry>,
+    pub(crate) close: Vec<Closing>,
+}
+
+impl Model for Certificate {
+    ghost use Rattle.tcap_check.specs.Certificate.{Certificate as Meant};
+    ghost use Rattle.tcap_check.specs.CertificateText.{IsInLimits};
+
+    ghost Value = { Meant };
+
+    ghost view = { λ c. record { fates = c.fates.items; expire = c.expire.items; close = c.close.items } };
+
+    ghost invariant = { λ c. IsInLimits
+        (record { fates = c.fates.items; expire = c.expire.items; close = c.close.items }) };
+}
+
+/// Whether the number of a fate is within the limit.
+fn fate_fits(fate: &Fate) -> bool
+    ensures { IsTrue result ↔ FateFits fate.now }
+{
+    match *fate {
+        Fate::Gap(gap) => gap <= NUMBER_LIMIT,
+        Fate::Lost => true,
+        Fate::By(reply) => reply <= NUMBER_LIMIT,
+    }
+}
+
+/// Whether the numbers of an expiry are within the limit.
+fn expiry_fits(x: &Expiry) -> bool
+    ensures { IsTrue result ↔ ExpiryFits x.now }
+{
+    x.gap <= NUMBER_LIMIT && x.component <= NUMBER_LIMIT && x.entry <= NUMBER_LIMIT
+}
+
+/// Whether the numbers of a closing are within the limit.
+fn closing_fits(x: &Closing) -> bool
+    ensures { IsTrue result ↔ ClosingFits x.now }
+{
+    x.gap <= NUMBER_LIMIT && x.entry <= NUMBER_LIMIT
+}
+
+/// Whether all fates fit.
+fn fates_fit(fates: &[Fate]) -> bool
+    ensures { IsTrue result ↔ AllByRecursion FateFits fates.now }
+{
+    fates.iter().all(fate_fits)
+}
+
+/// Whether all expiries fit.
+fn expiries_fit(expire: &[Expiry]) -> bool
+    ensures { IsTrue result ↔ AllByRecursion ExpiryFits expire.now }
+{
+    expire.iter().all(expiry_fits)
+}
+
+/// Whether all closings fit.
+fn closings_fit(close: &[Closing]) -> bool
+    ensures { IsTrue result ↔ AllByRecursion ClosingFits close.now }
+{
+    close.iter().all(closing_fits)
+}
+
+impl Certificate {
+    /// The certificate of these fates, one for each entry, and of what is listed. `None` exactly where a number is
+    /// over 100,000 or there are over 100,000 fates.
+    pub fn new(fates: Vec<Fate>, expire: Vec<Expiry>, close: Vec<Closing>) -> Option<Certificate>
+        ensures made { (c : Meant) → result ≡ Some c
+            → (c ≡ record { fates = fates.items; expire = expire.items; close = close.items }) × IsInLimits c }
+        ensures refused { result ≡ None
+            → IsInLimits (record { fates = fates.items; expire = expire.items; close = close.items }) → ⊥ }
+    {
+        let few = fates.len() <= FATES_LIMIT;
+        if few && fates_fit(&fates) && expiries_fit(&expire) && closings_fit(&close) {
+            Some(Certificate {
+                fates,
+                expire,
+                close,
+            })
+        } else {
+            None
+        }
+    }
+
+    /// The certificate that a text of JSON is; FORMAT.md has its shape. `CertificateShape` where it is none, `Memory`
+    /// where memory ran out, both with entry 0.
+    pub fn from_json(alloc: Global, octets: &[u8]) -> Result<Certificate, CheckFault>
+        ensures read { (c : Meant) → result ≡ Ok c → IsCertificateText octets.now c }
+        ensures refused { (f : CheckFault) → result ≡ Err f → f ≢ fault_at reasons.Memory 0
+            → (f ≡ fault_at reasons.CertificateShape 0) × ((c : Meant) → IsCertificateText octets.now c → ⊥) }
+    {
+        read_certificate(alloc, octets)
+    }
+
+    /// The certificate as a text of JSON, without spaces, its keys in order. Fails where memory ran out.
+    pub fn to_json(&self, alloc: Global) -> Result<String, AllocError>
+        ensures text { IfOk result (λ text. string_bytes text ≡ compact_text (certificate_data self.now)) }
+        ensures read_again { IfOk result (λ text. IsCertificateText (string_bytes text) self.now) }
+    {
+        certificate_value(alloc, &self.fates, &self.expire, &self.close)?.to_string(alloc)
+    }
+
+    /// The fates, one for each entry.
+    pub fn fates(&self) -> &[Fate]
+        ensures { result.now ≡ self.now.fates }
+    {
+        &self.fates
+    }
+
+    /// The listed expiries, in their order.
+    pub fn expiries(&self) -> &[Expiry]
+        ensures { result.now ≡ self.now.expire }
+    {
+        &self.expire
+    }
+
+    /// The listed closings, in their order.
+    pub fn closings(&self) -> &[Closing]
+        ensures { result.now ≡ self.now.close }
+    {
+        &self.close
+    }
 }
