@@ -95,9 +95,10 @@ listed_there : {C : Type 0} (count : ℕ) (gap : C → ℕ) (f : C → Option Ev
     → AllByRecursion (λ x. gap x ≤ count) listed → AllByRecursion (λ x. IsThere (f x) × (gap x ≤ count)) listed
 listed_there count gap f [] there all = tt
 listed_there count gap f (x ∷ listed) there all =
-    let here = there (gap x) all.0 in
-    ((here.0 (eq-eqb (gap x) (gap x) refl), all.0),
-    listed_there count gap f listed (λ g within. (there g within).1) all.1)
+    let here = there (gap x) all.0 in (
+      (here.0 (eq-eqb (gap x) (gap x) refl), all.0),
+      listed_there count gap f listed (λ g within. (there g within).1) all.1,
+    )
 
 -- What names an entry names one before its gap.
 named_above : (items : List Item) (gap entry : ℕ) (step : Item → Option Event)
@@ -143,9 +144,12 @@ described_fits c items events follows =
     let expiries_fit = all_weaker (λ (x : Expiry). IsThere (expiry_event items x) × (x.gap ≤ count))
     (λ (x : Expiry). (x.entry < x.gap) × (x.gap ≤ count)) c.expire
     (λ x both. (named_above items x.gap x.entry (expiry_by x) both.0, both.1)) expiries in
-    rw (follows.counted, fates_found count 0 c.fates follows.fates,
-    listed_found count (λ (x : Closing). x.entry) (λ (x : Closing). x.gap) c.close closings_fit,
-    listed_found count (λ (x : Expiry). x.entry) (λ (x : Expiry). x.gap) c.expire expiries_fit) refl
+    rw (
+      follows.counted,
+      fates_found count 0 c.fates follows.fates,
+      listed_found count (λ (x : Closing). x.entry) (λ (x : Closing). x.gap) c.close closings_fit,
+      listed_found count (λ (x : Expiry). x.entry) (λ (x : Expiry). x.gap) c.expire expiries_fit,
+    ) refl
 
 -- ---- what has a time is taken
 
@@ -242,10 +246,12 @@ reply_takes : (n : ℕ) (c : Certificate) (items : List Item) (gap : ℕ) (left 
 reply_takes n c items gap [] events follows k above within is = absurd (omega arith)
 reply_takes n c items gap (item ∷ more) events (here, implied, rest, sends, here_is, all, sends_is, joined, on) k above within is =
     let one = by (gap == k) refl
-    (λ below. reply_takes n c items (gap + 1) more rest on k (omega (arith, below)) (omega (arith, within)) is) in
-    (one.0, rw (joined, step_takes one.0 c items gap item here implied rest sends here_is all)
-    (in_right n (numbers_taken one.0 (deliveries gap 0 c.fates items))
-    (takes_from one.0 sends ++ numbers_taken one.0 rest) one.1))
+    (λ below. reply_takes n c items (gap + 1) more rest on k (omega (arith, below)) (omega (arith, within)) is) in (
+      one.0,
+      rw (joined, step_takes one.0 c items gap item here implied rest sends here_is all)
+          (in_right n (numbers_taken one.0 (deliveries gap 0 c.fates items))
+          (takes_from one.0 sends ++ numbers_taken one.0 rest) one.1),
+    )
   where
     Found : Type 0
     Found = (side : Side) × IsIn n (takes_from side sends ++ numbers_taken side rest)
@@ -259,9 +265,11 @@ reply_takes n c items gap (item ∷ more) events (here, implied, rest, sends, he
     one_of taken there (inr (replier, m, one, sends_it)) = by (rw one at there)
       where
         by : IsIn n (m ∷ []) → Found
-        by (inl same) =
-            (other replier, in_left n (takes_from (other replier) sends) (numbers_taken (other replier) rest)
-            (rw (sends_it, same) (answered replier)))
+        by (inl same) = (
+          other replier,
+          in_left n (takes_from (other replier) sends) (numbers_taken (other replier) rest)
+              (rw (sends_it, same) (answered replier)),
+        )
         by (inr never) = absurd never
 
     by : (b : Bool) → (gap == k) ≡ b → (gap < k → (side : Side) × IsIn n (numbers_taken side rest)) → Found

@@ -237,9 +237,13 @@ pub stays_in_use : (table : Table) (e : End) (name : HalfName) (id other : ℤ) 
     → other ≢ id → IsInUse e name other → IsInUse next name other
 stays_in_use table e name id other next is apart (kept, own, named_is, found) =
     let x = expiry_is table e name id next is in
-    let same : x.kept ≡ kept = cc (x.was, named_is) in
-    (_, own, x.now, found_apart _ _ x.kept.half.out (ids_apart other id apart)
-    ∙ ap (λ (k : KeptHalf). own_invocation k.half other) same ∙ found)
+    let same : x.kept ≡ kept = cc (x.was, named_is) in (
+      _,
+      own,
+      x.now,
+      found_apart _ _ x.kept.half.out (ids_apart other id apart)
+          ∙ ap (λ (k : KeptHalf). own_invocation k.half other) same ∙ found,
+    )
 
 -- What is in use behind it was before.
 pub was_in_use : (table : Table) (e : End) (name : HalfName) (id other : ℤ) (next : End) → expire table e name id ≡ Ok next
@@ -253,9 +257,13 @@ was_in_use table e name id other next is (kept, own, named_is, found) = by (ids_
     by (inl same) = subst (λ (i : ℤ). IsInUse e name i) (sym same) (ends_in_use table e name id next is)
     by (inr apart) =
         let same : record { slot = x.kept.slot; key = x.kept.key; half = without_invocation id x.kept.half } ≡ kept =
-        cc (x.now, named_is) in
-        (x.kept, own, x.was, sym (found_apart _ _ x.kept.half.out (ids_apart other id apart))
-        ∙ ap (λ (k : KeptHalf). own_invocation k.half other) same ∙ found)
+        cc (x.now, named_is) in (
+          x.kept,
+          own,
+          x.was,
+          sym (found_apart _ _ x.kept.half.out (ids_apart other id apart))
+              ∙ ap (λ (k : KeptHalf). own_invocation k.half other) same ∙ found,
+        )
 
 -- In an end that is sound its ID is not in use behind it.
 pub not_in_use : (table : Table) (e : End) (name : HalfName) (id : ℤ) (next : End) → IsEnd e → expire table e name id ≡ Ok next

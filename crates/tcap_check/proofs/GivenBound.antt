@@ -14,7 +14,7 @@ use Rattle.tcap_record.specs.declared.entry.End.TheVariants.{A, B}
 use Rattle.tcap_end.specs.declared.half.HalfName.{HalfName}
 use Rattle.tcap_end.specs.declared.outs.OwnInvocation.{OwnInvocation}
 use Rattle.tcap_end.specs.Component.{own_invocation}
-use Rattle.tcap_end.specs.End.{End, KeptHalf, named, put}
+use Rattle.tcap_end.specs.End.{End, KeptHalf, named}
 use Rattle.tcap_end.specs.Hidden.{expire}
 use Rattle.tcap_end.specs.Sound.{IsEnd}
 use Rattle.tcap_end.specs.Table.{Table}
@@ -136,8 +136,13 @@ each_step (Tells side message) = omega arith
 steps_most : (events : List Event) → length events
     ≤ length (numbers_taken A events) + length (numbers_taken B events) + total joins events + total hides events
 steps_most [] = omega arith
-steps_most (event ∷ events) = omega (arith, each_step event, steps_most events,
-    length-append (takes_from A event) (numbers_taken A events), length-append (takes_from B event) (numbers_taken B events))
+steps_most (event ∷ events) = omega (
+  arith,
+  each_step event,
+  steps_most events,
+  length-append (takes_from A event) (numbers_taken A events),
+  length-append (takes_from B event) (numbers_taken B events),
+)
 
 -- ---- what is taken, and what is sent
 
@@ -151,10 +156,14 @@ sent_most n (Sent B message ∷ items) = omega (arith, sent_most (n + 1) items)
 -- and what was taken from a channel was sent.
 taken_most : (table : Table) (events : List Event) (w : World) → Runs table events w
     → length (numbers_taken A events) + length (numbers_taken B events) ≤ length w.sent
-taken_most table events w runs = omega (arith, sent_most 0 w.sent,
-    ap length (are_whole table events w runs A), ap length (are_whole table events w runs B),
-    length-append (numbers_taken A events) (numbers_of (channel_from A w)),
-    length-append (numbers_taken B events) (numbers_of (channel_from B w)))
+taken_most table events w runs = omega (
+  arith,
+  sent_most 0 w.sent,
+  ap length (are_whole table events w runs A),
+  ap length (are_whole table events w runs B),
+  length-append (numbers_taken A events) (numbers_of (channel_from A w)),
+  length-append (numbers_taken B events) (numbers_of (channel_from B w)),
+)
 
 -- What adds to the sent list adds one item,
 joins_one : (w : World) (event : Event) (items : List Item) → Adds w event items → joins event ≤ length items
@@ -402,10 +411,13 @@ count_more Item.Quiet items = omega arith
 implied_most : (table : Table) (item : Item) (events : List Event) (v w : World) → ((side : Side) → IsEnd (end_at side v))
     → played table events v ≡ Some w → AllByRecursion (IsImplied item) (without_losses events)
     → total hides events ≤ components_of item
-implied_most table (Sent sender m) events v w sound is all = omega (arith,
-    expiries_most table sender m events v w (sound sender) is all,
-    total_most (one (in_use (end_at sender v) (invoking_half m))) (filter_map invoke_id (components_in m))
-    (one_most (in_use (end_at sender v) (invoking_half m))), filter_map_most invoke_id (components_in m))
+implied_most table (Sent sender m) events v w sound is all = omega (
+  arith,
+  expiries_most table sender m events v w (sound sender) is all,
+  total_most (one (in_use (end_at sender v) (invoking_half m))) (filter_map invoke_id (components_in m))
+      (one_most (in_use (end_at sender v) (invoking_half m))),
+  filter_map_most invoke_id (components_in m),
+)
 implied_most table Item.Quiet events v w sound is all = omega (arith, losses_apart events, none (without_losses events) all)
   where
     none : (events : List Event) → AllByRecursion (IsImplied Item.Quiet) events → total hides events ≡ 0
@@ -459,18 +471,30 @@ listed_most : (closes expiries : List (Option Event)) (received here : List Even
     → total hides received ≡ 0 → total hides here ≤ length closes + length expiries
 listed_most closes expiries received here is none =
     let whole : total hides_some (map Some here) ≡ total hides_some (closes ++ expiries ++ map Some received) =
-        ap (total hides_some) is in
-    omega (arith, whole, same_total here, total_both hides_some (closes ++ expiries) (map Some received),
-    total_both hides_some closes expiries, same_total received, none,
-    total_most hides_some closes some_most, total_most hides_some expiries some_most)
+    ap (total hides_some) is in
+    omega (
+      arith,
+      whole,
+      same_total here,
+      total_both hides_some (closes ++ expiries) (map Some received),
+      total_both hides_some closes expiries,
+      same_total received,
+      none,
+      total_most hides_some closes some_most,
+      total_most hides_some expiries some_most,
+    )
 
 here_most : (c : Certificate) (items : List Item) (gap : ℕ) (here : List Event) → map Some here ≡ gap_events c items gap
     → total hides here ≤ length (filter (λ x. x.gap == gap) c.close) + length (filter (λ x. x.gap == gap) c.expire)
 here_most c items gap here is =
-    omega (arith, listed_most (map (closing_event items) (filter (λ x. x.gap == gap) c.close))
-    (map (expiry_event items) (filter (λ x. x.gap == gap) c.expire)) (deliveries gap 0 c.fates items) here is
-    (deliveries_none gap 0 c.fates items), length-map (filter (λ x. x.gap == gap) c.close) (closing_event items),
-    length-map (filter (λ x. x.gap == gap) c.expire) (expiry_event items))
+    omega (
+      arith,
+      listed_most (map (closing_event items) (filter (λ x. x.gap == gap) c.close))
+          (map (expiry_event items) (filter (λ x. x.gap == gap) c.expire)) (deliveries gap 0 c.fates items) here is
+          (deliveries_none gap 0 c.fates items),
+      length-map (filter (λ x. x.gap == gap) c.close) (closing_event items),
+      length-map (filter (λ x. x.gap == gap) c.expire) (expiry_event items),
+    )
 
 -- What adds an item is not hidden, whatever it takes,
 sending_none : (c : Certificate) (number : ℕ) (item : Item) (taken : List ℕ) → hides_some (sending_by c number item taken) ≡ 0
@@ -519,8 +543,10 @@ now_and_later {X} gap_of gap (x ∷ xs) =
   where
     now : List X
     now = filter (λ y. gap_of y == gap) xs
+
     behind : List X
     behind = filter (λ y. nat_le (gap + 1) (gap_of y)) xs
+
     all : List X
     all = filter (λ y. nat_le gap (gap_of y)) xs
 
@@ -547,9 +573,13 @@ filter_most passes xs = rw (length-filter passes xs) (count_by-le-length passes 
 from_gap : (table : Table) (c : Certificate) (items more : List Item) (gap : ℕ) (before events : List Event) (v w : World)
     → Runs table before v → played table events v ≡ Some w → FollowsFrom c items gap more (without_losses events)
     → total hides events ≤ count_components more + later (λ x. x.gap) gap c.expire + later (λ x. x.gap) gap c.close
-from_gap table c items [] gap before events v w runs is follows = omega (arith, losses_apart events,
-    here_most c items gap (without_losses events) follows, now_and_later (λ (x : Closing). x.gap) gap c.close,
-    now_and_later (λ (x : Expiry). x.gap) gap c.expire)
+from_gap table c items [] gap before events v w runs is follows = omega (
+  arith,
+  losses_apart events,
+  here_most c items gap (without_losses events) follows,
+  now_and_later (λ (x : Closing). x.gap) gap c.close,
+  now_and_later (λ (x : Expiry). x.gap) gap c.expire,
+)
 from_gap table c items (item ∷ more) gap before events v w runs is
     (here, implied, rest, sends, here_is, all, sends_is, events_is, on) =
     let first = run_in_parts table events (here ++ implied) (sends ∷ rest) v w events_is is in
@@ -559,27 +589,47 @@ from_gap table c items (item ∷ more) gap before events v w runs is
     let to_sends = onward table before first.first v first.mid runs first.ran in
     let to_rest = onward table (before ++ first.first) third.first first.mid third.mid to_sends third.ran in
     let listed : total hides second.first ≤ length (filter (λ x. x.gap == gap) c.close)
-        + length (filter (λ x. x.gap == gap) c.expire) =
-        omega (arith, losses_apart second.first, ap (total hides) second.first_is, here_most c items gap here here_is) in
+    + length (filter (λ x. x.gap == gap) c.expire) =
+    omega (arith, losses_apart second.first, ap (total hides) second.first_is, here_most c items gap here here_is) in
     let implies : total hides second.rest ≤ components_of item =
-        implied_most table item second.rest second.mid first.mid (ends_sound table (before ++ second.first) second.mid to_here)
-        second.on (rw (second.rest_is) all) in
+    implied_most table item second.rest second.mid first.mid (ends_sound table (before ++ second.first) second.mid to_here)
+    second.on (rw (second.rest_is) all) in
     let last : total hides third.first ≡ 0 =
-        losses_apart third.first ∙ ap (total hides) third.first_is ∙ omega (arith, sends_none c gap item sends sends_is) in
+    losses_apart third.first ∙ ap (total hides) third.first_is ∙ omega (arith, sends_none c gap item sends sends_is) in
     let behind = from_gap table c items more (gap + 1) ((before ++ first.first) ++ third.first) third.rest third.mid w
     to_rest third.on (rw (third.rest_is) on) in
-    omega (arith, count_more item more, listed, implies, last, behind, first.count, second.count, third.count,
-    now_and_later (λ (x : Closing). x.gap) gap c.close, now_and_later (λ (x : Expiry). x.gap) gap c.expire)
+    omega (
+      arith,
+      count_more item more,
+      listed,
+      implies,
+      last,
+      behind,
+      first.count,
+      second.count,
+      third.count,
+      now_and_later (λ (x : Closing). x.gap) gap c.close,
+      now_and_later (λ (x : Expiry). x.gap) gap c.expire,
+    )
 
 -- So it is in all.
 hidden_most : (table : Table) (c : Certificate) (items : List Item) (events : List Event) (w : World) → Runs table events w
     → Follows c items events → total hides events ≤ count_components items + length c.expire + length c.close
-hidden_most table c items events w runs follows = omega (arith,
-    from_gap table c items items 0 [] events empty w refl runs follows.gaps,
-    filter_most (λ x. nat_le 0 x.gap) c.expire, filter_most (λ x. nat_le 0 x.gap) c.close)
+hidden_most table c items events w runs follows = omega (
+  arith,
+  from_gap table c items items 0 [] events empty w refl runs follows.gaps,
+  filter_most (λ x. nat_le 0 x.gap) c.expire,
+  filter_most (λ x. nat_le 0 x.gap) c.close,
+)
 
 -- A run that a certificate describes has at most so many steps.
 pub described_bound : (table : Table) (c : Certificate) (items : List Item) (events : List Event) → IsRunOf items table events
     → Follows c items events → length events ≤ 2 * length items + count_components items + length c.expire + length c.close
-described_bound table c items events (w, runs, sent) follows = omega (arith, steps_most events, taken_most table events w runs,
-    joins_most table events w runs, hidden_most table c items events w runs follows, ap length sent)
+described_bound table c items events (w, runs, sent) follows = omega (
+  arith,
+  steps_most events,
+  taken_most table events w runs,
+  joins_most table events w runs,
+  hidden_most table c items events w runs follows,
+  ap length sent,
+)

@@ -29,7 +29,6 @@ use Rattle.tcap_end.specs.Component.{may_answer, may_link, own_invocation, send_
 use Rattle.tcap_end.specs.Dialogue.{may_go_on}
 use Rattle.tcap_end.specs.Half.{Half, closed_half, is_closed, one_fits, without_oldest_of}
 use Rattle.tcap_end.specs.Hidden.{expire}
-use Rattle.tcap_end.specs.Step.{needs}
 use Rattle.tcap_end.specs.Table.{Table, operation_of}
 use Rattle.tcap_end.specs.End.{End, KeptHalf, is_id, named, put as put_half, with_own, with_peer}
 use Rattle.tcap_end.specs.Message.{is_active, send, send_components, send_continue, send_end, send_next_continue}

@@ -1,5 +1,5 @@
 -- A run that a certificate describes, and that sends the items, leaves nothing on its way.
-use Rattle.std.proofs.Common.{arith, ◌≡◌, inl, inr, ℕ, ◌+◌, Bool, true, false, cond, List, [], ◌∷◌, ◌++◌, filter, length, refl, sym, ap, subst, ◌∙◌}
+use Rattle.std.proofs.Common.{arith, ◌≡◌, inl, inr, ℕ, ◌+◌, Bool, true, false, cond, List, [], ◌∷◌, filter, refl, sym, ap, subst, ◌∙◌}
 use Rattle.std.specs.Prelude.{slice_get}
 use Rattle.std.specs.List.{AllByRecursion}
 use Rattle.tcap_record.specs.declared.entry.End.{End as Side}
@@ -8,7 +8,7 @@ use Rattle.tcap_end.specs.Table.{Table}
 use Rattle.tcap_check.specs.World.{Item, OnItsWay, World, channel_from}
 use Rattle.tcap_check.specs.Run.{Event, Runs, numbers_of, numbers_sent, numbers_taken}
 use Rattle.tcap_check.specs.Certificate.{Certificate}
-use Rattle.tcap_check.specs.Follows.{Follows, losses_from, lost_from, without_losses}
+use Rattle.tcap_check.specs.Follows.{Follows, lost_from, without_losses}
 use Rattle.tcap_check.proofs.ChannelLaws.{are_whole, in_order}
 use Rattle.tcap_check.proofs.GivenLosses.{IsAmong, IsSettled, among_losses, among_plain, among_right, filter_sent, is_lost, left_lost, parts_apart, taken_sent}
 use Rattle.tcap_check.proofs.GivenRuns.{settled_by}

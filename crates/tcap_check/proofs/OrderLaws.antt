@@ -12,7 +12,6 @@ use Rattle.tcap_msg.specs.declared.message.Message.{Message}
 use Rattle.tcap_msg.specs.declared.message.Message.TheVariants.{Unidirectional, Begin, Continue, End as EndMessage, Abort}
 use Rattle.tcap_msg.specs.Parts.{components_in}
 use Rattle.tcap_record.specs.declared.entry.End.{End as Side}
-use Rattle.tcap_record.specs.declared.entry.End.TheVariants as sides
 use Rattle.tcap_check.specs.World.{Item, Sent, is_side, other}
 use Rattle.tcap_check.specs.Run.{Event, Sends, Receives, Replies, Loses, Expires, Closes, Quiet, Tells, numbers_taken, takes_from, then_so}
 use Rattle.tcap_check.specs.declared.certificate.Closing.{Closing}
@@ -76,9 +75,10 @@ not_below x y less = by (nat_lt y x) refl
 pub rises_front : (xs ys : List ℕ) → IsStrictlySortedBy nat_cmp (xs ++ ys) → Rises xs
 unfolding IsStrictlySortedBy
 rises_front [] ys sorted = tt
-rises_front (x ∷ xs) ys sorted =
-    (λ y is. not_below x y (all_in (λ z. nat_cmp x z ≡ Less) y (xs ++ ys) sorted.0 (in_left y xs ys is)),
-    rises_front xs ys sorted.1)
+rises_front (x ∷ xs) ys sorted = (
+  λ y is. not_below x y (all_in (λ z. nat_cmp x z ≡ Less) y (xs ++ ys) sorted.0 (in_left y xs ys is)),
+  rises_front xs ys sorted.1,
+)
 
 -- and at their end.
 rises_tail : (xs ys : List ℕ) → Rises (xs ++ ys) → Rises ys

@@ -1,7 +1,5 @@
 -- What a certificate gives: a run, or the reason why it gives none.
-use Rattle.std.specs.Prelude.{◌≡◌, ◌⊎◌, ℕ, ◌+◌, ◌*◌, ◌≤◌, ◌<◌, ℤ, Bool, true, false, List, [], ◌∷◌, ◌++◌, length, take, slice_get, Contains, Option, Some, None, Ok, Err}
-use Rattle.std.specs.List.{AllByRecursion}
-use Rattle.tcap_ber.specs.declared.fault.Fault.{Fault}
+use Rattle.std.specs.Prelude.{◌≡◌, ◌⊎◌, ℕ, ◌+◌, ◌*◌, ◌≤◌, ◌<◌, ℤ, Bool, true, false, List, [], ◌∷◌, ◌++◌, length, take, slice_get, Contains, Some, None, Err}
 use Rattle.tcap_msg.specs.declared.message.Message.{Message}
 use Rattle.tcap_record.specs.declared.entry.End.{End as Side}
 use Rattle.tcap_record.specs.declared.entry.Body.TheVariants.{Bad, Good, Quiet as QuietMark}

@@ -1,5 +1,5 @@
 -- Runs that call a half by another of its names. A half is named by its own transaction ID or by its peer's.
-use Rattle.std.specs.Prelude.{◌≡◌, ℤ, List, [], ◌∷◌, Some}
+use Rattle.std.specs.Prelude.{◌≡◌, List, [], ◌∷◌, Some}
 use Rattle.tcap_record.specs.declared.entry.End.{End as Side}
 use Rattle.tcap_end.specs.declared.half.HalfName.{HalfName}
 use Rattle.tcap_end.specs.End.{named}
