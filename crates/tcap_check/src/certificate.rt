@@ -34,8 +34,8 @@ pub enum Fate {
     By(u32),
 }
 
-/// An own invocation of an end ended unseen: the one that a component of an entry began. The entry is a Begin or a
-/// Continue of that end.
+/// An own invocation of an end ended unseen: the one that then had the ID of a component of an entry, an Invoke, in the half
+/// of that entry. The entry is a Begin or a Continue of that end.
 #[derive(Clone, Copy, Debug, PartialEq, Eq)]
 pub struct Expiry {
     /// The gap in which it ended.
