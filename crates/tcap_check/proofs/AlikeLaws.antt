@@ -18,7 +18,7 @@ use Rattle.tcap_check.specs.World.{Item, OnItsWay, World, channel_from, empty, e
 use Rattle.tcap_check.specs.Run.{Event, Sends, Receives, Replies, Loses, Expires, Closes, Quiet, Tells, Runs, after, joined, played, reply_to, then_so}
 use Rattle.tcap_check.specs.Follows.{without_losses}
 use Rattle.tcap_check.specs.Replayed.{Replay, if_lost, lost_before, lost_from_both, lost_from_front, lost_front, stepped, with_step}
-use Rattle.tcap_check.proofs.ReplayLaws.{played_on}
+use Rattle.tcap_check.proofs.ReplaySteps.{played_on}
 use Rattle.tcap_check.proofs.RunLaws.{closing, delivery, expiry, loss, quiet, reply}
 
 -- ---- messages that are not lost

@@ -17,7 +17,7 @@ use Rattle.tcap_check.specs.Follows.{Follows, IsPlain, deliveries, is_loss, loss
 use Rattle.tcap_check.specs.Given.{DeliversAtOnce, IsSeen, is_over_or_sends}
 use Rattle.tcap_check.proofs.ListLaws.{all_weaker}
 use Rattle.tcap_check.proofs.RunLaws.{IsDelivery, delivery, grows, quiet, reply, sending}
-use Rattle.tcap_check.proofs.ReplayLaws.{played_on}
+use Rattle.tcap_check.proofs.ReplaySteps.{played_on}
 use Rattle.tcap_check.proofs.ChannelLaws.{are_whole}
 use Rattle.tcap_check.proofs.PromptLaws.{prompt_plain}
 use Rattle.tcap_check.proofs.AtOnceRuns.{Prompt, balanced, delivery_of, event_of, fates_count, fates_in, fates_prompt, follows_prompt, has_no_cause, none_before, none_lost, prompt_behind, prompt_follows, sent_both, sent_in}

@@ -9,7 +9,7 @@ use Rattle.tcap_check.specs.Certificate.{Certificate}
 use Rattle.tcap_check.specs.Follows.{FatesFit, FollowsFrom, IsImplied, gap_events, sending, without_losses}
 use Rattle.tcap_check.specs.Replayed.{Replay}
 use Rattle.tcap_check.proofs.ReplayGaps.{gap_events_before}
-use Rattle.tcap_check.proofs.ReplayLaws.{Replays, without_both}
+use Rattle.tcap_check.proofs.ReplaySteps.{Replays, without_both}
 
 -- Events up to the last of these items: whatever goes on behind them as the certificate says makes with them a whole
 -- that is what it says.

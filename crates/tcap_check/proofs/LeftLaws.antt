@@ -10,7 +10,8 @@ use Rattle.tcap_check.specs.Run.{Event, Runs, numbers_of, numbers_sent, numbers_
 use Rattle.tcap_check.specs.Certificate.{Certificate}
 use Rattle.tcap_check.specs.Follows.{Follows, lost_from, without_losses}
 use Rattle.tcap_check.proofs.ChannelLaws.{are_whole, in_order}
-use Rattle.tcap_check.proofs.GivenLosses.{IsAmong, IsSettled, among_losses, among_plain, among_right, filter_sent, is_lost, left_lost, parts_apart, taken_sent}
+use Rattle.tcap_check.proofs.NumberLaws.{IsAmong, among_losses, among_plain, among_right, parts_apart}
+use Rattle.tcap_check.proofs.GivenLosses.{IsSettled, filter_sent, is_lost, left_lost, taken_sent}
 use Rattle.tcap_check.proofs.GivenRuns.{settled_by}
 
 -- What passes a test stays in a list of those that do.

@@ -22,7 +22,7 @@ use Rattle.tcap_check.specs.Follows.{closing_event, expiry_event}
 use Rattle.tcap_check.specs.Given.{IsAt, IsOutside, IsReason}
 use Rattle.tcap_check.specs.Replayed.{Replay, all_fit, certificate_fits, closings_replayed, deliveries_replayed, expiries_replayed, fate_fits, fates_fit, fault_at, gap_replayed, happens, lost_before, next_entry, stepped}
 use Rattle.tcap_check.proofs.ReplayLaws.{closings_replay, expiries_replay}
-use Rattle.tcap_check.proofs.PendingLaws.{IsIn, contained}
+use Rattle.tcap_check.proofs.TakenLaws.{IsIn, contained}
 
 -- ---- answers that are reasons
 

@@ -28,9 +28,11 @@ use Rattle.tcap_check.specs.Given.{IsAt, IsPending, IsStillOpen}
 use Rattle.tcap_check.specs.Replayed.{Replay, fault_at, gap_replayed, happens, if_lost, implied_over, is_abort, is_gap, is_later, is_nothing, is_overtaking, lost_before, lost_from_both, lost_front, message_by, message_replayed, next_entry, quiet_replayed, refused, sent_or_refused, sent_replayed, stepped, time_of, with_step}
 use Rattle.tcap_check.specs.Since.{WasSent}
 use Rattle.tcap_check.proofs.ChannelLaws.{were_sent}
-use Rattle.tcap_check.proofs.ReplayLaws.{both_replay, gap_replays}
+use Rattle.tcap_check.proofs.ReplaySteps.{both_replay}
+use Rattle.tcap_check.proofs.ReplayLaws.{gap_replays}
 use Rattle.tcap_check.proofs.FollowingLaws.{follows_all}
-use Rattle.tcap_check.proofs.PendingLaws.{IsOver, Stands, ahead, same_side, taken_is_gone, stands_behind, stands_still}
+use Rattle.tcap_check.proofs.PendingLaws.{IsOver, Stands, ahead, stands_behind, stands_still}
+use Rattle.tcap_check.proofs.TakenLaws.{same_side, taken_is_gone}
 use Rattle.tcap_check.proofs.ReasonGaps.{Says, as_many, at_front, gap_says, needs_err, next_at, none_err, says, taken_front, then_err}
 
 -- ---- an item

@@ -25,7 +25,8 @@ use Rattle.tcap_check.specs.Follows.{FatesFit, quiet_by, sending, sending_by, ta
 use Rattle.tcap_check.specs.Given.{IsNoItem, IsReason}
 use Rattle.tcap_check.specs.Replayed.{Replay, certificate_fits, entries_replayed, entry_replayed, fates_fit, fault_at, gap_replayed, happens, is_gap, is_nothing, is_overtaking, lost_from_both, next_entry, nothing_replayed, quiet_replayed, replayed, sent_replayed, stepped}
 use Rattle.tcap_check.proofs.ReplayGaps.{fates_ok}
-use Rattle.tcap_check.proofs.ReplayLaws.{IsSentBy, Replays, both_replay, message_replays, replays_then, stepped_replays}
+use Rattle.tcap_check.proofs.ReplayLaws.{IsSentBy, message_replays}
+use Rattle.tcap_check.proofs.ReplaySteps.{Replays, both_replay, replays_then, stepped_replays}
 use Rattle.tcap_check.proofs.RunLaws.{grows, map_some}
 use Rattle.tcap_check.proofs.FollowingLaws.{follows_nothing}
 use Rattle.tcap_check.proofs.PendingLaws.{Stands, stands_next}

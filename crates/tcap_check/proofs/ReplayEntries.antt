@@ -17,7 +17,8 @@ use Rattle.tcap_check.specs.declared.fault.Reason.{Reason}
 use Rattle.tcap_check.specs.declared.fault.Reason.TheVariants.{FateCount, FateRange, NotQuiet, OutOfOrder}
 use Rattle.tcap_check.specs.Replayed.{Replay, entries_replayed, entry_replayed, fault_at, gap_replayed, happens, is_gap, is_nothing, is_overtaking, item_replayed, lost_from_both, quiet_replayed, next_entry, sent_replayed, stepped}
 use Rattle.tcap_check.proofs.RunLaws.{grows, map_some}
-use Rattle.tcap_check.proofs.ReplayLaws.{Extends, IsSentBy, Replays, both_replay, extends_then, gap_replays, message_replays, replays_then, stepped_replays, without_both}
+use Rattle.tcap_check.proofs.ReplaySteps.{Extends, Replays, both_replay, extends_then, replays_then, stepped_replays, without_both}
+use Rattle.tcap_check.proofs.ReplayLaws.{IsSentBy, gap_replays, message_replays}
 use Rattle.tcap_check.proofs.ReplayGaps.{gap_events_before}
 
 -- The gap before an item was replayed, and then the item.

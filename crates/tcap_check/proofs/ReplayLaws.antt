@@ -1,17 +1,16 @@
 -- What is replayed is a run, step by step.
-use Rattle.std.proofs.Common.{◌≡◌, ℕ, ℤ, ◌+◌, ◌==◌, Bool, true, false, cond, List, [], ◌∷◌, ◌++◌, map, filter, filter_map, length, arith, drop, Option, Some, None, Result, Ok, Err, refl, sym, ap, ap₂, subst, ◌∙◌, append_assoc, append-nil}
+use Rattle.std.proofs.Common.{◌≡◌, ℕ, ℤ, ◌+◌, ◌==◌, Bool, true, false, cond, List, [], ◌∷◌, ◌++◌, map, filter, filter_map, length, arith, Option, Some, None, Result, Ok, Err, refl, sym, ap, ap₂, subst, ◌∙◌, append-nil}
 use Rattle.std.specs.Prelude.{Contains, ok_or, slice_get}
 use Rattle.std.specs.Str.{bytes_eq}
 use Rattle.std.specs.List.{AllByRecursion}
 use Rattle.std.proofs.lemmas.List.Elements.{Contains-append_right}
-use Rattle.std.proofs.lemmas.Bool.{and_parts, eq-eqb, eqb-true}
+use Rattle.std.proofs.lemmas.Bool.{and_parts, eqb-true}
 use Rattle.std.proofs.lemmas.Slice.Eq.{bytes_eq-Decides}
 use Rattle.tcap_msg.specs.declared.message.AbortReason.TheVariants.{Cause, Dialogue as ByDialogue}
 use Rattle.tcap_msg.specs.declared.message.Message.{Message}
 use Rattle.tcap_msg.specs.declared.message.Message.TheVariants.{Unidirectional, Begin, Continue, End as EndMessage, Abort}
 use Rattle.tcap_msg.specs.Parts.{components_in}
 use Rattle.tcap_record.specs.declared.entry.End.{End as Side}
-use Rattle.tcap_record.specs.declared.entry.End.TheVariants as sides
 use Rattle.tcap_end.specs.declared.fault.EndFault.{EndFault}
 use Rattle.tcap_end.specs.declared.fault.EndFault.TheVariants as faults
 use Rattle.tcap_end.specs.End.{End}
@@ -22,168 +21,21 @@ use Rattle.tcap_end.specs.declared.half.HalfName.TheVariants as names
 use Rattle.tcap_end.specs.Table.{Table}
 use Rattle.tcap_end.specs.Message.{send}
 use Rattle.tcap_end.proofs.AnsweringLaws.{needs_ok, ok_same, some_ok, then_ok}
-use Rattle.tcap_check.specs.World.{Item, OnItsWay, Sent, World, channel_from, end_at, is_side, other, with_channel, with_end}
-use Rattle.tcap_check.specs.Run.{Event, Sends, Receives, Replies, Loses, Expires, Closes, Quiet, Tells, after, joined, played, then_so}
+use Rattle.tcap_check.specs.World.{Item, Sent, World, end_at, is_side, other, with_end}
+use Rattle.tcap_check.specs.Run.{Event, Sends, Receives, Replies, Loses, Expires, Closes, Quiet, Tells, after, joined, then_so}
 use Rattle.tcap_check.specs.declared.certificate.Closing.{Closing}
 use Rattle.tcap_check.specs.declared.certificate.Expiry.{Expiry}
 use Rattle.tcap_check.specs.declared.certificate.Fate.{Fate}
 use Rattle.tcap_check.specs.declared.certificate.Fate.TheVariants.{Gap, Lost, By}
 use Rattle.tcap_check.specs.Certificate.{Certificate}
-use Rattle.tcap_check.specs.Follows.{IsImplied, invoking_half, closing_by, closing_event, deliveries, expiry_by, expiry_event, gap_events, half_begun, invoke_id, is_loss, named_entry, originating, sending, sending_by, without_losses}
+use Rattle.tcap_check.specs.Follows.{IsImplied, invoking_half, closing_by, closing_event, deliveries, expiry_by, expiry_event, gap_events, half_begun, invoke_id, is_loss, named_entry, originating, sending, sending_by}
 use Rattle.tcap_check.proofs.RunLaws.{grows, map_some, where_some}
 use Rattle.tcap_check.specs.declared.fault.CheckFault.{CheckFault}
 use Rattle.tcap_check.specs.declared.fault.Reason.{Reason}
 use Rattle.tcap_check.specs.declared.fault.Reason.TheVariants.{BadReply, FateRange, HiddenRefused}
 use Rattle.tcap_check.proofs.ChannelLaws.{get_new}
-use Rattle.tcap_check.specs.Replayed.{closings_replayed, deliveries_replayed, expiries_replayed, fault_at, gap_replayed, implied, implied_over, is_abort, message_by, message_replayed, reply_replayed, next_entry, or_same, send_replayed, sent_or_refused, Replay, happens, lost_before, lost_from_both, lost_from_front, if_lost, lost_front, stepped, with_step}
-
--- ---- runs, one behind the other
-
-pub played_on : (table : Table) (first rest : List Event) (w mid : World) → played table first w ≡ Some mid → played table (first ++ rest) w ≡ played table rest mid
-played_on table [] rest w mid is = let same : w ≡ mid = cc in ap (played table rest) same
-played_on table (event ∷ first) rest w mid is = by (after table event w) (λ x on. played_on table first rest x mid on) is
-  where
-    by : (o : Option World) → ((x : World) → played table first x ≡ Some mid → played table (first ++ rest) x ≡ played table rest mid)
-        → then_so o (played table first) ≡ Some mid → then_so o (played table (first ++ rest)) ≡ played table rest mid
-    by None on is = cc
-    by (Some x) on is = on x is
-
--- These steps lead from the one to the other.
-pub record Extends (table : Table) (r : Replay) (more : List Event) (next : Replay) : Type 0 where
-  pub events : next.events ≡ r.events ++ more
-  pub plays : played table more r.world ≡ Some next.world
-
-pub extends_nothing : (table : Table) (r : Replay) → Extends table r [] r
-extends_nothing table r = record { events = sym (append-nil r.events); plays = refl }
-
-pub extends_then : (table : Table) (r mid next : Replay) (first rest : List Event) → Extends table r first mid → Extends table mid rest next
-    → Extends table r (first ++ rest) next
-extends_then table r mid next first rest a b = record {
-  events = b.events ∙ ap (λ (x : List Event). x ++ rest) a.events ∙ append_assoc r.events first rest;
-  plays = played_on table first rest r.world mid.world a.plays ∙ b.plays;
-}
-
--- ---- one step
-
-pub stepped_extends : (table : Table) (event : Event) (r next : Replay) → stepped table event r ≡ Some next → Extends table r (event ∷ []) next
-stepped_extends table event r next is =
-    let found = map_some _ (after table event r.world) next is in record {
-      events = ap (λ (x : Replay). x.events) (sym found.2);
-      plays = rw found.1 (ap (λ (x : Replay). Some x.world) found.2);
-    }
-
--- ---- losses
-
-with_same : (side : Side) (w : World) → with_channel side (channel_from side w) w ≡ w
-with_same sides.A w = refl
-with_same sides.B w = refl
-
-with_twice : (side : Side) (a b : List OnItsWay) (w : World) → with_channel side a (with_channel side b w) ≡ with_channel side a w
-with_twice sides.A a b w = refl
-with_twice sides.B a b w = refl
-
-channel_with : (side : Side) (a : List OnItsWay) (w : World) → channel_from side (with_channel side a w) ≡ a
-channel_with sides.A a w = refl
-channel_with sides.B a w = refl
-
-stays : (side : Side) (channel : List OnItsWay) (w : World) → channel_from side w ≡ channel → Some w ≡ Some (with_channel side channel w)
-stays side channel w is = ap Some (sym (ap (λ (x : List OnItsWay). with_channel side x w) (sym is) ∙ with_same side w))
-
--- Those at the front that are lost may be lost.
-pub front_plays : (table : Table) (fates : List Fate) (side : Side) (channel : List OnItsWay) (w : World) → channel_from side w ≡ channel
-    → played table (map (Loses side) (lost_front fates channel)) w ≡ Some (with_channel side (drop (length (lost_front fates channel)) channel) w)
-front_plays table fates side [] w is = stays side [] w is
-front_plays table fates side (first ∷ more) w is =
-    by (slice_get fates first.number) (front_plays table fates side more (with_channel side more w) (channel_with side more w))
-  where
-    rest : List ℕ
-    rest = lost_front fates more
-
-    taken : after table (Loses side first.number) w ≡ Some (with_channel side more w)
-    taken = rw (is, eq-eqb first.number first.number refl) refl
-
-    by : (o : Option Fate)
-        → played table (map (Loses side) rest) (with_channel side more w)
-        ≡ Some (with_channel side (drop (length rest) more) (with_channel side more w))
-        → played table (map (Loses side) (if_lost o (first.number ∷ rest))) w
-        ≡ Some (with_channel side (drop (length (if_lost o (first.number ∷ rest))) (first ∷ more)) w)
-    by None goes = stays side (first ∷ more) w is
-    by (Some (Gap g)) goes = stays side (first ∷ more) w is
-    by (Some (By k)) goes = stays side (first ∷ more) w is
-    by (Some Lost) goes = rw taken (goes ∙ ap Some (with_twice side (drop (length rest) more) more w))
-
--- ---- steps and losses
-
-pub without_both : (xs ys : List Event) → without_losses (xs ++ ys) ≡ without_losses xs ++ without_losses ys
-without_both [] ys = refl
-without_both (x ∷ xs) ys = by (is_loss x) (without_both xs ys)
-  where
-    by : (b : Bool) → without_losses (xs ++ ys) ≡ without_losses xs ++ without_losses ys
-        → cond b (without_losses (xs ++ ys)) (x ∷ without_losses (xs ++ ys))
-        ≡ cond b (without_losses xs) (x ∷ without_losses xs) ++ without_losses ys
-    by true rest = rest
-    by false rest = ap (λ (es : List Event). x ∷ es) rest
-
-without_all : (side : Side) (numbers : List ℕ) → without_losses (map (Loses side) numbers) ≡ []
-without_all side [] = refl
-without_all side (n ∷ numbers) = without_all side numbers
-
--- Steps lead from the one to the other that are these but for losses, and add these items to the sent list.
-pub record Replays (table : Table) (r : Replay) (plain : List Event) (items : List Item) (next : Replay) : Type 0 where
-  pub steps : List Event
-  pub extends : Extends table r steps next
-  pub are : without_losses steps ≡ plain
-  pub sent : next.world.sent ≡ r.world.sent ++ items
-
-pub replays_nothing : (table : Table) (r : Replay) → Replays table r [] [] r
-replays_nothing table r = record { steps = []; extends = extends_nothing table r; are = refl; sent = sym (append-nil r.world.sent) }
-
-pub replays_then : (table : Table) (r mid next : Replay) (xs ys : List Event) (before behind : List Item) → Replays table r xs before mid → Replays table mid ys behind next
-    → Replays table r (xs ++ ys) (before ++ behind) next
-replays_then table r mid next xs ys before behind a b = record {
-  steps = a.steps ++ b.steps;
-  extends = extends_then table r mid next a.steps b.steps a.extends b.extends;
-  are = without_both a.steps b.steps ∙ ap (λ (x : List Event). x ++ without_losses b.steps) a.are ∙ ap (λ (y : List Event). xs ++ y) b.are;
-  sent = b.sent ∙ ap (λ (x : List Item). x ++ behind) a.sent ∙ append_assoc r.world.sent before behind;
-}
-
-sent_with_channel : (side : Side) (messages : List OnItsWay) (w : World) → (with_channel side messages w).sent ≡ w.sent
-sent_with_channel sides.A messages w = refl
-sent_with_channel sides.B messages w = refl
-
-pub losing_replays : (table : Table) (c : Certificate) (side : Side) (r : Replay) → Replays table r [] [] (lost_from_front c side r)
-losing_replays table c side r =
-    let lost = lost_front c.fates (channel_from side r.world) in record {
-      steps = map (Loses side) lost;
-      extends = record { events = refl; plays = front_plays table c.fates side (channel_from side r.world) r.world refl };
-      are = without_all side lost;
-      sent = sent_with_channel side _ r.world ∙ sym (append-nil r.world.sent);
-    }
-
-pub both_replay : (table : Table) (c : Certificate) (r : Replay) → Replays table r [] [] (lost_from_both c r)
-both_replay table c r =
-    let first = lost_from_front c sides.A r in
-    replays_then table r first (lost_from_both c r) [] [] [] [] (losing_replays table c sides.A r) (losing_replays table c sides.B first)
-
-pub before_replays : (table : Table) (c : Certificate) (event : Event) (r : Replay) → Replays table r [] [] (lost_before c event r)
-before_replays table c (Sends side m) r = replays_nothing table r
-before_replays table c (Receives side n) r = losing_replays table c (other side) r
-before_replays table c (Replies side n) r = losing_replays table c (other side) r
-before_replays table c (Loses side n) r = replays_nothing table r
-before_replays table c (Expires side name id) r = replays_nothing table r
-before_replays table c (Closes side name) r = replays_nothing table r
-before_replays table c Quiet r = both_replay table c r
-before_replays table c (Tells side m) r = replays_nothing table r
-
--- A step that is no loss.
-pub stepped_replays : (table : Table) (event : Event) (items : List Item) (r next : Replay) → is_loss event ≡ false → stepped table event r ≡ Some next
-    → next.world.sent ≡ r.world.sent ++ items → Replays table r (event ∷ []) items next
-stepped_replays table event items r next plain is sent = record {
-  steps = event ∷ [];
-  extends = stepped_extends table event r next is;
-  are = rw plain refl;
-  sent = sent;
-}
+use Rattle.tcap_check.specs.Replayed.{closings_replayed, deliveries_replayed, expiries_replayed, fault_at, gap_replayed, implied, implied_over, is_abort, message_by, message_replayed, reply_replayed, next_entry, or_same, send_replayed, sent_or_refused, Replay, happens, lost_before, lost_from_front, stepped, with_step}
+use Rattle.tcap_check.proofs.ReplaySteps.{Replays, before_replays, losing_replays, replays_nothing, replays_then, stepped_replays}
 
 -- ---- a gap
 
