@@ -15,11 +15,11 @@ use Rattle.tcap_check.specs.declared.certificate.Fate.{Fate}
 use Rattle.tcap_check.specs.declared.certificate.Fate.TheVariants.{Gap, Lost, By}
 use Rattle.tcap_check.specs.Certificate.{Certificate}
 use Rattle.tcap_check.specs.World.{Item, OnItsWay, World, channel_from, empty, end_at, other, with_channel, with_end}
-use Rattle.tcap_check.specs.Run.{Event, Sends, Receives, Replies, Loses, Expires, Closes, Quiet, Tells, Runs, after, joined, played, reply_to, then_so}
+use Rattle.tcap_check.specs.Run.{Event, Sends, Receives, Replies, Loses, Expires, Closes, Quiet, Tells, Runs, after, joined, played, reply_to}
 use Rattle.tcap_check.specs.Follows.{without_losses}
 use Rattle.tcap_check.specs.Replayed.{Replay, if_lost, lost_before, lost_from_both, lost_from_front, lost_front, stepped, with_step}
-use Rattle.tcap_check.proofs.ReplaySteps.{played_on}
-use Rattle.tcap_check.proofs.RunLaws.{closing, delivery, expiry, loss, quiet, reply}
+use Rattle.tcap_check.proofs.ReplaySteps.{played_on, with_same, channel_with}
+use Rattle.tcap_check.proofs.RunLaws.{closing, delivery, expiry, loss, quiet, reply, then_some}
 
 -- ---- messages that are not lost
 
@@ -163,16 +163,6 @@ alike_joined fates side m w v is = by side
 -- A world that is the same is like it too.
 pub to_same : (fates : List Fate) (w same v : World) → same ≡ w → Alike fates w v → Alike fates same v
 to_same fates w same v is alike = subst (λ (x : World). Alike fates x v) (sym is) alike
-
--- a channel that was put in
-channel_with : (side : Side) (a : List OnItsWay) (w : World) → channel_from side (with_channel side a w) ≡ a
-channel_with sides.A a w = refl
-channel_with sides.B a w = refl
-
--- A world is as it is with its own channel.
-with_same : (side : Side) (w : World) → with_channel side (channel_from side w) w ≡ w
-with_same sides.A w = refl
-with_same sides.B w = refl
 
 -- What is lost at the front may go,
 alike_front : (c : Certificate) (side : Side) (w : World) (r : Replay) → Alike c.fates w r.world
@@ -357,10 +347,6 @@ pub record IsNext (table : Table) (fates : List Fate) (final : World) (event : E
   pub plays : played table events next ≡ Some final
   pub are : without_losses events ≡ plain
   pub fit : AllByRecursion (LossFits fates) events
-
-then_some : {A B : Type 0} (o : Option A) (step : A → Option B) (y : B) → then_so o step ≡ Some y → (x : A) × (o ≡ Some x) × (step x ≡ Some y)
-then_some None step y is = cc
-then_some (Some x) step y is = (x, refl, is)
 
 -- one more step of a run
 run_more : (table : Table) (before : List Event) (event : Event) (w next : World) → Runs table before w

@@ -20,7 +20,8 @@ use Rattle.tcap_check.proofs.RunLaws.{IsDelivery, delivery, grows, quiet, reply,
 use Rattle.tcap_check.proofs.ReplaySteps.{played_on}
 use Rattle.tcap_check.proofs.ChannelLaws.{are_whole}
 use Rattle.tcap_check.proofs.PromptLaws.{prompt_plain}
-use Rattle.tcap_check.proofs.AtOnceRuns.{Prompt, balanced, delivery_of, event_of, fates_count, fates_in, fates_prompt, follows_prompt, has_no_cause, none_before, none_lost, prompt_behind, prompt_follows, sent_both, sent_in}
+use Rattle.tcap_check.proofs.AtOnceRuns.{Prompt, balanced, delivery_of, event_of, fates_count, fates_in, fates_prompt, follows_prompt, has_no_cause, none_before, prompt_behind, prompt_follows, sent_both, sent_in}
+use Rattle.tcap_check.proofs.PromptLaws.{none_lost}
 
 -- ---- lists
 

@@ -13,27 +13,13 @@ use Rattle.tcap_check.specs.Run.{Event, Sends, Receives, Replies, Loses, Expires
 use Rattle.tcap_check.specs.declared.certificate.Fate.{Fate}
 use Rattle.tcap_check.specs.declared.certificate.Fate.TheVariants.{Gap, Lost, By}
 use Rattle.tcap_check.specs.Certificate.{Certificate, IsPrompt, prompt_fates, prompt_from}
-use Rattle.tcap_check.specs.Follows.{FatesFit, FollowsFrom, IsImplied, deliveries, gap_events, lost_from, quiet_by, sending, taken_by}
+use Rattle.tcap_check.specs.Follows.{FatesFit, FollowsFrom, IsImplied, deliveries, gap_events, quiet_by, sending, taken_by}
 use Rattle.tcap_check.specs.Given.{is_over_or_sends}
 use Rattle.tcap_check.proofs.ListLaws.{all_both}
+use Rattle.tcap_check.proofs.RunLaws.{same_events}
+use Rattle.tcap_check.proofs.PromptLaws.{none_taken}
 
 -- ---- prompt fates
-
--- No message is taken by a reply,
-none_taken : (entry reply n : ℕ) (fates : List Fate) → prompt_from entry fates → taken_by reply n fates ≡ []
-none_taken entry reply n [] prompt = refl
-none_taken entry reply n (Gap g ∷ fates) prompt = none_taken (entry + 1) reply (n + 1) fates prompt.1
-none_taken entry reply n (Lost ∷ fates) prompt = let bad = prompt.0 in cc
-none_taken entry reply n (By k ∷ fates) prompt = let bad = prompt.0 in cc
-
--- nor lost.
-pub none_lost : (side : Side) (entry n : ℕ) (fates : List Fate) (items : List Item) → prompt_from entry fates
-    → lost_from side n fates items ≡ []
-none_lost side entry n [] items prompt = refl
-none_lost side entry n (Gap g ∷ fates) [] prompt = refl
-none_lost side entry n (Gap g ∷ fates) (item ∷ items) prompt = none_lost side (entry + 1) (n + 1) fates items prompt.1
-none_lost side entry n (Lost ∷ fates) items prompt = let bad = prompt.0 in cc
-none_lost side entry n (By k ∷ fates) items prompt = let bad = prompt.0 in cc
 
 -- The fate of each entry is the next gap.
 fate_at : (n i : ℕ) (fates : List Fate) → prompt_from n fates → i < length fates
@@ -173,13 +159,6 @@ sends_so c n (Sent side (Abort dtid None)) none at so = rw none refl
 sends_so c n (Sent side (Abort dtid (Some (ByDialogue dialogue)))) none at so = rw none refl
 sends_so c n (Sent side (Abort dtid (Some (Cause cause)))) none at so = cc
 sends_so c n Item.Quiet none at so = rw (none, at, eq-eqb (n + 1) (n + 1) refl) refl
-
--- Events that are the same as options are the same.
-same_events : (xs ys : List Event) → map Some xs ≡ map Some ys → xs ≡ ys
-same_events [] [] same = refl
-same_events [] (y ∷ ys) same = cc
-same_events (x ∷ xs) [] same = cc
-same_events (x ∷ xs) (y ∷ ys) same = let rest = same_events xs ys cc in cc
 
 -- Where nothing unseen is listed, a gap has deliveries alone.
 gap_is : (c : Certificate) (items : List Item) (gap : ℕ) (here : List Event) → IsPrompt c

@@ -1,5 +1,5 @@
 -- A gap of a run that a certificate describes is replayed.
-use Rattle.std.proofs.Common.{arith, ◌≡◌, ℕ, ℤ, suc, ◌+◌, ◌==◌, Bool, true, false, cond, List, [], ◌∷◌, ◌++◌, map, filter, length, Option, Some, None, Result, Ok, refl, sym, ap, ap₂, subst, ◌∙◌, append_assoc, append-nil}
+use Rattle.std.proofs.Common.{arith, ◌≡◌, ℕ, ℤ, suc, ◌+◌, ◌==◌, Bool, true, false, cond, List, [], ◌∷◌, ◌++◌, map, filter, length, Option, Some, Result, Ok, refl, sym, ap, ap₂, subst, ◌∙◌, append_assoc, append-nil}
 use Rattle.std.specs.Prelude.{ok_or, slice_get}
 use Rattle.std.specs.List.{AllByRecursion}
 use Rattle.std.proofs.lemmas.Bool.{eqb-true}
@@ -14,7 +14,7 @@ use Rattle.tcap_end.specs.declared.half.HalfName.TheVariants as names
 use Rattle.tcap_end.specs.Table.{Table}
 use Rattle.tcap_end.specs.Step.{needs, ◌>>◌, ◌>>=◌}
 use Rattle.tcap_check.specs.World.{Item, Sent, World, is_side, other}
-use Rattle.tcap_check.specs.Run.{Event, Sends, Receives, Replies, Loses, Expires, Closes, Quiet, Tells, after, joined, then_so}
+use Rattle.tcap_check.specs.Run.{Event, Sends, Receives, Replies, Loses, Expires, Closes, Quiet, Tells, after, then_so}
 use Rattle.tcap_check.specs.declared.certificate.Closing.{Closing}
 use Rattle.tcap_check.specs.declared.certificate.Expiry.{Expiry}
 use Rattle.tcap_check.specs.declared.certificate.Fate.{Fate}
@@ -23,8 +23,8 @@ use Rattle.tcap_check.specs.declared.fault.CheckFault.{CheckFault}
 use Rattle.tcap_check.specs.declared.fault.Reason.TheVariants.{BadReply, FateRange, HiddenRefused}
 use Rattle.tcap_check.specs.Certificate.{Certificate}
 use Rattle.tcap_check.specs.Follows.{closing_by, closing_event, deliveries, expiry_by, expiry_event, gap_events, half_begun, invoke_id, is_loss, losses_from, lost_from, named_entry, originating, taken_by, without_losses}
-use Rattle.tcap_check.specs.Replayed.{Replay, closings_replayed, deliveries_replayed, expiries_replayed, fault_at, gap_replayed, happens, lost_before, next_entry, replayed, stepped, with_step}
-use Rattle.tcap_check.proofs.RunLaws.{expiry, grows, map_some, where_some}
+use Rattle.tcap_check.specs.Replayed.{Replay, closings_replayed, deliveries_replayed, expiries_replayed, fault_at, gap_replayed, happens, lost_before, next_entry, stepped, with_step}
+use Rattle.tcap_check.proofs.RunLaws.{grows, map_some, where_some, then_some}
 use Rattle.tcap_check.proofs.ReplaySteps.{Replays, without_both}
 use Rattle.tcap_check.proofs.ReplayLaws.{gap_replays}
 use Rattle.tcap_check.proofs.AlikeLaws.{Ahead, Alike, LossFits, closes_goes, expires_goes, go_on, next_step, receives_goes}
@@ -169,10 +169,6 @@ same_sent fates w next v behind added items before after_it grown none sent =
 first_listed : (event : Event) (here : List Event) (o : Option Event) (others : List (Option Event)) → map Some (event ∷ here) ≡ o ∷ others
     → (o ≡ Some event) × (map Some here ≡ others)
 first_listed event here o others is = (cc, cc)
-
-pub then_some : {A B : Type 0} (o : Option A) (step : A → Option B) (y : B) → then_so o step ≡ Some y → (x : A) × (o ≡ Some x) × (step x ≡ Some y)
-then_some None step y is = cc
-then_some (Some x) step y is = (x, refl, is)
 
 pub some_same : (x y : Event) → (let o : Option Event = Some x in o) ≡ Some y → y ≡ x
 some_same x y is = cc

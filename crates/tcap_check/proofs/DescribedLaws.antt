@@ -20,6 +20,7 @@ use Rattle.tcap_check.specs.Replayed.{all_fit, certificate_fits, fates_fit, is_l
 use Rattle.tcap_check.proofs.ListLaws.{all_weaker}
 use Rattle.tcap_check.proofs.ChannelLaws.{are_whole, in_order}
 use Rattle.tcap_check.proofs.OrderLaws.{IsIn, Rises, Takes, here_takes, in_left, in_right, in_turn, rises_front, rises_without, run_timed, sending_takes, step_takes, taken_too}
+use Rattle.tcap_check.proofs.ReplayGaps.{get_before}
 
 -- ---- numbers that fit
 
@@ -414,12 +415,6 @@ none_of_these side fate (first ∷ fates) (Sent sender message ∷ front) none =
         let is = none 0 message first (ap (λ (s : Side). Some (Sent s message)) (same_side side sender e)) refl in
         rw (is, rest) refl
     by false e rest = rest
-
--- An item stands where it stood, with more behind it,
-get_before : {A : Type 0} (xs ys : List A) (i : ℕ) → i < length xs → slice_get (xs ++ ys) i ≡ slice_get xs i
-get_before [] ys i h = absurd (omega (arith, h))
-get_before (x ∷ xs) ys zero h = refl
-get_before (x ∷ xs) ys (suc i) h = get_before xs ys i (omega (arith, h))
 
 -- and the one behind them at their number.
 get_behind : {A : Type 0} (xs ys : List A) (y : A) → slice_get (xs ++ y ∷ ys) (length xs) ≡ Some y

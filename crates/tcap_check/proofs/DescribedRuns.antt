@@ -9,7 +9,7 @@ use Rattle.tcap_record.specs.declared.entry.End.{End as Side}
 use Rattle.tcap_record.specs.declared.entry.End.TheVariants as sides
 use Rattle.tcap_record.specs.declared.entry.Entry.{Entry}
 use Rattle.tcap_end.specs.Table.{Table}
-use Rattle.tcap_check.specs.World.{Item, Sent, World, empty, other}
+use Rattle.tcap_check.specs.World.{Item, Sent, World, empty}
 use Rattle.tcap_check.specs.Run.{Event, Quiet, IsRunOf}
 use Rattle.tcap_check.specs.declared.certificate.Fate.{Fate}
 use Rattle.tcap_check.specs.declared.certificate.Fate.TheVariants.{Gap, Lost, By}

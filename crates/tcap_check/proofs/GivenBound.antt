@@ -13,7 +13,6 @@ use Rattle.tcap_record.specs.declared.entry.End.{End as Side}
 use Rattle.tcap_record.specs.declared.entry.End.TheVariants.{A, B}
 use Rattle.tcap_end.specs.declared.half.HalfName.{HalfName}
 use Rattle.tcap_end.specs.End.{End}
-use Rattle.tcap_end.specs.Hidden.{expire}
 use Rattle.tcap_end.specs.Sound.{IsEnd}
 use Rattle.tcap_end.specs.Table.{Table}
 use Rattle.tcap_end.proofs.StepLaws.{expires}

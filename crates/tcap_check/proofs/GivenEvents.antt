@@ -21,19 +21,9 @@ use Rattle.tcap_check.specs.Follows.{FollowsFrom, IsImplied, closing_by, closing
 use Rattle.tcap_check.proofs.NumberLaws.{IsAmong, among_left, among_right, taken_left, taken_right}
 use Rattle.tcap_check.proofs.GivenLosses.{IsFated, deliveries_fated, is_lost, taken_fated}
 use Rattle.tcap_check.proofs.ListLaws.{all_both}
-use Rattle.tcap_check.proofs.RunLaws.{where_some}
-
--- Two options that are there are the same where what is in them is.
-some_is : {A : Type 0} {x y : A} → (let o : Option A = Some x in o) ≡ Some y → x ≡ y
-some_is e = cc
+use Rattle.tcap_check.proofs.RunLaws.{where_some, then_some, some_is, same_events}
 
 -- ---- gaps
-
--- A step behind an option is there where both are.
-then_some : {A B : Type 0} (o : Option A) (step : A → Option B) (y : B) → then_so o step ≡ Some y
-    → (x : A) × (o ≡ Some x) × (step x ≡ Some y)
-then_some None step y is = cc
-then_some (Some x) step y is = (x, refl, is)
 
 -- A closing that is listed fits the fates,
 closing_fated : (fates : List Fate) (items : List Item) (x : Closing) (event : Event)
@@ -63,13 +53,6 @@ expiry_fated fates items x event is =
         let id = then_some (then_so (slice_get (components_in message) x.component) invoke_id) _ event named.2 in
         subst (IsFated fates) (let same : Expires x.side (names.Own named.0) id.0 ≡ event = some_is id.2 in same) tt
     by Item.Quiet e = cc
-
--- Events that are the same as options are the same.
-same_events : (xs ys : List Event) → map Some xs ≡ map Some ys → xs ≡ ys
-same_events [] [] same = refl
-same_events [] (y ∷ ys) same = cc
-same_events (x ∷ xs) [] same = cc
-same_events (x ∷ xs) (y ∷ ys) same = let rest = same_events xs ys cc in cc
 
 -- Events that are some options and then others are parts.
 pub some_parts : (here : List Event) (options : List (Option Event)) (behind : List Event)

@@ -22,7 +22,7 @@ use Rattle.tcap_check.specs.Certificate.{Certificate}
 use Rattle.tcap_check.specs.Follows.{FollowsFrom, IsImplied, closing_by, closing_event, deliveries, expiry_by, expiry_event, gap_events, invoke_id, is_loss, named_entry, originating, quiet_by, sending_by, taken_by, without_losses}
 use Rattle.tcap_check.specs.Replayed.{time_of}
 use Rattle.tcap_check.proofs.ListLaws.{all_both}
-use Rattle.tcap_check.proofs.RunLaws.{where_some}
+use Rattle.tcap_check.proofs.RunLaws.{where_some, then_some, some_is, same_events}
 
 -- ---- numbers in lists
 
@@ -191,16 +191,6 @@ in_turn fates t first second u v (x ∷ xs) rises timed (inr more_a) (inr more_b
 
 -- ---- what events take
 
--- What is there is one thing.
-some_is : {A : Type 0} {x y : A} → (let o : Option A = Some x in o) ≡ Some y → x ≡ y
-some_is e = cc
-
--- Two steps of a test were both taken.
-then_some : {A B : Type 0} (o : Option A) (step : A → Option B) (y : B) → then_so o step ≡ Some y
-    → (x : A) × (o ≡ Some x) × (step x ≡ Some y)
-then_some None step y is = cc
-then_some (Some x) step y is = (x, refl, is)
-
 -- Of some events and then others both take.
 pub taken_both : (side : Side) (xs ys : List Event)
     → numbers_taken side (xs ++ ys) ≡ numbers_taken side xs ++ numbers_taken side ys
@@ -236,13 +226,6 @@ expiry_takes side items x event is =
         let id = then_some (then_so (slice_get (components_in message) x.component) invoke_id) _ event named.2 in
         subst (λ f. takes_from side f ≡ []) (some_is id.2) refl
     by Item.Quiet e = cc
-
--- Events that are the same as options are the same.
-same_events : (xs ys : List Event) → map Some xs ≡ map Some ys → xs ≡ ys
-same_events [] [] same = refl
-same_events [] (y ∷ ys) same = cc
-same_events (x ∷ xs) [] same = cc
-same_events (x ∷ xs) (y ∷ ys) same = let rest = same_events xs ys cc in cc
 
 -- what takes no message of this end, where it is an event
 abbrev TakesNone : Side → Option Event → Type 0

@@ -14,6 +14,7 @@ use Rattle.tcap_check.specs.declared.certificate.Fate.TheVariants.{Gap, Lost, By
 use Rattle.tcap_check.specs.Certificate.{Certificate, IsPrompt, prompt_from}
 use Rattle.tcap_check.specs.Follows.{Follows, FollowsFrom, IsImplied, IsPlain, deliveries, gap_events, losses_from, lost_from, sending, taken_by, without_losses}
 use Rattle.tcap_check.proofs.ListLaws.{all_both}
+use Rattle.tcap_check.proofs.RunLaws.{same_events}
 
 -- events that are all sends, deliveries, expiries and quiet marks
 abbrev AllPlain : List Event → Type 0
@@ -22,14 +23,14 @@ AllPlain events = AllByRecursion IsPlain events
 -- ---- fates
 
 -- No message is taken by a reply,
-none_taken : (entry reply n : ℕ) (fates : List Fate) → prompt_from entry fates → taken_by reply n fates ≡ []
+pub none_taken : (entry reply n : ℕ) (fates : List Fate) → prompt_from entry fates → taken_by reply n fates ≡ []
 none_taken entry reply n [] prompt = refl
 none_taken entry reply n (Gap g ∷ fates) prompt = none_taken (entry + 1) reply (n + 1) fates prompt.1
 none_taken entry reply n (Lost ∷ fates) prompt = let bad = prompt.0 in cc
 none_taken entry reply n (By k ∷ fates) prompt = let bad = prompt.0 in cc
 
 -- nor lost.
-none_lost : (side : Side) (entry n : ℕ) (fates : List Fate) (items : List Item) → prompt_from entry fates
+pub none_lost : (side : Side) (entry n : ℕ) (fates : List Fate) (items : List Item) → prompt_from entry fates
     → lost_from side n fates items ≡ []
 none_lost side entry n [] items prompt = refl
 none_lost side entry n (Gap g ∷ fates) [] prompt = refl
@@ -54,13 +55,6 @@ deliveries_plain gap n (Lost ∷ fates) (Sent side message ∷ items) = deliveri
 deliveries_plain gap n (Lost ∷ fates) (Item.Quiet ∷ items) = deliveries_plain gap (n + 1) fates items
 deliveries_plain gap n (By k ∷ fates) (Sent side message ∷ items) = deliveries_plain gap (n + 1) fates items
 deliveries_plain gap n (By k ∷ fates) (Item.Quiet ∷ items) = deliveries_plain gap (n + 1) fates items
-
--- Events that are the same as options are the same.
-same_events : (xs ys : List Event) → map Some xs ≡ map Some ys → xs ≡ ys
-same_events [] [] same = refl
-same_events [] (y ∷ ys) same = cc
-same_events (x ∷ xs) [] same = cc
-same_events (x ∷ xs) (y ∷ ys) same = let rest = same_events xs ys cc in cc
 
 -- Where nothing unseen is listed, a gap has deliveries alone.
 gap_plain : (certificate : Certificate) (items : List Item) (gap : ℕ) (here : List Event) → IsPrompt certificate

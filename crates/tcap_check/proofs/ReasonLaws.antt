@@ -18,20 +18,19 @@ use Rattle.tcap_check.specs.declared.fault.Reason.TheVariants as reasons
 use Rattle.tcap_check.specs.declared.certificate.Fate.{Fate}
 use Rattle.tcap_check.specs.declared.certificate.Fate.TheVariants.{Gap, Lost, By}
 use Rattle.tcap_check.specs.World.{Item, Sent}
-use Rattle.tcap_check.specs.Run.{Event, Quiet, after}
+use Rattle.tcap_check.specs.Run.{Event, Quiet}
 use Rattle.tcap_check.specs.Certificate.{Certificate}
 use Rattle.tcap_check.specs.Entries.{IsItem, item_by, item_of}
 use Rattle.tcap_check.specs.Follows.{FatesFit, quiet_by, sending, sending_by, taken_by}
 use Rattle.tcap_check.specs.Given.{IsNoItem, IsReason}
-use Rattle.tcap_check.specs.Replayed.{Replay, certificate_fits, entries_replayed, entry_replayed, fates_fit, fault_at, gap_replayed, happens, is_gap, is_nothing, is_overtaking, lost_from_both, next_entry, nothing_replayed, quiet_replayed, replayed, sent_replayed, stepped}
+use Rattle.tcap_check.specs.Replayed.{Replay, certificate_fits, entries_replayed, entry_replayed, fates_fit, fault_at, gap_replayed, is_gap, is_nothing, is_overtaking, lost_from_both, next_entry, nothing_replayed, quiet_replayed, replayed, sent_replayed}
 use Rattle.tcap_check.proofs.ReplayGaps.{fates_ok}
 use Rattle.tcap_check.proofs.ReplayLaws.{IsSentBy, message_replays}
-use Rattle.tcap_check.proofs.ReplaySteps.{Replays, both_replay, replays_then, stepped_replays}
-use Rattle.tcap_check.proofs.RunLaws.{grows, map_some}
 use Rattle.tcap_check.proofs.FollowingLaws.{follows_nothing}
 use Rattle.tcap_check.proofs.PendingLaws.{Stands, stands_next}
 use Rattle.tcap_check.proofs.ReasonGaps.{Says, as_many, both_err, certificate_says, gap_says, needs_err, next_at, none_err, says, then_err}
 use Rattle.tcap_check.proofs.ReasonItems.{gap_stands, quiet_says, sent_says}
+use Rattle.tcap_check.proofs.ReplayEntries.{nothing_is, quiet_happens}
 
 -- ---- entries, one after the other
 
@@ -100,23 +99,6 @@ gap_of : (gap : ℕ) (fate : Fate) → is_gap gap fate ≡ true → fate ≡ Gap
 gap_of gap (Gap g) is = ap Gap (eqb-true g gap is)
 gap_of gap Lost is = cc
 gap_of gap (By k) is = cc
-
--- No number is taken (as in ReplayEntries).
-nothing_is : (numbers : List ℕ) → is_nothing numbers ≡ true → numbers ≡ []
-nothing_is [] is = refl
-nothing_is (n ∷ numbers) is = cc
-
--- A quiet mark happened (as in ReplayEntries).
-quiet_happens : (table : Table) (c : Certificate) (entry : ℕ) (r next : Replay) → happens table c Quiet reasons.NotQuiet entry r ≡ Ok next
-    → Replays table r (Quiet ∷ []) (Item.Quiet ∷ []) next
-quiet_happens table c entry r next is =
-    let before = lost_from_both c r in
-    let step = some_ok (stepped table Quiet before) (fault_at reasons.NotQuiet entry) next is in
-    let found = map_some _ (after table Quiet before.world) next step in
-    let g = grows table Quiet before.world found.0 found.1 in
-    replays_then table r before next [] (Quiet ∷ []) [] (Item.Quiet ∷ []) (both_replay table c r)
-    (stepped_replays table Quiet (Item.Quiet ∷ []) before next refl step
-    (ap (λ (x : Replay). x.world.sent) (sym found.2) ∙ g.2 ∙ ap (λ (x : List Item). before.world.sent ++ x) g.1))
 
 -- Behind a mark,
 quiet_stands : (table : Table) (c : Certificate) (front : List Entry) (entry : Entry) (fate : Fate) (r next : Replay)

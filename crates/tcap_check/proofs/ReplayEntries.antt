@@ -30,7 +30,7 @@ pub record IsReplayedBy (table : Table) (c : Certificate) (item : Item) (r next 
   pub sent : IsSentBy table c item mid next
 
 -- A quiet mark.
-quiet_happens : (table : Table) (c : Certificate) (entry : ℕ) (r next : Replay) → happens table c Quiet NotQuiet entry r ≡ Ok next
+pub quiet_happens : (table : Table) (c : Certificate) (entry : ℕ) (r next : Replay) → happens table c Quiet NotQuiet entry r ≡ Ok next
     → Replays table r (Quiet ∷ []) (Item.Quiet ∷ []) next
 quiet_happens table c entry r next is =
     let before = lost_from_both c r in
@@ -41,7 +41,7 @@ quiet_happens table c entry r next is =
     (stepped_replays table Quiet (Item.Quiet ∷ []) before next refl step
     (ap (λ (x : Replay). x.world.sent) (sym found.2) ∙ g.2 ∙ ap (λ (x : List Item). before.world.sent ++ x) g.1))
 
-nothing_is : (numbers : List ℕ) → is_nothing numbers ≡ true → numbers ≡ []
+pub nothing_is : (numbers : List ℕ) → is_nothing numbers ≡ true → numbers ≡ []
 nothing_is [] is = refl
 nothing_is (n ∷ numbers) is = cc
 

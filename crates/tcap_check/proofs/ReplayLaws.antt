@@ -29,7 +29,7 @@ use Rattle.tcap_check.specs.declared.certificate.Fate.{Fate}
 use Rattle.tcap_check.specs.declared.certificate.Fate.TheVariants.{Gap, Lost, By}
 use Rattle.tcap_check.specs.Certificate.{Certificate}
 use Rattle.tcap_check.specs.Follows.{IsImplied, invoking_half, closing_by, closing_event, deliveries, expiry_by, expiry_event, gap_events, half_begun, invoke_id, is_loss, named_entry, originating, sending, sending_by}
-use Rattle.tcap_check.proofs.RunLaws.{grows, map_some, where_some}
+use Rattle.tcap_check.proofs.RunLaws.{grows, map_some, where_some, then_some, some_is}
 use Rattle.tcap_check.specs.declared.fault.CheckFault.{CheckFault}
 use Rattle.tcap_check.specs.declared.fault.Reason.{Reason}
 use Rattle.tcap_check.specs.declared.fault.Reason.TheVariants.{BadReply, FateRange, HiddenRefused}
@@ -38,9 +38,6 @@ use Rattle.tcap_check.specs.Replayed.{closings_replayed, deliveries_replayed, ex
 use Rattle.tcap_check.proofs.ReplaySteps.{Replays, before_replays, losing_replays, replays_nothing, replays_then, stepped_replays}
 
 -- ---- a gap
-
-some_is : {A : Type 0} {x y : A} → (let o : Option A = Some x in o) ≡ Some y → x ≡ y
-some_is e = cc
 
 -- What happens in a gap adds nothing to the sent list.
 pub record IsGapEvent (event : Event) : Type 0 where
@@ -74,10 +71,6 @@ gap_event table c event reason entry r next in_gap is =
     let found = map_some _ (after table event before.world) next step in
     let sent : next.world.sent ≡ before.world.sent ++ [] = ap (λ (x : Replay). x.world.sent) (sym found.2) ∙ in_gap.adds table before.world found.0 found.1 in
     replays_then table r before next [] (event ∷ []) [] [] (before_replays table c event r) (stepped_replays table event [] before next in_gap.plain step sent)
-
-then_some : {A B : Type 0} (o : Option A) (step : A → Option B) (y : B) → then_so o step ≡ Some y → (x : A) × (o ≡ Some x) × (step x ≡ Some y)
-then_some None step y is = cc
-then_some (Some x) step y is = (x, refl, is)
 
 closing_in_gap : (items : List Item) (x : Closing) (event : Event) → closing_event items x ≡ Some event → IsGapEvent event
 closing_in_gap items x event is = let found = then_some (named_entry items x.gap x.entry) (closing_by x) event is in by found.0 found.2

@@ -1,5 +1,5 @@
 -- Steps of a replay, one behind the other, with the losses that they need.
-use Rattle.std.proofs.Common.{◌≡◌, ℕ, ◌+◌, Bool, true, false, cond, List, [], ◌∷◌, ◌++◌, map, length, drop, Option, Some, None, refl, sym, ap, ◌∙◌, append_assoc, append-nil}
+use Rattle.std.proofs.Common.{◌≡◌, ℕ, Bool, true, false, cond, List, [], ◌∷◌, ◌++◌, map, length, drop, Option, Some, None, refl, sym, ap, ◌∙◌, append_assoc, append-nil}
 use Rattle.std.specs.Prelude.{slice_get}
 use Rattle.std.proofs.lemmas.Bool.{eq-eqb}
 use Rattle.tcap_record.specs.declared.entry.End.{End as Side}
@@ -51,7 +51,7 @@ stepped_extends table event r next is =
 
 -- ---- losses
 
-with_same : (side : Side) (w : World) → with_channel side (channel_from side w) w ≡ w
+pub with_same : (side : Side) (w : World) → with_channel side (channel_from side w) w ≡ w
 with_same sides.A w = refl
 with_same sides.B w = refl
 
@@ -59,7 +59,7 @@ with_twice : (side : Side) (a b : List OnItsWay) (w : World) → with_channel si
 with_twice sides.A a b w = refl
 with_twice sides.B a b w = refl
 
-channel_with : (side : Side) (a : List OnItsWay) (w : World) → channel_from side (with_channel side a w) ≡ a
+pub channel_with : (side : Side) (a : List OnItsWay) (w : World) → channel_from side (with_channel side a w) ≡ a
 channel_with sides.A a w = refl
 channel_with sides.B a w = refl
 

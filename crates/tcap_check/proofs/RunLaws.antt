@@ -1,5 +1,5 @@
 -- What holds along runs, and what each step is.
-use Rattle.std.proofs.Common.{rules, ◌≡◌, ◌≤◌, arith, length, ℤ, ℕ, Bool, true, false, List, [], ◌∷◌, ◌++◌, Option, Some, None, Result, Ok, Err, option_map, refl, sym, ap, ◌∙◌, append_assoc}
+use Rattle.std.proofs.Common.{rules, ◌≡◌, ◌≤◌, arith, length, ℤ, ℕ, Bool, true, false, List, [], ◌∷◌, ◌++◌, map, Option, Some, None, Result, Ok, Err, option_map, refl, sym, ap, ◌∙◌, append_assoc}
 use Rattle.std.specs.Prelude.{◌&&◌}
 use Rattle.std.specs.Result.{result_ok}
 use Rattle.std.proofs.lemmas.Bool.{eqb-true}
@@ -31,6 +31,21 @@ where_some false o x is = cc
 pub map_some : {A B : Type 0} (f : A → B) (o : Option A) (y : B) → option_map f o ≡ Some y → (x : A) × (o ≡ Some x) × (f x ≡ y)
 map_some f None y is = cc
 map_some f (Some x) y is = (x, refl, cc)
+
+pub then_some : {A B : Type 0} (o : Option A) (step : A → Option B) (y : B) → then_so o step ≡ Some y
+    → (x : A) × (o ≡ Some x) × (step x ≡ Some y)
+then_some None step y is = cc
+then_some (Some x) step y is = (x, refl, is)
+
+pub some_is : {A : Type 0} {x y : A} → (let o : Option A = Some x in o) ≡ Some y → x ≡ y
+some_is e = cc
+
+-- Events that are the same as options are the same.
+pub same_events : (xs ys : List Event) → map Some xs ≡ map Some ys → xs ≡ ys
+same_events [] [] same = refl
+same_events [] (y ∷ ys) same = cc
+same_events (x ∷ xs) [] same = cc
+same_events (x ∷ xs) (y ∷ ys) same = let rest = same_events xs ys cc in cc
 
 -- The end took the step.
 took : {A F : Type 0} (f : A → World) (step : Result A F) (next : World) → option_map f (result_ok step) ≡ Some next
