@@ -84,7 +84,7 @@ sent_replays table c fate side message r next is =
     let here = gap_replays table c r gap.0 gap.1 in
     record { here = here.0; mid = gap.0; here_is = here.1; gap = here.2; sent = message_replays table c side message gap.0 next gap.2 }
 
-item_replays : (table : Table) (c : Certificate) (fate : Fate) (item : Item) (r next : Replay) → slice_get c.fates (next_entry r) ≡ Some fate
+pub item_replays : (table : Table) (c : Certificate) (fate : Fate) (item : Item) (r next : Replay) → slice_get c.fates (next_entry r) ≡ Some fate
     → item_replayed table c fate item r ≡ Ok next → IsReplayedBy table c item r next
 item_replays table c fate (Sent side message) r next has is = sent_replays table c fate side message r next is
 item_replays table c fate Item.Quiet r next has is = quiet_replays table c fate r next has is

@@ -234,7 +234,7 @@ send_replays table side message r next is = by (send table (end_at side r.world)
         (ap (λ (x : Replay). x.world.sent) (sym found.2) ∙ g.2 ∙ ap (λ (x : List Item). r.world.sent ++ x) g.1)
 
 -- A provider's Abort is the one that answers.
-abort_is : (cause : ℕ) (id : List ℕ) (abort : Message) → aborts cause id abort ≡ true → abort ≡ Abort id (Some (Cause cause))
+pub abort_is : (cause : ℕ) (id : List ℕ) (abort : Message) → aborts cause id abort ≡ true → abort ≡ Abort id (Some (Cause cause))
 abort_is cause id (Abort dtid (Some (Cause n))) is =
     let both = and_parts (n == cause) (bytes_eq id dtid) is in
     ap₂ (λ (d : List ℕ) (k : ℕ). Abort d (Some (Cause k))) (sym ((bytes_eq-Decides id dtid).0 both.1)) (eqb-true n cause both.0)
@@ -246,7 +246,7 @@ abort_is cause id (Continue otid dtid dialogue components) is = cc
 abort_is cause id (EndMessage dtid dialogue components) is = cc
 
 -- An item that is an Abort with a cause is that message.
-abort_of : (abort made : Message) (side : Side) → is_abort abort (Some (Sent side made)) ≡ true → made ≡ abort
+pub abort_of : (abort made : Message) (side : Side) → is_abort abort (Some (Sent side made)) ≡ true → made ≡ abort
 abort_of abort (Abort dtid (Some (Cause cause))) side is = sym (abort_is cause dtid abort is)
 abort_of abort (Abort dtid (Some (ByDialogue d))) side is = cc
 abort_of abort (Abort dtid None) side is = cc

@@ -12,3 +12,10 @@ pub mod Refused
 pub mod Replayed
 pub mod Given
 pub mod Replays
+pub mod Noted
+pub mod Outlines
+pub mod Progress
+pub mod Checking
+pub mod Buckets
+pub mod Plan
+pub mod Ready

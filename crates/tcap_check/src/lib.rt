@@ -1,16 +1,25 @@
 //! Two ends of TCAP dialogues over two channels: which lists of messages two lawful ends may have sent (Q.771, Q.774),
-//! with laws over all runs and worked runs; and certificates, which are read from a text and written.
+//! with laws over all runs and worked runs; and certificates, which are read from a text, written, and replayed over a record.
 #![tactic(auto)]
 
+mod buckets;
 mod certificate;
 mod certificate_text;
+mod checker;
 mod fault;
 pub mod given;
 pub mod laws;
+mod outline;
+mod plan;
+mod progress;
+mod records;
 pub mod refused;
 pub mod replays;
+mod sending;
 pub mod texts;
 pub mod worked;
 
 pub use certificate::{Certificate, Closing, Expiry, Fate};
+pub use checker::{Checker, Report};
 pub use fault::{CheckFault, Reason};
+pub use records::check;

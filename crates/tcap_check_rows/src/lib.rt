@@ -4,3 +4,5 @@
 
 #[cfg(test)]
 mod certificates;
+#[cfg(test)]
+mod checks;

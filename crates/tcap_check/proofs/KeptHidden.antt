@@ -1,0 +1,435 @@
+-- The listed closings and expiries of a gap, over what is kept, are those of the replay.
+use Rattle.std.proofs.Common.{◌≡◌, ◌≤◌, ◌<◌, arith, ℕ, ℤ, zero, suc, ◌+◌, ◌==◌, Bool, true, false, cond, List, [], ◌∷◌, map, drop, length, Option, Some, None, Result, Ok, Err, refl, sym, ap, ◌∙◌, append-nil}
+use Rattle.std.specs.Prelude.{◌||◌, filter, nat_lt, ok_or, option_map, slice_get}
+use Rattle.std.specs.List.{AllByRecursion, list_any}
+use Rattle.std.specs.Result.{result_ok}
+use Rattle.std.proofs.lemmas.Bool.{eq-eqb, eqb-true, le-ltb, lt-ltb}
+use Rattle.std.proofs.lemmas.List.{take_all}
+use Rattle.std.proofs.lemmas.Option.{slice_get-map, slice_get_within}
+use Rattle.tcap_parts.specs.declared.component.Component.{Component}
+use Rattle.tcap_msg.specs.declared.message.Message.{Message}
+use Rattle.tcap_msg.specs.declared.message.Message.TheVariants.{Unidirectional, Begin, Continue, End as EndMessage, Abort}
+use Rattle.tcap_msg.specs.Parts.{components_in}
+use Rattle.tcap_record.specs.declared.entry.End.{End as Side}
+use Rattle.tcap_end.specs.declared.fault.EndFault.{EndFault}
+use Rattle.tcap_end.specs.declared.fault.EndFault.TheVariants as faults
+use Rattle.tcap_end.specs.declared.half.HalfName.{HalfName}
+use Rattle.tcap_end.specs.declared.half.HalfName.TheVariants as names
+use Rattle.tcap_end.specs.End.{End}
+use Rattle.tcap_end.specs.Hidden.{close, expire}
+use Rattle.tcap_end.specs.Step.{◌>>=◌}
+use Rattle.tcap_end.specs.Table.{Table}
+use Rattle.tcap_check.specs.World.{Item, Sent, end_at, is_side, with_end}
+use Rattle.tcap_check.specs.Run.{Event, Closes, Expires, then_so, where_so}
+use Rattle.tcap_check.specs.Noted.{Noted}
+use Rattle.tcap_check.specs.declared.certificate.Closing.{Closing}
+use Rattle.tcap_check.specs.declared.certificate.Expiry.{Expiry}
+use Rattle.tcap_check.specs.Certificate.{Certificate}
+use Rattle.tcap_check.specs.declared.fault.CheckFault.{CheckFault}
+use Rattle.tcap_check.specs.declared.fault.Reason.TheVariants.{FateRange, HiddenRefused}
+use Rattle.tcap_check.specs.declared.outline.Outline.TheVariants as outlines
+use Rattle.tcap_check.specs.Follows.{closing_by, closing_event, expiry_by, expiry_event, has_quiet, invoke_id, named_entry, originating}
+use Rattle.tcap_check.specs.Replayed.{Replay, closings_replayed, expiries_replayed, fault_at, happens, next_entry, with_step}
+use Rattle.tcap_check.specs.Outlines.{begins, half_closed, half_closed_by, invocation_ended, invocation_ended_by, is_named, outline_named, outline_of, outlines_from, since_from}
+use Rattle.tcap_check.specs.Progress.{closing_kept, closings_kept, end_moved, expiries_kept, expiry_kept, half_closes, invocation_ends}
+use Rattle.tcap_check.specs.Checking.{map_ok, progress_of}
+use Rattle.tcap_check.proofs.KeptBasics.{end_kept, end_step_is, then_is}
+use Rattle.tcap_check.proofs.ListLaws.{all_weaker}
+use Rattle.tcap_check.proofs.ReplayLaws.{closings_replay, expiries_replay}
+
+pub outlines_count : (c : Certificate) (n : ℕ) (items : List Item) → length (outlines_from c n items) ≡ length items
+outlines_count c n [] = refl
+outlines_count c n (item ∷ items) = ap suc (outlines_count c (n + 1) items)
+
+-- ---- entries that are named
+
+-- What is kept of an entry.
+outline_at : (c : Certificate) (n i at : ℕ) (items : List Item) → n + i ≡ at
+    → slice_get (outlines_from c n items) i ≡ option_map (outline_of (is_named c at)) (slice_get items i)
+outline_at c n i at [] is = refl
+outline_at c n zero at (item ∷ items) is =
+    let same : n ≡ at = omega (arith, is) in ap (λ (k : ℕ). Some (outline_of (is_named c k) item)) same
+outline_at c n (suc i) at (item ∷ items) is = outline_at c (n + 1) i at items (omega (arith, is))
+
+-- The number behind the last mark does not fall,
+since_rises : (since n : ℕ) (items : List Item) → since ≤ n → since ≤ since_from since n items
+since_rises since n [] within = omega arith
+since_rises since n (Sent side message ∷ items) within = since_rises since (n + 1) items (omega (arith, within))
+since_rises since n (Item.Quiet ∷ items) within =
+    let rest = since_rises (n + 1) (n + 1) items (omega arith) in omega (arith, rest, within)
+
+-- and is above an entry before these items where one of them is a mark.
+since_behind : (at since n : ℕ) (items : List Item) → since ≤ at → at < n
+    → nat_lt at (since_from since n items) ≡ has_quiet items
+since_behind at since n [] not_above before = le-ltb at since not_above
+since_behind at since n (Sent side message ∷ items) not_above before =
+    since_behind at since (n + 1) items not_above (omega (arith, before))
+since_behind at since n (Item.Quiet ∷ items) not_above before =
+    let rest = since_rises (n + 1) (n + 1) items (omega arith) in
+    lt-ltb at (since_from (n + 1) (n + 1) items) (omega (arith, rest, before))
+
+-- So it is above an entry where a mark stands from there on.
+since_is : (at since n i : ℕ) (items : List Item) → n + i ≡ at → since ≤ n
+    → nat_lt at (since_from since n items) ≡ has_quiet (drop i items)
+since_is at since n zero [] is within = le-ltb at since (omega (arith, is, within))
+since_is at since n (suc i) [] is within = le-ltb at since (omega (arith, is, within))
+since_is at since n zero (Sent side message ∷ items) is within =
+    since_behind at since (n + 1) items (omega (arith, is, within)) (omega (arith, is))
+since_is at since n zero (Item.Quiet ∷ items) is within =
+    let rest = since_rises (n + 1) (n + 1) items (omega arith) in
+    lt-ltb at (since_from (n + 1) (n + 1) items) (omega (arith, rest, is))
+since_is at since n (suc i) (Sent side message ∷ items) is within =
+    since_is at since (n + 1) i items (omega (arith, is)) (omega (arith, within))
+since_is at since n (suc i) (Item.Quiet ∷ items) is within =
+    since_is at (n + 1) (n + 1) i items (omega (arith, is)) (omega arith)
+
+where_none : {A : Type 0} (b : Bool) → where_so b (let o : Option A = None in o) ≡ None
+where_none true = refl
+where_none false = refl
+
+-- An entry that is there stands before the end.
+there_before : (items : List Item) (i : ℕ) → where_so (nat_lt i (length items)) (slice_get items i) ≡ slice_get items i
+there_before items i = by (slice_get items i) refl
+  where
+    by : (o : Option Item) → slice_get items i ≡ o → where_so (nat_lt i (length items)) o ≡ o
+    by None e = where_none (nat_lt i (length items))
+    by (Some item) e = rw (lt-ltb i (length items) (slice_get_within items i item e)) refl
+
+-- What is kept of an entry that is named in the gap behind the last.
+named_is : (c : Certificate) (items : List Item) (gap entry : ℕ) → gap ≡ length items → is_named c entry ≡ true
+    → outline_named (outlines_from c 0 items) (since_from 0 0 items) entry
+    ≡ option_map (outline_of true) (named_entry items gap entry)
+named_is c items gap entry last named =
+    ap (λ (b : Bool). cond b None (slice_get (outlines_from c 0 items) entry))
+    (since_is entry 0 0 entry items (omega arith) (omega arith))
+    ∙ by (has_quiet (drop entry items)) ∙ ap (option_map (outline_of true)) (sym all)
+  where
+    all : named_entry items gap entry
+        ≡ cond (has_quiet (drop entry items)) None (slice_get items entry)
+    all = rw (last, take_all (length items) items (omega arith), there_before items entry) refl
+
+    found : slice_get (outlines_from c 0 items) entry ≡ option_map (outline_of true) (slice_get items entry)
+    found = outline_at c 0 entry entry items (omega arith)
+        ∙ ap (λ (b : Bool). option_map (outline_of b) (slice_get items entry)) named
+
+    by : (b : Bool) → cond b None (slice_get (outlines_from c 0 items) entry)
+        ≡ option_map (outline_of true) (cond b None (slice_get items entry))
+    by true = refl
+    by false = found
+
+-- ---- what is listed names an entry
+
+-- What holds of each holds of each that passes a test, and that it passes.
+each_passing : {A : Type 0} (P : A → Type 0) (p : A → Bool) (xs : List A) → AllByRecursion P xs
+    → AllByRecursion (λ x. (p x ≡ true) × P x) (filter p xs)
+each_passing P p [] all = tt
+each_passing P p (x ∷ xs) all = by (p x) refl (each_passing P p xs all.1)
+  where
+    by : (b : Bool) → p x ≡ b → AllByRecursion (λ y. (p y ≡ true) × P y) (filter p xs)
+        → AllByRecursion (λ y. (p y ≡ true) × P y) (cond b (x ∷ filter p xs) (filter p xs))
+    by true e rest = ((e, all.0), rest)
+    by false e rest = rest
+
+-- One of two that is so is enough.
+so_or : (a b : Bool) → b ≡ true → (a || b) ≡ true
+so_or true b is = refl
+so_or false b is = is
+
+or_so : (a b : Bool) → a ≡ true → (a || b) ≡ true
+or_so true b is = refl
+or_so false b is = cc
+
+-- Each of a list is one of the list.
+each_any : {A : Type 0} (entry : A → ℕ) (xs : List A)
+    → AllByRecursion (λ x. list_any (λ y. entry y == entry x) xs ≡ true) xs
+each_any entry [] = tt
+each_any entry (x ∷ xs) = (
+  or_so (entry x == entry x) (list_any (λ y. entry y == entry x) xs) (eq-eqb (entry x) (entry x) refl),
+  all_weaker (λ y. list_any (λ z. entry z == entry y) xs ≡ true)
+      (λ y. list_any (λ z. entry z == entry y) (x ∷ xs) ≡ true) xs
+      (λ y is. so_or (entry x == entry y) (list_any (λ z. entry z == entry y) xs) is) (each_any entry xs),
+)
+
+-- in that gap, and of an entry that is named
+abbrev IsListed : Certificate → ℕ → ℕ → ℕ → Type 0
+IsListed c count gap entry = (gap ≡ count) × (is_named c entry ≡ true)
+
+-- What is listed for a gap is so.
+closings_listed : (c : Certificate) (count : ℕ)
+    → AllByRecursion (λ (x : Closing). IsListed c count x.gap x.entry) (filter (λ x. x.gap == count) c.close)
+closings_listed c count =
+    all_weaker (λ (x : Closing). ((x.gap == count) ≡ true)
+    × (list_any (λ (y : Closing). y.entry == x.entry) c.close ≡ true))
+    (λ (x : Closing). IsListed c count x.gap x.entry) (filter (λ (x : Closing). x.gap == count) c.close)
+    (λ x both. (
+      eqb-true x.gap count both.0,
+      or_so (list_any (λ (y : Closing). y.entry == x.entry) c.close)
+          (list_any (λ (y : Expiry). y.entry == x.entry) c.expire) both.1,
+    ))
+    (each_passing (λ (x : Closing). list_any (λ (y : Closing). y.entry == x.entry) c.close ≡ true)
+    (λ (x : Closing). x.gap == count) c.close
+    (each_any (λ (x : Closing). x.entry) c.close))
+
+expiries_listed : (c : Certificate) (count : ℕ)
+    → AllByRecursion (λ (x : Expiry). IsListed c count x.gap x.entry) (filter (λ x. x.gap == count) c.expire)
+expiries_listed c count =
+    all_weaker (λ (x : Expiry). ((x.gap == count) ≡ true)
+    × (list_any (λ (y : Expiry). y.entry == x.entry) c.expire ≡ true))
+    (λ (x : Expiry). IsListed c count x.gap x.entry) (filter (λ (x : Expiry). x.gap == count) c.expire)
+    (λ x both. (
+      eqb-true x.gap count both.0,
+      so_or (list_any (λ (y : Closing). y.entry == x.entry) c.close)
+          (list_any (λ (y : Expiry). y.entry == x.entry) c.expire) both.1,
+    ))
+    (each_passing (λ (x : Expiry). list_any (λ (y : Expiry). y.entry == x.entry) c.expire ≡ true)
+    (λ (x : Expiry). x.gap == count) c.expire
+    (each_any (λ (x : Expiry). x.entry) c.expire))
+
+-- ---- steps
+
+-- A step of an end alone.
+end_is : (c : Certificate) (side : Side) (event : Event) (fault : CheckFault) (r : Replay) (step : Result End EndFault)
+    → end_moved side fault (progress_of c r) step
+    ≡ map_ok (progress_of c) (ok_or (option_map (with_step event r)
+    (option_map (λ e. with_end side e r.world) (result_ok step))) fault)
+end_is c side event fault r (Ok e) = ap Ok (sym (end_step_is c side event e r))
+end_is c side event fault r (Err reason) = refl
+
+-- What is kept of an end is the end.
+then_then : {A F : Type 0} (first : Result A F) (second : A → Result Replay F) (third : Replay → Result Replay F)
+    → (first >>= λ x. second x >>= third) ≡ ((first >>= second) >>= third)
+then_then (Ok x) second third = refl
+then_then (Err reason) second third = refl
+
+ok_behind : {F : Type 0} (step : Result Replay F) → (step >>= λ next. Ok next) ≡ step
+ok_behind (Ok next) = refl
+ok_behind (Err reason) = refl
+
+-- ---- closings
+
+-- A closing is of the half that what is kept of its entry names.
+closing_by_is : (x : Closing) (item : Item)
+    → closing_by x item ≡ option_map (Closes x.side) (half_closed_by x (outline_of true item))
+closing_by_is x (Sent sender (Unidirectional dialogue components)) = refl
+closing_by_is x (Sent sender (Begin otid dialogue components)) = refl
+closing_by_is x (Sent sender (Continue otid dtid dialogue components)) = refl
+closing_by_is x (Sent sender (EndMessage dtid dialogue components)) = refl
+closing_by_is x (Sent sender (Abort dtid reason)) = refl
+closing_by_is x Item.Quiet = refl
+
+-- What is listed of a closing names the same half in both.
+closing_named : (c : Certificate) (items : List Item) (x : Closing) → IsListed c (length items) x.gap x.entry
+    → closing_event items x ≡ option_map (Closes x.side)
+    (half_closed (outlines_from c 0 items) (since_from 0 0 items) x)
+closing_named c items x is = by (named_entry items x.gap x.entry)
+    ∙ ap (λ o. option_map (Closes x.side) (then_so o (half_closed_by x)))
+    (sym (named_is c items x.gap x.entry is.0 is.1))
+  where
+    by : (o : Option Item) → then_so o (closing_by x)
+        ≡ option_map (Closes x.side) (then_so (option_map (outline_of true) o) (half_closed_by x))
+    by None = refl
+    by (Some item) = closing_by_is x item
+
+-- one closing
+abbrev closing_replayed : Table → Certificate → Closing → Replay → Result Replay CheckFault
+closing_replayed table c x r = ok_or (closing_event r.world.sent x) (fault_at FateRange x.entry)
+    >>= λ event. happens table c event (HiddenRefused faults.CannotClose) x.entry r
+
+half_closes_is : (table : Table) (c : Certificate) (x : Closing) (name : HalfName) (r : Replay)
+    → half_closes table x name (progress_of c r)
+    ≡ map_ok (progress_of c) (happens table c (Closes x.side name) (HiddenRefused faults.CannotClose) x.entry r)
+half_closes_is table c x name r =
+    let fault = fault_at (HiddenRefused faults.CannotClose) x.entry in
+    ap (λ (e : End). end_moved x.side fault (progress_of c r) (close table e name)) (end_kept c x.side r)
+    ∙ end_is c x.side (Closes x.side name) fault r (close table (end_at x.side r.world) name)
+
+closing_is : (table : Table) (c : Certificate) (items : List Item) (x : Closing) (r : Replay)
+    → IsListed c (length items) x.gap x.entry
+    → r.world.sent ≡ items
+    → closing_kept table (outlines_from c 0 items) (since_from 0 0 items) x (progress_of c r)
+    ≡ map_ok (progress_of c) (closing_replayed table c x r)
+closing_is table c items x r is sent =
+    by (half_closed (outlines_from c 0 items) (since_from 0 0 items) x)
+    ∙ ap (λ o. map_ok (progress_of c) (ok_or o none >>= step))
+    (sym (ap (λ s. closing_event s x) sent ∙ closing_named c items x is))
+  where
+    none : CheckFault
+    none = fault_at FateRange x.entry
+
+    step : Event → Result Replay CheckFault
+    step event = happens table c event (HiddenRefused faults.CannotClose) x.entry r
+
+    by : (o : Option HalfName) → (ok_or o none >>= λ name. half_closes table x name (progress_of c r))
+        ≡ map_ok (progress_of c) (ok_or (option_map (Closes x.side) o) none >>= step)
+    by None = refl
+    by (Some name) = half_closes_is table c x name r
+
+-- Closings that are listed for the gap behind these items.
+closings_from : (table : Table) (c : Certificate) (items : List Item) (listed : List Closing) (r : Replay)
+    → AllByRecursion (λ (x : Closing). IsListed c (length items) x.gap x.entry) listed → r.world.sent ≡ items
+    → closings_kept table (outlines_from c 0 items) (since_from 0 0 items) listed (progress_of c r)
+    ≡ map_ok (progress_of c) (closings_replayed table c listed r)
+closings_from table c items [] r all sent = refl
+closings_from table c items (x ∷ more) r all sent =
+    ap (λ s. s >>= closings_kept table (outlines_from c 0 items) (since_from 0 0 items) more)
+    (closing_is table c items x r all.0 sent)
+    ∙ then_is (progress_of c) (closing_replayed table c x r)
+    (closings_kept table (outlines_from c 0 items) (since_from 0 0 items) more)
+    (closings_replayed table c more) (λ next is. closings_from table c items more next all.1 (still next is ∙ sent))
+    ∙ ap (map_ok (progress_of c))
+    (sym (then_then (ok_or (closing_event r.world.sent x) (fault_at FateRange x.entry))
+    (λ event. happens table c event (HiddenRefused faults.CannotClose) x.entry r) (closings_replayed table c more)))
+  where
+    alone : closings_replayed table c (x ∷ []) r ≡ closing_replayed table c x r
+    alone = then_then (ok_or (closing_event r.world.sent x) (fault_at FateRange x.entry))
+        (λ event. happens table c event (HiddenRefused faults.CannotClose) x.entry r) (λ next. Ok next)
+        ∙ ok_behind (closing_replayed table c x r)
+
+    still : (next : Replay) → closing_replayed table c x r ≡ Ok next → next.world.sent ≡ r.world.sent
+    still next is =
+        (closings_replay table c (x ∷ []) r.world.sent r next refl (alone ∙ is)).2.sent ∙ append-nil r.world.sent
+
+pub closings_are : (table : Table) (c : Certificate) (r : Replay)
+    → closings_kept table (outlines_from c 0 r.world.sent) (since_from 0 0 r.world.sent) (filter (λ x. x.gap == next_entry r) c.close) (progress_of c r)
+    ≡ map_ok (progress_of c) (closings_replayed table c (filter (λ x. x.gap == next_entry r) c.close) r)
+closings_are table c r =
+    closings_from table c r.world.sent (filter (λ x. x.gap == next_entry r) c.close) r
+    (closings_listed c (next_entry r)) refl
+
+-- ---- expiries
+
+-- the expiry of what is named
+abbrev expires_by : Expiry → HalfName × ℤ → Event
+expires_by x invocation = Expires x.side invocation.0 invocation.1
+
+-- what is noted of a message with that originating ID
+abbrev noted : Message → List ℕ → Noted
+noted message otid = record { begins = begins message; otid = otid; invokes = map invoke_id (components_in message) }
+
+-- An expiry is of the invocation that what is kept of its entry names.
+expiry_by_is : (x : Expiry) (item : Item)
+    → expiry_by x item ≡ option_map (expires_by x) (invocation_ended_by x (outline_of true item))
+expiry_by_is x (Sent sender message) = by (originating message)
+  where
+    id_is : (o : Option Component) → then_so o invoke_id ≡ then_so (option_map invoke_id o) (λ id. id)
+    id_is None = refl
+    id_is (Some component) = refl
+
+    inner : (otid : List ℕ) (b : Bool) (o : Option ℤ)
+        → where_so b (then_so o (λ id. Some (Expires x.side (names.Own otid) id)))
+        ≡ option_map (expires_by x) (where_so b (then_so o (λ id. Some (names.Own otid, id))))
+    inner otid true None = refl
+    inner otid true (Some id) = refl
+    inner otid false o = refl
+
+    same : then_so (slice_get (components_in message) x.component) invoke_id
+        ≡ then_so (slice_get (map invoke_id (components_in message)) x.component) (λ id. id)
+    same = id_is (slice_get (components_in message) x.component)
+        ∙ ap (λ o. then_so o (λ id. id)) (sym (slice_get-map invoke_id (components_in message) x.component))
+
+    by : (o : Option (List ℕ))
+        → where_so (is_side x.side sender) (then_so o
+        (λ otid. then_so (then_so (slice_get (components_in message) x.component) invoke_id)
+        (λ id. Some (Expires x.side (names.Own otid) id))))
+        ≡ option_map (expires_by x) (invocation_ended_by x (outlines.Sent sender
+        (option_map (noted message) o)))
+    by None = where_none (is_side x.side sender)
+    by (Some otid) =
+        ap (λ o. where_so (is_side x.side sender) (then_so o (λ id. Some (Expires x.side (names.Own otid) id)))) same
+        ∙ inner otid (is_side x.side sender) (then_so (slice_get (map invoke_id (components_in message)) x.component)
+        (λ id. id))
+expiry_by_is x Item.Quiet = refl
+
+-- What is listed of an expiry names the same invocation in both.
+expiry_named : (c : Certificate) (items : List Item) (x : Expiry) → IsListed c (length items) x.gap x.entry
+    → expiry_event items x ≡ option_map (expires_by x)
+    (invocation_ended (outlines_from c 0 items) (since_from 0 0 items) x)
+expiry_named c items x is = by (named_entry items x.gap x.entry)
+    ∙ ap (λ o. option_map (expires_by x) (then_so o (invocation_ended_by x)))
+    (sym (named_is c items x.gap x.entry is.0 is.1))
+  where
+    by : (o : Option Item) → then_so o (expiry_by x)
+        ≡ option_map (expires_by x) (then_so (option_map (outline_of true) o) (invocation_ended_by x))
+    by None = refl
+    by (Some item) = expiry_by_is x item
+
+-- one expiry
+abbrev expiry_replayed : Table → Certificate → Expiry → Replay → Result Replay CheckFault
+expiry_replayed table c x r = ok_or (expiry_event r.world.sent x) (fault_at FateRange x.entry)
+    >>= λ event. happens table c event (HiddenRefused faults.CannotExpire) x.entry r
+
+invocation_ends_is : (table : Table) (c : Certificate) (x : Expiry) (invocation : HalfName × ℤ) (r : Replay)
+    → invocation_ends table x invocation (progress_of c r)
+    ≡ map_ok (progress_of c) (happens table c (expires_by x invocation) (HiddenRefused faults.CannotExpire) x.entry r)
+invocation_ends_is table c x invocation r =
+    let fault = fault_at (HiddenRefused faults.CannotExpire) x.entry in
+    ap (λ (e : End). end_moved x.side fault (progress_of c r) (expire table e invocation.0 invocation.1))
+    (end_kept c x.side r)
+    ∙ end_is c x.side (expires_by x invocation) fault r (expire table (end_at x.side r.world) invocation.0 invocation.1)
+
+expiry_is : (table : Table) (c : Certificate) (items : List Item) (x : Expiry) (r : Replay)
+    → IsListed c (length items) x.gap x.entry
+    → r.world.sent ≡ items
+    → expiry_kept table (outlines_from c 0 items) (since_from 0 0 items) x (progress_of c r)
+    ≡ map_ok (progress_of c) (expiry_replayed table c x r)
+expiry_is table c items x r is sent =
+    by (invocation_ended (outlines_from c 0 items) (since_from 0 0 items) x)
+    ∙ ap (λ o. map_ok (progress_of c) (ok_or o none >>= step))
+    (sym (ap (λ s. expiry_event s x) sent ∙ expiry_named c items x is))
+  where
+    none : CheckFault
+    none = fault_at FateRange x.entry
+
+    step : Event → Result Replay CheckFault
+    step event = happens table c event (HiddenRefused faults.CannotExpire) x.entry r
+
+    by : (o : Option (HalfName × ℤ))
+        → (ok_or o none >>= λ invocation. invocation_ends table x invocation (progress_of c r))
+        ≡ map_ok (progress_of c) (ok_or (option_map (expires_by x) o) none >>= step)
+    by None = refl
+    by (Some invocation) = invocation_ends_is table c x invocation r
+
+-- Expiries that are listed for it.
+expiries_from : (table : Table) (c : Certificate) (items : List Item) (listed : List Expiry) (r : Replay)
+    → AllByRecursion (λ (x : Expiry). IsListed c (length items) x.gap x.entry) listed → r.world.sent ≡ items
+    → expiries_kept table (outlines_from c 0 items) (since_from 0 0 items) listed (progress_of c r)
+    ≡ map_ok (progress_of c) (expiries_replayed table c listed r)
+expiries_from table c items [] r all sent = refl
+expiries_from table c items (x ∷ more) r all sent =
+    ap (λ s. s >>= expiries_kept table (outlines_from c 0 items) (since_from 0 0 items) more)
+    (expiry_is table c items x r all.0 sent)
+    ∙ then_is (progress_of c) (expiry_replayed table c x r)
+    (expiries_kept table (outlines_from c 0 items) (since_from 0 0 items) more)
+    (expiries_replayed table c more) (λ next is. expiries_from table c items more next all.1 (still next is ∙ sent))
+    ∙ ap (map_ok (progress_of c))
+    (sym (then_then (ok_or (expiry_event r.world.sent x) (fault_at FateRange x.entry))
+    (λ event. happens table c event (HiddenRefused faults.CannotExpire) x.entry r) (expiries_replayed table c more)))
+  where
+    alone : expiries_replayed table c (x ∷ []) r ≡ expiry_replayed table c x r
+    alone = then_then (ok_or (expiry_event r.world.sent x) (fault_at FateRange x.entry))
+        (λ event. happens table c event (HiddenRefused faults.CannotExpire) x.entry r) (λ next. Ok next)
+        ∙ ok_behind (expiry_replayed table c x r)
+
+    still : (next : Replay) → expiry_replayed table c x r ≡ Ok next → next.world.sent ≡ r.world.sent
+    still next is =
+        (expiries_replay table c (x ∷ []) r.world.sent r next refl (alone ∙ is)).2.sent ∙ append-nil r.world.sent
+
+pub expiries_are : (table : Table) (c : Certificate) (r : Replay)
+    → expiries_kept table (outlines_from c 0 r.world.sent) (since_from 0 0 r.world.sent) (filter (λ x. x.gap == next_entry r) c.expire) (progress_of c r)
+    ≡ map_ok (progress_of c) (expiries_replayed table c (filter (λ x. x.gap == next_entry r) c.expire) r)
+expiries_are table c r =
+    expiries_from table c r.world.sent (filter (λ x. x.gap == next_entry r) c.expire) r
+    (expiries_listed c (next_entry r)) refl
+
+-- They send nothing.
+pub closings_send_nothing : (table : Table) (c : Certificate) (r next : Replay)
+    → closings_replayed table c (filter (λ x. x.gap == next_entry r) c.close) r ≡ Ok next → next.world.sent ≡ r.world.sent
+closings_send_nothing table c r next is =
+    (closings_replay table c (filter (λ x. x.gap == next_entry r) c.close) r.world.sent r next refl is).2.sent
+    ∙ append-nil r.world.sent
+
+pub expiries_send_nothing : (table : Table) (c : Certificate) (gap : ℕ) (r next : Replay)
+    → expiries_replayed table c (filter (λ x. x.gap == gap) c.expire) r ≡ Ok next → next.world.sent ≡ r.world.sent
+expiries_send_nothing table c gap r next is =
+    (expiries_replay table c (filter (λ x. x.gap == gap) c.expire) r.world.sent r next refl is).2.sent
+    ∙ append-nil r.world.sent

@@ -1,0 +1,112 @@
+-- A record that is checked, entry by entry.
+use Rattle.std.proofs.Common.{◌≡◌, ◌<◌, ◌≤◌, get_or, ℕ, ◌+◌, suc, zero, List, [], ◌∷◌, ◌++◌, map, take, drop, length, Some, Result, Ok, Err, refl, sym, ap, subst, ◌∙◌, append_assoc, append-nil, arith}
+use Rattle.std.specs.Prelude.{slice_get}
+use Rattle.std.proofs.lemmas.List.{map-append, take-append-drop, take_all}
+use Rattle.std.proofs.lemmas.Option.{slice_get-get_or}
+use Rattle.tcap_record.specs.declared.entry.Entry.{Entry}
+use Rattle.tcap_end.specs.Table.{Table}
+use Rattle.tcap_end.specs.Step.{◌>>=◌}
+use Rattle.tcap_check.specs.declared.checker.Report.{Report}
+use Rattle.tcap_check.specs.declared.fault.CheckFault.{CheckFault}
+use Rattle.tcap_check.specs.declared.fault.Reason.{Reason}
+use Rattle.tcap_check.specs.World.{Item}
+use Rattle.tcap_check.specs.Run.{Event, IsLawful}
+use Rattle.tcap_check.specs.Certificate.{Certificate}
+use Rattle.tcap_check.specs.Entries.{AreItems, item_of}
+use Rattle.tcap_check.specs.Replayed.{Replay, replayed}
+use Rattle.tcap_check.specs.Checking.{Checking, Kept, Took, answer_of, ended, kept_of, map_ok, reported, run_of, taken, taken_next}
+use Rattle.tcap_check.proofs.KeptEntries.{replayed_is, taken_more}
+use Rattle.tcap_check.proofs.CheckerLaws.{ends_so}
+use Rattle.tcap_check.proofs.GivenRuns.{gives}
+
+-- ---- a refusal before the end
+
+-- What is refused among the first entries is refused with more.
+taken_short : (table : Table) (c : Certificate) (entries more : List (Result Item Reason)) (fault : CheckFault)
+    → taken table c entries ≡ Err fault → taken table c (entries ++ more) ≡ Err fault
+taken_short table c entries [] fault is = subst (λ (x : List (Result Item Reason)). taken table c x ≡ Err fault) (sym (append-nil entries)) is
+taken_short table c entries (entry ∷ more) fault is =
+    subst (λ (x : List (Result Item Reason)). taken table c x ≡ Err fault) (append_assoc entries (entry ∷ []) more)
+    (taken_short table c (entries ++ entry ∷ []) more fault
+    (taken_more table c entries entry ∙ ap (λ (o : Result Replay CheckFault). o >>= taken_next table c entry) is))
+
+-- A checker that refuses stands for a replay that is refused.
+refused_is : (s : Checking) (entries : List (Result Item Reason)) (fault : CheckFault) → Took s entries → s.so_far ≡ Err fault
+    → taken s.table s.certificate entries ≡ Err fault
+refused_is s entries fault took is = by (taken s.table s.certificate entries) (sym is ∙ took)
+  where
+    by : (o : Result Replay CheckFault) → (let a : Result Kept CheckFault = Err fault in a) ≡ map_ok (kept_of s.certificate) o → o ≡ Err fault
+    by (Ok r) same = cc
+    by (Err other) same = let is : fault ≡ other = cc in ap (λ (f : CheckFault). let a : Result Replay CheckFault = Err f in a) (sym is)
+
+pub refused_short : (s : Checking) (entries more all : List (Result Item Reason)) (fault : CheckFault) → Took s entries
+    → s.so_far ≡ Err fault → entries ++ more ≡ all
+    → (let report : Result Report CheckFault = Err fault in report) ≡ map_ok reported (run_of s.table s.certificate all)
+refused_short s entries more all fault took is whole =
+    let short = taken_short s.table s.certificate entries more fault (refused_is s entries fault took is) in
+    let at : taken s.table s.certificate all ≡ Err fault = ap (taken s.table s.certificate) (sym whole) ∙ short in
+    let behind = replayed_is s.table s.certificate all ∙ ap (λ (o : Result Replay CheckFault). o >>= ended s.table s.certificate) at in
+    sym (ap (map_ok reported) (ends_so s.table s.certificate all (Err fault) behind))
+
+-- ---- a run
+
+-- A report is of a run of two lawful ends that sends the entries.
+pub lawful_is : (table : Table) (c : Certificate) (entries : List Entry) (report : Report)
+    → map_ok reported (replayed table c entries) ≡ Ok report
+    → (items : List Item) × AreItems entries items × IsLawful items table report.moves
+lawful_is table c entries report is = by (replayed table c entries) refl is
+  where
+    by : (o : Result (List Event) CheckFault) → replayed table c entries ≡ o → map_ok reported o ≡ Ok report
+        → (items : List Item) × AreItems entries items × IsLawful items table report.moves
+    by (Err fault) at e = cc
+    by (Ok events) at e =
+        let given = gives table c entries events at in
+        let same : (let r : Report = reported events in r) ≡ report = cc in
+        (given.items, given.are, (events, given.run, given.keeps, ap (λ (r : Report). r.moves) same))
+
+-- ---- places
+
+-- the entries up to a place and that one
+up_to : (entries : List Entry) (place : ℕ) (entry : Entry) → slice_get entries place ≡ Some entry
+    → take (suc place) entries ≡ take place entries ++ entry ∷ []
+up_to [] place entry is = cc
+up_to (first ∷ more) zero entry is = let same : first ≡ entry = cc in ap (λ (x : Entry). x ∷ []) same
+up_to (first ∷ more) (suc place) entry is = ap (λ (x : List Entry). first ∷ x) (up_to more place entry is)
+
+pub taken_so_far : (entries : List Entry) (place : ℕ) (entry : Entry) → slice_get entries place ≡ Some entry
+    → map item_of (take (place + 1) entries) ≡ map item_of (take place entries) ++ item_of entry ∷ []
+taken_so_far entries place entry is =
+    let next : place + 1 ≡ suc place = omega arith in
+    ap (λ (n : ℕ). map item_of (take n entries)) next ∙ ap (map item_of) (up_to entries place entry is)
+    ∙ map-append item_of (take place entries) (entry ∷ [])
+
+pub whole_is : (entries : List Entry) (place : ℕ)
+    → map item_of (take place entries) ++ map item_of (drop place entries) ≡ map item_of entries
+whole_is entries place =
+    sym (map-append item_of (take place entries) (drop place entries)) ∙ ap (map item_of) (take-append-drop place entries)
+
+pub taken_at : (entries lent : List Entry) (place : ℕ) (entry : Entry) → lent ≡ entries → place < length lent
+    → entry ≡ get_or lent place entry
+    → map item_of (take (place + 1) entries) ≡ map item_of (take place entries) ++ item_of entry ∷ []
+taken_at entries lent place entry same less is =
+    taken_so_far entries place entry
+    (ap (λ (x : List Entry). slice_get x place) (sym same) ∙ slice_get-get_or lent place entry less ∙ ap (λ (x : Entry). Some x) (sym is))
+
+-- ---- answers
+
+pub same_fault : (fault other : CheckFault) → (let a : Result (Unit {0}) CheckFault = Err fault in a) ≡ Err other
+    → (let b : Result Report CheckFault = Err fault in b) ≡ Err other
+same_fault fault other is =
+    let same : fault ≡ other = cc in ap (λ (f : CheckFault). let b : Result Report CheckFault = Err f in b) same
+
+pub answered_err : (o : Result Kept CheckFault) (fault : CheckFault) → answer_of o ≡ Err fault → o ≡ Err fault
+answered_err (Ok k) fault is = cc
+answered_err (Err other) fault is =
+    let same : other ≡ fault = cc in ap (λ (f : CheckFault). let b : Result Kept CheckFault = Err f in b) same
+
+pub is_report : (result : Result Report CheckFault) (report : Report) (fault : CheckFault) → result ≡ Ok report → result ≡ Err fault → ⊥
+is_report result report fault is other = cc
+
+pub all_taken : (entries lent : List Entry) (place : ℕ) → lent ≡ entries → length lent ≤ place → take place entries ≡ entries
+all_taken entries lent place same most =
+    let all : length entries ≤ place = subst (λ (x : List Entry). length x ≤ place) same most in take_all place entries all

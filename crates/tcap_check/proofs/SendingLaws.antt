@@ -1,0 +1,94 @@
+-- The steps of a checker by which an end sends, or its provider answers.
+use Rattle.std.proofs.Common.{◌≡◌, ℕ, suc, ℤ, ◌+◌, ◌≤◌, arith, true, false, List, [], ◌∷◌, length, Option, Some, None, Result, Ok, Err, refl, sym, ap, ◌∙◌}
+use Rattle.std.specs.Prelude.{filter_map}
+use Rattle.tcap_parts.specs.declared.component.Component.{Component}
+use Rattle.tcap_msg.specs.declared.message.Message.{Message}
+use Rattle.tcap_record.specs.declared.entry.End.{End as Side}
+use Rattle.tcap_record.specs.declared.entry.End.TheVariants as sides
+use Rattle.tcap_end.specs.declared.half.HalfName.{HalfName}
+use Rattle.tcap_end.specs.Table.{Table}
+use Rattle.tcap_check.specs.declared.certificate.Fate.{Fate}
+use Rattle.tcap_check.specs.declared.fault.Reason.TheVariants.{BadReply}
+use Rattle.tcap_check.specs.declared.progress.Progress.{Progress}
+use Rattle.tcap_check.specs.declared.progress.Waiting.{Waiting}
+use Rattle.tcap_check.specs.World.{other}
+use Rattle.tcap_check.specs.Follows.{invoke_id}
+use Rattle.tcap_check.specs.Replayed.{fault_at}
+use Rattle.tcap_end.specs.declared.fault.EndFault.{EndFault}
+use Rattle.tcap_end.specs.End.{End}
+use Rattle.tcap_end.specs.Hidden.{expire}
+use Rattle.tcap_check.specs.Progress.{IsTakenFrom, end_tried, moved, or_still, seat_at, with_seat_end, first_answered, first_may_be_answered, ids_ended_over, invoked_ended, sent_by}
+
+-- A provider that may not answer is refused,
+pub not_answered : (side : Side) (fate : Fate) (number : ℕ) (abort : Message) (taken : ℕ) (messages : List Waiting) (p : Progress)
+    → first_may_be_answered side abort taken messages p ≡ false
+    → first_answered side fate number abort taken messages p ≡ Err (fault_at BadReply number)
+not_answered side fate number abort taken [] p is = refl
+not_answered side fate number abort taken (first ∷ more) p is = rw is refl
+
+-- and one that may takes the first message away.
+pub answered : (side : Side) (fate : Fate) (number : ℕ) (abort : Message) (taken : ℕ) (messages : List Waiting)
+    (p : Progress) (first : Option Waiting) (left : Progress) → first_may_be_answered side abort taken messages p ≡ true
+    → IsTakenFrom (other side) messages p first left
+    → first_answered side fate number abort taken messages p ≡ Ok (sent_by side fate number abort left)
+answered side fate number abort taken [] p first left is one = cc
+answered side fate number abort taken (m ∷ more) p first left is one = rw (is, one.1) refl
+
+-- ---- IDs that are invoked anew
+
+-- What is left of the components does to what is now what all of them do to what was; and so far each was one step at
+-- most.
+pub record Ends (table : Table) (side : Side) (half : Option HalfName) (all : List Component) (start : Progress)
+    (left : List Component) (now : Progress) : Type 0 where
+  pub same : ids_ended_over table side half (filter_map invoke_id left) now
+      ≡ ids_ended_over table side half (filter_map invoke_id all) start
+  pub room : now.moves + length left ≤ start.moves + length all
+
+pub ends_all : (table : Table) (side : Side) (half : Option HalfName) (all : List Component) (start : Progress)
+    → Ends table side half all start all start
+ends_all table side half all start = record { same = refl; room = omega arith }
+
+tried : (table : Table) (side : Side) (name : HalfName) (id : ℤ) (p : Progress) → (end_tried table side name id p).moves ≤ p.moves + 1
+tried table side name id p = by (expire table (seat_at side p).end name id)
+  where
+    sides_moves : (side : Side) (e : End) → (moved (with_seat_end side e p)).moves ≡ p.moves + 1
+    sides_moves sides.A e = refl
+    sides_moves sides.B e = refl
+
+    by : (o : Result End EndFault) → (or_still side p o).moves ≤ p.moves + 1
+    by (Ok e) = let is : (moved (with_seat_end side e p)).moves ≡ p.moves + 1 = sides_moves side e in omega (arith, is)
+    by (Err reason) = omega arith
+
+-- One component more.
+pub ends_more : {table : Table} {side : Side} {half : Option HalfName} {all left more : List Component} {start now : Progress} {component : Component}
+    → Ends table side half all start left now → left ≡ component ∷ more
+    → Ends table side half all start more (invoked_ended table side half (invoke_id component) now)
+ends_more {table} {side} {half} {all} {left} {more} {start} {now} {component} ends is = record {
+  same = by half (invoke_id component) refl ∙ ap (λ (x : List Component). ids_ended_over table side half (filter_map invoke_id x) now) (sym is) ∙ ends.same;
+  room = let counted : length left ≡ suc (length more) = ap length is in
+      let step : (invoked_ended table side half (invoke_id component) now).moves ≤ now.moves + 1 = one half (invoke_id component) in
+      omega (arith, counted, step, ends.room);
+}
+  where
+    one : (h : Option HalfName) (o : Option ℤ) → (invoked_ended table side h o now).moves ≤ now.moves + 1
+    one None o = omega arith
+    one (Some name) None = omega arith
+    one (Some name) (Some id) = tried table side name id now
+
+    by : (h : Option HalfName) (o : Option ℤ) → invoke_id component ≡ o
+        → ids_ended_over table side h (filter_map invoke_id more) (invoked_ended table side h o now)
+        ≡ ids_ended_over table side h (filter_map invoke_id (component ∷ more)) now
+    by None None e = refl
+    by None (Some id) e = refl
+    by (Some name) None e = rw e refl
+    by (Some name) (Some id) e = rw e refl
+
+pub ends_none : {table : Table} {side : Side} {half : Option HalfName} {all left : List Component} {start now : Progress}
+    → Ends table side half all start left now → left ≡ []
+    → now ≡ ids_ended_over table side half (filter_map invoke_id all) start
+ends_none {table} {side} {half} {all} {left} {start} {now} ends is =
+    by half ∙ ap (λ (x : List Component). ids_ended_over table side half (filter_map invoke_id x) now) (sym is) ∙ ends.same
+  where
+    by : (h : Option HalfName) → now ≡ ids_ended_over table side h [] now
+    by None = refl
+    by (Some name) = refl

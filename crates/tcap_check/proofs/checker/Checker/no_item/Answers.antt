@@ -1,0 +1,17 @@
+use Rattle.std.proofs.Common.{Option, None, sym, ap, ◌∙◌}
+use Rattle.tcap_check.specs.declared.fault.CheckFault.{CheckFault}
+use Rattle.tcap_check.specs.Checking.{Checking, so_far_of}
+use Rattle.tcap_check.specs.Ready.{kept_in}
+use Rattle.tcap_check.proofs.CheckerLaws.{stays, took_err, turned}
+use Rattle.tcap_check.proofs.checker.Checker.no_item.Goals as goal
+
+pub returns-in-Some-clause-took : goal.returns-in-Some-clause-took
+returns-in-Some-clause-took c =
+    stays c.args.self.now c.in-Some.fault _
+    (ap (λ (x : Checking). x.so_far) (sym c.self.view_is) ∙ ap (λ (o : Option CheckFault). so_far_of o (kept_in c.self.inside.replaying)) c.in-Some.is)
+
+pub returns-clause-took : goal.returns-clause-took
+returns-clause-took c =
+    let r = c.self.inside.replaying in
+    λ entries took. took_err r.table.now r.certificate.now (kept_in r) (kept_in r) _ c.refuse-fault.result c.refuse-fault.ensures entries
+    (turned c.args.self.now r.table.now r.certificate.now c.self.inside.fault None (kept_in r) (sym c.self.view_is) c.in_default.is entries took)

@@ -1,0 +1,12 @@
+-- the lists so far, and those of what is left
+use Rattle.std.proofs.Common.{◌≡◌, ◌<◌, ◌++◌, ℕ, drop}
+use Rattle.tcap_check.specs.Buckets.{count_lists, list_at}
+use Rattle.tcap_check.specs.Progress.{due_in}
+use Rattle.tcap_check.proofs.plan.due_by_gap.Given as goal
+
+abbrev pub invariant-loop-number : goal.invariant-loop-number
+invariant-loop-number l = record {
+  lists : (gap : ℕ) → gap < l.count
+      → list_at gap l.lists ++ due_in gap l.number (drop l.number l.fates) ≡ due_in gap 0 l.fates;
+  count : count_lists l.lists ≡ l.count;
+}

@@ -1,0 +1,12 @@
+-- the lists so far, and those of what is left
+use Rattle.std.proofs.Common.{◌≡◌, ◌<◌, ◌++◌, ℕ, drop}
+use Rattle.tcap_check.specs.Buckets.{count_lists, list_at}
+use Rattle.tcap_check.specs.Follows.{taken_by}
+use Rattle.tcap_check.proofs.plan.taken_by_entry.Given as goal
+
+abbrev pub invariant-loop-number : goal.invariant-loop-number
+invariant-loop-number l = record {
+  lists : (entry : ℕ) → entry < l.count
+      → list_at entry l.lists ++ taken_by entry l.number (drop l.number l.fates) ≡ taken_by entry 0 l.fates;
+  count : count_lists l.lists ≡ l.count;
+}

@@ -1,0 +1,11 @@
+-- what is left of the components does to the ends as they are what all do to what they were
+use Rattle.tcap_parts.specs.Meaning.{components_left}
+use Rattle.tcap_msg.specs.Parts.{components_in}
+use Rattle.tcap_check.specs.Follows.{invoking_half}
+use Rattle.tcap_check.proofs.SendingLaws.{Ends}
+use Rattle.tcap_check.proofs.progress.Progress.end_implied.Given as goal
+
+abbrev pub invariant-loop-component : goal.invariant-loop-component
+invariant-loop-component g l =
+    let message = g.M.MessageParts.meaning l.fn.message in
+    Ends l.table l.side (invoking_half message) (components_in message) l.fn.self (components_left l.component-iterator) l.self

@@ -1,0 +1,33 @@
+-- What holds of a checker between entries.
+use Rattle.std.specs.Prelude.{◌≡◌, ◌≤◌, ◌*◌, ◌^◌, length}
+use Rattle.tcap_check.specs.declared.checker.Replaying.{Replaying}
+use Rattle.tcap_check.specs.Checking.{Kept}
+use Rattle.tcap_check.specs.Plan.{IsPlan}
+
+abbrev pub kept_in : Replaying → Kept
+kept_in x = record { progress = x.progress; entries = x.entries.items; since = x.since }
+
+-- It goes by the certificate's plan; there is a fate for each entry so far; and there are at most so many steps for each.
+pub record IsReady (x : Replaying) : Type 0 where
+  pub plan : IsPlan x.certificate.now x.plan
+  pub count : length x.entries.items ≤ length x.certificate.now.fates
+  pub few : length x.certificate.now.fates ≤ 100000
+  pub room : x.progress.moves ≤ length x.entries.items * 2 ^ 68
+
+-- All but the progress is the same.
+pub record IsSameBesideEnds (x y : Replaying) : Type 0 where
+  pub alloc : y.alloc ≡ x.alloc
+  pub table : y.table ≡ x.table
+  pub certificate : y.certificate ≡ x.certificate
+  pub plan : y.plan ≡ x.plan
+  pub entries : y.entries ≡ x.entries
+  pub since : y.since ≡ x.since
+
+-- All but what is kept of entries is the same.
+pub record IsSameBesideEntries (x y : Replaying) : Type 0 where
+  pub alloc : y.alloc ≡ x.alloc
+  pub table : y.table ≡ x.table
+  pub certificate : y.certificate ≡ x.certificate
+  pub plan : y.plan ≡ x.plan
+  pub progress : y.progress ≡ x.progress
+  pub since : y.since ≡ x.since

@@ -1,0 +1,198 @@
+//! What a certificate says, by gap and by entry, and whether its numbers are in their ranges.
+
+ghost use Rattle.std.specs.Prelude.{◌≡◌, ◌<◌, ◌≤◌, ◌+◌, ℕ, ◌==◌, ◌||◌, filter, length, slice_get, map, IfOk, OnOk};
+ghost use Rattle.tcap_check.specs.Buckets.{count_lists, list_at};
+ghost use Rattle.tcap_check.specs.Outlines.{is_named};
+ghost use Rattle.tcap_check.specs.Plan.{IsPlan, flag_by};
+ghost use Rattle.tcap_check.specs.Progress.{due_in};
+ghost use Rattle.tcap_check.specs.Follows.{taken_by};
+ghost use Rattle.tcap_check.specs.Replayed.{all_fit, certificate_fits, fate_fits, fates_fit};
+
+use crate::buckets::Buckets;
+use crate::certificate::{Certificate, Closing, Expiry, Fate};
+use crate::fault::{CheckFault, Reason};
+use std::alloc::{AllocError, Global};
+
+/// What a certificate says: what is listed, what is delivered and what is taken, by gap and by entry; and which entries
+/// are named.
+#[derive(Debug, Drop)]
+pub(crate) struct Plan {
+    pub(crate) closings: Buckets<Closing>,
+    pub(crate) expiries: Buckets<Expiry>,
+    pub(crate) due: Buckets<u32>,
+    pub(crate) taken: Buckets<u32>,
+    pub(crate) named: Vec<bool>,
+}
+
+/// Whether a fate of that entry lies behind it, and within so many entries.
+fn fits_behind(count: usize, entry: usize, fate: Fate) -> bool
+    ensures { result ≡ fate_fits count entry fate }
+{
+    match fate {
+        Fate::Gap(gap) => entry < gap as usize && gap as usize <= count,
+        Fate::By(reply) => entry < reply as usize && (reply as usize) < count,
+        Fate::Lost => true,
+    }
+}
+
+/// Whether the fates are in their ranges; else the first that is not.
+fn check_fates(fates: &[Fate]) -> Result<(), CheckFault>
+    ensures { result ≡ fates_fit (length fates.now) 0 fates.now }
+{
+    for (entry, fate) in fates.iter().enumerate() {
+        if !fits_behind(fates.len(), entry, *fate) {
+            return Err(CheckFault {
+                reason: Reason::FateRange,
+                entry: entry as u64,
+            });
+        }
+    }
+    Ok(())
+}
+
+/// Whether the closings stand behind the entries that they name; else the first that does not.
+fn check_closings(count: usize, close: &[Closing]) -> Result<(), CheckFault>
+    ensures { result ≡ all_fit count (map (λ x. (x.entry, x.gap)) close.now) }
+{
+    for x in close {
+        if x.gap <= x.entry || count < x.gap as usize {
+            return Err(CheckFault {
+                reason: Reason::FateRange,
+                entry: u64::from(x.entry),
+            });
+        }
+    }
+    Ok(())
+}
+
+/// Whether the expiries stand behind the entries that they name; else the first that does not.
+fn check_expiries(count: usize, expire: &[Expiry]) -> Result<(), CheckFault>
+    ensures { result ≡ all_fit count (map (λ x. (x.entry, x.gap)) expire.now) }
+{
+    for x in expire {
+        if x.gap <= x.entry || count < x.gap as usize {
+            return Err(CheckFault {
+                reason: Reason::FateRange,
+                entry: u64::from(x.entry),
+            });
+        }
+    }
+    Ok(())
+}
+
+/// Whether all numbers of a certificate are in their ranges; else the first that is not.
+pub(crate) fn check_ranges(certificate: &Certificate) -> Result<(), CheckFault>
+    ensures { result ≡ certificate_fits certificate.now }
+{
+    let count = certificate.fates().len();
+    check_fates(certificate.fates())?;
+    check_closings(count, certificate.closings())?;
+    check_expiries(count, certificate.expiries())
+}
+
+/// The closings of each gap.
+fn closings_by_gap(
+    alloc: Global,
+    count: usize,
+    close: &[Closing],
+) -> Result<Buckets<Closing>, AllocError>
+    ensures { IfOk result (λ made. (gap : ℕ) → gap < count → list_at gap made ≡ filter (λ x. x.gap == gap) close.now) }
+{
+    let mut lists = Buckets::new(alloc, count)?;
+    for x in close {
+        lists.push(x.gap as usize, *x)?;
+    }
+    Ok(lists)
+}
+
+/// The expiries of each gap.
+fn expiries_by_gap(
+    alloc: Global,
+    count: usize,
+    expire: &[Expiry],
+) -> Result<Buckets<Expiry>, AllocError>
+    ensures { IfOk result (λ made. (gap : ℕ) → gap < count → list_at gap made ≡ filter (λ x. x.gap == gap) expire.now) }
+{
+    let mut lists = Buckets::new(alloc, count)?;
+    for x in expire {
+        lists.push(x.gap as usize, *x)?;
+    }
+    Ok(lists)
+}
+
+/// The entries that are delivered in each gap.
+fn due_by_gap(alloc: Global, count: usize, fates: &[Fate]) -> Result<Buckets<u32>, AllocError>
+    requires few { length fates.now ≤ 100000 }
+    ensures { IfOk result (λ made. (gap : ℕ) → gap < count → list_at gap made ≡ due_in gap 0 fates.now) }
+{
+    let mut lists = Buckets::new(alloc, count)?;
+    for (number, fate) in fates.iter().enumerate() {
+        if let Fate::Gap(gap) = *fate {
+            lists.push(gap as usize, number as u32)?;
+        }
+    }
+    Ok(lists)
+}
+
+/// The entries that each entry takes.
+fn taken_by_entry(alloc: Global, count: usize, fates: &[Fate]) -> Result<Buckets<u32>, AllocError>
+    requires few { length fates.now ≤ 100000 }
+    ensures { IfOk result (λ made. (entry : ℕ) → entry < count → list_at entry made ≡ taken_by entry 0 fates.now) }
+{
+    let mut lists = Buckets::new(alloc, count)?;
+    for (number, fate) in fates.iter().enumerate() {
+        if let Fate::By(reply) = *fate {
+            lists.push(reply as usize, number as u32)?;
+        }
+    }
+    Ok(lists)
+}
+
+/// Marks an entry as named; nothing where there is no flag of it.
+fn mark(named: &mut Vec<bool>, entry: u32)
+    ensures marked { (n : ℕ) → n < length named.old.items
+        → flag_by (slice_get named.new.items n) ≡ (n == entry) || flag_by (slice_get named.old.items n) }
+    ensures count { length named.new.items ≡ length named.old.items }
+{
+    if let Some(flag) = named.get_mut(entry as usize) {
+        *flag = true;
+    }
+}
+
+/// Which entries are named.
+fn named_entries(
+    alloc: Global,
+    count: usize,
+    certificate: &Certificate,
+) -> Result<Vec<bool>, AllocError>
+    ensures { IfOk result (λ named. (entry : ℕ) → entry < count
+        → flag_by (slice_get named.items entry) ≡ is_named certificate.now entry) }
+{
+    let mut named = Vec::new(alloc);
+    named.resize(count, false)?;
+    for x in certificate.closings() {
+        mark(&mut named, x.entry);
+    }
+    for x in certificate.expiries() {
+        mark(&mut named, x.entry);
+    }
+    Ok(named)
+}
+
+impl Plan {
+    /// The plan of a certificate.
+    pub(crate) fn new(alloc: Global, certificate: &Certificate) -> Result<Plan, AllocError>
+        ensures plan { IfOk result (λ plan. IsPlan certificate.now plan) }
+        ensures few { length certificate.now.fates ≤ 100000 }
+    {
+        let fates: &[Fate] = &certificate.fates;
+        let count = fates.len() + 1;
+        Ok(Plan {
+            closings: closings_by_gap(alloc, count, certificate.closings())?,
+            expiries: expiries_by_gap(alloc, count, certificate.expiries())?,
+            due: due_by_gap(alloc, count, fates)?,
+            taken: taken_by_entry(alloc, count, fates)?,
+            named: named_entries(alloc, count, certificate)?,
+        })
+    }
+}

@@ -1,0 +1,66 @@
+//! A certificate, replayed over a record.
+
+ghost use Rattle.std.specs.Prelude.{◌≡◌, ◌≢◌, ◌++◌, ◌∷◌, [], List, Result, Ok, Err};
+ghost use Rattle.tcap_record.specs.Viewed.{entry_read};
+ghost use Rattle.tcap_check.specs.declared.fault.CheckFault.{CheckFault as Refusal};
+ghost use Rattle.tcap_check.specs.declared.fault.Reason.{Reason as Why};
+ghost use Rattle.tcap_check.specs.declared.fault.Reason.TheVariants as reasons;
+ghost use Rattle.tcap_check.specs.World.{Item};
+ghost use Rattle.tcap_check.specs.Run.{IsLawful};
+ghost use Rattle.tcap_check.specs.Entries.{AreItems, item_of};
+ghost use Rattle.tcap_check.specs.Replayed.{fault_at, replayed};
+ghost use Rattle.tcap_check.specs.Checking.{Took, answer_of, map_ok, reported};
+ghost use Rattle.tcap_check.specs.declared.checker.Report.{Report as Reported};
+
+use crate::certificate::Certificate;
+use crate::checker::{Checker, Report};
+use crate::fault::CheckFault;
+use std::alloc::Global;
+use tcap_end::Table;
+use tcap_msg::MessageView;
+use tcap_record::{BodyView, End, EntryView, Record};
+
+impl Checker<'_> {
+    /// Takes the next entry of a record: as `step` where it is a message or octets that are none, as `mark` where it is a
+    /// quiet mark. `NoItem` where it has a message and no end, or an end and a quiet mark.
+    pub fn take(&mut self, entry: &EntryView) -> Result<(), CheckFault>
+        ensures took { (entries : List (Result Item Why)) → Took self.old entries → result ≢ Err (fault_at reasons.Memory 0)
+            → Took self.new (entries ++ item_of (entry_read entry.now) ∷ []) }
+        ensures answers { result ≡ answer_of self.new.so_far }
+        ensures table { self.new.table ≡ self.old.table }
+        ensures certificate { self.new.certificate ≡ self.old.certificate }
+        ensures for_ever { (f : Refusal) → self.old.so_far ≡ Err f → self.new ≡ self.old }
+    {
+        match (entry.side, &entry.body) {
+            (Some(side), BodyView::Good(message)) => self.step(side, Ok(message)),
+            (_, BodyView::Bad(fault)) => self.step::<MessageView>(End::A, Err(*fault)),
+            (None, BodyView::Quiet) => self.mark(),
+            _ => self.no_item(),
+        }
+    }
+}
+
+/// Whether a certificate gives a run of two ends for a record. On Ok the entries of the record are items, messages and
+/// quiet marks, and two lawful ends (Q.774 3.2 and 3.3), over two channels in order that may lose messages, with hidden
+/// expiries and closings, may have sent exactly these, in this order, by so many steps. Else the first reason why the
+/// certificate gives no run, at an entry (`CheckFault`); or memory ran out, and nothing is said. Nothing is assumed of
+/// who made the certificate.
+pub fn check(
+    alloc: Global,
+    record: &Record,
+    table: &Table,
+    certificate: &Certificate,
+) -> Result<Report, CheckFault>
+    ensures lawful { (report : Reported) → result ≡ Ok report
+        → (items : List Item) × AreItems «record».now.entries.items items × IsLawful items table.now report.moves }
+    ensures exact { result ≢ Err (fault_at reasons.Memory 0)
+        → result ≡ map_ok reported (replayed table.now certificate.now «record».now.entries.items) }
+{
+    let mut checker = Checker::new(alloc, table, certificate)?;
+    for entry in &record.entries {
+        if let Err(fault) = checker.take(&entry.view()) {
+            return Err(fault);
+        }
+    }
+    checker.finish()
+}

@@ -1,0 +1,296 @@
+//! What a checker does where an end sends a message, its provider answers one, or all is quiet (Q.774 3.2 and 3.3).
+
+ghost use Rattle.std.specs.Prelude.{◌≡◌, ◌<◌, ◌≤◌, ◌+◌, ◌^◌, length, filter_map, OnOk};
+ghost use Rattle.tcap_parts.specs.Meaning.{component_of};
+ghost use Rattle.tcap_msg.specs.Parts.{components_in};
+ghost use Rattle.tcap_check.specs.World.{other};
+ghost use Rattle.tcap_check.specs.Run.{may_refuse};
+ghost use Rattle.tcap_check.specs.Follows.{invoke_id, invoking_half};
+ghost use Rattle.tcap_check.specs.Progress.{YieldsInMemory, Yields, end_tried, first_answered};
+ghost use Rattle.tcap_check.specs.Progress.{first_may_be_answered, ids_ended_over, invoked_ended};
+ghost use Rattle.tcap_check.specs.Progress.{mark_kept, message_kept, overtakes, seat_at, seat_with, send_kept, sent_by, time_or_zero};
+
+use crate::certificate::Fate;
+use crate::fault::{CheckFault, Reason};
+use crate::progress::{OUT_OF_MEMORY, Progress, Seat, Waiting};
+use std::alloc::{AllocError, Global};
+use tcap_end::{EndFault, HalfName, Table};
+use tcap_msg::{Kind, MessageParts};
+use tcap_parts::ComponentView;
+use tcap_record::End;
+
+/// Where a fate stands in the order of what happens: gap g at 2g, the entry k at 2k + 1; 0 for what is lost.
+fn time_or_zero(fate: Fate) -> u64
+    ensures { result ≡ time_or_zero fate }
+{
+    match fate {
+        Fate::Gap(gap) => 2 * u64::from(gap),
+        Fate::By(reply) => 2 * u64::from(reply) + 1,
+        Fate::Lost => 0,
+    }
+}
+
+/// The half over which a message is sent that carries Invokes over one: by its own ID for a Begin or a Continue, by its
+/// peer's for an End.
+fn invoking_half<M: MessageParts>(message: &M) -> Option<HalfName>
+    ensures { result ≡ invoking_half (M.meaning message.now) }
+{
+    match (message.kind(), message.otid(), message.dtid()) {
+        (Kind::Begin | Kind::Continue, Some(otid), _) => {
+            Some(HalfName::Own(otid.to_transaction_id()))
+        }
+        (Kind::End, _, Some(dtid)) => Some(HalfName::Peer(dtid.to_transaction_id())),
+        _ => None,
+    }
+}
+
+/// Whether the provider of an end may answer a message by this Abort.
+fn may_refuse<A: MessageParts>(seat: &Seat, first: &Waiting, abort: &A) -> bool
+    ensures { result ≡ may_refuse seat.now.end first.now.message (A.meaning abort.now) }
+{
+    seat.end.refuse_begin(&first.message, abort).is_ok()
+        || seat.end.refuse_continue(&first.message, abort).is_ok()
+}
+
+impl Seat {
+    /// Whether a message with that fate comes before what its end sent earlier.
+    pub(crate) fn overtakes(&self, fate: Fate) -> bool
+        ensures { result ≡ overtakes fate self.now }
+    {
+        match fate {
+            Fate::Lost => false,
+            _ => time_or_zero(fate) < self.latest,
+        }
+    }
+
+    /// A message that the end sends is on its way, unless it is lost.
+    fn join<M: MessageParts>(
+        &mut self,
+        alloc: Global,
+        fate: Fate,
+        number: u64,
+        message: &M,
+    ) -> Result<(), AllocError>
+        ensures { OnOk result (self.new ≡ seat_with fate number (M.meaning message.now) self.old) }
+    {
+        if !matches!(fate, Fate::Lost) {
+            let message = message.to_message(alloc)?;
+            self.waiting.push_back(Waiting { number, message })?;
+        }
+        let time = time_or_zero(fate);
+        if self.latest < time {
+            self.latest = time;
+        }
+        Ok(())
+    }
+}
+
+impl Progress {
+    /// An end and what it sent.
+    pub(crate) fn seat(&self, side: End) -> &Seat
+        ensures { result.now ≡ seat_at side self.now }
+    {
+        match side {
+            End::A => &self.a,
+            End::B => &self.b,
+        }
+    }
+
+    /// A message was sent, a loss was counted where it is lost.
+    fn join<M: MessageParts>(
+        &mut self,
+        alloc: Global,
+        side: End,
+        fate: Fate,
+        number: u64,
+        message: &M,
+    ) -> Result<(), AllocError>
+        requires room { self.old.moves + 2 < 2 ^ 128 }
+        ensures { OnOk result (self.new ≡ sent_by side fate number (M.meaning message.now) self.old) }
+    {
+        match side {
+            End::A => self.a.join(alloc, fate, number, message)?,
+            End::B => self.b.join(alloc, fate, number, message)?,
+        }
+        self.moves += match fate {
+            Fate::Lost => 2,
+            _ => 1,
+        };
+        Ok(())
+    }
+
+    /// Ends an own invocation of an end unseen, where that may be.
+    fn try_end(&mut self, table: &Table, side: End, name: HalfName, id: i8)
+        requires room { self.old.moves + 1 < 2 ^ 128 }
+        ensures { self.new ≡ end_tried table.now side name id self.old }
+    {
+        let ended = match side {
+            End::A => self.a.end.expire(table, name, id),
+            End::B => self.b.end.expire(table, name, id),
+        };
+        if ended.is_ok() {
+            self.moves += 1;
+        }
+    }
+
+    /// Ends the earlier invocation whose ID a component of a message invokes anew, where that may be.
+    fn end_invoked<M: MessageParts>(
+        &mut self,
+        table: &Table,
+        side: End,
+        message: &M,
+        component: ComponentView,
+    )
+        requires room { self.old.moves + 1 < 2 ^ 128 }
+        ensures { self.new ≡ invoked_ended table.now side (invoking_half (M.meaning message.now))
+            (invoke_id (component_of component.entry)) self.old }
+    {
+        let ComponentView::Invoke { id, .. } = component else {
+            return;
+        };
+        if let Some(name) = invoking_half(message) {
+            self.try_end(table, side, name, id);
+        }
+    }
+
+    /// Ends each earlier invocation whose ID a message invokes anew, where that may be.
+    fn end_implied<M: MessageParts>(&mut self, table: &Table, side: End, message: &M)
+        requires room { self.old.moves + length (components_in (M.meaning message.now)) < 2 ^ 128 }
+        ensures ended { self.new ≡ ids_ended_over table.now side (invoking_half (M.meaning message.now))
+            (filter_map invoke_id (components_in (M.meaning message.now))) self.old }
+        ensures grows { self.new.moves ≤ self.old.moves + length (components_in (M.meaning message.now)) }
+    {
+        for component in message.components() {
+            self.end_invoked(table, side, message, component);
+        }
+    }
+
+    /// An end sends a message.
+    fn send<M: MessageParts>(
+        &mut self,
+        alloc: Global,
+        table: &Table,
+        side: End,
+        fate: Fate,
+        number: u64,
+        message: &M,
+    ) -> Result<(), CheckFault>
+        requires room { self.old.moves < 2 ^ 127 }
+        ensures sent { YieldsInMemory (send_kept table.now side fate number (M.meaning message.now) self.old) result
+            self.new }
+        ensures grows { OnOk result (self.new.moves ≤ self.old.moves + 2 ^ 65) }
+    {
+        if message.count() > 0 {
+            self.end_implied(table, side, message);
+        }
+        let sent = match side {
+            End::A => self.a.end.send(table, message),
+            End::B => self.b.end.send(table, message),
+        };
+        match sent {
+            Ok(()) => self
+                .join(alloc, side, fate, number, message)
+                .map_err(|_| OUT_OF_MEMORY),
+            Err(EndFault::Memory) => Err(OUT_OF_MEMORY),
+            Err(fault) => Err(CheckFault {
+                reason: Reason::SendRefused(fault),
+                entry: number,
+            }),
+        }
+    }
+
+    /// Whether the first message on its way to an end is that of the number, and its provider may answer it by this
+    /// Abort.
+    fn may_answer<A: MessageParts>(&self, side: End, abort: &A, taken: u32) -> bool
+        ensures { result ≡ first_may_be_answered side (A.meaning abort.now) taken
+            (seat_at (other side) self.now).waiting self.now }
+    {
+        match self.seat(other(side)).waiting.front() {
+            Some(first) => {
+                first.number == u64::from(taken) && may_refuse(self.seat(side), first, abort)
+            }
+            None => false,
+        }
+    }
+
+    /// The provider of an end answers the first message on its way to it, which has to be that of the number.
+    #[tactic(auto, using(crate::proofs::SendingLaws::answered, crate::proofs::SendingLaws::not_answered))]
+    fn answer<A: MessageParts>(
+        &mut self,
+        alloc: Global,
+        side: End,
+        fate: Fate,
+        number: u64,
+        abort: &A,
+        taken: u32,
+    ) -> Result<(), CheckFault>
+        requires room { self.old.moves < 2 ^ 127 }
+        ensures answered { YieldsInMemory (first_answered side fate number (A.meaning abort.now) taken
+            (seat_at (other side) self.old).waiting self.old) result self.new }
+        ensures grows { OnOk result (self.new.moves ≤ self.old.moves + 2 ^ 65) }
+    {
+        if !self.may_answer(side, abort, taken) {
+            return Err(CheckFault {
+                reason: Reason::BadReply,
+                entry: number,
+            });
+        }
+        self.take_first(other(side));
+        self.join(alloc, side, fate, number, abort)
+            .map_err(|_| OUT_OF_MEMORY)
+    }
+
+    /// A message with that number and fate, which takes these messages: the provider's answer to one, where it is an
+    /// Abort with a cause; else one that the end sends, which takes none.
+    pub(crate) fn take_message<M: MessageParts>(
+        &mut self,
+        alloc: Global,
+        table: &Table,
+        side: End,
+        fate: Fate,
+        number: u64,
+        message: &M,
+        taken: &[u32],
+    ) -> Result<(), CheckFault>
+        requires room { self.old.moves < 2 ^ 127 }
+        ensures taken { YieldsInMemory (message_kept table.now side fate number (M.meaning message.now) taken.now self.old)
+            result self.new }
+        ensures grows { OnOk result (self.new.moves ≤ self.old.moves + 2 ^ 65) }
+    {
+        match (message.cause(), taken) {
+            (Some(_), [taken]) => self.answer(alloc, side, fate, number, message, *taken),
+            (None, []) => self.send(alloc, table, side, fate, number, message),
+            _ => Err(CheckFault {
+                reason: Reason::BadReply,
+                entry: number,
+            }),
+        }
+    }
+
+    /// A quiet mark, which takes these messages: it takes none, nothing is on its way, and both ends are quiet.
+    pub(crate) fn take_mark(&mut self, number: u64, taken: &[u32]) -> Result<(), CheckFault>
+        requires room { self.old.moves < 2 ^ 127 }
+        ensures taken { Yields (mark_kept number taken.now self.old) result self.new }
+        ensures grows { OnOk result (self.new.moves ≤ self.old.moves + 2 ^ 65) }
+    {
+        let nothing = taken.is_empty() && self.a.waiting.is_empty() && self.b.waiting.is_empty();
+        if !nothing || self.a.end.quiet().is_err() || self.b.end.quiet().is_err() {
+            return Err(CheckFault {
+                reason: Reason::NotQuiet,
+                entry: number,
+            });
+        }
+        self.moves += 1;
+        Ok(())
+    }
+}
+
+/// The other end.
+fn other(side: End) -> End
+    ensures { result ≡ other side }
+{
+    match side {
+        End::A => End::B,
+        End::B => End::A,
+    }
+}
