@@ -1,0 +1,21 @@
+//! What refutations say of all runs. Each function says by its contract alone what holds of every run in which an end keeps
+//! the rules, whatever the other end does.
+
+ghost use Rattle.std.specs.Prelude.{◌≡◌, List, ◌∷◌, ◌++◌, true};
+ghost use Rattle.tcap_msg.specs.declared.message.Message.{Message};
+ghost use Rattle.tcap_record.specs.declared.entry.End.{End as Side};
+ghost use Rattle.tcap_end.specs.Table.{Table};
+ghost use Rattle.tcap_check.specs.World.{Item, Sent, World};
+ghost use Rattle.tcap_check.specs.Run.{Event, KeepsRules, Runs};
+ghost use Rattle.tcap_refute.specs.declared.kind.Kind.{Kind};
+ghost use Rattle.tcap_refute.specs.Before.{since_quiet};
+ghost use Rattle.tcap_refute.specs.Kind.{is_of_kind};
+
+/// A message that has a kind, behind what was sent before it, is sent in no run in which its end keeps the rules, whatever
+/// the other end sends, and whatever follows.
+pub fn no_run_sends()
+    ensures { (table : Table) (events : List Event) (w : World) (before behind : List Item) (side : Side)
+        (message : Message) (kind : Kind) → Runs table events w → KeepsRules side events
+        → w.sent ≡ before ++ Sent side message ∷ behind
+        → is_of_kind table side (since_quiet before) message kind ≡ true → ⊥ }
+{}

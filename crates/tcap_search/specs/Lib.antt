@@ -1,0 +1,4 @@
+pub mod Lines
+pub mod Proposed
+pub mod Traced
+pub mod WorkedProposals

@@ -1,0 +1,14 @@
+//! The search for a certificate of a record of TCAP messages: five rules, by which one certificate is proposed. Nothing of
+//! it is believed: `tcap_check` replays it.
+#![tactic(auto)]
+
+mod closings;
+mod expiries;
+mod fates;
+mod lines;
+mod search;
+mod tie;
+mod ties;
+pub mod worked;
+
+pub use search::{SearchFault, search};
