@@ -1,0 +1,75 @@
+-- What stands in a list, and what a test finds in it.
+use Rattle.std.proofs.Common.{◌≡◌, ◌⊎◌, inl, inr, ◌<◌, arith, Bool, true, false, cond, ℕ, zero, suc, length, List, [], ◌∷◌, ◌++◌, Option, Some, None, refl, ap, ◌∙◌}
+use Rattle.std.specs.Prelude.{Contains, ◌||◌, filter, filter_map}
+use Rattle.std.specs.List.{cons_option, flat_map, list_any}
+use Rattle.std.proofs.lemmas.List.Elements.{Contains-append_left, Contains-append_right}
+use Rattle.std.proofs.lemmas.List.Folds.{list_any_at}
+
+-- ---- what a list has
+
+pub has_first : {A : Type 0} (x : A) (xs : List A) → Contains (x ∷ xs) x
+has_first x xs = (zero, omega arith, refl)
+
+pub has_later : {A : Type 0} (y : A) (xs : List A) (x : A) → Contains xs x → Contains (y ∷ xs) x
+has_later y xs x has = Contains-append_right (y ∷ []) xs x has
+
+pub has_not : {A P : Type 0} (x : A) → Contains [] x → P
+has_not x (k, below, is) = absurd (omega arith)
+
+-- What a list has is the first, or one behind it.
+pub has_cases : {A : Type 0} (y : A) (ys : List A) (x : A) → Contains (y ∷ ys) x → (y ≡ x) ⊎ Contains ys x
+has_cases y ys x (zero, below, is) = inl is
+has_cases y ys x (suc k, below, is) = inr (k, omega arith, is)
+
+-- What passes is kept.
+pub filter_has : {A : Type 0} (p : A → Bool) (xs : List A) (x : A) → Contains xs x → p x ≡ true → Contains (filter p xs) x
+filter_has p [] x has passes = has_not x has
+filter_has p (y ∷ ys) x has passes = by (has_cases y ys x has)
+  where
+    later : (b : Bool) → Contains (filter p ys) x → Contains (cond b (y ∷ filter p ys) (filter p ys)) x
+    later true in_rest = has_later y (filter p ys) x in_rest
+    later false in_rest = in_rest
+
+    by : (y ≡ x) ⊎ Contains ys x → Contains (filter p (y ∷ ys)) x
+    by (inl first) = rw (first, passes) (has_first x (filter p ys))
+    by (inr rest) = later (p y) (filter_has p ys x rest passes)
+
+-- What is made of an item is among what is made of all.
+pub filter_map_has : {A B : Type 0} (f : A → Option B) (xs : List A) (x : A) (y : B) → Contains xs x → f x ≡ Some y
+    → Contains (filter_map f xs) y
+filter_map_has f [] x y has made = has_not x has
+filter_map_has f (z ∷ zs) x y has made = by (has_cases z zs x has)
+  where
+    later : (o : Option B) → Contains (filter_map f zs) y → Contains (cons_option o (filter_map f zs)) y
+    later None in_rest = in_rest
+    later (Some w) in_rest = has_later w (filter_map f zs) y in_rest
+
+    by : (z ≡ x) ⊎ Contains zs x → Contains (filter_map f (z ∷ zs)) y
+    by (inl first) = rw (first, made) (has_first y (filter_map f zs))
+    by (inr rest) = later (f z) (filter_map_has f zs x y rest made)
+
+pub flat_map_has : {A B : Type 0} (f : A → List B) (xs : List A) (x : A) (y : B) → Contains xs x → Contains (f x) y
+    → Contains (flat_map f xs) y
+flat_map_has f [] x y has inside = has_not x has
+flat_map_has f (z ∷ zs) x y has inside = by (has_cases z zs x has)
+  where
+    by : (z ≡ x) ⊎ Contains zs x → Contains (flat_map f (z ∷ zs)) y
+    by (inl first) = rw first (Contains-append_left (f x) (flat_map f zs) y inside)
+    by (inr rest) = Contains-append_right (f z) (flat_map f zs) y (flat_map_has f zs x y rest inside)
+
+-- ---- what a test finds
+
+-- It finds what passes,
+pub any_has : {A : Type 0} (p : A → Bool) (xs : List A) (x : A) → Contains xs x → p x ≡ true → list_any p xs ≡ true
+any_has p xs x (k, below, is) passes = list_any_at p xs k x below (ap p is ∙ passes)
+
+-- and what it finds passes.
+pub any_found : {A : Type 0} (p : A → Bool) (xs : List A) → list_any p xs ≡ true → (x : A) × Contains xs x × (p x ≡ true)
+any_found p [] is = cc
+any_found p (y ∷ ys) is = by (p y) refl is
+  where
+    by : (b : Bool) → p y ≡ b → (b || list_any p ys) ≡ true → (x : A) × Contains (y ∷ ys) x × (p x ≡ true)
+    by true at found = (y, has_first y ys, at)
+    by false at found =
+        let (x, has, passes) = any_found p ys found in
+        (x, has_later y ys x has, passes)
