@@ -1,2 +1,4 @@
 pub mod Members
 pub mod BeforeLaws
+pub mod MomentLaws
+pub mod OverLaws
