@@ -88,32 +88,34 @@ found_all : (side : Side) (p : Message → Bool) (items : List Item) → has_qui
     → (m : Message) × SentSince side m items × (p m ≡ true)
 found_all side p [] none found = cc
 found_all side p (Item.Quiet ∷ items) none found = cc
-found_all side p (Sent sender n ∷ items) none found = by (is_side side sender) refl found
+found_all side p (Sent sender n ∷ items) none found = by (is_side side sender) refl found (λ rest. later (found_all side p items none rest))
   where
-    later : list_any p (sent_by side items) ≡ true → (m : Message) × SentSince side m (Sent sender n ∷ items) × (p m ≡ true)
-    later rest =
-        let (m, (front, behind, is, clear), passes) = found_all side p items none rest in
+    later : (m : Message) × SentSince side m items × (p m ≡ true) → (m : Message) × SentSince side m (Sent sender n ∷ items) × (p m ≡ true)
+    later (m, (front, behind, is, clear), passes) =
         (m, (Sent sender n ∷ front, behind, ap (λ more. Sent sender n ∷ more) is, clear), passes)
 
     here : (b : Bool) → p n ≡ b → side ≡ sender → (b || list_any p (sent_by side items)) ≡ true
+        → (list_any p (sent_by side items) ≡ true → (m : Message) × SentSince side m (Sent sender n ∷ items) × (p m ≡ true))
         → (m : Message) × SentSince side m (Sent sender n ∷ items) × (p m ≡ true)
-    here true passes same is = (n, ([], items, ap (λ s. Sent s n ∷ items) (sym same), none), passes)
-    here false passes same is = later is
+    here true passes same is rest = (n, ([], items, ap (λ s. Sent s n ∷ items) (sym same), none), passes)
+    here false passes same is rest = rest is
 
     by : (b : Bool) → is_side side sender ≡ b → list_any p (cons_option (where_so b (Some n)) (sent_by side items)) ≡ true
+        → (list_any p (sent_by side items) ≡ true → (m : Message) × SentSince side m (Sent sender n ∷ items) × (p m ≡ true))
         → (m : Message) × SentSince side m (Sent sender n ∷ items) × (p m ≡ true)
-    by true own is = here (p n) refl (same_side side sender own) is
-    by false own is = later is
+    by true own is rest = here (p n) refl (same_side side sender own) is rest
+    by false own is rest = rest is
 
 -- What it finds among what an end sent behind the last mark was sent since.
 pub found_since : (side : Side) (p : Message → Bool) (items : List Item) → list_any p (sent_by side (since_quiet items)) ≡ true
     → (m : Message) × SentSince side m items × (p m ≡ true)
 found_since side p [] found = cc
-found_since side p (item ∷ items) found = by (has_quiet (item ∷ items)) refl found
+found_since side p (item ∷ items) found = by (has_quiet (item ∷ items)) refl found (found_since side p items)
   where
     by : (b : Bool) → has_quiet (item ∷ items) ≡ b → list_any p (sent_by side (cond b (since_quiet items) (item ∷ items))) ≡ true
+        → (list_any p (sent_by side (since_quiet items)) ≡ true → (m : Message) × SentSince side m items × (p m ≡ true))
         → (m : Message) × SentSince side m (item ∷ items) × (p m ≡ true)
-    by true mark is =
-        let (m, (front, behind, at, clear), passes) = found_since side p items is in
+    by true mark is rest =
+        let (m, (front, behind, at, clear), passes) = rest is in
         (m, (item ∷ front, behind, ap (λ more. item ∷ more) at, clear), passes)
-    by false none is = found_all side p (item ∷ items) none is
+    by false none is rest = found_all side p (item ∷ items) none is

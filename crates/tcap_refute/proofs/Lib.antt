@@ -2,3 +2,6 @@ pub mod Members
 pub mod BeforeLaws
 pub mod MomentLaws
 pub mod OverLaws
+pub mod SentLaws
+pub mod TransactionKinds
+pub mod DialogueKinds

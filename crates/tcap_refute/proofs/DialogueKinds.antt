@@ -1,0 +1,152 @@
+-- No message that is sent has a dialogue portion that no message of its kind carries (Q.774 3.2).
+use Rattle.std.proofs.Common.{◌≡◌, ◌⊎◌, inl, inr, Bool, true, false, ℕ, List, Option, Some, None, is_none, is_some, not, refl, sym, ap, ◌∙◌}
+use Rattle.std.specs.Prelude.{◌&&◌, ◌||◌, ◌==◌, nat_lt}
+use Rattle.std.specs.List.{list_any}
+use Rattle.std.proofs.lemmas.Bool.{eqb-true, or_left}
+use Rattle.tcap_parts.specs.declared.component.Component.{Component}
+use Rattle.tcap_parts.specs.declared.dialogue.Dialogue.{Dialogue}
+use Rattle.tcap_parts.specs.declared.dialogue.Dialogue.TheVariants as dialogues
+use Rattle.tcap_msg.specs.declared.message.Message.{Message}
+use Rattle.tcap_msg.specs.declared.message.Message.TheVariants.{Unidirectional, Begin, Continue, End as EndMessage, Abort}
+use Rattle.tcap_msg.specs.Parts.{reason_dialogue}
+use Rattle.tcap_record.specs.declared.entry.End.{End as Side}
+use Rattle.tcap_end.specs.declared.fault.EndFault.TheVariants as faults
+use Rattle.tcap_end.specs.declared.half.Phase.{Phase}
+use Rattle.tcap_end.specs.declared.half.Phase.TheVariants as phases
+use Rattle.tcap_end.specs.declared.half.Standing.{Standing}
+use Rattle.tcap_end.specs.declared.half.Standing.TheVariants as standings
+use Rattle.tcap_end.specs.Table.{Table}
+use Rattle.tcap_end.specs.Dialogue.{accepts_dialogue, is_request, is_uni, is_user_abort, may_abort, may_be_uni, may_begin, may_go_on, refuses_dialogue}
+use Rattle.tcap_end.specs.End.{with_own}
+use Rattle.tcap_end.proofs.AnsweringLaws.{needs_ok}
+use Rattle.tcap_check.specs.World.{World, end_at, other}
+use Rattle.tcap_check.specs.Run.{Event, Runs}
+use Rattle.tcap_check.specs.Since.{SentSince, asks}
+use Rattle.tcap_check.proofs.PeerLaws.{knows}
+use Rattle.tcap_refute.specs.Before.{asked, since_quiet}
+use Rattle.tcap_refute.specs.Kind.{is_begin_with_request, is_misplaced_aborting, is_misplaced_dialogue, is_misplaced_going_on}
+use Rattle.tcap_refute.proofs.BeforeLaws.{asked_has, originating_is}
+use Rattle.tcap_refute.proofs.Members.{any_has}
+use Rattle.tcap_refute.proofs.OverLaws.{IsOver}
+use Rattle.tcap_refute.proofs.SentLaws.{IsSent, half_over}
+
+-- ---- portions that a half may carry
+
+-- A half may carry none, or it is in Received and was asked for a dialogue.
+abbrev IsAsked : Phase → Standing → Type 0
+IsAsked phase standing = (phase ≡ phases.Received) × (standing ≡ standings.Asked)
+
+goes_on : (phase : Phase) (standing : Standing) (d : Option Dialogue) → may_go_on phase standing d ≡ true
+    → (is_none d ≡ true) ⊎ (IsAsked phase standing × (accepts_dialogue d ≡ true))
+goes_on phases.Received standings.Asked d may = inr ((refl, refl), may)
+goes_on phase standing d may = inl may
+
+-- One that aborts may carry an ABRT of the user besides.
+aborts : (phase : Phase) (standing : Standing) (d : Option Dialogue) → may_abort phase standing d ≡ true
+    → ((is_none d || is_user_abort d) ≡ true) ⊎ (IsAsked phase standing × (refuses_dialogue d ≡ true))
+aborts phases.Received standings.Asked d may = by (is_none d) (refuses_dialogue d) (is_user_abort d) refl may
+  where
+    by : (none refuses user : Bool) → refuses_dialogue d ≡ refuses → (none || refuses || user) ≡ true
+        → ((none || user) ≡ true) ⊎ (IsAsked phases.Received standings.Asked × (refuses_dialogue d ≡ true))
+    by true refuses user so is = inl refl
+    by false true user so is = inr ((refl, refl), so)
+    by false false user so is = inl is
+aborts phase standings.Confirmed d may = inl may
+aborts phase standing d may = inl (or_left (is_none d) (is_user_abort d) may)
+
+-- ---- tests
+
+-- Where none is there nothing is misplaced.
+none_misplaced : (is_asked : Bool) (d : Option Dialogue) → is_none d ≡ true → is_misplaced_going_on is_asked d ≡ true → ⊥
+none_misplaced is_asked None none is = cc
+none_misplaced is_asked (Some d) none is = cc
+
+-- Nor is an answer where a dialogue was asked for.
+answer_misplaced : (is_asked : Bool) (d : Option Dialogue) → is_asked ≡ true → accepts_dialogue d ≡ true
+    → is_misplaced_going_on is_asked d ≡ true → ⊥
+answer_misplaced is_asked None asked accepts is = cc
+answer_misplaced is_asked (Some d) asked accepts is = let bad : false ≡ true = rw (asked, accepts) at is in cc
+
+user_misplaced : (is_asked : Bool) (d : Option Dialogue) → (is_none d || is_user_abort d) ≡ true
+    → is_misplaced_aborting is_asked d ≡ true → ⊥
+user_misplaced is_asked None so is = cc
+user_misplaced is_asked (Some (dialogues.Abort source info)) so is =
+    let zero : source ≡ 0 = eqb-true source 0 so in
+    let bad : false ≡ true = rw zero at is in cc
+user_misplaced is_asked (Some (dialogues.Request context info)) so is = cc
+user_misplaced is_asked (Some (dialogues.Response context result diagnostic info)) so is = cc
+user_misplaced is_asked (Some (dialogues.Uni context info)) so is = cc
+
+refusal_misplaced : (is_asked : Bool) (d : Option Dialogue) → is_asked ≡ true → refuses_dialogue d ≡ true
+    → is_misplaced_aborting is_asked d ≡ true → ⊥
+refusal_misplaced is_asked None asked refuses is = cc
+refusal_misplaced is_asked (Some (dialogues.Abort source info)) asked refuses is = cc
+refusal_misplaced is_asked (Some (dialogues.Request context info)) asked refuses is = cc
+refusal_misplaced is_asked (Some (dialogues.Response context result diagnostic info)) asked refuses is =
+    let bad : false ≡ true = rw (asked, refuses) at is in cc
+refusal_misplaced is_asked (Some (dialogues.Uni context info)) asked refuses is = cc
+
+-- A portion that is there has to pass, and does not.
+only_such : {A : Type 0} (o : Option A) (passes : Bool) → (is_none o || passes) ≡ true → (is_some o && not passes) ≡ true → ⊥
+only_such None passes may is = cc
+only_such (Some x) true may is = cc
+only_such (Some x) false may is = cc
+
+-- ---- messages
+
+asks_is : (m : Message) → asks m ≡ is_begin_with_request m
+asks_is (Unidirectional dialogue components) = refl
+asks_is (Begin otid dialogue components) = refl
+asks_is (Continue otid dtid dialogue components) = refl
+asks_is (EndMessage dtid dialogue components) = refl
+asks_is (Abort dtid reason) = refl
+
+-- A half that was asked for a dialogue was asked by a Begin from its peer.
+was_asked : (table : Table) (events : List Event) (w : World) (side : Side) (message : Message) (id : List ℕ) → Runs table events w
+    → (half : IsOver table (end_at side w) message id) → IsAsked half.kept.half.phase half.kept.half.standing
+    → list_any is_begin_with_request (asked side id (since_quiet w.sent)) ≡ true
+was_asked table events w side message id runs half (received, standing) =
+    let (m, since, so, from) = (knows table events w side half.kept runs half.had).request received standing in
+    any_has is_begin_with_request (asked side id (since_quiet w.sent)) m
+    (asked_has side id m w.sent since (sym (originating_is m) ∙ from ∙ half.peer)) (sym (asks_is m) ∙ so)
+
+-- A Continue or an End carries what its half may carry,
+going_on : {table : Table} {events : List Event} {w : World} {side : Side} {message : Message} (id : List ℕ) (d : Option Dialogue)
+    → Runs table events w → (half : IsOver table (end_at side w) message id)
+    → may_go_on half.kept.half.phase half.kept.half.standing d ≡ true
+    → is_misplaced_going_on (list_any is_begin_with_request (asked side id (since_quiet w.sent))) d ≡ true → ⊥
+going_on {table} {events} {w} {side} {message} id d runs half may is =
+    by (goes_on half.kept.half.phase half.kept.half.standing d may)
+  where
+    by : (is_none d ≡ true) ⊎ (IsAsked half.kept.half.phase half.kept.half.standing × (accepts_dialogue d ≡ true)) → ⊥
+    by (inl none) = none_misplaced _ d none is
+    by (inr (so, accepts)) = answer_misplaced _ d (was_asked table events w side message id runs half so) accepts is
+
+-- and so does an Abort.
+aborting : {table : Table} {events : List Event} {w : World} {side : Side} {message : Message} (id : List ℕ) (d : Option Dialogue)
+    → Runs table events w → (half : IsOver table (end_at side w) message id)
+    → may_abort half.kept.half.phase half.kept.half.standing d ≡ true
+    → is_misplaced_aborting (list_any is_begin_with_request (asked side id (since_quiet w.sent))) d ≡ true → ⊥
+aborting {table} {events} {w} {side} {message} id d runs half may is =
+    by (aborts half.kept.half.phase half.kept.half.standing d may)
+  where
+    by : ((is_none d || is_user_abort d) ≡ true)
+        ⊎ (IsAsked half.kept.half.phase half.kept.half.standing × (refuses_dialogue d ≡ true)) → ⊥
+    by (inl user) = user_misplaced _ d user is
+    by (inr (so, refuses)) = refusal_misplaced _ d (was_asked table events w side message id runs half so) refuses is
+
+pub misplaced_sent : (table : Table) (events : List Event) (w : World) (side : Side) (message : Message)
+    → IsSent table events w side message → is_misplaced_dialogue side (since_quiet w.sent) message ≡ true → ⊥
+misplaced_sent table events w side (Unidirectional dialogue components) it is =
+    let may = needs_ok (may_be_uni dialogue) faults.WrongDialogue _ it.made it.step in
+    only_such dialogue (is_uni dialogue) may.0 is
+misplaced_sent table events w side (Begin otid dialogue components) it is =
+    let free = needs_ok (is_none (with_own (end_at side w) otid)) faults.IdUsed _ it.made it.step in
+    let may = needs_ok (may_begin dialogue) faults.WrongDialogue _ it.made free.1 in
+    only_such dialogue (is_request dialogue) may.0 is
+misplaced_sent table events w side (Continue otid dtid dialogue components) it is =
+    let half = half_over dtid it refl in going_on dtid dialogue it.runs half half.carries is
+misplaced_sent table events w side (EndMessage dtid dialogue components) it is =
+    let half = half_over dtid it refl in going_on dtid dialogue it.runs half half.carries is
+misplaced_sent table events w side (Abort dtid reason) it is =
+    let half = half_over dtid it refl in aborting dtid (reason_dialogue reason) it.runs half half.carries is
