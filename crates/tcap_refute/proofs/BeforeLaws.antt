@@ -14,6 +14,7 @@ use Rattle.tcap_check.specs.World.{Item, Sent, is_side, other}
 use Rattle.tcap_check.specs.Run.{where_so}
 use Rattle.tcap_check.specs.Follows.{has_quiet, originating}
 use Rattle.tcap_check.specs.Since.{SentSince}
+use Rattle.tcap_check.proofs.TakenLaws.{same_side}
 use Rattle.tcap_refute.specs.Before.{asked, components_of, message_of, sent_by, since_quiet}
 use Rattle.tcap_refute.proofs.Members.{any_has, filter_has, filter_map_has, flat_map_has, has_first, has_later}
 use Rattle.std.proofs.lemmas.List.Elements.{Contains-append_right}
@@ -25,12 +26,6 @@ use Rattle.std.proofs.lemmas.Slice.Eq.{bytes_eq-Decides}
 pub is_itself : (side : Side) → is_side side side ≡ true
 is_itself sides.A = refl
 is_itself sides.B = refl
-
-pub same_side : (side sender : Side) → is_side side sender ≡ true → side ≡ sender
-same_side sides.A sides.A is = refl
-same_side sides.A sides.B is = cc
-same_side sides.B sides.A is = cc
-same_side sides.B sides.B is = refl
 
 -- An ID is that ID.
 pub is_that_id : (id : List ℕ) (o : Option (List ℕ)) → o ≡ Some id → is_id id o ≡ true

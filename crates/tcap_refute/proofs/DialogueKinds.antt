@@ -112,28 +112,28 @@ was_asked table events w side message id runs half (received, standing) =
 
 -- A Continue or an End carries what its half may carry,
 going_on : {table : Table} {events : List Event} {w : World} {side : Side} {message : Message} (id : List ℕ) (d : Option Dialogue)
-    → Runs table events w → (half : IsOver table (end_at side w) message id)
+    → IsSent table events w side message → (half : IsOver table (end_at side w) message id)
     → may_go_on half.kept.half.phase half.kept.half.standing d ≡ true
     → is_misplaced_going_on (list_any is_begin_with_request (asked side id (since_quiet w.sent))) d ≡ true → ⊥
-going_on {table} {events} {w} {side} {message} id d runs half may is =
+going_on {table} {events} {w} {side} {message} id d it half may is =
     by (goes_on half.kept.half.phase half.kept.half.standing d may)
   where
     by : (is_none d ≡ true) ⊎ (IsAsked half.kept.half.phase half.kept.half.standing × (accepts_dialogue d ≡ true)) → ⊥
     by (inl none) = none_misplaced _ d none is
-    by (inr (so, accepts)) = answer_misplaced _ d (was_asked table events w side message id runs half so) accepts is
+    by (inr (so, accepts)) = answer_misplaced _ d (was_asked table events w side message id it.runs half so) accepts is
 
 -- and so does an Abort.
 aborting : {table : Table} {events : List Event} {w : World} {side : Side} {message : Message} (id : List ℕ) (d : Option Dialogue)
-    → Runs table events w → (half : IsOver table (end_at side w) message id)
+    → IsSent table events w side message → (half : IsOver table (end_at side w) message id)
     → may_abort half.kept.half.phase half.kept.half.standing d ≡ true
     → is_misplaced_aborting (list_any is_begin_with_request (asked side id (since_quiet w.sent))) d ≡ true → ⊥
-aborting {table} {events} {w} {side} {message} id d runs half may is =
+aborting {table} {events} {w} {side} {message} id d it half may is =
     by (aborts half.kept.half.phase half.kept.half.standing d may)
   where
     by : ((is_none d || is_user_abort d) ≡ true)
         ⊎ (IsAsked half.kept.half.phase half.kept.half.standing × (refuses_dialogue d ≡ true)) → ⊥
     by (inl user) = user_misplaced _ d user is
-    by (inr (so, refuses)) = refusal_misplaced _ d (was_asked table events w side message id runs half so) refuses is
+    by (inr (so, refuses)) = refusal_misplaced _ d (was_asked table events w side message id it.runs half so) refuses is
 
 pub misplaced_sent : (table : Table) (events : List Event) (w : World) (side : Side) (message : Message)
     → IsSent table events w side message → is_misplaced_dialogue side (since_quiet w.sent) message ≡ true → ⊥
@@ -145,8 +145,8 @@ misplaced_sent table events w side (Begin otid dialogue components) it is =
     let may = needs_ok (may_begin dialogue) faults.WrongDialogue _ it.made free.1 in
     only_such dialogue (is_request dialogue) may.0 is
 misplaced_sent table events w side (Continue otid dtid dialogue components) it is =
-    let half = half_over dtid it refl in going_on dtid dialogue it.runs half half.carries is
+    let half = half_over dtid it refl in going_on dtid dialogue it half half.carries is
 misplaced_sent table events w side (EndMessage dtid dialogue components) it is =
-    let half = half_over dtid it refl in going_on dtid dialogue it.runs half half.carries is
+    let half = half_over dtid it refl in going_on dtid dialogue it half half.carries is
 misplaced_sent table events w side (Abort dtid reason) it is =
-    let half = half_over dtid it refl in aborting dtid (reason_dialogue reason) it.runs half half.carries is
+    let half = half_over dtid it refl in aborting dtid (reason_dialogue reason) it half half.carries is

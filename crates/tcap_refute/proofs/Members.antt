@@ -4,6 +4,7 @@ use Rattle.std.specs.Prelude.{Contains, ◌||◌, filter, filter_map}
 use Rattle.std.specs.List.{cons_option, flat_map, list_any}
 use Rattle.std.proofs.lemmas.List.Elements.{Contains-append_left, Contains-append_right}
 use Rattle.std.proofs.lemmas.List.Folds.{list_any_at}
+use Rattle.tcap_check.proofs.ExpiryLaws.{contains_first}
 
 -- ---- what a list has
 
@@ -16,15 +17,10 @@ has_later y xs x has = Contains-append_right (y ∷ []) xs x has
 pub has_not : {A P : Type 0} (x : A) → Contains [] x → P
 has_not x (k, below, is) = absurd (omega arith)
 
--- What a list has is the first, or one behind it.
-has_cases : {A : Type 0} (y : A) (ys : List A) (x : A) → Contains (y ∷ ys) x → (y ≡ x) ⊎ Contains ys x
-has_cases y ys x (zero, below, is) = inl is
-has_cases y ys x (suc k, below, is) = inr (k, omega arith, is)
-
 -- What passes is kept.
 pub filter_has : {A : Type 0} (p : A → Bool) (xs : List A) (x : A) → Contains xs x → p x ≡ true → Contains (filter p xs) x
 filter_has p [] x has passes = has_not x has
-filter_has {A = A} p (y ∷ ys) x has passes = by (has_cases y ys x has) (λ rest. filter_has p ys x rest passes)
+filter_has {A = A} p (y ∷ ys) x has passes = by (contains_first y ys x has) (λ rest. filter_has p ys x rest passes)
   where
     later : (b : Bool) → Contains (filter p ys) x → Contains (cond b (y ∷ filter p ys) (filter p ys)) x
     later true in_rest = has_later y (filter p ys) x in_rest
@@ -38,7 +34,7 @@ filter_has {A = A} p (y ∷ ys) x has passes = by (has_cases y ys x has) (λ res
 pub filter_map_has : {A B : Type 0} (f : A → Option B) (xs : List A) (x : A) (y : B) → Contains xs x → f x ≡ Some y
     → Contains (filter_map f xs) y
 filter_map_has f [] x y has made = has_not x has
-filter_map_has {A = A} {B = B} f (z ∷ zs) x y has made = by (has_cases z zs x has) (λ rest. filter_map_has f zs x y rest made)
+filter_map_has {A = A} {B = B} f (z ∷ zs) x y has made = by (contains_first z zs x has) (λ rest. filter_map_has f zs x y rest made)
   where
     later : (o : Option B) → Contains (filter_map f zs) y → Contains (cons_option o (filter_map f zs)) y
     later None in_rest = in_rest
@@ -51,7 +47,7 @@ filter_map_has {A = A} {B = B} f (z ∷ zs) x y has made = by (has_cases z zs x 
 pub flat_map_has : {A B : Type 0} (f : A → List B) (xs : List A) (x : A) (y : B) → Contains xs x → Contains (f x) y
     → Contains (flat_map f xs) y
 flat_map_has f [] x y has inside = has_not x has
-flat_map_has {A = A} {B = B} f (z ∷ zs) x y has inside = by (has_cases z zs x has) (λ rest. flat_map_has f zs x y rest inside)
+flat_map_has {A = A} {B = B} f (z ∷ zs) x y has inside = by (contains_first z zs x has) (λ rest. flat_map_has f zs x y rest inside)
   where
     by : (z ≡ x) ⊎ Contains zs x → (Contains zs x → Contains (flat_map f zs) y) → Contains (flat_map f (z ∷ zs)) y
     by (inl first) kept = rw first (Contains-append_left (f x) (flat_map f zs) y inside)

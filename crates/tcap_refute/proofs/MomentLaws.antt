@@ -46,7 +46,7 @@ last_or_before item at [] (f ∷ front) behind is = none front cc
     none [] is = cc
     none (g ∷ front) is = cc
 last_or_before item at (i ∷ items) [] behind is = inr (items, cc)
-last_or_before item at (i ∷ items) (f ∷ front) behind is = by cc (last_or_before item at items front behind cc)
+last_or_before item at (i ∷ items) (f ∷ front) behind is = by (cc) (last_or_before item at items front behind cc)
   where
     by : i ≡ f → ((item ≡ at) × (items ≡ front)) ⊎ ((rest : List Item) × (items ≡ front ++ at ∷ rest))
         → ((item ≡ at) × (i ∷ items ≡ f ∷ front)) ⊎ ((rest : List Item) × (i ∷ items ≡ (f ∷ front) ++ at ∷ rest))
@@ -102,24 +102,24 @@ module _ (table : Table) (side : Side) (before : List Event) (w next : World) (r
       let s = sending table sender m w next is in
       let (items, adds, grown) = grows table (Sends sender m) w next is in
       one_more (Sent sender m) (grown ∙ ap (λ i. w.sent ++ i) adds) (λ last.
-        let who : sender ≡ side = cc in
-        let what : m ≡ message = cc in
-        inl (s.made, rw (← who, ← what) s.step))
+      let who : sender ≡ side = cc in
+      let what : m ≡ message = cc in
+      inl (s.made, rw (← who, ← what) s.step))
   more (Replies replier number) is told =
       let r = reply table replier number w next is in
       let left = with_channel (other replier) r.more w in
       let grown : next.sent ≡ w.sent ++ Sent replier r.abort ∷ [] =
-          ap (λ (v : World). v.sent) r.next_is ∙ sent_joined replier r.abort left
-          ∙ ap (λ items. items ++ Sent replier r.abort ∷ []) (sent_with_channel (other replier) r.more w) in
+      ap (λ (v : World). v.sent) r.next_is ∙ sent_joined replier r.abort left
+      ∙ ap (λ items. items ++ Sent replier r.abort ∷ []) (sent_with_channel (other replier) r.more w) in
       one_more (Sent replier r.abort) grown (λ last.
-        let who : replier ≡ side = cc in
-        let what : r.abort ≡ message = cc in
-        inr (r.head, r.more, rw (← who) r.channel, rw (← who, ← what) r.step))
+      let who : replier ≡ side = cc in
+      let what : r.abort ≡ message = cc in
+      inr (r.head, r.more, rw (← who) r.channel, rw (← who, ← what) r.step))
   more (Tells teller m) is told =
       let (items, adds, grown) = grows table (Tells teller m) w next is in
       one_more (Sent teller m) (grown ∙ ap (λ i. w.sent ++ i) adds) (λ last.
-        let who : side ≡ teller = cc in
-        let bad : true ≡ false = sym (is_itself teller) ∙ rw who at told in cc)
+      let who : side ≡ teller = cc in
+      let bad : true ≡ false = sym (is_itself teller) ∙ rw who at told in cc)
   more Quiet is told =
       let (items, adds, grown) = grows table Quiet w next is in
       one_more Item.Quiet (grown ∙ ap (λ i. w.sent ++ i) adds) (λ last. cc)
