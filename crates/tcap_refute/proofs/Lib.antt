@@ -4,4 +4,5 @@ pub mod MomentLaws
 pub mod OverLaws
 pub mod SentLaws
 pub mod TransactionKinds
+pub mod ComponentKinds
 pub mod DialogueKinds
