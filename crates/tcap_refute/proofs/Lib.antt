@@ -6,3 +6,4 @@ pub mod SentLaws
 pub mod TransactionKinds
 pub mod ComponentKinds
 pub mod DialogueKinds
+pub mod KindLaws
