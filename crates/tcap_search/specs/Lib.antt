@@ -2,3 +2,4 @@ pub mod Lines
 pub mod Proposed
 pub mod Traced
 pub mod WorkedProposals
+pub mod Found

@@ -5,6 +5,7 @@
 mod closings;
 mod expiries;
 mod fates;
+mod found;
 mod lines;
 mod search;
 mod tie;
