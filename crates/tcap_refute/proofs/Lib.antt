@@ -4,6 +4,7 @@ pub mod MomentLaws
 pub mod OverLaws
 pub mod SentLaws
 pub mod TransactionKinds
+pub mod FoundedLaws
 pub mod ComponentKinds
 pub mod DialogueKinds
 pub mod KindLaws

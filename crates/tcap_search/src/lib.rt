@@ -7,9 +7,9 @@ mod expiries;
 mod fates;
 mod found;
 mod lines;
-mod search;
+mod searching;
 mod tie;
 mod ties;
 pub mod worked;
 
-pub use search::{SearchFault, search};
+pub use searching::{SearchFault, search};
