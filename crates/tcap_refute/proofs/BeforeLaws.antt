@@ -1,5 +1,5 @@
 -- What was sent since the last quiet mark stands behind it: what an end sent, and what it was asked from an ID.
-use Rattle.std.proofs.Common.{◌≡◌, Bool, true, false, cond, ℕ, List, [], ◌∷◌, ◌++◌, Option, Some, None, refl, ap, sym, ◌∙◌}
+use Rattle.std.proofs.Common.{◌≡◌, Bool, true, false, cond, ℕ, List, [], ◌∷◌, ◌++◌, Option, Some, refl, ap, sym}
 use Rattle.std.specs.Prelude.{Contains, ◌||◌}
 use Rattle.std.specs.List.{cons_option, list_any}
 use Rattle.std.proofs.lemmas.List.Elements.{Contains-append_right}
@@ -21,7 +21,7 @@ use Rattle.tcap_refute.proofs.Members.{filter_has, filter_map_has, flat_map_has,
 
 -- ---- tests
 
--- A side is itself.
+-- A side is that side.
 pub is_itself : (side : Side) → is_side side side ≡ true
 is_itself sides.A = refl
 is_itself sides.B = refl
@@ -30,7 +30,7 @@ is_itself sides.B = refl
 pub is_that_id : (id : List ℕ) (o : Option (List ℕ)) → o ≡ Some id → is_id id o ≡ true
 is_that_id id o is = rw is ((bytes_eq-Decides id id).1 refl)
 
--- The originating ID is the same, however a message is read.
+-- The originating ID of a Begin or a Continue is the one that it carries; other messages carry none.
 pub originating_is : (m : Message) → originating m ≡ otid_in m
 originating_is (Unidirectional dialogue components) = refl
 originating_is (Begin otid dialogue components) = refl
@@ -96,7 +96,8 @@ found_all : (side : Side) (p : Message → Bool) (items : List Item) → has_qui
 found_all side p [] none found = cc
 found_all side p (Item.Quiet ∷ items) none found = cc
 found_all side p (Sent sender n ∷ items) none found =
-    by (is_side side sender) refl found (λ rest. found_later side p (Sent sender n) items (found_all side p items none rest))
+    by (is_side side sender) refl found
+    (λ rest. found_later side p (Sent sender n) items (found_all side p items none rest))
   where
     here : (b : Bool) → p n ≡ b → side ≡ sender → (b || list_any p (sent_by side items)) ≡ true
         → (list_any p (sent_by side items) ≡ true → Found side p (Sent sender n ∷ items))

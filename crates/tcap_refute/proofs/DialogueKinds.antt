@@ -1,9 +1,8 @@
 -- No message that is sent has a dialogue portion that no message of its kind carries (Q.774 3.2).
-use Rattle.std.proofs.Common.{◌≡◌, ◌⊎◌, inl, inr, Bool, true, false, ℕ, List, Option, Some, None, is_none, is_some, not, refl, sym, ap, ◌∙◌}
-use Rattle.std.specs.Prelude.{◌&&◌, ◌||◌, ◌==◌, nat_lt}
+use Rattle.std.proofs.Common.{◌≡◌, ◌⊎◌, inl, inr, Bool, true, false, ℕ, List, Option, Some, None, is_none, is_some, not, refl, sym, ◌∙◌}
+use Rattle.std.specs.Prelude.{◌&&◌, ◌||◌}
 use Rattle.std.specs.List.{list_any}
 use Rattle.std.proofs.lemmas.Bool.{eqb-true, or_left}
-use Rattle.tcap_parts.specs.declared.component.Component.{Component}
 use Rattle.tcap_parts.specs.declared.dialogue.Dialogue.{Dialogue}
 use Rattle.tcap_parts.specs.declared.dialogue.Dialogue.TheVariants as dialogues
 use Rattle.tcap_msg.specs.declared.message.Message.{Message}
@@ -19,9 +18,9 @@ use Rattle.tcap_end.specs.Table.{Table}
 use Rattle.tcap_end.specs.Dialogue.{accepts_dialogue, is_request, is_uni, is_user_abort, may_abort, may_be_uni, may_begin, may_go_on, refuses_dialogue}
 use Rattle.tcap_end.specs.End.{with_own}
 use Rattle.tcap_end.proofs.AnsweringLaws.{needs_ok}
-use Rattle.tcap_check.specs.World.{World, end_at, other}
-use Rattle.tcap_check.specs.Run.{Event, Runs}
-use Rattle.tcap_check.specs.Since.{SentSince, asks}
+use Rattle.tcap_check.specs.World.{World, end_at}
+use Rattle.tcap_check.specs.Run.{Event}
+use Rattle.tcap_check.specs.Since.{asks}
 use Rattle.tcap_check.proofs.PeerLaws.{knows}
 use Rattle.tcap_refute.specs.Before.{asked, since_quiet}
 use Rattle.tcap_refute.specs.Kind.{is_begin_with_request, is_misplaced_aborting, is_misplaced_dialogue, is_misplaced_going_on}
@@ -32,16 +31,17 @@ use Rattle.tcap_refute.proofs.SentLaws.{IsSent, half_over}
 
 -- ---- portions that a half may carry
 
--- A half may carry none, or it is in Received and was asked for a dialogue.
+-- A half in Received that was asked for a dialogue.
 abbrev IsAsked : Phase → Standing → Type 0
 IsAsked phase standing = (phase ≡ phases.Received) × (standing ≡ standings.Asked)
 
+-- A half that goes on carries none, or was asked for a dialogue and accepts it.
 goes_on : (phase : Phase) (standing : Standing) (d : Option Dialogue) → may_go_on phase standing d ≡ true
     → (is_none d ≡ true) ⊎ (IsAsked phase standing × (accepts_dialogue d ≡ true))
 goes_on phases.Received standings.Asked d may = inr ((refl, refl), may)
 goes_on phase standing d may = inl may
 
--- One that aborts may carry an ABRT of the user besides.
+-- One that aborts carries none, or an ABRT of the user, or was asked for a dialogue and refuses it.
 aborts : (phase : Phase) (standing : Standing) (d : Option Dialogue) → may_abort phase standing d ≡ true
     → ((is_none d || is_user_abort d) ≡ true) ⊎ (IsAsked phase standing × (refuses_dialogue d ≡ true))
 aborts phases.Received standings.Asked d may = by (is_none d) (refuses_dialogue d) (is_user_abort d) refl may
@@ -56,18 +56,19 @@ aborts phase standing d may = inl (or_left (is_none d) (is_user_abort d) may)
 
 -- ---- tests
 
--- Where none is there nothing is misplaced.
+-- None is not misplaced.
 none_misplaced : (is_asked : Bool) (d : Option Dialogue) → is_none d ≡ true → is_misplaced_going_on is_asked d ≡ true
     → ⊥
 none_misplaced is_asked None none is = cc
 none_misplaced is_asked (Some d) none is = cc
 
--- Nor is an answer where a dialogue was asked for.
+-- Nor is one that accepts a dialogue that was asked for,
 answer_misplaced : (is_asked : Bool) (d : Option Dialogue) → is_asked ≡ true → accepts_dialogue d ≡ true
     → is_misplaced_going_on is_asked d ≡ true → ⊥
 answer_misplaced is_asked None asked accepts is = cc
 answer_misplaced is_asked (Some d) asked accepts is = let bad : false ≡ true = rw (asked, accepts) at is in cc
 
+-- nor, in an Abort, none or an ABRT of the user,
 user_misplaced : (is_asked : Bool) (d : Option Dialogue) → (is_none d || is_user_abort d) ≡ true
     → is_misplaced_aborting is_asked d ≡ true → ⊥
 user_misplaced is_asked None so is = cc
@@ -78,6 +79,7 @@ user_misplaced is_asked (Some (dialogues.Request context info)) so is = cc
 user_misplaced is_asked (Some (dialogues.Response context result diagnostic info)) so is = cc
 user_misplaced is_asked (Some (dialogues.Uni context info)) so is = cc
 
+-- or one that refuses a dialogue that was asked for.
 refusal_misplaced : (is_asked : Bool) (d : Option Dialogue) → is_asked ≡ true → refuses_dialogue d ≡ true
     → is_misplaced_aborting is_asked d ≡ true → ⊥
 refusal_misplaced is_asked None asked refuses is = cc
@@ -87,7 +89,7 @@ refusal_misplaced is_asked (Some (dialogues.Response context result diagnostic i
     let bad : false ≡ true = rw (asked, refuses) at is in cc
 refusal_misplaced is_asked (Some (dialogues.Uni context info)) asked refuses is = cc
 
--- A portion that is there has to pass, and does not.
+-- A portion that has to pass where it is there does not fail.
 only_such : {A : Type 0} (o : Option A) (passes : Bool) → (is_none o || passes) ≡ true
     → (is_some o && not passes) ≡ true → ⊥
 only_such None passes may is = cc
@@ -96,6 +98,7 @@ only_such (Some x) false may is = cc
 
 -- ---- messages
 
+-- A Begin asks for a dialogue where it carries a request.
 asks_is : (m : Message) → asks m ≡ is_begin_with_request m
 asks_is (Unidirectional dialogue components) = refl
 asks_is (Begin otid dialogue components) = refl
@@ -105,7 +108,8 @@ asks_is (Abort dtid reason) = refl
 
 -- A message that an end sends over a half.
 module _ {table : Table} {events : List Event} {w : World} {side : Side} {message : Message} (id : List ℕ)
-    (d : Option Dialogue) (it : IsSent table events w side message) (half : IsOver table (end_at side w) message id) where
+    (d : Option Dialogue) (it : IsSent table events w side message)
+    (half : IsOver table (end_at side w) message id) where
   abbrev phase : Phase
   phase = half.kept.half.phase
 
@@ -139,6 +143,7 @@ module _ {table : Table} {events : List Event} {w : World} {side : Side} {messag
       by (inr (so, refuses)) = refusal_misplaced is_asked d (was_asked so) refuses is
 
 module _ (table : Table) (events : List Event) (w : World) (side : Side) where
+  -- What is sent carries no portion that is misplaced.
   pub misplaced_sent : (message : Message) → IsSent table events w side message
       → is_misplaced_dialogue side (since_quiet w.sent) message ≡ true → ⊥
   misplaced_sent (Unidirectional dialogue components) it is =

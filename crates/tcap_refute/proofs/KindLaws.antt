@@ -1,5 +1,5 @@
 -- No message that an end sends which keeps the rules, or that its provider replies, is of a kind.
-use Rattle.std.proofs.Common.{◌≡◌, ◌⊎◌, inl, inr, true, ℕ, List, ◌∷◌, ◌++◌, Some, refl, sym, ◌∙◌}
+use Rattle.std.proofs.Common.{◌≡◌, ◌⊎◌, inl, inr, true, ℕ, List, ◌∷◌, ◌++◌, Some, refl, sym}
 use Rattle.std.proofs.lemmas.Option.{cond_some}
 use Rattle.tcap_msg.specs.declared.message.AbortReason.TheVariants.{Cause}
 use Rattle.tcap_msg.specs.declared.message.Message.{Message}

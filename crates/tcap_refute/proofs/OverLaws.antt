@@ -1,5 +1,5 @@
 -- What a message is sent over: a Continue, an End or an Abort goes over an open half whose peer has the destination ID.
-use Rattle.std.proofs.Common.{◌≡◌, Bool, true, false, cond, ℕ, List, [], ◌∷◌, Option, Some, None, Result, Ok, Err, is_none, not, refl, subst, ◌∙◌}
+use Rattle.std.proofs.Common.{◌≡◌, Bool, true, false, cond, ℕ, List, [], ◌∷◌, Option, Some, None, Ok, is_none, not, refl, subst, ◌∙◌}
 use Rattle.std.specs.Prelude.{ok_or}
 use Rattle.std.proofs.lemmas.Bool.{not-true}
 use Rattle.tcap_parts.specs.declared.component.Component.{Component}
@@ -10,14 +10,13 @@ use Rattle.tcap_msg.specs.declared.message.Message.TheVariants.{Unidirectional, 
 use Rattle.tcap_msg.specs.Parts.{cause_in, components_in, dialogue_in, dtid_in, items_of, reason_cause, reason_dialogue}
 use Rattle.tcap_end.specs.declared.fault.EndFault.TheVariants as faults
 use Rattle.tcap_end.specs.declared.half.Phase.{Phase}
-use Rattle.tcap_end.specs.declared.half.Phase.TheVariants as phases
 use Rattle.tcap_end.specs.declared.half.Slot.{Slot}
 use Rattle.tcap_end.specs.declared.half.Slot.TheVariants.{Begun, Accepted}
 use Rattle.tcap_end.specs.declared.half.Standing.{Standing}
 use Rattle.tcap_end.specs.Table.{Table}
-use Rattle.tcap_end.specs.Half.{Half, closed_half, is_closed}
+use Rattle.tcap_end.specs.Half.{Half, is_closed}
 use Rattle.tcap_end.specs.Dialogue.{may_abort, may_go_on}
-use Rattle.tcap_end.specs.End.{End, KeptHalf, first_half, half_where, is_id, put, with_own, with_peer}
+use Rattle.tcap_end.specs.End.{End, KeptHalf, first_half, half_where, is_id, with_own, with_peer}
 use Rattle.tcap_end.specs.Message.{active_half, is_active, is_received, send, send_abort, send_components, send_continue, send_end, send_first_continue, send_next_continue}
 use Rattle.tcap_end.specs.Sound.{Has, IsEnd}
 use Rattle.tcap_end.proofs.AnsweringLaws.{needs_ok, some_ok, then_ok}
@@ -31,8 +30,8 @@ abbrev pub may_carry : Message → Phase → Standing → Bool
 may_carry (Abort dtid reason) phase standing = may_abort phase standing (reason_dialogue reason)
 may_carry m phase standing = may_go_on phase standing (dialogue_in m)
 
--- The message is sent over that half, which is open and may carry its dialogue portion. Its components are sent from a
--- half with the same invocations and answers. An Abort with a cause is not sent so.
+-- The message has no cause, and is sent over that half, which is open and may carry its dialogue portion. Its components
+-- are sent from a half with the same invocations and answers.
 pub record IsOver (table : Table) (e : End) (m : Message) (id : List ℕ) : Type 0 where
   pub kept : KeptHalf
   pub had : Has e kept
@@ -70,10 +69,7 @@ found_passes passes e f is = by (first_half passes Begun e.begun) refl
     by None none = first_passes passes Accepted e.accepted f (rw none at is)
     by (Some g) some = first_passes passes Begun e.begun f (let same = rw some at is in some ∙ same)
 
--- They have the ID by which they are found.
-own_is : (e : End) (id : List ℕ) (f : KeptHalf) → with_own e id ≡ Some f → f.half.own ≡ Some id
-own_is e id f is = id_is id f.half.own (found_passes (λ h. is_id id h.own) e f is)
-
+-- A half that is found by its peer's ID has it.
 peer_is : (e : End) (id : List ℕ) (f : KeptHalf) → with_peer e id ≡ Some f → f.half.peer ≡ Some id
 peer_is e id f is = id_is id f.half.peer (found_passes (λ h. is_id id h.peer) e f is)
 

@@ -14,6 +14,7 @@ use Rattle.tcap_check.proofs.RunLaws.{sound}
 use Rattle.tcap_refute.proofs.BeforeLaws.{originating_is}
 use Rattle.tcap_refute.proofs.OverLaws.{IsOver, over}
 
+-- The end keeps the rules in a run to this world, and then sends the message.
 pub record IsSent (table : Table) (events : List Event) (w : World) (side : Side) (message : Message) : Type 0 where
   pub runs : Runs table events w
   pub keeps : KeepsRules side events

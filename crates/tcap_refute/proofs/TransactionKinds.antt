@@ -1,6 +1,6 @@
 -- No message that is sent, or that a provider replies, is of a kind that speaks of transactions (Q.774 3.3).
-use Rattle.std.proofs.Common.{◌≡◌, ◌⊎◌, inl, inr, Bool, true, false, cond, ℕ, List, [], ◌∷◌, Option, Some, None, Ok, is_none, not, refl, sym, ap, ◌∙◌}
-use Rattle.std.specs.Prelude.{Contains, ◌&&◌}
+use Rattle.std.proofs.Common.{◌≡◌, Bool, true, false, cond, ℕ, List, [], ◌∷◌, Option, Some, None, Ok, is_none, not, refl, sym, ap, ◌∙◌}
+use Rattle.std.specs.Prelude.{Contains}
 use Rattle.std.specs.List.{AllByRecursion, list_any}
 use Rattle.std.proofs.lemmas.Bool.{and_parts, both_ways, not-true}
 use Rattle.std.proofs.lemmas.Option.{cond_some}
@@ -12,7 +12,6 @@ use Rattle.tcap_msg.specs.declared.message.Message.TheVariants.{Unidirectional, 
 use Rattle.tcap_msg.specs.Parts.{cause_in, dtid_in, otid_in, reason_cause}
 use Rattle.tcap_record.specs.declared.entry.End.{End as Side}
 use Rattle.tcap_end.specs.declared.fault.EndFault.TheVariants as faults
-use Rattle.tcap_end.specs.declared.half.Phase.TheVariants as phases
 use Rattle.tcap_end.specs.Table.{Table}
 use Rattle.tcap_end.specs.Half.{Half, is_closed}
 use Rattle.tcap_end.specs.End.{End, KeptHalf, is_id, with_own}
@@ -21,8 +20,8 @@ use Rattle.tcap_end.specs.Sound.{Has, IsEnd, IsSame}
 use Rattle.tcap_end.proofs.AnsweringLaws.{needs_ok}
 use Rattle.tcap_end.proofs.FoundLaws.{none_own}
 use Rattle.tcap_end.proofs.StepLaws.{none_is, sends}
-use Rattle.tcap_check.specs.World.{Item, OnItsWay, World, channel_from, end_at, other}
-use Rattle.tcap_check.specs.Run.{Event, KeepsRules, Runs, provider_abort, reply_to}
+use Rattle.tcap_check.specs.World.{World, end_at, other}
+use Rattle.tcap_check.specs.Run.{Event, Runs, provider_abort, reply_to}
 use Rattle.tcap_check.specs.Since.{HasUsed, SentSince, WasSent, ended_by}
 use Rattle.tcap_check.proofs.ChannelLaws.{were_sent}
 use Rattle.tcap_check.proofs.RunLaws.{sound}
@@ -30,7 +29,7 @@ use Rattle.tcap_check.proofs.SentMoves.{continue_uses, sent_moves}
 use Rattle.tcap_check.proofs.SinceLaws.{since_at}
 use Rattle.tcap_check.proofs.TurnLaws.{id_is}
 use Rattle.tcap_check.proofs.UsedLaws.{ended_closed, ids_used}
-use Rattle.tcap_refute.specs.Before.{asked, has_a, is_a, since_quiet, sent_by}
+use Rattle.tcap_refute.specs.Before.{asked, is_a, since_quiet, sent_by}
 use Rattle.tcap_refute.specs.Kind.{goes_elsewhere, is_after_end, is_cause_unfounded, is_reused, is_unasked, is_unknown_transaction}
 use Rattle.tcap_refute.proofs.BeforeLaws.{asked_has, found_since, is_that_id}
 use Rattle.tcap_refute.proofs.Members.{any_has, has_not}
