@@ -57,7 +57,8 @@ aborts phase standing d may = inl (or_left (is_none d) (is_user_abort d) may)
 -- ---- tests
 
 -- Where none is there nothing is misplaced.
-none_misplaced : (is_asked : Bool) (d : Option Dialogue) → is_none d ≡ true → is_misplaced_going_on is_asked d ≡ true → ⊥
+none_misplaced : (is_asked : Bool) (d : Option Dialogue) → is_none d ≡ true → is_misplaced_going_on is_asked d ≡ true
+    → ⊥
 none_misplaced is_asked None none is = cc
 none_misplaced is_asked (Some d) none is = cc
 
@@ -87,7 +88,8 @@ refusal_misplaced is_asked (Some (dialogues.Response context result diagnostic i
 refusal_misplaced is_asked (Some (dialogues.Uni context info)) asked refuses is = cc
 
 -- A portion that is there has to pass, and does not.
-only_such : {A : Type 0} (o : Option A) (passes : Bool) → (is_none o || passes) ≡ true → (is_some o && not passes) ≡ true → ⊥
+only_such : {A : Type 0} (o : Option A) (passes : Bool) → (is_none o || passes) ≡ true
+    → (is_some o && not passes) ≡ true → ⊥
 only_such None passes may is = cc
 only_such (Some x) true may is = cc
 only_such (Some x) false may is = cc
@@ -101,52 +103,54 @@ asks_is (Continue otid dtid dialogue components) = refl
 asks_is (EndMessage dtid dialogue components) = refl
 asks_is (Abort dtid reason) = refl
 
--- A half that was asked for a dialogue was asked by a Begin from its peer.
-was_asked : (table : Table) (events : List Event) (w : World) (side : Side) (message : Message) (id : List ℕ) → Runs table events w
-    → (half : IsOver table (end_at side w) message id) → IsAsked half.kept.half.phase half.kept.half.standing
-    → list_any is_begin_with_request (asked side id (since_quiet w.sent)) ≡ true
-was_asked table events w side message id runs half (received, standing) =
-    let (m, since, so, from) = (knows table events w side half.kept runs half.had).request received standing in
-    any_has is_begin_with_request (asked side id (since_quiet w.sent)) m
-    (asked_has side id m w.sent since (sym (originating_is m) ∙ from ∙ half.peer)) (sym (asks_is m) ∙ so)
+-- A message that an end sends over a half.
+module _ {table : Table} {events : List Event} {w : World} {side : Side} {message : Message} (id : List ℕ)
+    (d : Option Dialogue) (it : IsSent table events w side message) (half : IsOver table (end_at side w) message id) where
+  abbrev phase : Phase
+  phase = half.kept.half.phase
 
--- A Continue or an End carries what its half may carry,
-going_on : {table : Table} {events : List Event} {w : World} {side : Side} {message : Message} (id : List ℕ) (d : Option Dialogue)
-    → IsSent table events w side message → (half : IsOver table (end_at side w) message id)
-    → may_go_on half.kept.half.phase half.kept.half.standing d ≡ true
-    → is_misplaced_going_on (list_any is_begin_with_request (asked side id (since_quiet w.sent))) d ≡ true → ⊥
-going_on {table} {events} {w} {side} {message} id d it half may is =
-    by (goes_on half.kept.half.phase half.kept.half.standing d may)
-  where
-    by : (is_none d ≡ true) ⊎ (IsAsked half.kept.half.phase half.kept.half.standing × (accepts_dialogue d ≡ true)) → ⊥
-    by (inl none) = none_misplaced _ d none is
-    by (inr (so, accepts)) = answer_misplaced _ d (was_asked table events w side message id it.runs half so) accepts is
+  abbrev standing : Standing
+  standing = half.kept.half.standing
 
--- and so does an Abort.
-aborting : {table : Table} {events : List Event} {w : World} {side : Side} {message : Message} (id : List ℕ) (d : Option Dialogue)
-    → IsSent table events w side message → (half : IsOver table (end_at side w) message id)
-    → may_abort half.kept.half.phase half.kept.half.standing d ≡ true
-    → is_misplaced_aborting (list_any is_begin_with_request (asked side id (since_quiet w.sent))) d ≡ true → ⊥
-aborting {table} {events} {w} {side} {message} id d it half may is =
-    by (aborts half.kept.half.phase half.kept.half.standing d may)
-  where
-    by : ((is_none d || is_user_abort d) ≡ true)
-        ⊎ (IsAsked half.kept.half.phase half.kept.half.standing × (refuses_dialogue d ≡ true)) → ⊥
-    by (inl user) = user_misplaced _ d user is
-    by (inr (so, refuses)) = refusal_misplaced _ d (was_asked table events w side message id it.runs half so) refuses is
+  abbrev is_asked : Bool
+  is_asked = list_any is_begin_with_request (asked side id (since_quiet w.sent))
 
-pub misplaced_sent : (table : Table) (events : List Event) (w : World) (side : Side) (message : Message)
-    → IsSent table events w side message → is_misplaced_dialogue side (since_quiet w.sent) message ≡ true → ⊥
-misplaced_sent table events w side (Unidirectional dialogue components) it is =
-    let may = needs_ok (may_be_uni dialogue) faults.WrongDialogue _ it.made it.step in
-    only_such dialogue (is_uni dialogue) may.0 is
-misplaced_sent table events w side (Begin otid dialogue components) it is =
-    let free = needs_ok (is_none (with_own (end_at side w) otid)) faults.IdUsed _ it.made it.step in
-    let may = needs_ok (may_begin dialogue) faults.WrongDialogue _ it.made free.1 in
-    only_such dialogue (is_request dialogue) may.0 is
-misplaced_sent table events w side (Continue otid dtid dialogue components) it is =
-    let half = half_over dtid it refl in going_on dtid dialogue it half half.carries is
-misplaced_sent table events w side (EndMessage dtid dialogue components) it is =
-    let half = half_over dtid it refl in going_on dtid dialogue it half half.carries is
-misplaced_sent table events w side (Abort dtid reason) it is =
-    let half = half_over dtid it refl in aborting dtid (reason_dialogue reason) it half half.carries is
+  -- A half that was asked for a dialogue was asked by a Begin from its peer.
+  was_asked : IsAsked phase standing → is_asked ≡ true
+  was_asked (received, asked_for) =
+      let (m, since, so, from) = (knows table events w side half.kept it.runs half.had).request received asked_for in
+      any_has is_begin_with_request (asked side id (since_quiet w.sent)) m
+      (asked_has side id m w.sent since (sym (originating_is m) ∙ from ∙ half.peer)) (sym (asks_is m) ∙ so)
+
+  -- A Continue or an End carries what its half may carry,
+  going_on : may_go_on phase standing d ≡ true → is_misplaced_going_on is_asked d ≡ true → ⊥
+  going_on may is = by (goes_on phase standing d may)
+    where
+      by : (is_none d ≡ true) ⊎ (IsAsked phase standing × (accepts_dialogue d ≡ true)) → ⊥
+      by (inl none) = none_misplaced is_asked d none is
+      by (inr (so, accepts)) = answer_misplaced is_asked d (was_asked so) accepts is
+
+  -- and so does an Abort.
+  aborting : may_abort phase standing d ≡ true → is_misplaced_aborting is_asked d ≡ true → ⊥
+  aborting may is = by (aborts phase standing d may)
+    where
+      by : ((is_none d || is_user_abort d) ≡ true) ⊎ (IsAsked phase standing × (refuses_dialogue d ≡ true)) → ⊥
+      by (inl user) = user_misplaced is_asked d user is
+      by (inr (so, refuses)) = refusal_misplaced is_asked d (was_asked so) refuses is
+
+module _ (table : Table) (events : List Event) (w : World) (side : Side) where
+  pub misplaced_sent : (message : Message) → IsSent table events w side message
+      → is_misplaced_dialogue side (since_quiet w.sent) message ≡ true → ⊥
+  misplaced_sent (Unidirectional dialogue components) it is =
+      let may = needs_ok (may_be_uni dialogue) faults.WrongDialogue _ it.made it.step in
+      only_such dialogue (is_uni dialogue) may.0 is
+  misplaced_sent (Begin otid dialogue components) it is =
+      let free = needs_ok (is_none (with_own (end_at side w) otid)) faults.IdUsed _ it.made it.step in
+      let may = needs_ok (may_begin dialogue) faults.WrongDialogue _ it.made free.1 in
+      only_such dialogue (is_request dialogue) may.0 is
+  misplaced_sent (Continue otid dtid dialogue components) it is =
+      let half = half_over dtid it refl in going_on dtid dialogue it half half.carries is
+  misplaced_sent (EndMessage dtid dialogue components) it is =
+      let half = half_over dtid it refl in going_on dtid dialogue it half half.carries is
+  misplaced_sent (Abort dtid reason) it is =
+      let half = half_over dtid it refl in aborting dtid (reason_dialogue reason) it half half.carries is

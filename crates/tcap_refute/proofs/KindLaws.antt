@@ -20,15 +20,16 @@ use Rattle.tcap_refute.proofs.SentLaws.{IsSent}
 use Rattle.tcap_refute.proofs.TransactionKinds.{after_end_sent, reused_sent, unknown_replied, unknown_sent}
 
 -- None is of a kind that the end sends,
-kind_sent : (table : Table) (events : List Event) (w : World) (side : Side) (message : Message) (kind : Kind)
-    → IsSent table events w side message → is_of_kind table side (since_quiet w.sent) message kind ≡ true → ⊥
-kind_sent table events w side message kinds.BadMessage it is = cc
-kind_sent table events w side message kinds.UnknownTransaction it is = unknown_sent table events w side message it is
-kind_sent table events w side message kinds.ReusedId it is = reused_sent table events w side message it is
-kind_sent table events w side message kinds.AfterEnd it is = after_end_sent table events w side message it is
-kind_sent table events w side message kinds.AnswersNothing it is = answers_nothing_sent table events w side message it is
-kind_sent table events w side message kinds.WrongOperation it is = wrong_operation_sent table events w side message it is
-kind_sent table events w side message kinds.MisplacedDialogue it is = misplaced_sent table events w side message it is
+module _ (table : Table) (events : List Event) (w : World) (side : Side) (message : Message)
+    (it : IsSent table events w side message) where
+  kind_sent : (kind : Kind) → is_of_kind table side (since_quiet w.sent) message kind ≡ true → ⊥
+  kind_sent kinds.BadMessage is = cc
+  kind_sent kinds.UnknownTransaction is = unknown_sent table events w side message it is
+  kind_sent kinds.ReusedId is = reused_sent table events w side message it is
+  kind_sent kinds.AfterEnd is = after_end_sent table events w side message it is
+  kind_sent kinds.AnswersNothing is = answers_nothing_sent table events w side message it is
+  kind_sent kinds.WrongOperation is = wrong_operation_sent table events w side message it is
+  kind_sent kinds.MisplacedDialogue is = misplaced_sent table events w side message it is
 
 -- A provider's reply is an Abort with a cause,
 reply_aborts : (e : End) (m message : Message) → reply_to e m ≡ Some message
@@ -50,26 +51,29 @@ abort_kind table side before id cause kinds.AnswersNothing is = cc
 abort_kind table side before id cause kinds.WrongOperation is = cc
 abort_kind table side before id cause kinds.MisplacedDialogue is = cc
 
-kind_replied : (table : Table) (events : List Event) (w : World) (side : Side) (message : Message) (kind : Kind) → Runs table events w
-    → RepliesIt w side message → is_of_kind table side (since_quiet w.sent) message kind ≡ true → ⊥
+kind_replied : (table : Table) (events : List Event) (w : World) (side : Side) (message : Message) (kind : Kind)
+    → Runs table events w → RepliesIt w side message
+    → is_of_kind table side (since_quiet w.sent) message kind ≡ true → ⊥
 kind_replied table events w side message kind runs it is =
     let (id, cause, aborts) = reply_aborts (end_at side w) it.0.message message it.3 in
     let only = abort_kind table side (since_quiet w.sent) id cause kind (rw aborts at is) in
     unknown_replied table events w side message runs it (rw only at is)
 
 -- So none is that stands in a run, behind what was sent before it.
-pub none_of_kind : (table : Table) (events : List Event) (w : World) (before behind : List Item) (side : Side) (message : Message)
-    (kind : Kind) → Runs table events w → KeepsRules side events → w.sent ≡ before ++ Sent side message ∷ behind
-    → is_of_kind table side (since_quiet before) message kind ≡ true → ⊥
-none_of_kind table events w before behind side message kind runs keeps sent is = by at.how
+pub none_of_kind : (table : Table) (events : List Event) (w : World) (before behind : List Item) (side : Side)
+    (message : Message) (kind : Kind) → Runs table events w → KeepsRules side events
+    → w.sent ≡ before ++ Sent side message ∷ behind → is_of_kind table side (since_quiet before) message kind ≡ true → ⊥
+none_of_kind table events w before behind side message kind runs keeps sent is = by at_it.how
   where
-    at : IsMoment table side before message
-    at = sent_at table events w before behind side message runs keeps sent
+    at_it : IsMoment table side before message
+    at_it = sent_at table events w before behind side message runs keeps sent
 
-    there : is_of_kind table side (since_quiet at.world.sent) message kind ≡ true
-    there = rw (at.sent) is
+    there : is_of_kind table side (since_quiet at_it.world.sent) message kind ≡ true
+    there = rw (at_it.sent) is
 
-    by : SendsIt table at.world side message ⊎ RepliesIt at.world side message → ⊥
-    by (inl (made, step)) = kind_sent table at.events at.world side message kind
-        (record { runs = at.runs; keeps = at.keeps; made = made; step = step }) there
-    by (inr replies) = kind_replied table at.events at.world side message kind at.runs replies there
+    by : SendsIt table at_it.world side message ⊎ RepliesIt at_it.world side message → ⊥
+    by (inl (made, step)) =
+        let it : IsSent table at_it.events at_it.world side message =
+        record { runs = at_it.runs; keeps = at_it.keeps; made = made; step = step } in
+        kind_sent table at_it.events at_it.world side message it kind there
+    by (inr replies) = kind_replied table at_it.events at_it.world side message kind at_it.runs replies there

@@ -18,7 +18,8 @@ pub has_not : {A P : Type 0} (x : A) → Contains [] x → P
 has_not x (k, below, is) = absurd (omega arith)
 
 -- What passes is kept.
-pub filter_has : {A : Type 0} (p : A → Bool) (xs : List A) (x : A) → Contains xs x → p x ≡ true → Contains (filter p xs) x
+pub filter_has : {A : Type 0} (p : A → Bool) (xs : List A) (x : A) → Contains xs x → p x ≡ true
+    → Contains (filter p xs) x
 filter_has p [] x has passes = has_not x has
 filter_has {A = A} p (y ∷ ys) x has passes = by (contains_first y ys x has) (λ rest. filter_has p ys x rest passes)
   where
@@ -34,7 +35,8 @@ filter_has {A = A} p (y ∷ ys) x has passes = by (contains_first y ys x has) (�
 pub filter_map_has : {A B : Type 0} (f : A → Option B) (xs : List A) (x : A) (y : B) → Contains xs x → f x ≡ Some y
     → Contains (filter_map f xs) y
 filter_map_has f [] x y has made = has_not x has
-filter_map_has {A = A} {B = B} f (z ∷ zs) x y has made = by (contains_first z zs x has) (λ rest. filter_map_has f zs x y rest made)
+filter_map_has {A = A} {B = B} f (z ∷ zs) x y has made =
+    by (contains_first z zs x has) (λ rest. filter_map_has f zs x y rest made)
   where
     later : (o : Option B) → Contains (filter_map f zs) y → Contains (cons_option o (filter_map f zs)) y
     later None in_rest = in_rest
@@ -47,7 +49,8 @@ filter_map_has {A = A} {B = B} f (z ∷ zs) x y has made = by (contains_first z 
 pub flat_map_has : {A B : Type 0} (f : A → List B) (xs : List A) (x : A) (y : B) → Contains xs x → Contains (f x) y
     → Contains (flat_map f xs) y
 flat_map_has f [] x y has inside = has_not x has
-flat_map_has {A = A} {B = B} f (z ∷ zs) x y has inside = by (contains_first z zs x has) (λ rest. flat_map_has f zs x y rest inside)
+flat_map_has {A = A} {B = B} f (z ∷ zs) x y has inside =
+    by (contains_first z zs x has) (λ rest. flat_map_has f zs x y rest inside)
   where
     by : (z ≡ x) ⊎ Contains zs x → (Contains zs x → Contains (flat_map f zs) y) → Contains (flat_map f (z ∷ zs)) y
     by (inl first) kept = rw first (Contains-append_left (f x) (flat_map f zs) y inside)
@@ -58,15 +61,3 @@ flat_map_has {A = A} {B = B} f (z ∷ zs) x y has inside = by (contains_first z 
 -- It finds what passes.
 pub any_has : {A : Type 0} (p : A → Bool) (xs : List A) (x : A) → Contains xs x → p x ≡ true → list_any p xs ≡ true
 any_has p xs x (k, below, is) passes = list_any_at p xs k x below (ap p is ∙ passes)
-
--- What it finds passes.
-pub any_found : {A : Type 0} (p : A → Bool) (xs : List A) → list_any p xs ≡ true → (x : A) × Contains xs x × (p x ≡ true)
-any_found p [] is = cc
-any_found {A = A} p (y ∷ ys) is = by (p y) refl is (any_found p ys)
-  where
-    by : (b : Bool) → p y ≡ b → (b || list_any p ys) ≡ true → (list_any p ys ≡ true → (x : A) × Contains ys x × (p x ≡ true))
-        → (x : A) × Contains (y ∷ ys) x × (p x ≡ true)
-    by true at found rest = (y, has_first y ys, at)
-    by false at found rest =
-        let (x, has, passes) = rest found in
-        (x, has_later y ys x has, passes)

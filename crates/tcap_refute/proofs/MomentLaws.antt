@@ -1,6 +1,6 @@
--- The moment at which a message of a run is sent: a run to the world before it, in which its end sends it or its provider
--- replies by it.
-use Rattle.std.proofs.Common.{◌≡◌, ◌⊎◌, inl, inr, Bool, true, false, List, [], ◌∷◌, ◌++◌, Some, Ok, refl, sym, ap, ◌∙◌}
+-- The moment at which a message of a run is sent: a run to the world before it, in which its end sends it, or its
+-- provider replies by it.
+use Rattle.std.proofs.Common.{◌≡◌, ℕ, ◌⊎◌, inl, inr, Bool, true, false, List, [], ◌∷◌, ◌++◌, Some, Ok, refl, sym, ap, ◌∙◌}
 use Rattle.std.specs.Prelude.{◌||◌}
 use Rattle.std.proofs.lemmas.Bool.{or_parts}
 use Rattle.std.proofs.lemmas.List.{append-nil}
@@ -11,8 +11,8 @@ use Rattle.tcap_end.specs.Table.{Table}
 use Rattle.tcap_end.specs.End.{End}
 use Rattle.tcap_end.specs.Message.{send}
 use Rattle.tcap_check.specs.World.{Item, OnItsWay, Sent, World, channel_from, empty, end_at, other, with_channel, with_end}
-use Rattle.tcap_check.specs.Run.{Event, Sends, Receives, Replies, Loses, Expires, Closes, Quiet, Tells, KeepsRules, Runs, after, is_told_by, joined, reply_to, tells}
-use Rattle.tcap_check.proofs.RunLaws.{closing, delivery, expiry, grows, loss, reply, runs_keep, sending}
+use Rattle.tcap_check.specs.Run.{Adds, Event, Sends, Receives, Replies, Loses, Expires, Closes, Quiet, Tells, KeepsRules, Runs, after, is_told_by, joined, reply_to, tells}
+use Rattle.tcap_check.proofs.RunLaws.{IsReply, grows, reply, runs_keep, sending}
 use Rattle.tcap_refute.proofs.BeforeLaws.{is_itself}
 
 -- The end sends it.
@@ -25,7 +25,8 @@ RepliesIt w side message =
     (head : OnItsWay) × (more : List OnItsWay) × (channel_from (other side) w ≡ head ∷ more)
     × (reply_to (end_at side w) head.message ≡ Some message)
 
--- Behind a run in which the end keeps the rules, and which sent these items, it sends the message, or its provider does.
+-- Behind a run in which the end keeps the rules, and which sent these items, it sends the message, or its provider
+-- replies by it.
 pub record IsMoment (table : Table) (side : Side) (before : List Item) (message : Message) : Type 0 where
   pub events : List Event
   pub world : World
@@ -62,7 +63,7 @@ kept_before side (first ∷ before) event keeps =
     let (kept, last) = kept_before side before event later in
     (rw (now, kept) refl, last)
 
--- What joins a channel joins the sent list; nothing else that a step of one end changes is a matter of it.
+-- What joins a channel joins the sent list; what is taken from one is no matter of it.
 sent_joined : (side : Side) (m : Message) (w : World) → (joined side m w).sent ≡ w.sent ++ Sent side m ∷ []
 sent_joined sides.A m w = refl
 sent_joined sides.B m w = refl
@@ -76,80 +77,82 @@ sent_with_channel sides.B more w = refl
 -- Each message of an end that keeps the rules has its moment.
 abbrev HaveMoments : Table → Side → List Event → World → Type 0
 HaveMoments table side events w =
-    KeepsRules side events → (front behind : List Item) (message : Message) → w.sent ≡ front ++ Sent side message ∷ behind
-    → IsMoment table side front message
+    KeepsRules side events → (front behind : List Item) (message : Message)
+    → w.sent ≡ front ++ Sent side message ∷ behind → IsMoment table side front message
 
--- A step more: what it adds is sent or replied there.
+-- One step more.
 module _ (table : Table) (side : Side) (before : List Event) (w next : World) (runs : Runs table before w)
-    (had : HaveMoments table side before w) (kept : KeepsRules side before) (front behind : List Item) (message : Message)
-    (sent : next.sent ≡ front ++ Sent side message ∷ behind) where
-  -- Nothing is added,
+    (had : HaveMoments table side before w) (kept : KeepsRules side before) (front behind : List Item)
+    (message : Message) (sent : next.sent ≡ front ++ Sent side message ∷ behind) where
+  -- Where it adds nothing, the message was there before.
   none_more : next.sent ≡ w.sent ++ [] → IsMoment table side front message
   none_more is = had kept front behind message (sym (append-nil w.sent) ∙ sym is ∙ sent)
 
-  -- or one item, and if that is the message this is its moment.
+  -- Where it adds an item, the message was there before, or is that item, and then this is its moment.
   one_more : (item : Item) → next.sent ≡ w.sent ++ item ∷ []
-      → (item ≡ Sent side message → SendsIt table w side message ⊎ RepliesIt w side message) → IsMoment table side front message
+      → (item ≡ Sent side message → SendsIt table w side message ⊎ RepliesIt w side message)
+      → IsMoment table side front message
   one_more item is now = by (last_or_before item (Sent side message) w.sent front behind (sym is ∙ sent))
     where
-      by : ((item ≡ Sent side message) × (w.sent ≡ front)) ⊎ ((rest : List Item) × (w.sent ≡ front ++ Sent side message ∷ rest))
-          → IsMoment table side front message
-      by (inl (last, all)) = record { events = before; world = w; runs = runs; keeps = kept; sent = all; how = now last }
+      by : ((item ≡ Sent side message) × (w.sent ≡ front))
+          ⊎ ((rest : List Item) × (w.sent ≡ front ++ Sent side message ∷ rest)) → IsMoment table side front message
+      by (inl (last, all)) =
+          record { events = before; world = w; runs = runs; keeps = kept; sent = all; how = now last }
       by (inr (rest, all)) = had kept front rest message all
 
-  more : (event : Event) → after table event w ≡ Some next → is_told_by side event ≡ false → IsMoment table side front message
-  more (Sends sender m) is told =
+  -- What a step adds.
+  added : (event : Event) (items : List Item) → after table event w ≡ Some next
+      → ((found : List Item) → Adds w event found → found ≡ items) → next.sent ≡ w.sent ++ items
+  added event items is only =
+      let (found, adds, grown) = grows table event w next is in grown ∙ ap (λ i. w.sent ++ i) (only found adds)
+
+  replied : (replier : Side) (number : ℕ) (r : IsReply replier number w next)
+      → next.sent ≡ w.sent ++ Sent replier r.abort ∷ []
+  replied replier number r =
+      ap (λ (v : World). v.sent) r.next_is
+      ∙ sent_joined replier r.abort (with_channel (other replier) r.more w)
+      ∙ ap (λ items. items ++ Sent replier r.abort ∷ []) (sent_with_channel (other replier) r.more w)
+
+  by_step : (event : Event) → after table event w ≡ Some next → is_told_by side event ≡ false
+      → IsMoment table side front message
+  by_step (Sends sender m) is told =
       let s = sending table sender m w next is in
-      let (items, adds, grown) = grows table (Sends sender m) w next is in
-      one_more (Sent sender m) (grown ∙ ap (λ i. w.sent ++ i) adds) (λ last.
+      one_more (Sent sender m) (added (Sends sender m) (Sent sender m ∷ []) is (λ found adds. adds)) (λ last.
       let who : sender ≡ side = cc in
-      let what : m ≡ message = cc in
-      inl (s.made, rw (← who, ← what) s.step))
-  more (Replies replier number) is told =
+      let what : m ≡ message = cc in inl (s.made, rw (← who, ← what) s.step))
+  by_step (Replies replier number) is told =
       let r = reply table replier number w next is in
-      let left = with_channel (other replier) r.more w in
-      let grown : next.sent ≡ w.sent ++ Sent replier r.abort ∷ [] =
-      ap (λ (v : World). v.sent) r.next_is ∙ sent_joined replier r.abort left
-      ∙ ap (λ items. items ++ Sent replier r.abort ∷ []) (sent_with_channel (other replier) r.more w) in
-      one_more (Sent replier r.abort) grown (λ last.
+      one_more (Sent replier r.abort) (replied replier number r) (λ last.
       let who : replier ≡ side = cc in
-      let what : r.abort ≡ message = cc in
-      inr (r.head, r.more, rw (← who) r.channel, rw (← who, ← what) r.step))
-  more (Tells teller m) is told =
-      let (items, adds, grown) = grows table (Tells teller m) w next is in
-      one_more (Sent teller m) (grown ∙ ap (λ i. w.sent ++ i) adds) (λ last.
+      let what : r.abort ≡ message = cc in inr (r.head, r.more, rw (← who) r.channel, rw (← who, ← what) r.step))
+  by_step (Tells teller m) is told =
+      one_more (Sent teller m) (added (Tells teller m) (Sent teller m ∷ []) is (λ found adds. adds)) (λ last.
       let who : side ≡ teller = cc in
       let bad : true ≡ false = sym (is_itself teller) ∙ rw who at told in cc)
-  more Quiet is told =
-      let (items, adds, grown) = grows table Quiet w next is in
-      one_more Item.Quiet (grown ∙ ap (λ i. w.sent ++ i) adds) (λ last. cc)
-  more (Receives receiver number) is told =
-      let (items, adds, grown) = grows table (Receives receiver number) w next is in
-      none_more (grown ∙ ap (λ i. w.sent ++ i) adds)
-  more (Loses sender number) is told =
-      let (items, adds, grown) = grows table (Loses sender number) w next is in
-      none_more (grown ∙ ap (λ i. w.sent ++ i) adds)
-  more (Expires place name id) is told =
-      let (items, adds, grown) = grows table (Expires place name id) w next is in
-      none_more (grown ∙ ap (λ i. w.sent ++ i) adds)
-  more (Closes place name) is told =
-      let (items, adds, grown) = grows table (Closes place name) w next is in
-      none_more (grown ∙ ap (λ i. w.sent ++ i) adds)
+  by_step Quiet is told =
+      one_more Item.Quiet (added Quiet (Item.Quiet ∷ []) is (λ found adds. adds)) (λ last. cc)
+  by_step (Receives receiver number) is told =
+      none_more (added (Receives receiver number) [] is (λ found adds. adds))
+  by_step (Loses sender number) is told = none_more (added (Loses sender number) [] is (λ found adds. adds))
+  by_step (Expires place name id) is told = none_more (added (Expires place name id) [] is (λ found adds. adds))
+  by_step (Closes place name) is told = none_more (added (Closes place name) [] is (λ found adds. adds))
 
-step_has : (table : Table) (side : Side) (before : List Event) (event : Event) (w next : World) → Runs table before w
-    → after table event w ≡ Some next → HaveMoments table side before w → HaveMoments table side (before ++ event ∷ []) next
+step_has : (table : Table) (side : Side) (before : List Event) (event : Event) (w next : World)
+    → Runs table before w → after table event w ≡ Some next → HaveMoments table side before w
+    → HaveMoments table side (before ++ event ∷ []) next
 step_has table side before event w next runs is had keeps front behind message sent =
     let (kept, told) = kept_before side before event keeps in
-    more table side before w next runs had kept front behind message sent event is told
+    by_step table side before w next runs had kept front behind message sent event is told
 
 nothing_sent : {P : Type 0} (item : Item) (front behind : List Item) → [] ≡ front ++ item ∷ behind → P
 nothing_sent item [] behind is = cc
 nothing_sent item (first ∷ front) behind is = cc
 
 -- What an end that keeps the rules sent has its moment.
-pub sent_at : (table : Table) (events : List Event) (w : World) (before behind : List Item) (side : Side) (message : Message)
-    → Runs table events w → KeepsRules side events → w.sent ≡ before ++ Sent side message ∷ behind
-    → IsMoment table side before message
+pub sent_at : (table : Table) (events : List Event) (w : World) (before behind : List Item) (side : Side)
+    (message : Message) → Runs table events w → KeepsRules side events
+    → w.sent ≡ before ++ Sent side message ∷ behind → IsMoment table side before message
 sent_at table events w before behind side message runs keeps sent =
-    runs_keep table (HaveMoments table side) (λ keeps front behind message is. nothing_sent _ front behind is) (step_has table side)
+    runs_keep table (HaveMoments table side)
+    (λ keeps front behind message is. nothing_sent (Sent side message) front behind is) (step_has table side)
     events w runs keeps before behind message sent

@@ -1,4 +1,4 @@
--- What a message is sent over: a Continue, an End or an Abort goes over an open half, whose peer has the destination ID.
+-- What a message is sent over: a Continue, an End or an Abort goes over an open half whose peer has the destination ID.
 use Rattle.std.proofs.Common.{◌≡◌, Bool, true, false, cond, ℕ, List, [], ◌∷◌, Option, Some, None, Result, Ok, Err, is_none, not, refl, subst, ◌∙◌}
 use Rattle.std.specs.Prelude.{ok_or}
 use Rattle.std.proofs.lemmas.Bool.{not-true}
@@ -49,8 +49,8 @@ pub record IsOver (table : Table) (e : End) (m : Message) (id : List ℕ) : Type
 -- ---- halves that are found
 
 -- They pass.
-first_passes : (passes : Half → Bool) (slot : Slot) (es : List (List ℕ × Half)) (f : KeptHalf) → first_half passes slot es ≡ Some f
-    → passes f.half ≡ true
+first_passes : (passes : Half → Bool) (slot : Slot) (es : List (List ℕ × Half)) (f : KeptHalf)
+    → first_half passes slot es ≡ Some f → passes f.half ≡ true
 first_passes passes slot [] f is = cc
 first_passes passes slot ((key, half) ∷ es) f is = by (passes half) refl is (first_passes passes slot es f)
   where
@@ -79,121 +79,118 @@ peer_is e id f is = id_is id f.half.peer (found_passes (λ h. is_id id h.peer) e
 
 -- ---- each message
 
--- A Continue that answers a Begin,
-answer_over : (table : Table) (e made : End) (otid dtid : List ℕ) (dialogue : Option Dialogue) (components : Option (List Component))
-    → IsEnd e → send_first_continue table e otid dtid dialogue (items_of components) ≡ Ok made
-    → IsOver table e (Continue otid dtid dialogue components) dtid
-answer_over table e made otid dtid dialogue components sound is =
-    let (f, ok, step) = then_ok (ok_or (with_peer e dtid) faults.NoTransaction) _ made is in
-    let found = some_ok _ _ f ok in
-    let waits = needs_ok (is_received f.half.phase) faults.WrongPhase _ made step in
-    let may = needs_ok (may_go_on f.half.phase f.half.standing dialogue) faults.WrongDialogue _ made waits.1 in
-    let start = active_half Accepted otid f.half in
-    let (g, sent, done) = then_ok (send_components table start (items_of components)) (λ half. Ok (put e f.slot f.key half)) made may.1 in
-    record {
-      kept = f;
-      had = peer_has e dtid sound f found;
-      peer = peer_is e dtid f found;
-      is_open = rw (received_is f.half.phase waits.0) refl;
-      carries = may.0;
-      no_cause = refl;
-      start = start;
-      inn = refl;
-      grants = refl;
-      behind = g;
-      sends = sent;
-    }
+module _ (table : Table) (e made : End) (sound : IsEnd e) where
+  -- A Continue that answers a Begin,
+  answer_over : (otid dtid : List ℕ) (dialogue : Option Dialogue) (components : Option (List Component))
+      → send_first_continue table e otid dtid dialogue (items_of components) ≡ Ok made
+      → IsOver table e (Continue otid dtid dialogue components) dtid
+  answer_over otid dtid dialogue components is =
+      let (f, ok, step) = then_ok (ok_or (with_peer e dtid) faults.NoTransaction) _ made is in
+      let found = some_ok _ _ f ok in
+      let waits = needs_ok (is_received f.half.phase) faults.WrongPhase _ made step in
+      let may = needs_ok (may_go_on f.half.phase f.half.standing dialogue) faults.WrongDialogue _ made waits.1 in
+      let start = active_half Accepted otid f.half in
+      let (g, sent, done) = then_ok (send_components table start (items_of components)) _ made may.1 in
+      record {
+        kept = f;
+        had = peer_has e dtid sound f found;
+        peer = peer_is e dtid f found;
+        is_open = rw (received_is f.half.phase waits.0) refl;
+        carries = may.0;
+        no_cause = refl;
+        start = start;
+        inn = refl;
+        grants = refl;
+        behind = g;
+        sends = sent;
+      }
 
--- or one that goes on,
-next_over : (table : Table) (e made : End) (otid dtid : List ℕ) (dialogue : Option Dialogue) (components : Option (List Component))
-    (f : KeptHalf) → with_own e otid ≡ Some f → IsEnd e
-    → send_next_continue table e dtid dialogue (items_of components) f ≡ Ok made
-    → IsOver table e (Continue otid dtid dialogue components) dtid
-next_over table e made otid dtid dialogue components f found sound is =
-    let active = needs_ok (is_active f.half.phase) faults.WrongPhase _ made is in
-    let peer = needs_ok (is_id dtid f.half.peer) faults.NoTransaction _ made active.1 in
-    let may = needs_ok (may_go_on f.half.phase f.half.standing dialogue) faults.WrongDialogue _ made peer.1 in
-    let (g, sent, done) = then_ok (send_components table f.half (items_of components)) (λ half. Ok (put e f.slot f.key half)) made may.1 in
-    record {
-      kept = f;
-      had = own_has e otid sound f found;
-      peer = id_is dtid f.half.peer peer.0;
-      is_open = rw (active_is f.half.phase active.0) refl;
-      carries = may.0;
-      no_cause = refl;
-      start = f.half;
-      inn = refl;
-      grants = refl;
-      behind = g;
-      sends = sent;
-    }
+  -- or one that goes on,
+  next_over : (otid dtid : List ℕ) (dialogue : Option Dialogue) (components : Option (List Component)) (f : KeptHalf)
+      → with_own e otid ≡ Some f → send_next_continue table e dtid dialogue (items_of components) f ≡ Ok made
+      → IsOver table e (Continue otid dtid dialogue components) dtid
+  next_over otid dtid dialogue components f found is =
+      let active = needs_ok (is_active f.half.phase) faults.WrongPhase _ made is in
+      let peer = needs_ok (is_id dtid f.half.peer) faults.NoTransaction _ made active.1 in
+      let may = needs_ok (may_go_on f.half.phase f.half.standing dialogue) faults.WrongDialogue _ made peer.1 in
+      let (g, sent, done) = then_ok (send_components table f.half (items_of components)) _ made may.1 in
+      record {
+        kept = f;
+        had = own_has e otid sound f found;
+        peer = id_is dtid f.half.peer peer.0;
+        is_open = rw (active_is f.half.phase active.0) refl;
+        carries = may.0;
+        no_cause = refl;
+        start = f.half;
+        inn = refl;
+        grants = refl;
+        behind = g;
+        sends = sent;
+      }
 
--- by the half that has its own ID;
-continue_over : (table : Table) (e made : End) (otid dtid : List ℕ) (dialogue : Option Dialogue) (components : Option (List Component))
-    (o : Option KeptHalf) → with_own e otid ≡ o → IsEnd e
-    → send_continue table e otid dtid dialogue (items_of components) o ≡ Ok made
-    → IsOver table e (Continue otid dtid dialogue components) dtid
-continue_over table e made otid dtid dialogue components None found sound is =
-    answer_over table e made otid dtid dialogue components sound is
-continue_over table e made otid dtid dialogue components (Some f) found sound is =
-    next_over table e made otid dtid dialogue components f found sound is
+  -- by the half that has its own ID;
+  continue_over : (otid dtid : List ℕ) (dialogue : Option Dialogue) (components : Option (List Component))
+      (o : Option KeptHalf) → with_own e otid ≡ o
+      → send_continue table e otid dtid dialogue (items_of components) o ≡ Ok made
+      → IsOver table e (Continue otid dtid dialogue components) dtid
+  continue_over otid dtid dialogue components None found is = answer_over otid dtid dialogue components is
+  continue_over otid dtid dialogue components (Some f) found is = next_over otid dtid dialogue components f found is
 
--- an End;
-end_over : (table : Table) (e made : End) (dtid : List ℕ) (dialogue : Option Dialogue) (components : Option (List Component)) → IsEnd e
-    → send_end table e dtid dialogue (items_of components) ≡ Ok made → IsOver table e (EndMessage dtid dialogue components) dtid
-end_over table e made dtid dialogue components sound is =
-    let (f, ok, step) = then_ok (ok_or (with_peer e dtid) faults.NoTransaction) _ made is in
-    let found = some_ok _ _ f ok in
-    let open_one = needs_ok (not (is_closed f.half.phase)) faults.WrongPhase _ made step in
-    let may = needs_ok (may_go_on f.half.phase f.half.standing dialogue) faults.WrongDialogue _ made open_one.1 in
-    let (g, sent, done) = then_ok (send_components table f.half (items_of components))
-    (λ half. Ok (put e f.slot f.key (closed_half half))) made may.1 in
-    record {
-      kept = f;
-      had = peer_has e dtid sound f found;
-      peer = peer_is e dtid f found;
-      is_open = not-true _ open_one.0;
-      carries = may.0;
-      no_cause = refl;
-      start = f.half;
-      inn = refl;
-      grants = refl;
-      behind = g;
-      sends = sent;
-    }
+  -- an End;
+  end_over : (dtid : List ℕ) (dialogue : Option Dialogue) (components : Option (List Component))
+      → send_end table e dtid dialogue (items_of components) ≡ Ok made
+      → IsOver table e (EndMessage dtid dialogue components) dtid
+  end_over dtid dialogue components is =
+      let (f, ok, step) = then_ok (ok_or (with_peer e dtid) faults.NoTransaction) _ made is in
+      let found = some_ok _ _ f ok in
+      let still = needs_ok (not (is_closed f.half.phase)) faults.WrongPhase _ made step in
+      let may = needs_ok (may_go_on f.half.phase f.half.standing dialogue) faults.WrongDialogue _ made still.1 in
+      let (g, sent, done) = then_ok (send_components table f.half (items_of components)) _ made may.1 in
+      record {
+        kept = f;
+        had = peer_has e dtid sound f found;
+        peer = peer_is e dtid f found;
+        is_open = not-true _ still.0;
+        carries = may.0;
+        no_cause = refl;
+        start = f.half;
+        inn = refl;
+        grants = refl;
+        behind = g;
+        sends = sent;
+      }
 
--- and an Abort, which has no cause.
-abort_over : (table : Table) (e made : End) (dtid : List ℕ) (reason : Option AbortReason) → IsEnd e
-    → send_abort e dtid reason ≡ Ok made → IsOver table e (Abort dtid reason) dtid
-abort_over table e made dtid reason sound is =
-    let user = needs_ok (is_none (reason_cause reason)) faults.WrongPhase _ made is in
-    let (f, ok, step) = then_ok (ok_or (with_peer e dtid) faults.NoTransaction) _ made user.1 in
-    let found = some_ok _ _ f ok in
-    let open_one = needs_ok (not (is_closed f.half.phase)) faults.WrongPhase _ made step in
-    let may = needs_ok (may_abort f.half.phase f.half.standing (reason_dialogue reason)) faults.WrongDialogue _ made open_one.1 in
-    record {
-      kept = f;
-      had = peer_has e dtid sound f found;
-      peer = peer_is e dtid f found;
-      is_open = not-true _ open_one.0;
-      carries = may.0;
-      no_cause = none_is (reason_cause reason) user.0;
-      start = f.half;
-      inn = refl;
-      grants = refl;
-      behind = f.half;
-      sends = refl;
-    }
+  -- and an Abort, which has no cause.
+  abort_over : (dtid : List ℕ) (reason : Option AbortReason) → send_abort e dtid reason ≡ Ok made
+      → IsOver table e (Abort dtid reason) dtid
+  abort_over dtid reason is =
+      let dialogue = reason_dialogue reason in
+      let user = needs_ok (is_none (reason_cause reason)) faults.WrongPhase _ made is in
+      let (f, ok, step) = then_ok (ok_or (with_peer e dtid) faults.NoTransaction) _ made user.1 in
+      let found = some_ok _ _ f ok in
+      let still = needs_ok (not (is_closed f.half.phase)) faults.WrongPhase _ made step in
+      let may = needs_ok (may_abort f.half.phase f.half.standing dialogue) faults.WrongDialogue _ made still.1 in
+      record {
+        kept = f;
+        had = peer_has e dtid sound f found;
+        peer = peer_is e dtid f found;
+        is_open = not-true _ still.0;
+        carries = may.0;
+        no_cause = none_is (reason_cause reason) user.0;
+        start = f.half;
+        inn = refl;
+        grants = refl;
+        behind = f.half;
+        sends = refl;
+      }
 
--- A message with a destination ID that is sent is sent over such a half.
-pub over : (table : Table) (e made : End) (m : Message) (id : List ℕ) → IsEnd e → send table e m ≡ Ok made → dtid_in m ≡ Some id
-    → IsOver table e m id
-over table e made (Unidirectional dialogue components) id sound is to = cc
-over table e made (Begin otid dialogue components) id sound is to = cc
-over table e made (Continue otid dtid dialogue components) id sound is to =
-    let same : dtid ≡ id = cc in
-    rw (← same) (continue_over table e made otid dtid dialogue components (with_own e otid) refl sound is)
-over table e made (EndMessage dtid dialogue components) id sound is to =
-    let same : dtid ≡ id = cc in rw (← same) (end_over table e made dtid dialogue components sound is)
-over table e made (Abort dtid reason) id sound is to =
-    let same : dtid ≡ id = cc in rw (← same) (abort_over table e made dtid reason sound is)
+  -- A message with a destination ID that is sent is sent over such a half.
+  pub over : (m : Message) (id : List ℕ) → send table e m ≡ Ok made → dtid_in m ≡ Some id → IsOver table e m id
+  over (Unidirectional dialogue components) id is to = cc
+  over (Begin otid dialogue components) id is to = cc
+  over (Continue otid dtid dialogue components) id is to =
+      let same : dtid ≡ id = cc in
+      rw (← same) (continue_over otid dtid dialogue components (with_own e otid) refl is)
+  over (EndMessage dtid dialogue components) id is to =
+      let same : dtid ≡ id = cc in rw (← same) (end_over dtid dialogue components is)
+  over (Abort dtid reason) id is to = let same : dtid ≡ id = cc in rw (← same) (abort_over dtid reason is)

@@ -24,7 +24,7 @@ module _ {table : Table} {events : List Event} {w : World} {side : Side} {messag
     (it : IsSent table events w side message) (to : dtid_in message ≡ Some id) where
   -- It goes over an open half whose peer has its destination ID,
   pub half_over : IsOver table (end_at side w) message id
-  half_over = over table (end_at side w) it.made message id (sound table events w it.runs side) it.step to
+  half_over = over table (end_at side w) it.made (sound table events w it.runs side) message id it.step to
 
   -- and the peer sent a message from there.
   pub peer_spoke : (m : Message) × SentSince (other side) m w.sent × (otid_in m ≡ Some id)
