@@ -17,7 +17,7 @@ use Rattle.tcap_record.specs.declared.entry.End.{End as Side}
 use Rattle.tcap_end.specs.declared.fault.EndFault.{EndFault}
 use Rattle.tcap_end.specs.declared.fault.EndFault.TheVariants as faults
 use Rattle.tcap_end.specs.Class.{of_class, reports_neither}
-use Rattle.tcap_end.specs.Component.{allows, class_reports, names}
+use Rattle.tcap_end.specs.Component.{class_reports, names}
 use Rattle.tcap_end.specs.Dialogue.{may_be_uni}
 use Rattle.tcap_end.specs.End.{End}
 use Rattle.tcap_end.specs.Half.{Answer, Invocation}
@@ -45,13 +45,14 @@ same_id : (id : ℤ) → is_invoke_id id id ≡ true
 same_id id = rw (tied_itself int_cmp_total id) refl
 
 -- An Invoke with its ID is there;
-has_invoke : (cs : List Component) (id : ℤ) (item : Invocation) → IsInvoked cs id item → not (list_any (invokes id) cs) ≡ true → ⊥
+has_invoke : (cs : List Component) (id : ℤ) (item : Invocation) → IsInvoked cs id item
+    → not (list_any (invokes id) cs) ≡ true → ⊥
 has_invoke cs id item (linked, parameter, has) is =
     both_ways _ (not-true _ is) (any_has (invokes id) cs (Invoke id linked item.code parameter) has (same_id id))
 
 -- an answer with its ID is.
-is_answered : (is_result : Bool) (id : ℤ) (answer : Answer) (c : Component) → answer.is_result ≡ is_result → IsAnswer answer id c
-    → answers is_result id c ≡ true
+is_answered : (is_result : Bool) (id : ℤ) (answer : Answer) (c : Component) → answer.is_result ≡ is_result
+    → IsAnswer answer id c → answers is_result id c ≡ true
 is_answered true id answer (Invoke other linked code parameter) sort is = absurd is
 is_answered true id answer (ReturnResult last other body) sort is = rw (is.1) (same_id id)
 is_answered true id answer (ReturnError other code parameter) sort is = let bad = sym (is.0) ∙ sort in cc
@@ -67,7 +68,8 @@ has_answer cs is_result id (answer, (c, sort, has), same) is =
     both_ways _ (not-true _ is) (any_has (answers is_result id) cs c has (is_answered is_result id answer c same sort))
 
 -- So it answers or rejects one of them,
-answers_one : (table : Table) (cs : List Component) (c : Component) → IsFounded table cs c → answers_none_of cs c ≡ true → ⊥
+answers_one : (table : Table) (cs : List Component) (c : Component) → IsFounded table cs c
+    → answers_none_of cs c ≡ true → ⊥
 answers_one table cs (Invoke id linked code parameter) founded is = cc
 answers_one table cs (ReturnResult last id body) founded is = has_invoke cs id founded.0 founded.1 is
 answers_one table cs (ReturnError id code parameter) founded is = has_invoke cs id founded.0 founded.1 is
@@ -89,7 +91,8 @@ of_nothing table (Reject (Some id) (problems.ReturnResult n)) founded is = has_n
 of_nothing table (Reject (Some id) (problems.ReturnError n)) founded is = has_not _ founded.1.2
 
 -- the table has its operation;
-known_operation : (table : Table) (cs : List Component) (c : Component) → IsFounded table cs c → is_unknown_operation table c ≡ true → ⊥
+known_operation : (table : Table) (cs : List Component) (c : Component) → IsFounded table cs c
+    → is_unknown_operation table c ≡ true → ⊥
 known_operation table cs (Invoke id linked code parameter) founded is = by (operation_of table code) founded is
   where
     by : {A : Type 0} (o : Option A) → is_some o ≡ true → is_none o ≡ true → ⊥
@@ -108,7 +111,8 @@ class_allows table cs is_result id named (item, (linked, parameter, has), may) i
     (any_has (may_be_answered table is_result id named) cs (Invoke id linked item.code parameter) has
     (and_from _ _ (and_from (is_invoke_id id id) _ (same_id id) class) names_it))
 
-of_its_class : (table : Table) (cs : List Component) (c : Component) → IsFounded table cs c → no_class_allows table cs c ≡ true → ⊥
+of_its_class : (table : Table) (cs : List Component) (c : Component) → IsFounded table cs c
+    → no_class_allows table cs c ≡ true → ⊥
 of_its_class table cs (Invoke id linked code parameter) founded is = cc
 of_its_class table cs (ReturnResult last id body) founded is = class_allows table cs true id _ founded is
 of_its_class table cs (ReturnError id code parameter) founded is = class_allows table cs false id None founded is
@@ -121,15 +125,16 @@ abbrev IsUni : Table → Component → Type 0
 IsUni table (Invoke id linked code parameter) = of_class reports_neither (class_of table code) ≡ true
 IsUni table _ = ⊥
 
-all_uni : (table : Table) (ids : List ℤ) (components : List Component) → send_uni_components table ids components ≡ Ok tt
-    → AllByRecursion (IsUni table) components
+all_uni : (table : Table) (ids : List ℤ) (components : List Component)
+    → send_uni_components table ids components ≡ Ok tt → AllByRecursion (IsUni table) components
 all_uni table ids [] is = tt
 all_uni table ids (Invoke id linked code parameter ∷ more) is =
     let (class, ok, step) = then_ok (ok_or (class_of table code) faults.UnknownOperation) _ tt is in
     let four = needs_ok (reports_neither class) faults.UniNotClass4 _ tt step in
     let free = needs_ok (not (has_id id ids)) faults.InvokeIdBusy _ tt four.1 in
     let alone = needs_ok (is_none linked) faults.BadLink _ tt free.1 in
-    (rw (some_ok (class_of table code) faults.UnknownOperation class ok) (four.0), all_uni table (id ∷ ids) more alone.1)
+    let found = some_ok (class_of table code) faults.UnknownOperation class ok in
+    (rw found (four.0), all_uni table (id ∷ ids) more alone.1)
 all_uni table ids (ReturnResult last id body ∷ more) is = cc
 all_uni table ids (ReturnError id code parameter ∷ more) is = cc
 all_uni table ids (Reject id problem ∷ more) is = cc
@@ -172,9 +177,11 @@ answers_nothing_sent table events w side (Begin otid dialogue components) it is 
     none_passes (IsFounded table []) (λ c. is_answer c || is_reject c) (items_of components) (of_nothing table)
     (begin_founded table (end_at side w) it.made otid dialogue (items_of components) it.step) is
 answers_nothing_sent table events w side (Continue otid dtid dialogue components) it is =
-    all_answer table (components_of (asked side dtid (since_quiet w.sent))) (items_of components) (over_founded dtid it refl) is
+    all_answer table (components_of (asked side dtid (since_quiet w.sent))) (items_of components)
+    (over_founded dtid it refl) is
 answers_nothing_sent table events w side (EndMessage dtid dialogue components) it is =
-    all_answer table (components_of (asked side dtid (since_quiet w.sent))) (items_of components) (over_founded dtid it refl) is
+    all_answer table (components_of (asked side dtid (since_quiet w.sent))) (items_of components)
+    (over_founded dtid it refl) is
 answers_nothing_sent table events w side (Abort dtid reason) it is = cc
 
 -- An operation is unknown, or no class allows an answer.
@@ -183,9 +190,12 @@ neither : (table : Table) (cs components : List Component) → AllByRecursion (I
 neither table cs components all is =
     by (or_cases (list_any (is_unknown_operation table) components) (list_any (no_class_allows table cs) components) is)
   where
-    by : (list_any (is_unknown_operation table) components ≡ true) ⊎ (list_any (no_class_allows table cs) components ≡ true) → ⊥
-    by (inl unknown) = none_passes (IsFounded table cs) (is_unknown_operation table) components (known_operation table cs) all unknown
-    by (inr forbidden) = none_passes (IsFounded table cs) (no_class_allows table cs) components (of_its_class table cs) all forbidden
+    by : (list_any (is_unknown_operation table) components ≡ true)
+        ⊎ (list_any (no_class_allows table cs) components ≡ true) → ⊥
+    by (inl unknown) =
+        none_passes (IsFounded table cs) (is_unknown_operation table) components (known_operation table cs) all unknown
+    by (inr forbidden) =
+        none_passes (IsFounded table cs) (no_class_allows table cs) components (of_its_class table cs) all forbidden
 
 pub wrong_operation_sent : (table : Table) (events : List Event) (w : World) (side : Side) (message : Message)
     → IsSent table events w side message → is_wrong_operation table side (since_quiet w.sent) message ≡ true → ⊥
@@ -195,11 +205,14 @@ wrong_operation_sent table events w side (Unidirectional dialogue components) it
 wrong_operation_sent table events w side (Begin otid dialogue components) it is = by (or_cases _ _ is)
   where
     by : (list_any (is_unknown_operation table) (items_of components) ≡ true) ⊎ (false ≡ true) → ⊥
-    by (inl unknown) = none_passes (IsFounded table []) (is_unknown_operation table) (items_of components) (known_operation table [])
+    by (inl unknown) =
+        none_passes (IsFounded table []) (is_unknown_operation table) (items_of components) (known_operation table [])
         (begin_founded table (end_at side w) it.made otid dialogue (items_of components) it.step) unknown
     by (inr never) = cc
 wrong_operation_sent table events w side (Continue otid dtid dialogue components) it is =
-    neither table (components_of (asked side dtid (since_quiet w.sent))) (items_of components) (over_founded dtid it refl) is
+    neither table (components_of (asked side dtid (since_quiet w.sent))) (items_of components)
+    (over_founded dtid it refl) is
 wrong_operation_sent table events w side (EndMessage dtid dialogue components) it is =
-    neither table (components_of (asked side dtid (since_quiet w.sent))) (items_of components) (over_founded dtid it refl) is
+    neither table (components_of (asked side dtid (since_quiet w.sent))) (items_of components)
+    (over_founded dtid it refl) is
 wrong_operation_sent table events w side (Abort dtid reason) it is = cc
