@@ -30,8 +30,8 @@ abbrev pub may_carry : Message → Phase → Standing → Bool
 may_carry (Abort dtid reason) phase standing = may_abort phase standing (reason_dialogue reason)
 may_carry m phase standing = may_go_on phase standing (dialogue_in m)
 
--- The message has no cause, and is sent over that half, which is open and may carry its dialogue portion. Its components
--- are sent from a half with the same invocations and answers.
+-- The message has no cause, and is sent over that half, which is open and may carry its dialogue portion. Its
+-- components are sent from a half with the same invocations and answers.
 pub record IsOver (table : Table) (e : End) (m : Message) (id : List ℕ) : Type 0 where
   pub kept : KeptHalf
   pub had : Has e kept
