@@ -8,3 +8,4 @@ pub mod FoundedLaws
 pub mod ComponentKinds
 pub mod DialogueKinds
 pub mod KindLaws
+pub mod Lives
