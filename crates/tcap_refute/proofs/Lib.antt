@@ -10,3 +10,4 @@ pub mod DialogueKinds
 pub mod KindLaws
 pub mod Lives
 pub mod HalfLawsTurns
+pub mod HalfLawsActs

@@ -40,6 +40,11 @@ Speaks e (Continue otid dtid dialogue components) h =
     ((h.phase ≡ phases.Active) × (h.own ≡ Some otid)) ⊎ ((h.phase ≡ phases.Received) × (with_own e otid ≡ None))
 Speaks e m h = Unit {0}
 
+-- It leaves its half active, with that ID.
+abbrev pub HasSpoken : Message → Half → Type 0
+HasSpoken (Continue otid dtid dialogue components) h = (h.phase ≡ phases.Active) × (h.own ≡ Some otid)
+HasSpoken m h = Unit {0}
+
 -- The message has no cause, and is sent over that half, which is open and may carry its dialogue portion. Its
 -- components are sent from a half with the same invocations and answers; and this is what the half becomes.
 pub record IsOver (table : Table) (e : End) (m : Message) (id : List ℕ) : Type 0 where
@@ -58,6 +63,7 @@ pub record IsOver (table : Table) (e : End) (m : Message) (id : List ℕ) : Type
   pub sends : send_components table start (components_in m) ≡ Ok behind
   pub now : Half
   pub turned : Turned table (Said m) kept.half now
+  pub spoken : HasSpoken m now
   pub leads : send table e m ≡ Ok (put e kept.slot kept.key now)
 
 -- ---- halves that are found
@@ -85,10 +91,10 @@ found_passes passes e f is = by (first_half passes Begun e.begun) refl
     by (Some g) some = first_passes passes Begun e.begun f (let same = rw some at is in some ∙ same)
 
 -- A half that is found by its peer's ID has it.
-peer_is : (e : End) (id : List ℕ) (f : KeptHalf) → with_peer e id ≡ Some f → f.half.peer ≡ Some id
+pub peer_is : (e : End) (id : List ℕ) (f : KeptHalf) → with_peer e id ≡ Some f → f.half.peer ≡ Some id
 peer_is e id f is = id_is id f.half.peer (found_passes (λ h. is_id id h.peer) e f is)
 
-own_is : (e : End) (id : List ℕ) (f : KeptHalf) → with_own e id ≡ Some f → f.half.own ≡ Some id
+pub own_is : (e : End) (id : List ℕ) (f : KeptHalf) → with_own e id ≡ Some f → f.half.own ≡ Some id
 own_is e id f is = id_is id f.half.own (found_passes (λ h. is_id id h.own) e f is)
 
 -- Components leave a half's phase, its IDs and its dialogue.
@@ -145,6 +151,7 @@ module _ (table : Table) (e made : End) (sound : IsEnd e) where
         sends = sent;
         now = g;
         turned = answers it;
+        spoken = (follows.phase, follows.own);
         leads = ap (send_continue table e otid dtid dialogue (items_of components)) none ∙ is ∙ sym done;
       }
 
@@ -158,6 +165,7 @@ module _ (table : Table) (e made : End) (sound : IsEnd e) where
       let may = needs_ok (may_go_on f.half.phase f.half.standing dialogue) faults.WrongDialogue _ made peer.1 in
       let (g, sent, done) = then_ok (send_components table f.half (items_of components)) _ made may.1 in
       let at = active_is f.half.phase active.0 in
+      let follows = (all_sends table (items_of components) f.half g sent).follows in
       record {
         kept = f;
         had = own_has e otid sound f found;
@@ -173,7 +181,8 @@ module _ (table : Table) (e made : End) (sound : IsEnd e) where
         behind = g;
         sends = sent;
         now = g;
-        turned = follows_stays f.half g (all_sends table (items_of components) f.half g sent).follows;
+        turned = follows_stays f.half g follows;
+        spoken = (follows.phase ∙ at, follows.own ∙ own_is e otid f found);
         leads = ap (send_continue table e otid dtid dialogue (items_of components)) found ∙ is ∙ sym done;
       }
 
@@ -219,6 +228,7 @@ module _ (table : Table) (e made : End) (sound : IsEnd e) where
           was_open = not-true _ still.0;
           ended = (dtid, refl, peer_is e dtid f found);
         });
+        spoken = tt;
         leads = is ∙ sym done;
       }
 
@@ -255,6 +265,7 @@ module _ (table : Table) (e made : End) (sound : IsEnd e) where
           was_open = not-true _ still.0;
           ended = (dtid, rw (user.0) refl, peer_is e dtid f found);
         });
+        spoken = tt;
         leads = is ∙ sym may.1;
       }
 

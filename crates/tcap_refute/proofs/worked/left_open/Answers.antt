@@ -1,0 +1,1 @@
+use Rattle.tcap_refute.proofs.OverLaws.{over}
