@@ -11,3 +11,4 @@ pub mod KindLaws
 pub mod Lives
 pub mod HalfLawsTurns
 pub mod HalfLawsActs
+pub mod HalfLawsLists
