@@ -12,3 +12,4 @@ pub mod Lives
 pub mod HalfLawsTurns
 pub mod HalfLawsActs
 pub mod HalfLawsLists
+pub mod HalfLawsViews
