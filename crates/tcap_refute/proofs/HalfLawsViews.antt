@@ -33,7 +33,7 @@ use Rattle.tcap_refute.proofs.MomentLaws.{kept_before}
 
 -- ---- views
 
-abbrev messages_of : List OnItsWay → List Message
+abbrev pub messages_of : List OnItsWay → List Message
 messages_of = map (λ m. m.message)
 
 -- what is on its way to an end
@@ -108,20 +108,20 @@ pub record IsKeptBy (table : Table) (side : Side) (Holds : End → List Message 
 -- ---- what each step looks like
 
 -- An end is that one or the other.
-which : (side place : Side) → (place ≡ side) ⊎ (place ≡ other side)
+pub which : (side place : Side) → (place ≡ side) ⊎ (place ≡ other side)
 which sides.A sides.A = inl refl
 which sides.A sides.B = inr refl
 which sides.B sides.A = inr refl
 which sides.B sides.B = inl refl
 
 -- A message is said by the end,
-said_here : (side : Side) (m : Message) (e : End) (w : World)
+pub said_here : (side : Side) (m : Message) (e : End) (w : World)
     → IsSeen side (joined side m (with_end side e w)) e (coming_to side w) (since_quiet w.sent ++ Sent side m ∷ [])
 said_here sides.A m e w = record { end_is = refl; coming_is = refl; items_is = since_sent sides.A m w.sent }
 said_here sides.B m e w = record { end_is = refl; coming_is = refl; items_is = since_sent sides.B m w.sent }
 
 -- or by its peer;
-said_there : (side : Side) (m : Message) (e : End) (w : World)
+pub said_there : (side : Side) (m : Message) (e : End) (w : World)
     → IsSeen side (joined (other side) m (with_end (other side) e w)) (end_at side w) (coming_to side w ++ m ∷ [])
     (since_quiet w.sent ++ Sent (other side) m ∷ [])
 said_there sides.A m e w =
@@ -129,7 +129,7 @@ said_there sides.A m e w =
 said_there sides.B m e w =
     record { end_is = refl; coming_is = map-append _ w.from_a _; items_is = since_sent sides.A m w.sent }
 
-told_there : (side : Side) (m : Message) (w : World)
+pub told_there : (side : Side) (m : Message) (w : World)
     → IsSeen side (joined (other side) m w) (end_at side w) (coming_to side w ++ m ∷ [])
     (since_quiet w.sent ++ Sent (other side) m ∷ [])
 told_there sides.A m w =
@@ -138,25 +138,25 @@ told_there sides.B m w =
     record { end_is = refl; coming_is = map-append _ w.from_a _; items_is = since_sent sides.A m w.sent }
 
 -- one is heard;
-heard_here : (side : Side) (more : List OnItsWay) (e : End) (w : World)
+pub heard_here : (side : Side) (more : List OnItsWay) (e : End) (w : World)
     → IsSeen side (with_end side e (with_channel (other side) more w)) e (messages_of more) (since_quiet w.sent)
 heard_here sides.A more e w = record { end_is = refl; coming_is = refl; items_is = refl }
 heard_here sides.B more e w = record { end_is = refl; coming_is = refl; items_is = refl }
 
-heard_there : (side : Side) (more : List OnItsWay) (e : End) (w : World)
+pub heard_there : (side : Side) (more : List OnItsWay) (e : End) (w : World)
     → IsSeen side (with_end (other side) e (with_channel (other (other side)) more w)) (end_at side w) (coming_to side w)
     (since_quiet w.sent)
 heard_there sides.A more e w = record { end_is = refl; coming_is = refl; items_is = refl }
 heard_there sides.B more e w = record { end_is = refl; coming_is = refl; items_is = refl }
 
 -- one is refused;
-refused_here : (side : Side) (m : Message) (more : List OnItsWay) (w : World)
+pub refused_here : (side : Side) (m : Message) (more : List OnItsWay) (w : World)
     → IsSeen side (joined side m (with_channel (other side) more w)) (end_at side w) (messages_of more)
     (since_quiet w.sent ++ Sent side m ∷ [])
 refused_here sides.A m more w = record { end_is = refl; coming_is = refl; items_is = since_sent sides.A m w.sent }
 refused_here sides.B m more w = record { end_is = refl; coming_is = refl; items_is = since_sent sides.B m w.sent }
 
-refused_there : (side : Side) (m : Message) (more : List OnItsWay) (w : World)
+pub refused_there : (side : Side) (m : Message) (more : List OnItsWay) (w : World)
     → IsSeen side (joined (other side) m (with_channel (other (other side)) more w)) (end_at side w)
     (coming_to side w ++ m ∷ []) (since_quiet w.sent ++ Sent (other side) m ∷ [])
 refused_there sides.A m more w =
@@ -165,23 +165,23 @@ refused_there sides.B m more w =
     record { end_is = refl; coming_is = map-append _ w.from_a _; items_is = since_sent sides.A m w.sent }
 
 -- one is lost;
-lost_here : (side : Side) (more : List OnItsWay) (w : World)
+pub lost_here : (side : Side) (more : List OnItsWay) (w : World)
     → IsSeen side (with_channel (other side) more w) (end_at side w) (messages_of more) (since_quiet w.sent)
 lost_here sides.A more w = record { end_is = refl; coming_is = refl; items_is = refl }
 lost_here sides.B more w = record { end_is = refl; coming_is = refl; items_is = refl }
 
-lost_there : (side : Side) (more : List OnItsWay) (w : World)
+pub lost_there : (side : Side) (more : List OnItsWay) (w : World)
     → IsSeen side (with_channel side more w) (end_at side w) (coming_to side w) (since_quiet w.sent)
 lost_there sides.A more w = record { end_is = refl; coming_is = refl; items_is = refl }
 lost_there sides.B more w = record { end_is = refl; coming_is = refl; items_is = refl }
 
 -- or something happens unseen.
-unseen_here : (side : Side) (e : End) (w : World)
+pub unseen_here : (side : Side) (e : End) (w : World)
     → IsSeen side (with_end side e w) e (coming_to side w) (since_quiet w.sent)
 unseen_here sides.A e w = record { end_is = refl; coming_is = refl; items_is = refl }
 unseen_here sides.B e w = record { end_is = refl; coming_is = refl; items_is = refl }
 
-unseen_there : (side : Side) (e : End) (w : World)
+pub unseen_there : (side : Side) (e : End) (w : World)
     → IsSeen side (with_end (other side) e w) (end_at side w) (coming_to side w) (since_quiet w.sent)
 unseen_there sides.A e w = record { end_is = refl; coming_is = refl; items_is = refl }
 unseen_there sides.B e w = record { end_is = refl; coming_is = refl; items_is = refl }
