@@ -15,7 +15,7 @@ use Rattle.tcap_end.specs.End.{End, nothing, with_own, with_peer}
 use Rattle.tcap_end.specs.Message.{receive, send}
 use Rattle.tcap_end.specs.Reply.{aborts, is_open}
 use Rattle.tcap_end.specs.Sound.{IsEnd}
-use Rattle.tcap_end.proofs.StepLaws.{none_is, receives, sends}
+use Rattle.tcap_end.proofs.StepLaws.{closes, expires}
 use Rattle.tcap_check.specs.World.{Item, OnItsWay, Sent, World, channel_from, empty, end_at, other, with_channel, with_end}
 use Rattle.tcap_check.specs.Run.{Event, Sends, Receives, Replies, Loses, Expires, Closes, Quiet, Tells, KeepsRules, Runs, after, is_told_by, joined, provider_abort, reply_to}
 use Rattle.tcap_check.proofs.RunLaws.{IsDelivery, IsHidden, IsLoss, IsReply, IsSending, closing, delivery, expiry, loss, quiet, reply, runs_keep, sending, sound, telling}
@@ -61,6 +61,9 @@ module _ (table : Table) (side : Side) (Holds : End → List Message → List It
   view : View table side e (coming_to side w) items
   view = view_of table side before w runs keeps
 
+  is_end : IsEnd e
+  is_end = view_sound view
+
   -- The oldest message that is on its way to the end.
   module _ (head : OnItsWay) (more : List OnItsWay) (channel : channel_from (other side) w ≡ head ∷ more) where
     coming_is : coming_to side w ≡ head.message ∷ messages_of more
@@ -80,7 +83,7 @@ module _ (table : Table) (side : Side) (Holds : End → List Message → List It
       (kept.says e s.made (coming_to side w) items m view (rw (← mine) s.step) held))
   sent_keeps sender m (inr theirs) s =
       then_holds _ (s.next_is ∙ ap (λ (p : Side). joined p m (with_end p s.made w)) theirs)
-      (of_seen side Holds _ e _ _ (said_there side m s.made w) (kept.asks e (coming_to side w) items m held))
+      (of_seen side Holds _ e _ _ (said_there side m s.made w) (kept.asks e (coming_to side w) items m view held))
 
   heard_keeps : (receiver : Side) (number : ℕ) → (receiver ≡ side) ⊎ (receiver ≡ other side)
       → IsDelivery table receiver number w next → HoldsThen next
@@ -105,7 +108,7 @@ module _ (table : Table) (side : Side) (Holds : End → List Message → List It
   refused_keeps replier number (inr theirs) r =
       then_holds _ (r.next_is ∙ ap (λ (p : Side). joined p r.abort (with_channel (other p) r.more w)) theirs)
       (of_seen side Holds _ e _ _ (refused_there side r.abort r.more w)
-      (kept.asks e (coming_to side w) items r.abort held))
+      (kept.asks e (coming_to side w) items r.abort view held))
 
   lost_keeps : (sender : Side) (number : ℕ) → (sender ≡ side) ⊎ (sender ≡ other side) → IsLoss sender number w next
       → HoldsThen next
@@ -116,14 +119,15 @@ module _ (table : Table) (side : Side) (Holds : End → List Message → List It
       let channel : channel_from (other side) w ≡ l.head ∷ l.more = rw (← theirs) l.channel in
       then_holds _ (l.next_is ∙ ap (λ (p : Side). with_channel p l.more w) theirs)
       (of_seen side Holds _ e _ _ (lost_here side l.more w)
-      (kept.loses e (messages_of l.more) items l.head.message (held_head l.head l.more channel)))
+      (kept.loses e (messages_of l.more) items l.head.message (view_head l.head l.more channel) (held_head l.head l.more channel)))
 
   unseen_keeps : (place : Side) (step : End → Result End EndFault) → (place ≡ side) ⊎ (place ≡ other side)
-      → ((made : End) → step e ≡ Ok made → Acts table Unseen e made) → IsHidden place step w next → HoldsThen next
+      → ((made : End) → step e ≡ Ok made → IsEnd made × Acts table Unseen e made) → IsHidden place step w next → HoldsThen next
   unseen_keeps place step (inl mine) acts h =
       then_holds _ (h.next_is ∙ ap (λ (p : Side). with_end p h.made w) mine)
       (of_seen side Holds _ h.made _ _ (unseen_here side h.made w)
-      (kept.unseen e h.made (coming_to side w) items view (acts h.made (rw (← mine) h.step_is)) held))
+      (let (is_made, acts_so) = acts h.made (rw (← mine) h.step_is) in
+      kept.unseen e h.made (coming_to side w) items view is_made acts_so held))
   unseen_keeps place step (inr theirs) acts h =
       then_holds _ (h.next_is ∙ ap (λ (p : Side). with_end p h.made w) theirs)
       (of_seen side Holds _ e _ _ (unseen_there side h.made w) held)
@@ -137,10 +141,12 @@ module _ (table : Table) (side : Side) (Holds : End → List Message → List It
   step_keeps (Loses sender number) is told =
       lost_keeps sender number (which side sender) (loss table sender number w next is)
   step_keeps (Expires place name id) is told =
-      unseen_keeps place _ (which side place) (λ made. expired_acts table e made name id (view_sound view))
+      unseen_keeps place _ (which side place) (λ made step.
+      ((expires table e made name id is_end step).sound, expired_acts table e made name id is_end step))
       (expiry table place name id w next is)
   step_keeps (Closes place name) is told =
-      unseen_keeps place _ (which side place) (λ made. closed_acts table e made name (view_sound view))
+      unseen_keeps place _ (which side place) (λ made step.
+      ((closes table e made name is_end step).sound, closed_acts table e made name is_end step))
       (closing table place name w next is)
   step_keeps (Tells teller m) is told = by (which side teller)
     where
@@ -148,7 +154,7 @@ module _ (table : Table) (side : Side) (Holds : End → List Message → List It
       by (inl mine) = let bad : true ≡ false = sym (is_itself side) ∙ rw mine at told in cc
       by (inr theirs) =
           then_holds _ ((telling table teller m w next is).next_is ∙ ap (λ (p : Side). joined p m w) theirs)
-          (of_seen side Holds _ e _ _ (told_there side m w) (kept.asks e (coming_to side w) items m held))
+          (of_seen side Holds _ e _ _ (told_there side m w) (kept.asks e (coming_to side w) items m view held))
   step_keeps Quiet is told =
       then_holds _ (quiet table w next is).next_is (of_seen side Holds _ nothing [] [] (mark_seen side w.sent) kept.blank)
 

@@ -100,7 +100,7 @@ pub record Grows (side : Side) (items after : List Item) : Type 0 where
   pub mine_is : sent_by side after ≡ sent_by side items ++ mine
   pub theirs_is : sent_by (other side) after ≡ sent_by (other side) items ++ theirs
 
-pub grows_not : (side : Side) (items : List Item) → Grows side items items
+abbrev pub grows_not : (side : Side) (items : List Item) → Grows side items items
 grows_not side items = record {
   mine = [];
   theirs = [];
@@ -108,7 +108,7 @@ grows_not side items = record {
   theirs_is = sym (append-nil (sent_by (other side) items));
 }
 
-pub grows_own : (side : Side) (m : Message) (items : List Item) → Grows side items (items ++ Sent side m ∷ [])
+abbrev pub grows_own : (side : Side) (m : Message) (items : List Item) → Grows side items (items ++ Sent side m ∷ [])
 grows_own side m items = record {
   mine = m ∷ [];
   theirs = [];
@@ -116,7 +116,7 @@ grows_own side m items = record {
   theirs_is = their_same side m items ∙ sym (append-nil (sent_by (other side) items));
 }
 
-pub grows_theirs : (side : Side) (m : Message) (items : List Item) → Grows side items (items ++ Sent (other side) m ∷ [])
+abbrev pub grows_theirs : (side : Side) (m : Message) (items : List Item) → Grows side items (items ++ Sent (other side) m ∷ [])
 grows_theirs side m items = record {
   mine = [];
   theirs = m ∷ [];

@@ -99,11 +99,11 @@ pub record IsKeptBy (table : Table) (side : Side) (Holds : End → List Message 
       → View table side e (m ∷ coming) items → reply_to e m ≡ Some abort → Holds e (m ∷ coming) items
       → Holds e coming (items ++ Sent side abort ∷ [])
   pub unseen : (e next : End) (coming : List Message) (items : List Item) → View table side e coming items
-      → Acts table Unseen e next → Holds e coming items → Holds next coming items
-  pub loses : (e : End) (coming : List Message) (items : List Item) (m : Message) → Holds e (m ∷ coming) items
-      → Holds e coming items
-  pub asks : (e : End) (coming : List Message) (items : List Item) (m : Message) → Holds e coming items
-      → Holds e (coming ++ m ∷ []) (items ++ Sent (other side) m ∷ [])
+      → IsEnd next → Acts table Unseen e next → Holds e coming items → Holds next coming items
+  pub loses : (e : End) (coming : List Message) (items : List Item) (m : Message) → View table side e (m ∷ coming) items
+      → Holds e (m ∷ coming) items → Holds e coming items
+  pub asks : (e : End) (coming : List Message) (items : List Item) (m : Message) → View table side e coming items
+      → Holds e coming items → Holds e (coming ++ m ∷ []) (items ++ Sent (other side) m ∷ [])
 
 -- ---- what each step looks like
 

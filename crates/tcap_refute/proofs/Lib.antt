@@ -13,3 +13,5 @@ pub mod HalfLawsTurns
 pub mod HalfLawsActs
 pub mod HalfLawsLists
 pub mod HalfLawsViews
+pub mod HalfLawsKeep
+pub mod HalfLawsAdvance
