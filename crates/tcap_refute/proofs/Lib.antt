@@ -15,3 +15,5 @@ pub mod HalfLawsLists
 pub mod HalfLawsViews
 pub mod HalfLawsKeep
 pub mod HalfLawsAdvance
+pub mod HalfLawsFinds
+pub mod HalfLawsIds
