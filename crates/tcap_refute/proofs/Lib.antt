@@ -17,3 +17,4 @@ pub mod HalfLawsKeep
 pub mod HalfLawsAdvance
 pub mod HalfLawsFinds
 pub mod HalfLawsIds
+pub mod HalfLawsAccepted
