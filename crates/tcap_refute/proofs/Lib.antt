@@ -18,3 +18,4 @@ pub mod HalfLawsAdvance
 pub mod HalfLawsFinds
 pub mod HalfLawsIds
 pub mod HalfLawsAccepted
+pub mod HalfLawsOpen
