@@ -63,7 +63,7 @@ since_mark (item ∷ items) = rw (mark_is_one (item ∷ items)) (since_mark item
 
 -- ---- what was sent
 
-other_is_not : (side : Side) → is_side side (other side) ≡ false
+pub other_is_not : (side : Side) → is_side side (other side) ≡ false
 other_is_not sides.A = refl
 other_is_not sides.B = refl
 

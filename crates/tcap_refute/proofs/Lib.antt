@@ -19,3 +19,4 @@ pub mod HalfLawsFinds
 pub mod HalfLawsIds
 pub mod HalfLawsAccepted
 pub mod HalfLawsOpen
+pub mod HalfLawsClosed
