@@ -9,3 +9,6 @@ pub mod ComponentKinds
 pub mod DialogueKinds
 pub mod KindLaws
 pub mod Lives
+pub mod LedLawsCounts
+pub mod LedLawsLists
+pub mod LedLawsSteps
