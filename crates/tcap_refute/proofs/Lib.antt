@@ -12,3 +12,4 @@ pub mod Lives
 pub mod LedLawsCounts
 pub mod LedLawsLists
 pub mod LedLawsSteps
+pub mod LedLawsGains
