@@ -13,3 +13,4 @@ pub mod LedLawsCounts
 pub mod LedLawsLists
 pub mod LedLawsSteps
 pub mod LedLawsGains
+pub mod LedLaws
