@@ -14,3 +14,4 @@ pub mod LedLawsLists
 pub mod LedLawsSteps
 pub mod LedLawsGains
 pub mod LedLaws
+pub mod LedLawsOwn
