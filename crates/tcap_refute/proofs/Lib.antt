@@ -15,3 +15,4 @@ pub mod LedLawsSteps
 pub mod LedLawsGains
 pub mod LedLaws
 pub mod LedLawsOwn
+pub mod LedLawsTaken
