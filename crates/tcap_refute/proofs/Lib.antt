@@ -16,3 +16,4 @@ pub mod LedLawsGains
 pub mod LedLaws
 pub mod LedLawsOwn
 pub mod LedLawsTaken
+pub mod LedLawsClasses
