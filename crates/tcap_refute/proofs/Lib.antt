@@ -17,3 +17,4 @@ pub mod LedLaws
 pub mod LedLawsOwn
 pub mod LedLawsTaken
 pub mod LedLawsClasses
+pub mod LedLawsAnswered
