@@ -18,3 +18,4 @@ pub mod LedLawsOwn
 pub mod LedLawsTaken
 pub mod LedLawsClasses
 pub mod LedLawsAnswered
+pub mod LedLawsLasting
