@@ -19,3 +19,4 @@ pub mod LedLawsTaken
 pub mod LedLawsClasses
 pub mod LedLawsAnswered
 pub mod LedLawsLasting
+pub mod ComponentCounts
