@@ -3,7 +3,7 @@
 use Rattle.std.proofs.Common.{◌≡◌, ◌⊎◌, inl, inr, ℕ, ℤ, ◌+◌, ◌≤◌, arith, Bool, true, false, List, [], ◌∷◌, ◌++◌, length, Option, Some, None, Ok, Result, ltb, leb, is_some, not, refl, sym, ap, subst, ◌∙◌}
 use Rattle.std.specs.Prelude.{◌&&◌, ◌||◌, option_map}
 use Rattle.std.specs.List.{list_any}
-use Rattle.std.proofs.lemmas.Bool.{and_parts, both_ways, leb-true, le-ltb, not-true, or_cases}
+use Rattle.std.proofs.lemmas.Bool.{and_parts, both_ways, leb-true, le-ltb, not-true, or_cases, or_left}
 use Rattle.std.proofs.lemmas.List.{append-nil, append_assoc}
 use Rattle.tcap_parts.specs.declared.code.Code.{Code}
 use Rattle.tcap_parts.specs.declared.problem.Problem.TheVariants as problems
@@ -13,20 +13,21 @@ use Rattle.tcap_parts.specs.declared.component.Component.TheVariants.{Invoke, Re
 use Rattle.tcap_end.specs.declared.fault.EndFault.{EndFault}
 use Rattle.tcap_end.specs.declared.outs.OwnInvocation.{OwnInvocation}
 use Rattle.tcap_end.specs.Table.{Table}
-use Rattle.tcap_end.specs.Half.{Half, Invocation, listed}
+use Rattle.tcap_end.specs.Half.{Half, Invocation, listed, one_fits}
 use Rattle.tcap_end.specs.Component.{class_reports, is_code, links, may_answer, operation_sent, operation_sent_by, own_invocation, send_component}
 use Rattle.tcap_end.specs.Message.{send_components}
 use Rattle.tcap_end.proofs.AnsweringLaws.{ok_same, then_ok}
 use Rattle.tcap_refute.specs.Before.{invokes}
-use Rattle.tcap_refute.specs.ComponentKinds.{answers_again, has_component, invokes_busy, is_badly_linked, is_busy, links_badly, more_last}
+use Rattle.tcap_refute.specs.ComponentKinds.{answers_again, has_component, invokes_busy, is_badly_linked, is_busy, is_operation_overspent, is_overspent, links_badly, more_last}
 use Rattle.tcap_refute.specs.Counts.{any_problem, count, count_class, count_lasting, has_class, invokes_so, is_error, is_last_result, is_result_of, rejects_invoke, takes}
 use Rattle.tcap_refute.specs.Speaker.{Speaker}
 use Rattle.tcap_refute.proofs.Lives.{Bounds, Happening, IsLed, got_in, sent_in}
-use Rattle.tcap_refute.proofs.LedLawsAnswered.{any_brought, any_takes, code_brought, none_takes}
+use Rattle.tcap_refute.proofs.LedLawsAnswered.{answer_takes, any_brought, any_takes, code_brought, count_answers, count_takes, error_takes, named_takes, none_takes, result_takes}
+use Rattle.tcap_refute.proofs.LedLawsClasses.{count_reporting, count_reports}
 use Rattle.tcap_refute.proofs.LedLawsCounts.{any_counts, count_both, count_weaker, counts_any, one}
 use Rattle.tcap_refute.proofs.LedLawsLasting.{ended_2_4, ended_3_4, ended_4, ended_any}
 use Rattle.tcap_refute.proofs.LedLawsOwn.{invoked_along}
-use Rattle.tcap_refute.proofs.LedLawsSteps.{invokes_step}
+use Rattle.tcap_refute.proofs.LedLawsSteps.{answers_step, invokes_step}
 use Rattle.tcap_refute.proofs.LedLawsTaken.{spent_within}
 
 -- ---- one component after the other
@@ -181,3 +182,144 @@ module _ (table : Table) (s : Speaker) (past : List Happening) (g : Half) (bound
   pub links_none_badly : (components : List Component) (k : Half) → send_components table g components ≡ Ok k
       → has_component (links_badly table s) [] s.sent components ≡ true → ⊥
   links_none_badly = none_has table g s.sent (links_badly table s) none_badly
+
+  -- ---- answers
+
+  module _ (own : List Component) (h : Half) (was : send_components table g own ≡ Ok h) (id : ℤ) where
+    -- Behind some components of a message: so many results, errors and Rejects of an ID were sent, and so many invocations that
+    -- they may answer are there.
+    sent_results : count (is_last_result id) s.sent + count (is_last_result id) own
+        + count (λ item. class_reports table true item.code) (listed id h.inn)
+        ≤ count_class table id 1 s.heard + count_class table id 3 s.heard
+    sent_results =
+        omega (arith, count_reports table true id s.heard, spent_within table id (is_last_result id)
+        (λ item. class_reports table true item.code) (result_takes table id) (invokes_so id (class_reports table true))
+        (code_brought table id (class_reports table true)) s past g h own bounds led was)
+
+    sent_errors : count (is_error id) s.sent + count (is_error id) own
+        + count (λ item. class_reports table false item.code) (listed id h.inn)
+        ≤ count_class table id 1 s.heard + count_class table id 2 s.heard
+    sent_errors =
+        omega (arith, count_reports table false id s.heard, spent_within table id (is_error id)
+        (λ item. class_reports table false item.code) (error_takes table id) (invokes_so id (class_reports table false))
+        (code_brought table id (class_reports table false)) s past g h own bounds led was)
+
+    sent_answers : count (is_last_result id) s.sent + count (is_last_result id) own
+        + count (is_error id) s.sent + count (is_error id) own
+        + count (λ item. class_reports table true item.code || class_reports table false item.code) (listed id h.inn)
+        ≤ count_class table id 1 s.heard + count_class table id 2 s.heard + count_class table id 3 s.heard
+    sent_answers =
+        omega (arith, count_reporting table id s.heard, count_answers id s.sent, count_answers id own, spent_within table id
+        (λ c. is_last_result id c || is_error id c)
+        (λ item. class_reports table true item.code || class_reports table false item.code) (answer_takes table id)
+        (invokes_so id (λ code. class_reports table true code || class_reports table false code))
+        (code_brought table id (λ code. class_reports table true code || class_reports table false code)) s past g h own
+        bounds led was)
+
+    sent_takes : count (is_last_result id) s.sent + count (is_last_result id) own
+        + count (is_error id) s.sent + count (is_error id) own
+        + count (rejects_invoke id any_problem) s.sent + count (rejects_invoke id any_problem) own
+        + count (λ item. true) (listed id h.inn)
+        ≤ count (invokes id) s.heard
+    sent_takes =
+        omega (arith, count_takes id s.sent, count_takes id own, spent_within table id (takes id) (λ item. true)
+        (any_takes table id) (invokes id) (any_brought table id) s past g h own bounds led was)
+
+    -- So not more was answered than was heard; nor is it by so many results more as such invocations are there.
+    not_overspent : (besides : ℕ) → besides ≤ count (λ item. class_reports table true item.code) (listed id h.inn)
+        → is_overspent table s id (s.sent ++ own) besides ≡ true → ⊥
+    not_overspent besides fewer is =
+        none_of_four (ltb (of_class 1 + of_class 3) results) (ltb (of_class 1 + of_class 2) errors)
+        (ltb (of_class 1 + of_class 2 + of_class 3) (results + errors))
+        (ltb (count (invokes id) s.heard) (results + errors + rejects))
+        (le-ltb _ _ (omega (arith, fewer, both (is_last_result id), sent_results)))
+        (le-ltb _ _ (omega (arith, both (is_error id), sent_errors)))
+        (le-ltb _ _ (omega (arith, fewer, both (is_last_result id), both (is_error id), sent_answers, either)))
+        (le-ltb _ _ (omega (arith, fewer, both (is_last_result id), both (is_error id), both (rejects_invoke id any_problem),
+        sent_takes, any))) is
+      where
+        of_class : ℕ → ℕ
+        of_class class = count_class table id class s.heard
+
+        results : ℕ
+        results = count (is_last_result id) (s.sent ++ own) + besides
+
+        errors : ℕ
+        errors = count (is_error id) (s.sent ++ own)
+
+        rejects : ℕ
+        rejects = count (rejects_invoke id any_problem) (s.sent ++ own)
+
+        both : (passes : Component → Bool) → count passes (s.sent ++ own) ≡ count passes s.sent + count passes own
+        both passes = count_both passes s.sent own
+
+        either : count (λ item. class_reports table true item.code) (listed id h.inn)
+            ≤ count (λ item. class_reports table true item.code || class_reports table false item.code) (listed id h.inn)
+        either = count_weaker (λ (item : Invocation). class_reports table true item.code) _ (listed id h.inn)
+            (λ item is. or_left _ _ is)
+
+        any : count (λ item. class_reports table true item.code) (listed id h.inn)
+            ≤ count (λ item. true) (listed id h.inn)
+        any = count_weaker (λ (item : Invocation). class_reports table true item.code) _ (listed id h.inn) (λ item is. refl)
+
+    -- A Return Result that names an operation is of an invocation of it that is there.
+    not_named : (body : Option ResultBody)
+        → one_fits id (may_answer table true (option_map (λ b. b.code) body)) h.inn ≡ true
+        → is_operation_overspent s (s.sent ++ own) id body ≡ true → ⊥
+    not_named None fits is = cc
+    not_named (Some body) fits is =
+        absurd (omega (arith, leb-true _ _ is, there, count_both (is_result_of id body.code) s.sent own,
+        spent_within table id (is_result_of id body.code) (λ item. is_code body.code item.code)
+        (named_takes table id body.code) (invokes_so id (is_code body.code)) (code_brought table id (is_code body.code)) s past
+        g h own bounds led was))
+      where
+        there : 1 ≤ count (λ item. is_code body.code item.code) (listed id h.inn)
+        there =
+            omega (arith, any_counts (may_answer table true (Some body.code)) (listed id h.inn) fits,
+            count_weaker (may_answer table true (Some body.code)) (λ item. is_code body.code item.code) (listed id h.inn)
+            (λ item may. (and_parts (class_reports table true item.code) (is_code body.code item.code) may).1))
+
+    -- Nothing more was answered by what was sent,
+    none_more : is_overspent table s id (s.sent ++ own) 0 ≡ true → ⊥
+    none_more = not_overspent 0 (omega arith)
+
+    -- or by a result that is not the last.
+    none_besides : one_fits id (may_answer table true None) h.inn ≡ true
+        → is_overspent table s id (s.sent ++ own) 1 ≡ true → ⊥
+    none_besides fits =
+        not_overspent 1
+        (omega (arith, any_counts (may_answer table true None) (listed id h.inn) fits,
+        count_weaker (may_answer table true None) (λ item. class_reports table true item.code) (listed id h.inn)
+        (λ item may. (and_parts (class_reports table true item.code) true may).0)))
+
+  -- The component that is sent is counted with those before it.
+  overspent_with : (own : List Component) (h k : Half) (c : Component) → send_components table g own ≡ Ok h
+      → send_component table h c ≡ Ok k → (id : ℤ) → is_overspent table s id (s.sent ++ own ++ c ∷ []) 0 ≡ true → ⊥
+  overspent_with own h k c was is id bad =
+      none_more (own ++ c ∷ []) k (sent_more table own c g h k was is) id
+      (subst (λ (list : List Component). is_overspent table s id list 0 ≡ true) (append_assoc s.sent own (c ∷ [])) bad)
+
+  none_again : (own : List Component) (h k : Half) (c : Component) → send_components table g own ≡ Ok h
+      → send_component table h c ≡ Ok k → answers_again table s own (s.sent ++ own) c ≡ true → ⊥
+  none_again own h k (Invoke id linked code parameter) was is bad = cc
+  none_again own h k (ReturnResult true id body) was is bad =
+      let step = answers_step table h k true true id _ is in
+      neither (or_cases _ (is_operation_overspent s (s.sent ++ own) id body) bad)
+      (overspent_with own h k (ReturnResult true id body) was is id) (not_named own h was id body step.fits)
+  none_again own h k (ReturnResult false id body) was is bad =
+      let step = answers_step table h k true false id _ is in
+      neither (or_cases _ (is_operation_overspent s (s.sent ++ own) id body) bad)
+      (none_besides own h was id step.class) (not_named own h was id body step.fits)
+  none_again own h k (ReturnError id code parameter) was is bad =
+      overspent_with own h k (ReturnError id code parameter) was is id bad
+  none_again own h k (Reject None problem) was is bad = cc
+  none_again own h k (Reject (Some id) (problems.General n)) was is bad = cc
+  none_again own h k (Reject (Some id) (problems.Invoke n)) was is bad =
+      overspent_with own h k (Reject (Some id) (problems.Invoke n)) was is id bad
+  none_again own h k (Reject (Some id) (problems.ReturnResult n)) was is bad = cc
+  none_again own h k (Reject (Some id) (problems.ReturnError n)) was is bad = cc
+
+  -- No component of a message answers what was answered already.
+  pub answers_none_again : (components : List Component) (k : Half) → send_components table g components ≡ Ok k
+      → has_component (answers_again table s) [] s.sent components ≡ true → ⊥
+  answers_none_again = none_has table g s.sent (answers_again table s) none_again
