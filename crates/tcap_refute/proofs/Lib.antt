@@ -20,3 +20,13 @@ pub mod HalfLawsIds
 pub mod HalfLawsAccepted
 pub mod HalfLawsOpen
 pub mod HalfLawsClosed
+pub mod LedLawsCounts
+pub mod LedLawsLists
+pub mod LedLawsGains
+pub mod LedLaws
+pub mod LedLawsOwn
+pub mod LedLawsTaken
+pub mod LedLawsClasses
+pub mod LedLawsAnswered
+pub mod LedLawsLasting
+pub mod ComponentCounts
