@@ -9,3 +9,5 @@ pub mod ComponentKinds
 pub mod DialogueKinds
 pub mod KindLaws
 pub mod Lives
+pub mod LifeLawsCome
+pub mod LifeLawsHeard
