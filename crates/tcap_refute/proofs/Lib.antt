@@ -11,3 +11,5 @@ pub mod KindLaws
 pub mod Lives
 pub mod LifeLawsCome
 pub mod LifeLawsHeard
+pub mod LifeLawsItems
+pub mod LifeLawsHalves

@@ -46,7 +46,7 @@ count_in_one p m = ap (count p) (append-nil (components_in m))
 abbrev pub HaveNoMore : List Message → List Message → Type 0
 HaveNoMore xs ys = (p : Component → Bool) → count_in p xs ≤ count_in p ys
 
-no_more_self : (xs : List Message) → HaveNoMore xs xs
+pub no_more_self : (xs : List Message) → HaveNoMore xs xs
 no_more_self xs p = omega arith
 
 no_more_than_all : (xs ys : List Message) → HaveNoMore xs (xs ++ ys)
