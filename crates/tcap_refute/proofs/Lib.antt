@@ -13,3 +13,4 @@ pub mod LifeLawsCome
 pub mod LifeLawsHeard
 pub mod LifeLawsItems
 pub mod LifeLawsHalves
+pub mod LifeLawsGets

@@ -70,7 +70,7 @@ none_more p q xs m fails =
     none true is = rw (fails is) refl
     none false is = refl
 
-itself : (id : List ℕ) → is_id id (Some id) ≡ true
+pub itself : (id : List ℕ) → is_id id (Some id) ≡ true
 itself id = is_that_id id (Some id) refl
 
 module _ (side : Side) (items : List Item) (gone : List Message) where
@@ -91,7 +91,7 @@ module _ (side : Side) (items : List Item) (gone : List Message) where
       m = Begin otid dialogue components
 
   module _ (otid own : List ℕ) (dialogue : Option Dialogue) (components : Option (List Component)) where
-    abbrev goes : Message
+    abbrev pub goes : Message
     goes = Continue otid own dialogue components
 
     -- A Continue that is taken may have been, by one that began by receiving,
@@ -106,10 +106,10 @@ module _ (side : Side) (items : List Item) (gone : List Message) where
         (too_behind goes (continues_to otid gone (Some own))))
 
     -- the Continues before it
-    abbrev before : List Message
+    abbrev pub before : List Message
     before = filter (is_a forms.Continue) (from otid gone)
 
-    more_before : filter (is_a forms.Continue) (from otid (gone ++ goes ∷ [])) ≡ before ++ goes ∷ []
+    pub more_before : filter (is_a forms.Continue) (from otid (gone ++ goes ∷ [])) ≡ before ++ goes ∷ []
     more_before = both_more (λ n. is_id otid (otid_in n)) (is_a forms.Continue) gone goes (itself otid) refl
 
     comes_back : (begin : Message) → begin_from side own items ≡ Some begin
