@@ -27,7 +27,7 @@ use Rattle.tcap_refute.specs.Counts.{count}
 use Rattle.tcap_refute.specs.Kind.{is_begin_with_request}
 use Rattle.tcap_refute.specs.Speaker.{accepts_to, begin_from, told}
 use Rattle.tcap_refute.proofs.LifeLawsCome.{KeepsBegins, count_in, count_in_one, from, may_have_heard}
-use Rattle.tcap_refute.proofs.LifeLawsHalves.{GotOn, HasBegun, IsAnswered, SentOn, Story, ToldOver, begun_still, gets_on, led_same, sends_on}
+use Rattle.tcap_refute.proofs.LifeLawsHalves.{GotOn, HasBegun, IsAnswered, SentOn, Story, ToldOver, begun_kept, begun_still, gets_on, led_same, sends_on}
 use Rattle.tcap_refute.proofs.LifeLawsHeard.{HaveThatToo, before, goes, heard_back_too, heard_begin_too, heard_goes_too, itself, more_before}
 use Rattle.tcap_refute.proofs.LifeLawsItems.{begins_now}
 use Rattle.tcap_refute.proofs.Lives.{Happening, SameLists, got_in, sent_in, told_to}
@@ -230,3 +230,37 @@ module _ (table : Table) (side : Side) (items : List Item) (gone : List Message)
               let is : otid ≡ id = same_id id (behind start).peer comes.follows.peer of_peer in
               rw (← is)
               (ap (list_any (accepts_to own)) (more_before side items gone otid own dialogue components) ∙ now asks))
+
+  -- ---- it goes on
+
+  abbrev continues : List Message
+  continues = before side items gone otid own dialogue components
+
+  -- What was answered before is so with one message more.
+  still_answered : list_any (accepts_to own) continues ≡ true → list_any (accepts_to own) (continues ++ m ∷ []) ≡ true
+  still_answered is = list_any-append (accepts_to own) continues (m ∷ []) ∙ rw is refl
+
+  -- An active half receives it from its peer.
+  pub story_goes_on : (slot : Slot) (key : List ℕ) (h : Half) → h.phase ≡ phases.Active → h.own ≡ Some own
+      → h.peer ≡ Some otid → IsKept slot key h → Story table side items gone slot key h
+      → Story table side items (gone ++ m ∷ []) slot key (behind h)
+  story_goes_on slot key h phase is_own is_peer kept it =
+      story_gets slot key h h (refl, refl, refl) is_own is_peer it
+      (subst (λ o. ToldOver side items slot key o it.told_over) is_peer it.is_told)
+      (rw (is_own, is_peer) (too slot kept it.begun))
+      (begun_kept side items items (gone ++ m ∷ []) slot key h (behind h) (λ id begin found. found) comes.follows.phase
+      comes.follows.peer comes.follows.standing (begun_still side items gone (m ∷ []) slot key h it.begun))
+    where
+      comes : Receives h (behind h)
+      comes = all_receives table (items_of components) h
+
+      too : (slot : Slot) → IsKept slot key h → HasBegun side items gone slot key h
+          → HaveThatToo m (may_have_heard side items gone slot (Some own) (Some otid))
+          (may_have_heard side items (gone ++ m ∷ []) slot (Some own) (Some otid))
+      too Accepted kept begun = heard_goes_too side items gone otid own dialogue components
+      too Begun kept (begin, found, answered) =
+          let same : key ≡ own = cc in
+          heard_back_too side items gone otid own dialogue components begin (rw same at found)
+          (λ asks. still_answered
+          (let is : IsAnswered key gone h.standing h.peer phases.Active = rw phase at (answered asks) in
+          rw same at (is otid is_peer)))
