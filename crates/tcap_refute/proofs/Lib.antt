@@ -14,3 +14,4 @@ pub mod LifeLawsHeard
 pub mod LifeLawsItems
 pub mod LifeLawsHalves
 pub mod LifeLawsGets
+pub mod LifeLawsSent

@@ -62,7 +62,7 @@ first_passes passes slot ((key, half) ∷ es) f is = by (passes half) refl is (f
     by false so is rest = rest is
 
 -- So do those of an end.
-found_passes : (passes : Half → Bool) (e : End) (f : KeptHalf) → half_where passes e ≡ Some f → passes f.half ≡ true
+pub found_passes : (passes : Half → Bool) (e : End) (f : KeptHalf) → half_where passes e ≡ Some f → passes f.half ≡ true
 found_passes passes e f is = by (first_half passes Begun e.begun) refl
   where
     by : (o : Option KeptHalf) → first_half passes Begun e.begun ≡ o → passes f.half ≡ true
@@ -70,7 +70,7 @@ found_passes passes e f is = by (first_half passes Begun e.begun) refl
     by (Some g) some = first_passes passes Begun e.begun f (let same = rw some at is in some ∙ same)
 
 -- A half that is found by its peer's ID has it.
-peer_is : (e : End) (id : List ℕ) (f : KeptHalf) → with_peer e id ≡ Some f → f.half.peer ≡ Some id
+pub peer_is : (e : End) (id : List ℕ) (f : KeptHalf) → with_peer e id ≡ Some f → f.half.peer ≡ Some id
 peer_is e id f is = id_is id f.half.peer (found_passes (λ h. is_id id h.peer) e f is)
 
 -- ---- each message
