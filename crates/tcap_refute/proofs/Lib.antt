@@ -15,3 +15,4 @@ pub mod LifeLawsItems
 pub mod LifeLawsHalves
 pub mod LifeLawsGets
 pub mod LifeLawsSent
+pub mod LifeLawsReceived
