@@ -16,3 +16,4 @@ pub mod LifeLawsHalves
 pub mod LifeLawsGets
 pub mod LifeLawsSent
 pub mod LifeLawsReceived
+pub mod LifeLawsUsed

@@ -77,11 +77,11 @@ sent_other side sender m items apart =
 -- ---- what it began, and told
 
 -- the Begin from that ID
-abbrev begins_from : List ℕ → Message → Bool
+abbrev pub begins_from : List ℕ → Message → Bool
 begins_from own m = is_a forms.Begin m && is_id own (otid_in m)
 
 -- a message to that ID that is no Abort of the provider
-abbrev tells_to : List ℕ → Message → Bool
+abbrev pub tells_to : List ℕ → Message → Bool
 tells_to id m = is_id id (dtid_in m) && is_none (cause_in m)
 
 -- It began what it began, where it sent more.

@@ -54,7 +54,7 @@ last_or_before item at (i ∷ items) (f ∷ front) behind is = by (cc) (last_or_
     by same (inr (rest, all)) = inr (rest, cc)
 
 -- An end that keeps the rules kept them before the last event, and in it.
-kept_before : (side : Side) (before : List Event) (event : Event) → KeepsRules side (before ++ event ∷ [])
+pub kept_before : (side : Side) (before : List Event) (event : Event) → KeepsRules side (before ++ event ∷ [])
     → KeepsRules side before × (is_told_by side event ≡ false)
 kept_before side [] event keeps = (refl, (or_parts (is_told_by side event) false keeps).0)
 kept_before side (first ∷ before) event keeps =
