@@ -17,3 +17,4 @@ pub mod LifeLawsGets
 pub mod LifeLawsSent
 pub mod LifeLawsReceived
 pub mod LifeLawsUsed
+pub mod LifeLaws
