@@ -1,5 +1,6 @@
--- Each open half of an end that keeps the rules has its life: what led to it, and what the list of messages tells of that.
-use Rattle.std.proofs.Common.{◌≡◌, ◌≤◌, arith, ℕ, ℤ, Bool, true, false, List, [], ◌∷◌, ◌++◌, map, Option, Some, None, Ok, is_none, refl, sym, ap, subst, ◌∙◌, append_assoc}
+-- Each open half of an end that keeps the rules has its life: what led to it, and what the list of messages tells of
+-- that.
+use Rattle.std.proofs.Common.{◌≡◌, ◌≤◌, arith, ℕ, Bool, true, false, List, [], ◌∷◌, ◌++◌, map, Option, Some, None, Ok, is_none, refl, sym, ap, ◌∙◌, append_assoc}
 use Rattle.std.specs.Prelude.{◌&&◌}
 use Rattle.std.proofs.lemmas.List.{append-nil, map-append}
 use Rattle.std.proofs.lemmas.Option.{cond_some}
@@ -9,30 +10,27 @@ use Rattle.tcap_msg.specs.declared.message.Message.TheVariants.{Unidirectional, 
 use Rattle.tcap_msg.specs.Parts.{cause_in, dtid_in}
 use Rattle.tcap_record.specs.declared.entry.End.{End as Side}
 use Rattle.tcap_record.specs.declared.entry.End.TheVariants as sides
-use Rattle.tcap_end.specs.declared.half.HalfName.{HalfName}
 use Rattle.tcap_end.specs.declared.half.Slot.{Slot}
 use Rattle.tcap_end.specs.declared.half.Slot.TheVariants.{Begun, Accepted}
 use Rattle.tcap_end.specs.Table.{Table}
 use Rattle.tcap_end.specs.Half.{Half, is_closed}
 use Rattle.tcap_end.specs.End.{End, KeptHalf, is_id, nothing}
-use Rattle.tcap_end.specs.Hidden.{close, expire}
 use Rattle.tcap_end.specs.Message.{receive, send}
 use Rattle.tcap_end.specs.Sound.{Has, IsEnd}
 use Rattle.tcap_end.proofs.EndLaws.{no_half}
 use Rattle.tcap_end.proofs.StepLaws.{sends}
 use Rattle.tcap_check.specs.World.{Item, OnItsWay, Sent, World, channel_from, empty, end_at, is_side, other, with_channel, with_end}
-use Rattle.tcap_check.specs.Run.{Event, Sends, Receives, Replies, Loses, Expires, Closes, Quiet, Tells, KeepsRules, Runs, after, is_told_by, joined, provider_abort, reply_to}
+use Rattle.tcap_check.specs.Run.{Event, Sends, Receives, Replies, Loses, Expires, Closes, Quiet, Tells, KeepsRules, Runs, after, is_told_by, joined, reply_to}
 use Rattle.tcap_check.proofs.RunLaws.{IsQuiet, closing, delivery, expiry, loss, quiet, reply, runs_keep, sending, sound, telling}
 use Rattle.tcap_refute.specs.Before.{sent_by, since_quiet}
 use Rattle.tcap_refute.specs.Counts.{count}
-use Rattle.tcap_refute.proofs.BeforeLaws.{is_itself}
 use Rattle.tcap_refute.proofs.LifeLawsCome.{count_in, heard_grows, heard_of_all, may_have_heard}
 use Rattle.tcap_refute.proofs.LifeLawsHalves.{Story, ToldOver, story_later}
 use Rattle.tcap_refute.proofs.LifeLawsItems.{begins_kept, sent_other, sent_own, since_mark, since_more, told_not, told_same}
 use Rattle.tcap_refute.proofs.LifeLawsReceived.{ToldNone, closed_stories, expired_stories, received_stories, stories_still}
 use Rattle.tcap_refute.proofs.LifeLawsSent.{BeganNone, HaveStories, sent_stories}
 use Rattle.tcap_refute.proofs.LifeLawsUsed.{began_none, told_none}
-use Rattle.tcap_refute.proofs.Lives.{IsToldOver, Life, got_in, may_have_come, sent_in, told_to}
+use Rattle.tcap_refute.proofs.Lives.{IsToldOver, Life, got_in, may_have_come, told_to}
 use Rattle.tcap_refute.proofs.MomentLaws.{kept_before}
 
 -- ---- what is known of an end
@@ -62,7 +60,8 @@ apart_too sides.A = refl
 apart_too sides.B = refl
 
 -- It sends a message,
-lives_sends : (table : Table) (side : Side) (sent : List Item) (coming : List Message) (e made : End) (m : Message) → IsEnd e
+lives_sends : (table : Table) (side : Side) (sent : List Item) (coming : List Message) (e made : End) (m : Message)
+    → IsEnd e
     → BeganNone side (since_quiet sent) e → send table e m ≡ Ok made → HasLives table side (since_quiet sent) coming e
     → HasLives table side (since_quiet (sent ++ Sent side m ∷ [])) coming made
 lives_sends table side sent coming e made m sound none step it =
@@ -96,7 +95,8 @@ lives_loses table side items coming e m it = record {
 has_cause : (e : End) (m abort : Message) → reply_to e m ≡ Some abort → is_none (cause_in abort) ≡ false
 has_cause e (Unidirectional dialogue components) abort is = cc
 has_cause e (Begin otid dialogue components) abort is = let same = (cond_some _ _ abort is).1 in rw (← same) refl
-has_cause e (Continue otid dtid dialogue components) abort is = let same = (cond_some _ _ abort is).1 in rw (← same) refl
+has_cause e (Continue otid dtid dialogue components) abort is =
+    let same = (cond_some _ _ abort is).1 in rw (← same) refl
 has_cause e (EndMessage dtid dialogue components) abort is = cc
 has_cause e (Abort dtid reason) abort is = cc
 
@@ -140,8 +140,10 @@ lives_comes table side sent way e on it =
           ∙ ap (λ more. it.gone ++ more) (sym (map-append (λ m. m.message) way (on ∷ [])));
       stories = λ g in_g is_open.
           story_later table side items (items ++ Sent (other side) on.message ∷ []) it.gone g.slot g.key g.half
-          (begins_kept side items (items ++ Sent (other side) on.message ∷ []) [] (same ∙ sym (append-nil (sent_by side items))))
-          (told_same side items (items ++ Sent (other side) on.message ∷ []) g.half.peer same) (it.stories g in_g is_open);
+          (begins_kept side items (items ++ Sent (other side) on.message ∷ []) []
+          (same ∙ sym (append-nil (sent_by side items))))
+          (told_same side items (items ++ Sent (other side) on.message ∷ []) g.half.peer same)
+          (it.stories g in_g is_open);
     })
   where
     items : List Item
@@ -172,7 +174,8 @@ tells_lives table sides.B sides.A m w told it = lives_comes table sides.B w.sent
 tells_lives table sides.B sides.B m w told it = cc
 
 -- one receives a message,
-receives_lives : (table : Table) (side receiver : Side) (head : OnItsWay) (more : List OnItsWay) (made : End) (w : World)
+receives_lives : (table : Table) (side receiver : Side) (head : OnItsWay) (more : List OnItsWay) (made : End)
+    (w : World)
     → IsEnd (end_at receiver w) → ToldNone side (since_quiet w.sent) (end_at side w)
     → channel_from (other receiver) w ≡ head ∷ more → receive table (end_at receiver w) head.message ≡ Ok made
     → HasLivesIn table side w → HasLivesIn table side (with_end receiver made (with_channel (other receiver) more w))
@@ -186,7 +189,8 @@ receives_lives table sides.B sides.B head more made w sound none channel step it
     (rw channel at it)
 
 -- its provider answers one,
-replies_lives : (table : Table) (side replier : Side) (head : OnItsWay) (more : List OnItsWay) (abort : Message) (w : World)
+replies_lives : (table : Table) (side replier : Side) (head : OnItsWay) (more : List OnItsWay) (abort : Message)
+    (w : World)
     → channel_from (other replier) w ≡ head ∷ more → reply_to (end_at replier w) head.message ≡ Some abort
     → HasLivesIn table side w → HasLivesIn table side (joined replier abort (with_channel (other replier) more w))
 replies_lives table sides.A sides.A head more abort w channel step it =
@@ -230,7 +234,8 @@ quiet_lives : (table : Table) (side : Side) (w next : World) → IsQuiet w next 
 quiet_lives table side w next is = rw (is.next_is) (by side)
   where
     by : (side : Side)
-        → HasLivesIn table side (record { a = nothing; b = nothing; from_a = []; from_b = []; sent = w.sent ++ Item.Quiet ∷ [] })
+        → HasLivesIn table side
+        (record { a = nothing; b = nothing; from_a = []; from_b = []; sent = w.sent ++ Item.Quiet ∷ [] })
     by sides.A = rw (since_mark w.sent) (blank_lives table sides.A)
     by sides.B = rw (since_mark w.sent) (blank_lives table sides.B)
 
@@ -243,7 +248,8 @@ empty_lives table sides.B = blank_lives table sides.B
 module _ (table : Table) (side : Side) (before : List Event) (w next : World) (runs : Runs table before w)
     (keeps : KeepsRules side before) (it : HasLivesIn table side w) where
   -- Each step keeps it.
-  step_lives : (event : Event) → after table event w ≡ Some next → is_told_by side event ≡ false → HasLivesIn table side next
+  step_lives : (event : Event) → after table event w ≡ Some next → is_told_by side event ≡ false
+      → HasLivesIn table side next
   step_lives (Sends sender m) is told =
       let s = sending table sender m w next is in
       rw (s.next_is)
@@ -265,18 +271,21 @@ module _ (table : Table) (side : Side) (before : List Event) (w next : World) (r
       rw (h.next_is)
       (hidden_lives table side place h.made w
       (λ items gone had.
-      expired_stories table side items gone (end_at place w) h.made (sound table before w runs place) had name id h.step_is) it)
+      expired_stories table side items gone (end_at place w) h.made (sound table before w runs place) had name id
+      h.step_is) it)
   step_lives (Closes place name) is told =
       let h = closing table place name w next is in
       rw (h.next_is)
       (hidden_lives table side place h.made w
       (λ items gone had.
-      closed_stories table side items gone (end_at place w) h.made (sound table before w runs place) had name h.step_is) it)
+      closed_stories table side items gone (end_at place w) h.made (sound table before w runs place) had name
+      h.step_is) it)
   step_lives (Tells sender m) is told =
       rw ((telling table sender m w next is).next_is) (tells_lives table side sender m w told it)
   step_lives Quiet is told = quiet_lives table side w next (quiet table w next is)
 
-have_lives : (table : Table) (side : Side) (events : List Event) (w : World) → Runs table events w → KeepsRules side events
+have_lives : (table : Table) (side : Side) (events : List Event) (w : World) → Runs table events w
+    → KeepsRules side events
     → HasLivesIn table side w
 have_lives table side = runs_keep table (λ events w. KeepsRules side events → HasLivesIn table side w)
     (λ keeps. empty_lives table side) (λ before event w next runs is held keeps.
@@ -316,7 +325,8 @@ life table side items coming e f it had is_open = record {
         let grows = heard_grows side items it.gone coming f.slot f.half.own f.half.peer p in
         rw (← all) (omega arith)
 
--- In each run in which an end keeps the rules, its open halves have their lives, by what was sent since the last quiet mark.
+-- In each run in which an end keeps the rules, its open halves have their lives, by what was sent since the last quiet
+-- mark.
 pub lives : (table : Table) (events : List Event) (w : World) (side : Side) (f : KeptHalf) → Runs table events w
     → KeepsRules side events → Has (end_at side w) f → is_closed f.half.phase ≡ false
     → Life table side (since_quiet w.sent) f

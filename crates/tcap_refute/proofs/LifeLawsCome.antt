@@ -1,6 +1,6 @@
--- What a half may have heard, of the messages that are no longer on their way: it grows with them, and with what its own
--- end sends.
-use Rattle.std.proofs.Common.{◌≡◌, ◌≤◌, ◌+◌, arith, ℕ, Bool, true, false, cond, List, [], ◌∷◌, ◌++◌, length, Option, Some, None, refl, sym, ap, ◌∙◌, append_assoc}
+-- What a half may have heard, of the messages that are no longer on their way: it grows with them, and with what its
+-- own end sends.
+use Rattle.std.proofs.Common.{◌≡◌, ◌≤◌, ◌+◌, arith, ℕ, Bool, true, false, cond, List, [], ◌∷◌, ◌++◌, Option, Some, None, refl, sym, ap, ◌∙◌, append_assoc}
 use Rattle.std.specs.Prelude.{filter, not, ◌||◌}
 use Rattle.std.specs.List.{list_any}
 use Rattle.std.proofs.lemmas.Grind.{flat_map-append}
@@ -86,7 +86,8 @@ back_not_begun : (side : Side) (items : List Item) (seen : List Message) (m : Me
 back_not_begun side items seen m own to none = rw (to, none) refl
 
 -- else it depends on the Begin.
-pub back_by_begin : (side : Side) (items : List Item) (seen : List Message) (m : Message) (own : List ℕ) (begin : Message)
+pub back_by_begin : (side : Side) (items : List Item) (seen : List Message) (m : Message) (own : List ℕ)
+    (begin : Message)
     → dtid_in m ≡ Some own → begin_from side own items ≡ Some begin
     → is_back side items seen m ≡ (not (is_begin_with_request begin) || list_any (accepts_to own) seen)
 back_by_begin side items seen m own begin to found = rw (to, found) refl
@@ -104,7 +105,8 @@ back_append side items seen (m ∷ xs) ys =
     by : (b : Bool)
         → back_behind side items (seen ++ m ∷ []) (xs ++ ys)
         ≡ back_behind side items (seen ++ m ∷ []) xs ++ back_behind side items (seen ++ m ∷ xs) ys
-        → cond b (m ∷ back_behind side items (seen ++ m ∷ []) (xs ++ ys)) (back_behind side items (seen ++ m ∷ []) (xs ++ ys))
+        → cond b (m ∷ back_behind side items (seen ++ m ∷ []) (xs ++ ys))
+        (back_behind side items (seen ++ m ∷ []) (xs ++ ys))
         ≡ cond b (m ∷ back_behind side items (seen ++ m ∷ []) xs) (back_behind side items (seen ++ m ∷ []) xs)
         ++ back_behind side items (seen ++ m ∷ xs) ys
     by true is = ap (λ more. m ∷ more) is
@@ -133,7 +135,8 @@ back_stays side items later seen m keeps is = by (dtid_in m) refl
     by (Some own) to = begun own to (begin_from side own items) refl
 
 -- One message more, where it came back before only if it does later.
-one_grows : (q : Message → Bool) (m : Message) (xs ys : List Message) → HaveNoMore (filter q xs) (filter q ys) → (a b : Bool)
+one_grows : (q : Message → Bool) (m : Message) (xs ys : List Message) → HaveNoMore (filter q xs) (filter q ys)
+    → (a b : Bool)
     → (a ≡ true → b ≡ true) → HaveNoMore (filter q (cond a (m ∷ xs) xs)) (filter q (cond b (m ∷ ys) ys))
 one_grows q m xs ys rest a b so = by a b so
   where
@@ -210,10 +213,12 @@ continues_grow id gone more (Some own) = filters_grow _ (goes_on_to own) gone mo
 came_back_append : (side : Side) (items : List Item) (id : List ℕ) (gone more : List Message)
     → came_back side items id (gone ++ more)
     ≡ came_back side items id gone
-    ++ back_behind side items (filter (is_a forms.Continue) (from id gone)) (filter (is_a forms.Continue) (from id more))
+    ++ back_behind side items (filter (is_a forms.Continue) (from id gone))
+    (filter (is_a forms.Continue) (from id more))
 came_back_append side items id gone more =
     ap (back_behind side items []) (filters_append _ (is_a forms.Continue) gone more)
-    ∙ back_append side items [] (filter (is_a forms.Continue) (from id gone)) (filter (is_a forms.Continue) (from id more))
+    ∙ back_append side items [] (filter (is_a forms.Continue) (from id gone))
+    (filter (is_a forms.Continue) (from id more))
 
 back_filter_grows : (side : Side) (items : List Item) (id : List ℕ) (q : Message → Bool) (gone more : List Message)
     → HaveNoMore (filter q (came_back side items id gone)) (filter q (came_back side items id (gone ++ more)))
@@ -223,10 +228,12 @@ back_filter_grows side items id q gone more =
   where
     behind : List Message
     behind =
-        back_behind side items (filter (is_a forms.Continue) (from id gone)) (filter (is_a forms.Continue) (from id more))
+        back_behind side items (filter (is_a forms.Continue) (from id gone))
+        (filter (is_a forms.Continue) (from id more))
 
 -- It is no less of more messages,
-pub heard_grows : (side : Side) (items : List Item) (gone more : List Message) (slot : Slot) (own peer : Option (List ℕ))
+pub heard_grows : (side : Side) (items : List Item) (gone more : List Message) (slot : Slot)
+    (own peer : Option (List ℕ))
     → HaveNoMore (may_have_heard side items gone slot own peer) (may_have_heard side items (gone ++ more) slot own peer)
 heard_grows side items gone more Begun None None = no_more_self []
 heard_grows side items gone more Begun (Some own) None = no_more_self []
@@ -239,7 +246,8 @@ heard_grows side items gone more Begun None (Some id) = no_more_self []
 heard_grows side items gone more Begun (Some own) (Some id) = back_filter_grows side items id (goes_on_to own) gone more
 
 -- and where its end sent more,
-pub heard_later : (side : Side) (items later : List Item) (gone : List Message) (slot : Slot) (own peer : Option (List ℕ))
+pub heard_later : (side : Side) (items later : List Item) (gone : List Message) (slot : Slot)
+    (own peer : Option (List ℕ))
     → KeepsBegins side items later
     → HaveNoMore (may_have_heard side items gone slot own peer) (may_have_heard side later gone slot own peer)
 heard_later side items later gone Begun None None keeps = no_more_self []
@@ -253,9 +261,11 @@ heard_later side items later gone Begun (Some own) (Some id) keeps =
 
 -- and where a half that began by receiving chose its own ID.
 pub heard_chosen : (side : Side) (items : List Item) (gone : List Message) (own : List ℕ) (peer : Option (List ℕ))
-    → HaveNoMore (may_have_heard side items gone Accepted None peer) (may_have_heard side items gone Accepted (Some own) peer)
+    → HaveNoMore (may_have_heard side items gone Accepted None peer)
+    (may_have_heard side items gone Accepted (Some own) peer)
 heard_chosen side items gone own None = no_more_self []
-heard_chosen side items gone own (Some id) = rw (append-nil begins) (no_more_than_all begins (continues_to id gone (Some own)))
+heard_chosen side items gone own (Some id) =
+    rw (append-nil begins) (no_more_than_all begins (continues_to id gone (Some own)))
   where
     begins : List Message
     begins = filter (is_a forms.Begin) (from id gone)

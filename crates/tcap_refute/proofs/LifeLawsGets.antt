@@ -1,15 +1,14 @@
 -- The story of a half begins, or goes on where a message is received over it.
 use Rattle.std.proofs.Common.{◌≡◌, ◌≤◌, ◌+◌, arith, ℕ, Bool, true, false, cond, List, [], ◌∷◌, ◌++◌, Option, Some, None, Ok, refl, sym, ap, subst, ◌∙◌}
-use Rattle.std.specs.Prelude.{filter, ◌||◌}
+use Rattle.std.specs.Prelude.{◌||◌}
 use Rattle.std.specs.List.{list_any}
 use Rattle.std.proofs.lemmas.List.Folds.{list_any-append}
 use Rattle.tcap_parts.specs.declared.component.Component.{Component}
 use Rattle.tcap_parts.specs.declared.dialogue.Dialogue.{Dialogue}
 use Rattle.tcap_msg.specs.declared.message.Message.{Message}
 use Rattle.tcap_msg.specs.declared.message.Message.TheVariants.{Begin, Continue}
-use Rattle.tcap_msg.specs.Parts.{components_in, items_of}
+use Rattle.tcap_msg.specs.Parts.{items_of}
 use Rattle.tcap_record.specs.declared.entry.End.{End as Side}
-use Rattle.tcap_end.specs.declared.half.Phase.{Phase}
 use Rattle.tcap_end.specs.declared.half.Phase.TheVariants as phases
 use Rattle.tcap_end.specs.declared.half.Slot.{Slot}
 use Rattle.tcap_end.specs.declared.half.Slot.TheVariants.{Begun, Accepted}
@@ -26,7 +25,7 @@ use Rattle.tcap_check.specs.World.{Item, Sent}
 use Rattle.tcap_refute.specs.Counts.{count}
 use Rattle.tcap_refute.specs.Kind.{is_begin_with_request}
 use Rattle.tcap_refute.specs.Speaker.{accepts_to, begin_from, told}
-use Rattle.tcap_refute.proofs.LifeLawsCome.{KeepsBegins, count_in, count_in_one, from, may_have_heard}
+use Rattle.tcap_refute.proofs.LifeLawsCome.{count_in, count_in_one, from, may_have_heard}
 use Rattle.tcap_refute.proofs.LifeLawsHalves.{GotOn, HasBegun, IsAnswered, SentOn, Story, ToldOver, begun_kept, begun_still, gets_on, led_same, sends_on}
 use Rattle.tcap_refute.proofs.LifeLawsHeard.{HaveThatToo, before, goes, heard_back_too, heard_begin_too, heard_goes_too, itself, more_before}
 use Rattle.tcap_refute.proofs.LifeLawsItems.{begins_now}
@@ -150,10 +149,12 @@ module _ (table : Table) (side : Side) (items : List Item) (gone : List Message)
         past = on.now;
         is_led = on.is_led;
         told_over = it.told_over;
-        is_told = subst (λ o. ToldOver side items slot key o it.told_over) (sym (comes.follows.peer ∙ of_peer)) was_told;
+        is_told = subst (λ o. ToldOver side items slot key o it.told_over) (sym (comes.follows.peer ∙ of_peer))
+            was_told;
         sent = λ p. rw (on.sent) (it.sent p);
         got = λ p.
-            heard_with slot (behind start).own (behind start).peer (count p (got_in on.now)) p (comes.follows.own ∙ of_own)
+            heard_with slot (behind start).own (behind start).peer (count p (got_in on.now)) p
+            (comes.follows.own ∙ of_own)
             (comes.follows.peer ∙ of_peer) (got_too slot it.past on.now h too it.got on.got p);
         begun = begun;
       }
@@ -191,7 +192,8 @@ module _ (table : Table) (side : Side) (items : List Item) (gone : List Message)
       → Story table side items gone Begun own h
       → Story table side items (gone ++ m ∷ []) Begun own (behind (active_half Begun otid h))
   story_answered h phase is_own no_peer answers none it =
-      story_gets Begun own h start (refl, refl, refl) is_own refl it (by_told it.is_told) (by_begun it.begun).0 (by_begun it.begun).1
+      story_gets Begun own h start (refl, refl, refl) is_own refl it (by_told it.is_told) (by_begun it.begun).0
+      (by_begun it.begun).1
     where
       start : Half
       start = active_half Begun otid h
@@ -199,7 +201,8 @@ module _ (table : Table) (side : Side) (items : List Item) (gone : List Message)
       comes : Receives start (behind start)
       comes = all_receives table (items_of components) start
 
-      by_told : ToldOver side items Begun own h.peer it.told_over → ToldOver side items Begun own (Some otid) it.told_over
+      by_told : ToldOver side items Begun own h.peer it.told_over
+          → ToldOver side items Begun own (Some otid) it.told_over
       by_told (begin, found, is) =
           (begin, found, is ∙ ap (λ o. begin ∷ told_to side items o) no_peer ∙ ap (λ more. begin ∷ more) (sym none))
 
@@ -209,7 +212,8 @@ module _ (table : Table) (side : Side) (items : List Item) (gone : List Message)
           (may_have_heard side items (gone ++ m ∷ []) Begun (Some own) (Some otid))
       nothing too p =
           let all = too p in
-          let zero_there : count_in p (may_have_heard side items gone Begun h.own h.peer) ≡ 0 = rw (is_own, no_peer) refl in
+          let none_yet : count_in p (may_have_heard side items gone Begun h.own h.peer) ≡ 0 =
+          rw (is_own, no_peer) refl in
           omega arith
 
       by_begun : HasBegun side items gone Begun own h

@@ -1,7 +1,7 @@
 -- The story of a half goes on: where its end sends over it, or receives, or an own invocation ends, and where others do
 -- what is no matter of it.
-use Rattle.std.proofs.Common.{◌≡◌, ◌≤◌, ◌+◌, ◌⊎◌, inl, inr, arith, ℕ, ℤ, Bool, true, false, List, [], ◌∷◌, ◌++◌, Option, Some, None, Ok, refl, sym, ap, ◌∙◌}
-use Rattle.std.specs.Prelude.{filter, ◌||◌}
+use Rattle.std.proofs.Common.{◌≡◌, ◌≤◌, ◌+◌, ◌⊎◌, inl, inr, arith, ℕ, ℤ, Bool, true, List, [], ◌∷◌, ◌++◌, Option, Some, None, Ok, refl, sym, ap, ◌∙◌}
+use Rattle.std.specs.Prelude.{filter}
 use Rattle.std.specs.List.{list_any}
 use Rattle.std.proofs.lemmas.List.Elements.{filter-append}
 use Rattle.std.proofs.lemmas.List.Folds.{list_any-append}
@@ -33,7 +33,8 @@ use Rattle.tcap_refute.proofs.Lives.{Happening, Sends, Gets, Ends, IsLed, SameLi
 -- ---- happenings
 
 -- Two halves with the same invocations and answers have the same story.
-pub led_same : (table : Table) (past : List Happening) (g h : Half) → SameLists g h → IsLed table past g → IsLed table past h
+pub led_same : (table : Table) (past : List Happening) (g h : Half) → SameLists g h → IsLed table past g
+    → IsLed table past h
 led_same table [] g h same is = (same.0 ∙ is.0, same.1 ∙ is.1, same.2 ∙ is.2)
 led_same table (Sends c ∷ past) g h same (f, k, led, sends, lists) =
     (f, k, led, sends, (same.0 ∙ lists.0, same.1 ∙ lists.1, same.2 ∙ lists.2))
@@ -118,13 +119,15 @@ pub record Story (table : Table) (side : Side) (items : List Item) (gone : List 
   pub told_over : List Message
   pub is_told : ToldOver side items slot key h.peer told_over
   pub sent : (p : Component → Bool) → count p (sent_in past) ≡ count_in p told_over
-  pub got : (p : Component → Bool) → count p (got_in past) ≤ count_in p (may_have_heard side items gone slot h.own h.peer)
+  pub got : (p : Component → Bool)
+      → count p (got_in past) ≤ count_in p (may_have_heard side items gone slot h.own h.peer)
   pub begun : HasBegun side items gone slot key h
 
 -- ---- what others do
 
 -- An answer stays one.
-answered_still : (own : List ℕ) (gone more : List Message) (standing : Standing) (peer : Option (List ℕ)) (phase : Phase)
+answered_still : (own : List ℕ) (gone more : List Message) (standing : Standing) (peer : Option (List ℕ))
+    (phase : Phase)
     → IsAnswered own gone standing peer phase → IsAnswered own (gone ++ more) standing peer phase
 answered_still own gone more standing peer phases.Sent is = is
 answered_still own gone more standing peer phases.Received is = tt
@@ -163,7 +166,8 @@ told_kept side items later Begun key peer messages keeps same (begin, found, is)
     (begin, keeps key begin found, is ∙ ap (λ more. begin ∷ more) (sym same))
 
 -- Messages are taken from the channel,
-pub story_still : (table : Table) (side : Side) (items : List Item) (gone more : List Message) (slot : Slot) (key : List ℕ)
+pub story_still : (table : Table) (side : Side) (items : List Item) (gone more : List Message) (slot : Slot)
+    (key : List ℕ)
     (h : Half) → Story table side items gone slot key h → Story table side items (gone ++ more) slot key h
 story_still table side items gone more slot key h it = record {
   past = it.past;
@@ -182,7 +186,8 @@ story_still table side items gone more slot key h it = record {
         let grows = heard_grows side items gone more slot h.own h.peer p in omega arith
 
 -- or its end sends what is not told over it.
-pub story_later : (table : Table) (side : Side) (items later : List Item) (gone : List Message) (slot : Slot) (key : List ℕ)
+pub story_later : (table : Table) (side : Side) (items later : List Item) (gone : List Message) (slot : Slot)
+    (key : List ℕ)
     (h : Half) → KeepsBegins side items later → told_to side later h.peer ≡ told_to side items h.peer
     → Story table side items gone slot key h → Story table side later gone slot key h
 story_later table side items later gone slot key h keeps same it = record {
@@ -214,7 +219,8 @@ story_ends table side items gone slot key h id may it = record {
   is_told = it.is_told;
   sent = it.sent;
   got = it.got;
-  begun = begun_kept side items items gone slot key h (without_invocation id h) (λ own begin found. found) refl refl refl
+  begun =
+      begun_kept side items items gone slot key h (without_invocation id h) (λ own begin found. found) refl refl refl
       it.begun;
 }
 
@@ -224,14 +230,16 @@ KeepsOwn slot h k = (k.own ≡ h.own) ⊎ ((slot ≡ Accepted) × (h.own ≡ Non
 
 heard_by_own : (side : Side) (items : List Item) (gone : List Message) (slot : Slot) (h k : Half) → KeepsOwn slot h k
     → HaveNoMore (may_have_heard side items gone slot h.own h.peer) (may_have_heard side items gone slot k.own h.peer)
-heard_by_own side items gone slot h k (inl same) = rw same (no_more_self (may_have_heard side items gone slot h.own h.peer))
+heard_by_own side items gone slot h k (inl same) =
+    rw same (no_more_self (may_have_heard side items gone slot h.own h.peer))
 heard_by_own side items gone slot h k (inr (slots, none, (own, chosen))) =
     rw (slots, none, chosen) (heard_chosen side items gone own h.peer)
 
 -- A message is sent over it.
 module _ (table : Table) (side : Side) (items later : List Item) (gone : List Message) (slot : Slot) (key : List ℕ)
     (h start k : Half) (m : Message) (id : List ℕ) where
-  told_too : told side id later ≡ told side id items ++ m ∷ [] → KeepsBegins side items later → (messages : List Message)
+  told_too : told side id later ≡ told side id items ++ m ∷ [] → KeepsBegins side items later
+      → (messages : List Message)
       → ToldOver side items slot key (Some id) messages → ToldOver side later slot key (Some id) (messages ++ m ∷ [])
   told_too is keeps messages = by slot
     where

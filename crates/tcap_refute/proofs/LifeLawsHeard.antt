@@ -1,29 +1,25 @@
--- What a message that is taken from the channel adds to what a half may have heard, and what an item more adds to what its
--- end told.
-use Rattle.std.proofs.Common.{◌≡◌, ◌≤◌, ◌+◌, arith, ℕ, Bool, true, false, cond, List, [], ◌∷◌, ◌++◌, Option, Some, None, refl, sym, ap, ◌∙◌, append_assoc}
-use Rattle.std.specs.Prelude.{filter, filter_map, not, ◌||◌, ◌&&◌}
-use Rattle.std.specs.List.{find, list_any}
+-- What a message that is taken from the channel adds to what a half may have heard.
+use Rattle.std.proofs.Common.{◌≡◌, ◌≤◌, ◌+◌, arith, ℕ, Bool, true, false, cond, List, [], ◌∷◌, ◌++◌, Option, Some, refl, ap, ◌∙◌}
+use Rattle.std.specs.Prelude.{filter, not, ◌||◌}
+use Rattle.std.specs.List.{list_any}
 use Rattle.std.proofs.lemmas.List.{append-nil}
-use Rattle.std.proofs.lemmas.List.Elements.{filter-append, filter_map-append}
-use Rattle.std.proofs.lemmas.List.Folds.{find-append, list_any-append}
+use Rattle.std.proofs.lemmas.List.Elements.{filter-append}
 use Rattle.tcap_parts.specs.declared.component.Component.{Component}
 use Rattle.tcap_parts.specs.declared.dialogue.Dialogue.{Dialogue}
 use Rattle.tcap_msg.specs.declared.kind.Kind.TheVariants as forms
 use Rattle.tcap_msg.specs.declared.message.Message.{Message}
 use Rattle.tcap_msg.specs.declared.message.Message.TheVariants.{Begin, Continue}
-use Rattle.tcap_msg.specs.Parts.{components_in, dialogue_in, dtid_in, otid_in}
+use Rattle.tcap_msg.specs.Parts.{components_in, otid_in}
 use Rattle.tcap_record.specs.declared.entry.End.{End as Side}
 use Rattle.tcap_end.specs.declared.half.Slot.TheVariants.{Begun, Accepted}
-use Rattle.tcap_end.specs.Dialogue.{is_response}
 use Rattle.tcap_end.specs.End.{is_id}
-use Rattle.tcap_check.specs.World.{Item, Sent, is_side, other}
-use Rattle.tcap_check.specs.Follows.{has_quiet}
-use Rattle.tcap_refute.specs.Before.{is_a, sent_by, since_quiet}
+use Rattle.tcap_check.specs.World.{Item}
+use Rattle.tcap_refute.specs.Before.{is_a}
 use Rattle.tcap_refute.specs.Counts.{count}
 use Rattle.tcap_refute.specs.Kind.{is_begin_with_request}
-use Rattle.tcap_refute.specs.Speaker.{accepts_to, back_behind, begin_from, goes_on_to, is_back, told}
+use Rattle.tcap_refute.specs.Speaker.{accepts_to, back_behind, begin_from, goes_on_to, is_back}
 use Rattle.tcap_refute.proofs.BeforeLaws.{is_that_id}
-use Rattle.tcap_refute.proofs.LifeLawsCome.{KeepsBegins, back_append, back_by_begin, came_back, continues_to, count_in, count_in_append, count_in_one, from, may_have_heard}
+use Rattle.tcap_refute.proofs.LifeLawsCome.{back_append, back_by_begin, came_back, continues_to, count_in, count_in_append, count_in_one, from, may_have_heard}
 
 -- ---- a message more
 
@@ -42,7 +38,8 @@ too_among m front xs ys has p =
     let left = count_in_append p front xs in
     let right = count_in_append p front ys in omega arith
 
-too_first : (m : Message) (xs behind ys : List Message) → HaveThatToo m xs ys → HaveThatToo m (xs ++ behind) (ys ++ behind)
+too_first : (m : Message) (xs behind ys : List Message) → HaveThatToo m xs ys
+    → HaveThatToo m (xs ++ behind) (ys ++ behind)
 too_first m xs behind ys has p =
     let here = has p in
     let left = count_in_append p xs behind in
@@ -116,7 +113,8 @@ module _ (side : Side) (items : List Item) (gone : List Message) where
         → (is_begin_with_request begin ≡ true → list_any (accepts_to own) (before ++ goes ∷ []) ≡ true)
         → is_back side items (before ++ goes ∷ []) goes ≡ true
     comes_back begin found answered =
-        back_by_begin side items (before ++ goes ∷ []) goes own begin refl found ∙ by (is_begin_with_request begin) answered
+        back_by_begin side items (before ++ goes ∷ []) goes own begin refl found
+        ∙ by (is_begin_with_request begin) answered
       where
         by : (b : Bool) → (b ≡ true → list_any (accepts_to own) (before ++ goes ∷ []) ≡ true)
             → (not b || list_any (accepts_to own) (before ++ goes ∷ [])) ≡ true

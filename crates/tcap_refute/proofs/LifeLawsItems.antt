@@ -1,7 +1,7 @@
 -- One item more: what was sent since the last quiet mark, what an end sent of it, told of it, and began by it.
-use Rattle.std.proofs.Common.{◌≡◌, ℕ, Bool, true, false, cond, List, [], ◌∷◌, ◌++◌, Option, Some, None, refl, sym, ap, ◌∙◌}
-use Rattle.std.specs.Prelude.{filter, filter_map, ◌&&◌, is_none}
-use Rattle.std.specs.List.{find, list_any}
+use Rattle.std.proofs.Common.{◌≡◌, ℕ, Bool, true, false, cond, List, [], ◌∷◌, ◌++◌, Option, Some, None, refl, ap, ◌∙◌}
+use Rattle.std.specs.Prelude.{filter, ◌&&◌, is_none}
+use Rattle.std.specs.List.{find}
 use Rattle.std.proofs.lemmas.List.{append-nil}
 use Rattle.std.proofs.lemmas.List.Elements.{filter-append, filter_map-append}
 use Rattle.std.proofs.lemmas.List.Folds.{find-append}
@@ -9,7 +9,6 @@ use Rattle.tcap_msg.specs.declared.kind.Kind.TheVariants as forms
 use Rattle.tcap_msg.specs.declared.message.Message.{Message}
 use Rattle.tcap_msg.specs.Parts.{cause_in, dtid_in, otid_in}
 use Rattle.tcap_record.specs.declared.entry.End.{End as Side}
-use Rattle.tcap_record.specs.declared.entry.End.TheVariants as sides
 use Rattle.tcap_end.specs.End.{is_id}
 use Rattle.tcap_check.specs.World.{Item, Sent, is_side, other}
 use Rattle.tcap_check.specs.Follows.{has_quiet}
@@ -22,7 +21,8 @@ use Rattle.tcap_refute.proofs.Lives.{told_to}
 -- ---- quiet marks
 
 -- A message more is no mark more.
-marks_stay : (sender : Side) (m : Message) (items : List Item) → has_quiet (items ++ Sent sender m ∷ []) ≡ has_quiet items
+marks_stay : (sender : Side) (m : Message) (items : List Item)
+    → has_quiet (items ++ Sent sender m ∷ []) ≡ has_quiet items
 marks_stay sender m [] = refl
 marks_stay sender m (Item.Quiet ∷ items) = refl
 marks_stay sender m (Sent other n ∷ items) = marks_stay sender m items
@@ -51,7 +51,8 @@ mark_last (Sent sender m ∷ items) = mark_last items
 pub since_mark : (items : List Item) → since_quiet (items ++ Item.Quiet ∷ []) ≡ []
 since_mark [] = refl
 since_mark (item ∷ items) =
-    ap (λ b. cond b (since_quiet (items ++ Item.Quiet ∷ [])) (item ∷ items ++ Item.Quiet ∷ [])) (mark_last (item ∷ items))
+    ap (λ b. cond b (since_quiet (items ++ Item.Quiet ∷ [])) (item ∷ items ++ Item.Quiet ∷ []))
+    (mark_last (item ∷ items))
     ∙ since_mark items
 
 -- ---- what an end sent
@@ -95,7 +96,8 @@ pub begins_now : (side : Side) (items : List Item) (m : Message) (own : List ℕ
     → is_a forms.Begin m ≡ true → is_id own (otid_in m) ≡ true
     → begin_from side own (items ++ Sent side m ∷ []) ≡ Some m
 begins_now side items m own none begins from =
-    ap (find (begins_from own)) (sent_own side m items) ∙ find-append (begins_from own) (sent_by side items) (m ∷ []) ∙ rw (none, begins, from) refl
+    ap (find (begins_from own)) (sent_own side m items) ∙ find-append (begins_from own) (sent_by side items) (m ∷ [])
+    ∙ rw (none, begins, from) refl
 
 -- What it tells an ID it told it last,
 pub told_now : (side : Side) (items : List Item) (m : Message) (id : List ℕ) → is_id id (dtid_in m) ≡ true
@@ -119,7 +121,8 @@ told_not side items m id apart =
     none = rw apart refl
 
 -- Where it sent nothing more it told nothing more.
-pub told_same : (side : Side) (items later : List Item) (peer : Option (List ℕ)) → sent_by side later ≡ sent_by side items
+pub told_same : (side : Side) (items later : List Item) (peer : Option (List ℕ))
+    → sent_by side later ≡ sent_by side items
     → told_to side later peer ≡ told_to side items peer
 told_same side items later None is = refl
 told_same side items later (Some id) is = ap (filter (tells_to id)) is

@@ -1,7 +1,6 @@
 -- The open halves of an end have their stories behind a message that it receives, and behind what happens unseen.
-use Rattle.std.proofs.Common.{◌≡◌, ◌⊎◌, inl, inr, ℕ, ℤ, Bool, true, false, cond, not, List, [], ◌∷◌, ◌++◌, Option, Some, None, Result, Ok, Err, is_none, refl, sym, ap, subst, ◌∙◌}
+use Rattle.std.proofs.Common.{◌≡◌, ◌⊎◌, inl, inr, ℕ, ℤ, Bool, true, false, cond, not, List, [], ◌∷◌, ◌++◌, Option, Some, None, Result, Ok, is_none, refl, subst}
 use Rattle.std.specs.Prelude.{ok_or}
-use Rattle.std.proofs.lemmas.Bool.{not-true}
 use Rattle.tcap_parts.specs.declared.dialogue.Dialogue.{Dialogue}
 use Rattle.tcap_parts.specs.declared.component.Component.{Component}
 use Rattle.tcap_msg.specs.declared.message.Message.{Message}
@@ -75,7 +74,8 @@ module _ (table : Table) (side : Side) (items : List Item) (gone : List Message)
   closed_stories name is =
       let (f, ok, step) = then_ok (ok_or (named e name) faults.CannotClose) _ next is in
       let may = needs_ok (may_close table f.half.phase) faults.CannotClose _ next step in
-      put_story table side items gone e next f.slot f.key (closed_half f.half) (is_this _ next may.1) had (λ is_open. cc)
+      put_story table side items gone e next f.slot f.key (closed_half f.half) (is_this _ next may.1) had
+      (λ is_open. cc)
 
 -- ---- what is received
 
@@ -95,7 +95,8 @@ module _ (table : Table) (side : Side) (items : List Item) (gone : List Message)
   becomes : (m : Message) (slot : Slot) (key : List ℕ) (k : Half) → put e slot key k ≡ next
       → (is_closed k.phase ≡ false → Story table side items (gone ++ m ∷ []) slot key k) → Got m
   becomes m slot key k made now =
-      put_story table side items (gone ++ m ∷ []) e next slot key k made (stories_still table side items gone m e had) now
+      put_story table side items (gone ++ m ∷ []) e next slot key k made
+      (stories_still table side items gone m e had) now
 
   -- A Begin makes one,
   begin_got : (otid : List ℕ) (dialogue : Option Dialogue) (components : Option (List Component))
@@ -103,10 +104,12 @@ module _ (table : Table) (side : Side) (items : List Item) (gone : List Message)
   begin_got otid dialogue components is =
       let step = needs_ok (is_none (with_peer e otid)) faults.IdUsed _ next is in
       becomes (Begin otid dialogue components) Accepted otid
-      (receive_components table (fresh phases.Received None (Some otid) (first_standing dialogue)) (items_of components))
+      (receive_components table (fresh phases.Received None (Some otid) (first_standing dialogue))
+      (items_of components))
       (is_this _ next step.1)
       (λ is_open.
-      story_received table side items gone otid dialogue components (told_none otid (none_is (with_peer e otid) step.0)))
+      story_received table side items gone otid dialogue components
+      (told_none otid (none_is (with_peer e otid) step.0)))
 
   -- a Continue goes to the half whose own ID it has: it answers its Begin, or goes on,
   module _ (otid dtid : List ℕ) (dialogue : Option Dialogue) (components : Option (List Component)) (f : KeptHalf)
@@ -114,8 +117,10 @@ module _ (table : Table) (side : Side) (items : List Item) (gone : List Message)
     abbrev goes : Message
     goes = Continue otid dtid dialogue components
 
-    answer_got : f.half.phase ≡ phases.Sent → answers_request f.half.standing dialogue ≡ true → told side otid items ≡ []
-        → put e f.slot f.key (receive_components table (active_half Begun otid f.half) (items_of components)) ≡ next → Got goes
+    answer_got : f.half.phase ≡ phases.Sent → answers_request f.half.standing dialogue ≡ true
+        → told side otid items ≡ []
+        → put e f.slot f.key (receive_components table (active_half Begun otid f.half) (items_of components)) ≡ next
+        → Got goes
     answer_got at answers none made =
         becomes goes f.slot f.key (receive_components table (active_half Begun otid f.half) (items_of components)) made
         (λ is_open. by f.slot (before.kept f in_f) (had f in_f (rw at refl)))
@@ -138,7 +143,8 @@ module _ (table : Table) (side : Side) (items : List Item) (gone : List Message)
     next_got at peer made =
         becomes goes f.slot f.key (receive_components table f.half (items_of components)) made
         (λ is_open.
-        story_goes_on table side items gone otid dtid dialogue components f.slot f.key f.half at own peer (before.kept f in_f)
+        story_goes_on table side items gone otid dtid dialogue components f.slot f.key f.half at own peer
+        (before.kept f in_f)
         (had f in_f (rw at refl)))
 
     over_got : (p : Phase) → f.half.phase ≡ p → receive_over table e otid dialogue (items_of components) f p ≡ Ok next
@@ -159,15 +165,18 @@ module _ (table : Table) (side : Side) (items : List Item) (gone : List Message)
   continue_got otid dtid dialogue components is =
       let (f, ok, step) = then_ok (ok_or (with_own e dtid) faults.NoTransaction) _ next is in
       let found = some_ok _ _ f ok in
-      over_got otid dtid dialogue components f (own_has e dtid before f found) (own_is e dtid f found) f.half.phase refl step
+      over_got otid dtid dialogue components f (own_has e dtid before f found) (own_is e dtid f found) f.half.phase refl
+      step
 
   -- and an End or an Abort closes one, or changes nothing.
   end_got : (m : Message) (o : Option KeptHalf) → receive_end e o ≡ next → Got m
-  end_got m None is = subst (HaveStories table side items (gone ++ m ∷ [])) is (stories_still table side items gone m e had)
+  end_got m None is =
+      subst (HaveStories table side items (gone ++ m ∷ [])) is (stories_still table side items gone m e had)
   end_got m (Some f) is = by (is_closed f.half.phase) is
     where
       by : (b : Bool) → cond b e (put e f.slot f.key (closed_half f.half)) ≡ next → Got m
-      by true same = subst (HaveStories table side items (gone ++ m ∷ [])) same (stories_still table side items gone m e had)
+      by true same =
+          subst (HaveStories table side items (gone ++ m ∷ [])) same (stories_still table side items gone m e had)
       by false made = becomes m f.slot f.key (closed_half f.half) made (λ is_open. cc)
 
   -- Each message that it receives leaves it its stories.

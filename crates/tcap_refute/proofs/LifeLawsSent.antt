@@ -1,12 +1,12 @@
 -- The open halves of an end have their stories behind a message that it sends.
-use Rattle.std.proofs.Common.{◌≡◌, ◌⊎◌, inl, inr, ℕ, ℤ, Bool, true, false, cond, not, List, [], ◌∷◌, ◌++◌, Option, Some, None, Result, Ok, Err, is_none, refl, sym, ap, subst, ◌∙◌}
-use Rattle.std.specs.Prelude.{ok_or, ◌&&◌}
+use Rattle.std.proofs.Common.{◌≡◌, ◌⊎◌, inl, inr, ℕ, Bool, true, false, not, List, [], ◌∷◌, ◌++◌, Option, Some, None, Result, Ok, Err, is_none, refl, sym, subst, ◌∙◌}
+use Rattle.std.specs.Prelude.{ok_or}
 use Rattle.tcap_parts.specs.declared.component.Component.{Component}
 use Rattle.tcap_parts.specs.declared.dialogue.Dialogue.{Dialogue}
 use Rattle.tcap_msg.specs.declared.message.AbortReason.{AbortReason}
 use Rattle.tcap_msg.specs.declared.message.Message.{Message}
 use Rattle.tcap_msg.specs.declared.message.Message.TheVariants.{Unidirectional, Begin, Continue, End as EndMessage, Abort}
-use Rattle.tcap_msg.specs.Parts.{cause_in, components_in, dtid_in, items_of, reason_cause, reason_dialogue}
+use Rattle.tcap_msg.specs.Parts.{dtid_in, items_of, reason_cause, reason_dialogue}
 use Rattle.tcap_record.specs.declared.entry.End.{End as Side}
 use Rattle.tcap_end.specs.declared.fault.EndFault.{EndFault}
 use Rattle.tcap_end.specs.declared.fault.EndFault.TheVariants as faults
@@ -20,7 +20,7 @@ use Rattle.tcap_end.specs.Half.{Half, closed_half, fresh, is_closed}
 use Rattle.tcap_end.specs.Dialogue.{first_standing, may_abort, may_be_uni, may_begin, may_go_on}
 use Rattle.tcap_end.specs.End.{End, KeptHalf, is_id, put, with_own, with_peer}
 use Rattle.tcap_end.specs.Message.{active_half, is_active, is_received, send, send_abort, send_begin, send_components, send_continue, send_end, send_first_continue, send_next_continue, send_uni_components}
-use Rattle.tcap_end.specs.Sound.{FitsPhase, Has, IsEnd, IsHalf, IsKept, IsSame}
+use Rattle.tcap_end.specs.Sound.{FitsPhase, Has, IsEnd, IsKept, IsSame}
 use Rattle.tcap_end.proofs.AnsweringLaws.{needs_ok, ok_same, some_ok, then_ok}
 use Rattle.tcap_end.proofs.ComponentLaws.{all_sends}
 use Rattle.tcap_end.proofs.EndLaws.{IsThere, put_has}
@@ -74,7 +74,8 @@ module _ (table : Table) (side : Side) (items : List Item) (gone : List Message)
   apart_from (Some q) other = told_not side items m q (rw (other q refl) refl)
 
   -- A half that stays as it was has its story.
-  stays : HaveStories table side items gone e → (g : KeptHalf) → Has e g → is_closed g.half.phase ≡ false → IsApart g.half.peer
+  stays : HaveStories table side items gone e → (g : KeptHalf) → Has e g → is_closed g.half.phase ≡ false
+      → IsApart g.half.peer
       → Story table side (items ++ Sent side m ∷ []) gone g.slot g.key g.half
   stays had g in_g is_open apart =
       story_later table side items (items ++ Sent side m ∷ []) gone g.slot g.key g.half keeps apart (had g in_g is_open)
@@ -91,7 +92,8 @@ module _ (table : Table) (side : Side) (items : List Item) (gone : List Message)
     is_it g same is_open = rw (same.0, same.1, same.2) (now (rw (same.2) at is_open))
 
     -- Another half has another peer.
-    another : HaveStories table side items gone e → (g : KeptHalf) → Has next g → Has e g → is_closed g.half.phase ≡ false
+    another : HaveStories table side items gone e → (g : KeptHalf) → Has next g → Has e g
+        → is_closed g.half.phase ≡ false
         → Story table side (items ++ Sent side m ∷ []) gone g.slot g.key g.half
     another had g in_next in_g is_open = by g.half.peer refl
       where
@@ -103,7 +105,8 @@ module _ (table : Table) (side : Side) (items : List Item) (gone : List Message)
             is_it g (one.0, one.1, one_half next (record f { half = k }) g there in_next (sym one.0, sym one.1)) is_open
         with q of false is = stays had g in_g is_open (rw of (told_not side items m q (rw is refl)))
 
-        by : (o : Option (List ℕ)) → g.half.peer ≡ o → Story table side (items ++ Sent side m ∷ []) gone g.slot g.key g.half
+        by : (o : Option (List ℕ)) → g.half.peer ≡ o
+            → Story table side (items ++ Sent side m ∷ []) gone g.slot g.key g.half
         by None none = stays had g in_g is_open (rw none refl)
         by (Some q) of = with q of (is_id q (dtid_in m)) refl
 
@@ -144,12 +147,14 @@ module _ (table : Table) (side : Side) (items : List Item) (gone : List Message)
       ((all_sends table (items_of components) f.half g sent).follows.peer ∙ peer_is e dtid f (some_ok _ _ f ok)) refl
       (is_this _ done)
 
-  abort_goes : (dtid : List ℕ) (reason : Option AbortReason) → send_abort e dtid reason ≡ Ok next → Go (Abort dtid reason)
+  abort_goes : (dtid : List ℕ) (reason : Option AbortReason) → send_abort e dtid reason ≡ Ok next
+      → Go (Abort dtid reason)
   abort_goes dtid reason is =
       let user = needs_ok (is_none (reason_cause reason)) faults.WrongPhase _ next is in
       let (f, ok, step) = then_ok (ok_or (with_peer e dtid) faults.NoTransaction) _ next user.1 in
       let still = needs_ok (not (is_closed f.half.phase)) faults.WrongPhase _ next step in
-      let may = needs_ok (may_abort f.half.phase f.half.standing (reason_dialogue reason)) faults.WrongDialogue _ next still.1 in
+      let may = needs_ok (may_abort f.half.phase f.half.standing (reason_dialogue reason)) faults.WrongDialogue _ next
+      still.1 in
       close_goes (Abort dtid reason) f f.half dtid (peer_is e dtid f (some_ok _ _ f ok)) refl (is_this _ may.1)
 
   -- A Unidirectional changes nothing.
@@ -167,7 +172,8 @@ module _ (table : Table) (side : Side) (items : List Item) (gone : List Message)
       by (Err reason) is = cc
 
   -- A Begin makes a half.
-  begin_goes : BeganNone side items e → (otid : List ℕ) (dialogue : Option Dialogue) (components : Option (List Component))
+  begin_goes : BeganNone side items e → (otid : List ℕ) (dialogue : Option Dialogue)
+      (components : Option (List Component))
       → send_begin table e otid dialogue (items_of components) ≡ Ok next → Go (Begin otid dialogue components)
   begin_goes none otid dialogue components is =
       let free = needs_ok (is_none (with_own e otid)) faults.IdUsed _ next is in
@@ -184,7 +190,8 @@ module _ (table : Table) (side : Side) (items : List Item) (gone : List Message)
       m = Begin otid dialogue components
 
       by : (k : Half) → put e Begun otid k ≡ next
-          → Story table side (items ++ Sent side (Begin otid dialogue components) ∷ []) gone Begun otid k → (g : KeptHalf)
+          → Story table side (items ++ Sent side (Begin otid dialogue components) ∷ []) gone Begun otid k
+          → (g : KeptHalf)
           → is_closed g.half.phase ≡ false → IsThere Begun otid k g ⊎ Has e g
           → Story table side (items ++ Sent side (Begin otid dialogue components) ∷ []) gone g.slot g.key g.half
       by k made story g is_open (inl new) = rw (new.0, new.1, new.2) story
@@ -204,8 +211,8 @@ module _ (table : Table) (side : Side) (items : List Item) (gone : List Message)
     over f start k in_f is_open peer same sent still own begun made =
         put_stories table side items gone e next goes f k dtid behind made (still ∙ peer) refl
         (λ open_still.
-        story_sends table side items (items ++ Sent side goes ∷ []) gone f.slot f.key f.half start k goes dtid same sent peer
-        still own (told_now side items goes dtid (is_that_id dtid (Some dtid) refl) refl)
+        story_sends table side items (items ++ Sent side goes ∷ []) gone f.slot f.key f.half start k goes dtid same sent
+        peer still own (told_now side items goes dtid (is_that_id dtid (Some dtid) refl) refl)
         (keeps table side items gone e next goes) begun (had f in_f is_open)) had
 
     -- in Received, which its own ID is chosen for,

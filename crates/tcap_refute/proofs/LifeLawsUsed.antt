@@ -1,7 +1,7 @@
--- What an end that keeps the rules told an ID since the last quiet mark it told over a half with that peer; and what it began
--- is a half's own ID.
-use Rattle.std.proofs.Common.{◌≡◌, ◌⊎◌, inl, inr, ℕ, Bool, true, false, cond, List, [], ◌∷◌, ◌++◌, Option, Some, None, refl, sym, ◌∙◌}
-use Rattle.std.specs.Prelude.{filter, is_none, ◌&&◌, ◌||◌}
+-- What an end that keeps the rules told an ID since the last quiet mark it told over a half with that peer; and what it
+-- began is a half's own ID.
+use Rattle.std.proofs.Common.{◌≡◌, ◌⊎◌, inl, inr, ℕ, Bool, true, false, cond, List, [], ◌∷◌, ◌++◌, Some, None, refl, ◌∙◌}
+use Rattle.std.specs.Prelude.{filter, is_none, ◌||◌}
 use Rattle.std.specs.List.{find, list_any}
 use Rattle.std.proofs.lemmas.Bool.{and_parts}
 use Rattle.tcap_msg.specs.declared.kind.Kind.TheVariants as forms
@@ -10,12 +10,12 @@ use Rattle.tcap_msg.specs.declared.message.Message.TheVariants.{Unidirectional, 
 use Rattle.tcap_msg.specs.Parts.{cause_in, dtid_in, otid_in}
 use Rattle.tcap_record.specs.declared.entry.End.{End as Side}
 use Rattle.tcap_end.specs.Table.{Table}
-use Rattle.tcap_end.specs.End.{KeptHalf, is_id, with_own, with_peer}
+use Rattle.tcap_end.specs.End.{KeptHalf, is_id}
 use Rattle.tcap_end.specs.Sound.{Has, IsEnd}
 use Rattle.tcap_end.proofs.FoundLaws.{none_own, none_peer}
 use Rattle.tcap_end.proofs.StepLaws.{none_is}
 use Rattle.tcap_check.specs.World.{Item, World, end_at}
-use Rattle.tcap_check.specs.Run.{Event, KeepsRules, Runs, is_told_by}
+use Rattle.tcap_check.specs.Run.{Event, KeepsRules, Runs}
 use Rattle.tcap_check.specs.Since.{HasUsed, SentSince}
 use Rattle.tcap_check.proofs.RunLaws.{sound}
 use Rattle.tcap_check.proofs.TurnLaws.{id_is}
@@ -35,7 +35,8 @@ HasPeer w side id = (f : KeptHalf) × Has (end_at side w) f × (f.half.peer ≡ 
 -- It has one for each ID to which it sent something without a cause.
 abbrev HavePeers : Side → List Event → World → Type 0
 HavePeers side events w =
-    KeepsRules side events → (m : Message) (id : List ℕ) → SentSince side m w.sent → dtid_in m ≡ Some id → cause_in m ≡ None
+    KeepsRules side events → (m : Message) (id : List ℕ) → SentSince side m w.sent → dtid_in m ≡ Some id
+    → cause_in m ≡ None
     → HasPeer w side id
 
 -- A message that was just sent has one.
@@ -50,19 +51,23 @@ new_peer w side (Abort dtid reason) id used ended to no_cause =
     let (f, had, peer, closed) = ended id (rw no_cause to) in (f, had, peer)
 
 -- A step keeps it,
-keeps_peers : (side : Side) (before : List Event) (event : Event) (w next : World) → ((place : Side) → IsEnd (end_at place w))
+keeps_peers : (side : Side) (before : List Event) (event : Event) (w next : World)
+    → ((place : Side) → IsEnd (end_at place w))
     → Advances event w next → HavePeers side before w → HavePeers side (before ++ event ∷ []) next
 keeps_peers side before event w next sound advances held keeps m id since to no_cause =
     let (kept, told) = kept_before side before event keeps in by kept (advances.sent.adds side m told since)
   where
-    by : KeepsRules side before → SentSince side m w.sent ⊎ (HasUsed next side m × HasEnded next side m) → HasPeer next side id
+    by : KeepsRules side before → SentSince side m w.sent ⊎ (HasUsed next side m × HasEnded next side m)
+        → HasPeer next side id
     by kept (inl was) =
         let (f, had, peer) = held kept m id was to no_cause in
-        let (g, there, turns) = (advances.ends side).moves.forth f had in (record f { half = g }, there, turns.peer id peer)
+        let (g, there, turns) = (advances.ends side).moves.forth f had in
+        (record f { half = g }, there, turns.peer id peer)
     by kept (inr new) = new_peer next side m id new.0 new.1 to no_cause
 
 -- so it holds behind each run.
-have_peers : (table : Table) (side : Side) (events : List Event) (w : World) → Runs table events w → HavePeers side events w
+have_peers : (table : Table) (side : Side) (events : List Event) (w : World) → Runs table events w
+    → HavePeers side events w
 have_peers table side = worlds_keep table (HavePeers side)
     (λ events w blank keeps m id since. absurd (blank.sent side m since)) (keeps_peers side)
 
@@ -104,7 +109,8 @@ module _ (table : Table) (events : List Event) (w : World) (side : Side) (runs :
       keeps_none (tells_to id) (sent_by side (since_quiet w.sent))
       (not_found side (tells_to id) w.sent (λ found.
       let both = and_parts (is_id id (dtid_in found.0)) (is_none (cause_in found.0)) found.2 in
-      let (f, had, peer) = have_peers table side events w runs keeps found.0 id found.1 (id_is id (dtid_in found.0) both.0)
+      let (f, had, peer) = have_peers table side events w runs keeps found.0 id found.1
+      (id_is id (dtid_in found.0) both.0)
       (none_is (cause_in found.0) both.1) in
       none_peer (end_at side w) id f none had peer))
 
