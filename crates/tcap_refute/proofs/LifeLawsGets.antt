@@ -25,9 +25,9 @@ use Rattle.tcap_check.specs.World.{Item, Sent}
 use Rattle.tcap_refute.specs.Counts.{count}
 use Rattle.tcap_refute.specs.Kind.{is_begin_with_request}
 use Rattle.tcap_refute.specs.Speaker.{accepts_to, begin_from, told}
-use Rattle.tcap_refute.proofs.LifeLawsCome.{count_in, count_in_one, from, may_have_heard}
+use Rattle.tcap_refute.proofs.LifeLawsCome.{count_in, count_in_one, may_have_heard}
 use Rattle.tcap_refute.proofs.LifeLawsHalves.{GotOn, HasBegun, IsAnswered, SentOn, Story, ToldOver, begun_kept, begun_still, gets_on, led_same, sends_on}
-use Rattle.tcap_refute.proofs.LifeLawsHeard.{HaveThatToo, before, goes, heard_back_too, heard_begin_too, heard_goes_too, itself, more_before}
+use Rattle.tcap_refute.proofs.LifeLawsHeard.{HaveThatToo, before, heard_back_too, heard_begin_too, heard_goes_too, itself, more_before}
 use Rattle.tcap_refute.proofs.LifeLawsItems.{begins_now}
 use Rattle.tcap_refute.proofs.Lives.{Happening, SameLists, got_in, sent_in, told_to}
 

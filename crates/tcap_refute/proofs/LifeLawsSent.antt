@@ -29,7 +29,7 @@ use Rattle.tcap_end.proofs.HalfLaws.{Follows, active_is, received_is}
 use Rattle.tcap_end.proofs.StepLaws.{none_is}
 use Rattle.tcap_check.specs.World.{Item, Sent}
 use Rattle.tcap_check.proofs.TurnLaws.{id_is, put_there}
-use Rattle.tcap_refute.specs.Speaker.{begin_from, told}
+use Rattle.tcap_refute.specs.Speaker.{begin_from}
 use Rattle.tcap_refute.proofs.BeforeLaws.{is_that_id}
 use Rattle.tcap_refute.proofs.LifeLawsCome.{KeepsBegins}
 use Rattle.tcap_refute.proofs.LifeLawsGets.{story_begins}
