@@ -30,3 +30,12 @@ pub mod LedLawsClasses
 pub mod LedLawsAnswered
 pub mod LedLawsLasting
 pub mod ComponentCounts
+pub mod LifeLawsCome
+pub mod LifeLawsHeard
+pub mod LifeLawsItems
+pub mod LifeLawsHalves
+pub mod LifeLawsGets
+pub mod LifeLawsSent
+pub mod LifeLawsReceived
+pub mod LifeLawsUsed
+pub mod LifeLaws

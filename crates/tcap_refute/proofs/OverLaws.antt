@@ -83,7 +83,7 @@ first_passes passes slot ((key, half) ∷ es) f is = by (passes half) refl is (f
     by false so is rest = rest is
 
 -- So do those of an end.
-found_passes : (passes : Half → Bool) (e : End) (f : KeptHalf) → half_where passes e ≡ Some f → passes f.half ≡ true
+pub found_passes : (passes : Half → Bool) (e : End) (f : KeptHalf) → half_where passes e ≡ Some f → passes f.half ≡ true
 found_passes passes e f is = by (first_half passes Begun e.begun) refl
   where
     by : (o : Option KeptHalf) → first_half passes Begun e.begun ≡ o → passes f.half ≡ true
