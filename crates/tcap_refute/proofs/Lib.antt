@@ -39,3 +39,4 @@ pub mod LifeLawsSent
 pub mod LifeLawsReceived
 pub mod LifeLawsUsed
 pub mod LifeLaws
+pub mod HalfLawsCounts
