@@ -96,7 +96,7 @@ abbrev pub begins_from : List ℕ → Message → Bool
 begins_from id m = is_a forms.Begin m && is_id id (otid_in m)
 
 -- One that was sent has its half.
-begin_used : {P : Type 0} (e : End) (id : List ℕ) (m : Message) → IsEnd e → with_own e id ≡ None → begins_from id m ≡ true
+pub begin_used : {P : Type 0} (e : End) (id : List ℕ) (m : Message) → IsEnd e → with_own e id ≡ None → begins_from id m ≡ true
     → Uses e m → P
 begin_used e id (Unidirectional dialogue components) is_end none from uses = cc
 begin_used e id (Begin otid dialogue components) is_end none from (h, had) =

@@ -40,3 +40,4 @@ pub mod LifeLawsReceived
 pub mod LifeLawsUsed
 pub mod LifeLaws
 pub mod HalfLawsCounts
+pub mod SpeakerFacts
