@@ -41,3 +41,4 @@ pub mod LifeLawsUsed
 pub mod LifeLaws
 pub mod HalfLawsCounts
 pub mod SpeakerFacts
+pub mod SpeakerLaws
