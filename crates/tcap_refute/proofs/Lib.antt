@@ -42,3 +42,5 @@ pub mod LifeLaws
 pub mod HalfLawsCounts
 pub mod SpeakerFacts
 pub mod SpeakerLaws
+pub mod HalfKindsLaws
+pub mod HalfDialogueLaws

@@ -64,7 +64,7 @@ one_id_is (first ∷ more) id x is has =
             absurd (both_ways _ same (any_has (λ other. not (bytes_eq first other)) more x there (rw apart refl)))
 
 -- A Begin, and a Continue, has its originating ID.
-goes_from : (m : Message) → is_a forms.Continue m ≡ true → (own : List ℕ) × (otid_in m ≡ Some own)
+pub goes_from : (m : Message) → is_a forms.Continue m ≡ true → (own : List ℕ) × (otid_in m ≡ Some own)
 goes_from (Unidirectional dialogue components) is = cc
 goes_from (Begin otid dialogue components) is = cc
 goes_from (Continue otid dtid dialogue components) is = (otid, refl)

@@ -44,7 +44,7 @@ fewer_kept p q r (x ∷ xs) weaker = by (q x) (r x) (weaker x) (fewer_kept p q r
     by false false so rest = rest
 
 -- A half that began by sending is kept by its own ID,
-kept_own : (e : End) (f : KeptHalf) → IsEnd e → Has e f → f.slot ≡ Begun → f.half.own ≡ Some f.key
+pub kept_own : (e : End) (f : KeptHalf) → IsEnd e → Has e f → f.slot ≡ Begun → f.half.own ≡ Some f.key
 kept_own e f is_end had slot = rw slot at (is_end.kept f had)
 
 -- and its Begin was sent over it;
@@ -84,7 +84,7 @@ module _ {table : Table} {side : Side} {e : End} {coming : List Message} {items 
   is_end = view_sound view
 
   -- One that waits to answer has no own ID.
-  waits_so : f.half.phase ≡ phases.Received → f.half.own ≡ None
+  pub waits_so : f.half.phase ≡ phases.Received → f.half.own ≡ None
   waits_so at = (subst (λ (p : Phase). FitsPhase p f.half) at (is_end.halves f half.had).phase).0
 
   -- What the list tells as its own ID is that, or will be.
