@@ -20,3 +20,4 @@ pub mod LedLawsClasses
 pub mod LedLawsAnswered
 pub mod LedLawsLasting
 pub mod ComponentCounts
+pub mod LedLawsRejects
