@@ -42,11 +42,11 @@ one_found n passes (first ∷ more) is pass = by (n == first) refl is (one_found
     by false other found later = or_right (passes first) (list_any passes more) (later found pass)
 
 -- by which problems of a link an Invoke may be rejected that names an own invocation
-abbrev link_problems_by : List (Code × Unit {0}) → Bool → List ℕ
+abbrev pub link_problems_by : List (Code × Unit {0}) → Bool → List ℕ
 link_problems_by [] is_listed = 6 ∷ []
 link_problems_by (first ∷ more) is_listed = cond is_listed [] (7 ∷ [])
 
-linked_are : (table : Table) (code to : Code)
+pub linked_are : (table : Table) (code to : Code)
     → link_problems_of table code (Some to) ≡ link_problems_by (linked_of table to) (links table to code)
 linked_are table code to = by (linked_of table to) (links table to code) refl refl
   where
@@ -95,7 +95,7 @@ none_of_link table h (Some id) code passes not_5 not_6 not_7 = by (operation_sen
     by (Some to) = ap (list_any passes) (linked_are table code to) ∙ by_list (linked_of table to) (links table to code)
 
 -- one of others nothing of the ID.
-none_of_id : (list : List Invocation) (passes : ℕ → Bool) → passes 0 ≡ false → list_any passes (id_problems list) ≡ false
+pub none_of_id : (list : List Invocation) (passes : ℕ → Bool) → passes 0 ≡ false → list_any passes (id_problems list) ≡ false
 none_of_id [] passes not_0 = refl
 none_of_id (first ∷ more) passes not_0 = rw not_0 refl
 
@@ -120,16 +120,16 @@ reject_takes table x passes (Reject (Some id) (problems.ReturnResult n)) is = cc
 reject_takes table x passes (Reject (Some id) (problems.ReturnError n)) is = cc
 
 -- The Invoke that brings an invocation which passes.
-record Brings (table : Table) (h : Half) (x : ℤ) (c : Component) (passes : Invocation → Bool) : Type 0 where
-  id : ℤ
-  linked : Option ℤ
-  code : Code
-  parameter : Option (List ℕ)
-  is : c ≡ Invoke id linked code parameter
-  here : is_invoke_id x id ≡ true
-  fits : passes (item_of table h id linked code) ≡ true
+pub record Brings (table : Table) (h : Half) (x : ℤ) (c : Component) (passes : Invocation → Bool) : Type 0 where
+  pub id : ℤ
+  pub linked : Option ℤ
+  pub code : Code
+  pub parameter : Option (List ℕ)
+  pub is : c ≡ Invoke id linked code parameter
+  pub here : is_invoke_id x id ≡ true
+  pub fits : passes (item_of table h id linked code) ≡ true
 
-brings_it : (table : Table) (h : Half) (x : ℤ) (c : Component) (passes : Invocation → Bool)
+pub brings_it : (table : Table) (h : Half) (x : ℤ) (c : Component) (passes : Invocation → Bool)
     → gain passes (gains_inn table h x c) ≡ true → Brings table h x c passes
 brings_it table h x (Invoke id linked code parameter) passes = by (is_invoke_id x id) refl
   where

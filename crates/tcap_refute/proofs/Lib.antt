@@ -21,3 +21,4 @@ pub mod LedLawsAnswered
 pub mod LedLawsLasting
 pub mod ComponentCounts
 pub mod LedLawsRejects
+pub mod LedLawsLinks
