@@ -1,18 +1,18 @@
 -- Rejects with a problem of a link: an invocation that allows linkedResponseUnexpected (6) or unexpectedLinkedOperation (7) was
 -- brought by an Invoke that names an own invocation of such an operation (Q.773 4.2.2, Q.774 3.2).
-use Rattle.std.proofs.Common.{◌≡◌, ℕ, ℤ, ◌+◌, ◌≤◌, arith, Bool, true, false, cond, List, [], ◌∷◌, Option, Some, None, Ok, not, refl, sym, ap, ◌∙◌}
-use Rattle.std.specs.Prelude.{◌&&◌, ◌||◌}
+use Rattle.std.proofs.Common.{◌≡◌, ◌⊎◌, inl, inr, ℕ, ℤ, ◌+◌, ◌≤◌, arith, Bool, true, false, cond, List, [], ◌∷◌, Option, Some, None, Ok, not, refl, sym, ap, ◌∙◌}
+use Rattle.std.specs.Prelude.{◌&&◌, ◌||◌, ◌==◌}
 use Rattle.std.specs.List.{list_any}
-use Rattle.std.proofs.lemmas.Bool.{and_from, and_parts, or_right}
+use Rattle.std.proofs.lemmas.Bool.{and_from, and_parts, both_ways, not-true, or_cases, or_right}
 use Rattle.tcap_parts.specs.declared.code.Code.{Code}
 use Rattle.tcap_parts.specs.declared.component.Component.{Component}
 use Rattle.tcap_parts.specs.declared.component.Component.TheVariants.{Invoke, ReturnResult, ReturnError, Reject}
 use Rattle.tcap_end.specs.Table.{Table, linked_of}
-use Rattle.tcap_end.specs.Half.{Half, Invocation, listed}
-use Rattle.tcap_end.specs.Component.{id_problems, link_problems, link_problems_of, links, operation_sent, receive_component, send_component}
+use Rattle.tcap_end.specs.Half.{Half, Invocation, listed, one_fits}
+use Rattle.tcap_end.specs.Component.{allows, id_problems, link_problems, link_problems_of, links, operation_sent, receive_component, send_component}
 use Rattle.tcap_end.specs.Message.{send_components}
 use Rattle.tcap_refute.specs.Before.{is_invoke_id}
-use Rattle.tcap_refute.specs.ComponentKinds.{is_linked_to, is_problem, lists_nothing}
+use Rattle.tcap_refute.specs.ComponentKinds.{is_link_fine, is_linked_to, is_problem, lists_nothing}
 use Rattle.tcap_refute.specs.Counts.{count, invokes_so}
 use Rattle.tcap_refute.specs.Speaker.{Speaker}
 use Rattle.tcap_refute.proofs.Lives.{Bounds, Ends, Gets, Happening, IsLed, SameLists, Sends, got_in, sent_in}
@@ -22,7 +22,7 @@ use Rattle.tcap_refute.proofs.LedLawsCounts.{any_counts, count_more, count_weake
 use Rattle.tcap_refute.proofs.LedLawsGains.{gains_inn, got_inn, item_of}
 use Rattle.tcap_refute.proofs.LedLawsLists.{count_gained, gain}
 use Rattle.tcap_refute.proofs.LedLawsOwn.{is_sent_so, sent_invoked, sent_so}
-use Rattle.tcap_refute.proofs.LedLawsRejects.{Brings, allows_so, brings_it, link_problems_by, linked_are, none_of_id, problem_found}
+use Rattle.tcap_refute.proofs.LedLawsRejects.{Brings, allows_so, brings_it, fits_so, link_problems_by, linked_are, none_of_id, problem_found}
 use Rattle.tcap_refute.proofs.LedLawsTaken.{sent_spends, spent_along}
 
 -- ---- what is linked
@@ -142,3 +142,64 @@ module _ (table : Table) (n : ℕ) (names : Code → Code → Bool) (of_link : I
       known : (test : Component → Bool) → list_any test (sent_in past) ≡ true → list_any test s.invoked ≡ true
       known test found =
           counts_any test s.invoked (omega (arith, any_counts test (sent_in past) found, bounds.all all test))
+
+-- ---- both problems
+
+of_6 : IsOfLink 6
+of_6 = record { not_0 = refl; not_1 = refl; not_2 = refl; not_3 = refl; not_4 = refl }
+
+of_7 : IsOfLink 7
+of_7 = record { not_0 = refl; not_1 = refl; not_2 = refl; not_3 = refl; not_4 = refl }
+
+-- The first shows an own invocation of an operation that lists nothing,
+shows_6 : (table : Table) → Shows table 6 (λ to code. lists_nothing table to)
+shows_6 table code None found = cc
+shows_6 table code (Some to) found =
+    (to, refl, by (linked_of table to) (links table to code) refl
+    (ap (list_any (is_problem 6)) (sym (linked_are table code to)) ∙ found))
+  where
+    by : (list : List (Code × Unit {0})) (b : Bool) → linked_of table to ≡ list
+        → list_any (is_problem 6) (link_problems_by list b) ≡ true → lists_nothing table to ≡ true
+    by [] b is found = rw is refl
+    by (first ∷ more) true is found = cc
+    by (first ∷ more) false is found = cc
+
+-- the second one of an operation that lists others.
+shows_7 : (table : Table) → Shows table 7 (λ to code. not (lists_nothing table to) && not (links table to code))
+shows_7 table code None found = cc
+shows_7 table code (Some to) found =
+    (to, refl, by (linked_of table to) (links table to code) refl refl
+    (ap (list_any (is_problem 7)) (sym (linked_are table code to)) ∙ found))
+  where
+    by : (list : List (Code × Unit {0})) (b : Bool) → linked_of table to ≡ list → links table to code ≡ b
+        → list_any (is_problem 7) (link_problems_by list b) ≡ true
+        → (not (lists_nothing table to) && not (links table to code)) ≡ true
+    by [] b is linked found = cc
+    by (first ∷ more) true is linked found = cc
+    by (first ∷ more) false is linked found =
+        and_from (not (lists_nothing table to)) (not (links table to code)) (rw is refl) (ap not linked)
+
+-- So a problem of a link that is allowed is shown by what was heard.
+pub none_fine : (table : Table) (s : Speaker) (past : List Happening) (g h : Half) (own : List Component)
+    → Bounds s (sent_in past) (got_in past) → s.is_all ≡ true → IsLed table past g → send_components table g own ≡ Ok h
+    → (id : ℤ) (problem : ℕ) → one_fits id (allows problem) h.inn ≡ true → is_link_fine table s id problem ≡ true → ⊥
+none_fine table s past g h own bounds all led was id problem fits is = by (or_cases _ _ is)
+  where
+    names_none : Code → Code → Bool
+    names_none to code = lists_nothing table to
+
+    names_others : Code → Code → Bool
+    names_others to code = not (lists_nothing table to) && not (links table to code)
+
+    by : ((problem == 6 && not (list_any (is_linked_to names_none s.invoked id) s.heard)) ≡ true)
+        ⊎ ((problem == 7 && not (list_any (is_linked_to names_others s.invoked id) s.heard)) ≡ true) → ⊥
+    by (inl so) =
+        let (six, none) = and_parts (problem == 6) _ so in
+        both_ways (list_any (is_linked_to names_none s.invoked id) s.heard) (not-true _ none)
+        (linked_within table 6 names_none of_6 (shows_6 table) id s past g h own bounds all led was
+        (fits_so h id problem (is_problem 6) fits six))
+    by (inr so) =
+        let (seven, none) = and_parts (problem == 7) _ so in
+        both_ways (list_any (is_linked_to names_others s.invoked id) s.heard) (not-true _ none)
+        (linked_within table 7 names_others of_7 (shows_7 table) id s past g h own bounds all led was
+        (fits_so h id problem (is_problem 7) fits seven))

@@ -9,7 +9,7 @@ use Rattle.tcap_parts.specs.declared.problem.Problem.TheVariants as problems
 use Rattle.tcap_parts.specs.declared.component.Component.{Component}
 use Rattle.tcap_parts.specs.declared.component.Component.TheVariants.{Invoke, ReturnResult, ReturnError, Reject}
 use Rattle.tcap_end.specs.Table.{Table, linked_of}
-use Rattle.tcap_end.specs.Half.{Half, Invocation, is_one_of, listed}
+use Rattle.tcap_end.specs.Half.{Half, Invocation, is_one_of, listed, one_fits}
 use Rattle.tcap_end.specs.Component.{allows, id_problems, link_problems, link_problems_of, links, operation_sent, receive_component}
 use Rattle.tcap_end.specs.Message.{send_components}
 use Rattle.tcap_refute.specs.Before.{invokes, is_invoke_id}
@@ -118,6 +118,14 @@ reject_takes table x passes (Reject (Some id) (problems.Invoke n)) is =
     rw here (λ item fits. one_found n passes item.problems fits pass)
 reject_takes table x passes (Reject (Some id) (problems.ReturnResult n)) is = cc
 reject_takes table x passes (Reject (Some id) (problems.ReturnError n)) is = cc
+
+-- Where one allows a problem that passes, one allows such a problem.
+pub fits_so : (h : Half) (id : ℤ) (problem : ℕ) (passes : ℕ → Bool) → one_fits id (allows problem) h.inn ≡ true
+    → passes problem ≡ true → 1 ≤ count (allows_so passes) (listed id h.inn)
+fits_so h id problem passes fits pass =
+    omega (arith, any_counts (allows problem) (listed id h.inn) fits,
+    count_weaker (allows problem) (allows_so passes) (listed id h.inn)
+    (λ item is. one_found problem passes item.problems is pass))
 
 -- The Invoke that brings an invocation which passes.
 pub record Brings (table : Table) (h : Half) (x : ℤ) (c : Component) (passes : Invocation → Bool) : Type 0 where
