@@ -22,3 +22,4 @@ pub mod LedLawsLasting
 pub mod ComponentCounts
 pub mod LedLawsRejects
 pub mod LedLawsLinks
+pub mod LedLawsGrants
