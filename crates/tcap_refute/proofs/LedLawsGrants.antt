@@ -123,3 +123,116 @@ granted table h x (ReturnError id code parameter) sort passes = by (is_invoke_id
     by true here false is = (here, rw (id_same x id here) is)
     by false other sort is = cc
 granted table h x (Reject id problem) sort passes = λ is. cc
+
+-- ---- what a problem shows
+
+-- Another problem than 0 and 1 shows that the class reports such an answer;
+pub shows_reported : (table : Table) (sort : Bool) (passes : ℕ → Bool) (o : Option Code) → passes 0 ≡ false
+    → passes 1 ≡ false → list_any passes (problems_of sort (answered_by table o)) ≡ true
+    → (sent_so (class_reports table sort) o ≡ true) × (list_any passes (answer_problems sort) ≡ true)
+shows_reported table sort passes None not_0 not_1 found = let bad = rw not_0 at found in cc
+shows_reported table sort passes (Some code) not_0 not_1 found = by (class_of table code) found
+  where
+    by_reports : (class : ℕ) (b : Bool) → reports sort class ≡ b
+        → list_any passes (cond b (answer_problems sort) (1 ∷ [])) ≡ true
+        → (reports sort class ≡ true) × (list_any passes (answer_problems sort) ≡ true)
+    by_reports class true is found = (is, found)
+    by_reports class false is found = let bad = rw not_1 at found in cc
+
+    by : (o : Option ℕ) → list_any passes (problems_of sort (option_map (λ class. (code, class)) o)) ≡ true
+        → (of_class (reports sort) o ≡ true) × (list_any passes (answer_problems sort) ≡ true)
+    by None found = let bad = rw not_0 at found in cc
+    by (Some class) found = by_reports class (reports sort class) refl found
+
+-- 1 that it reports none.
+pub shows_other : (table : Table) (sort : Bool) (o : Option Code)
+    → list_any (is_problem 1) (problems_of sort (answered_by table o)) ≡ true
+    → sent_so (λ code. not (class_reports table sort code)) o ≡ true
+shows_other table sort None found = cc
+shows_other table sort (Some code) found = by (class_of table code) found
+  where
+    never : (s : Bool) → list_any (is_problem 1) (answer_problems s) ≡ false
+    never true = refl
+    never false = refl
+
+    by_reports : (class : ℕ) (b : Bool) → reports sort class ≡ b
+        → list_any (is_problem 1) (cond b (answer_problems sort) (1 ∷ [])) ≡ true
+        → not (reports sort class) ≡ true
+    by_reports class true is found = let bad = never sort in cc
+    by_reports class false is found = ap not is
+
+    by : (o : Option ℕ) → list_any (is_problem 1) (problems_of sort (option_map (λ class. (code, class)) o)) ≡ true
+        → not (of_class (reports sort) o) ≡ true
+    by None found = refl
+    by (Some class) found = by_reports class (reports sort class) refl found
+
+-- ---- along what happened to a half
+
+module _ (table : Table) (x : ℤ) (sort : Bool) (passes : ℕ → Bool) where
+  grants_got : (g : Half) (c : Component) → IsRisen g
+      → count (grant_so sort passes) (listed x (receive_component table g c).grants)
+      ≡ count (grant_so sort passes) (listed x g.grants)
+      + one (gain (grant_so sort passes) (gains_grants table g x c))
+  grants_got g c risen =
+      count_gained (gains_grants table g x c) (grant_so sort passes) (listed x g.grants)
+      (listed x (receive_component table g c).grants) (got_grants table g c x (risen.grants.0))
+
+  -- Rejects, and the answers that are there, are no more than the answers that were received;
+  abbrev AreRejected : List Happening → Half → Type 0
+  AreRejected past h =
+      count (rejects_of sort x passes) (sent_in past) + count (grant_so sort passes) (listed x h.grants)
+      ≤ count (answers_of sort x) (got_in past)
+
+  are_rejected : IsKept table AreRejected
+  are_rejected = record {
+    same = λ past g h lists was. rw (lists.2) was;
+    start = λ h out inn grants. rw grants (omega arith);
+    sends = λ past g k c led risen is was.
+        omega (arith, was, sent_rejects table x sort passes g k c risen is,
+        count_more (rejects_of sort x passes) c (sent_in past));
+    gets = λ past g c led risen was.
+        omega (arith, was, grants_got g c risen, count_more (answers_of sort x) c (got_in past),
+        one_weaker (gain (grant_so sort passes) (gains_grants table g x c)) (answers_of sort x c)
+        (λ gained. (granted table g x c sort passes gained).0));
+    ends = λ past g id led risen may was. was;
+  }
+
+  pub rejected : (past : List Happening) (h : Half) → IsLed table past h
+      → count (rejects_of sort x passes) (sent_in past) + count (grant_so sort passes) (listed x h.grants)
+      ≤ count (answers_of sort x) (got_in past)
+  rejected = holds table AreRejected are_rejected
+
+  -- and an answer that is there shows an own invocation of an operation that passes, where its problem does.
+  module _ (test : Code → Bool)
+      (shows : (o : Option Code) → list_any passes (problems_of sort (answered_by table o)) ≡ true → sent_so test o ≡ true)
+      where
+    abbrev AreShown : List Happening → Half → Type 0
+    AreShown past h =
+        1 ≤ count (grant_so sort passes) (listed x h.grants) → 1 ≤ count (invokes_so x test) (sent_in past)
+
+    shown_gets : (past : List Happening) (g : Half) (c : Component) → IsLed table past g → IsRisen g → AreShown past g
+        → AreShown (Gets c ∷ past) (receive_component table g c)
+    shown_gets past g c led risen was some = by (gain (grant_so sort passes) (gains_grants table g x c)) refl
+      where
+        by : (b : Bool) → gain (grant_so sort passes) (gains_grants table g x c) ≡ b
+            → 1 ≤ count (invokes_so x test) (sent_in past)
+        by true is =
+            let sent : is_sent_so test g x ≡ true =
+            shows (operation_sent g x) (granted table g x c sort passes is).1 in
+            omega (arith, ap one sent, sent_invoked table test x past g led)
+        by false is = was (omega (arith, some, grants_got g c risen, ap one is))
+
+    are_shown : IsKept table AreShown
+    are_shown = record {
+      same = λ past g h lists was. rw (lists.2) was;
+      start = λ h out inn grants. rw grants (λ some. absurd (omega (arith, some)));
+      sends = λ past g k c led risen is was some.
+          omega (arith, was (omega (arith, some, sent_rejects table x sort passes g k c risen is)),
+          count_more (invokes_so x test) c (sent_in past));
+      gets = shown_gets;
+      ends = λ past g id led risen may was. was;
+    }
+
+    pub shown : (past : List Happening) (h : Half) → IsLed table past h
+        → 1 ≤ count (grant_so sort passes) (listed x h.grants) → 1 ≤ count (invokes_so x test) (sent_in past)
+    shown = holds table AreShown are_shown
