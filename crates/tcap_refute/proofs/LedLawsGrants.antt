@@ -169,7 +169,7 @@ shows_other table sort (Some code) found = by (class_of table code) found
 -- ---- along what happened to a half
 
 module _ (table : Table) (x : ℤ) (sort : Bool) (passes : ℕ → Bool) where
-  grants_got : (g : Half) (c : Component) → IsRisen g
+  pub grants_got : (g : Half) (c : Component) → IsRisen g
       → count (grant_so sort passes) (listed x (receive_component table g c).grants)
       ≡ count (grant_so sort passes) (listed x g.grants)
       + one (gain (grant_so sort passes) (gains_grants table g x c))

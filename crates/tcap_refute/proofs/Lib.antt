@@ -23,3 +23,4 @@ pub mod ComponentCounts
 pub mod LedLawsRejects
 pub mod LedLawsLinks
 pub mod LedLawsGrants
+pub mod LedLawsMistyped
