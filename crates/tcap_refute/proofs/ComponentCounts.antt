@@ -4,7 +4,7 @@ use Rattle.std.proofs.Common.{◌≡◌, ◌⊎◌, inl, inr, ℕ, ℤ, ◌+◌,
 use Rattle.std.specs.Prelude.{◌&&◌, ◌||◌, option_map}
 use Rattle.std.specs.List.{list_any}
 use Rattle.std.proofs.lemmas.Bool.{and_parts, both_ways, leb-true, le-ltb, not-true, or_cases, or_left}
-use Rattle.std.proofs.lemmas.List.{append-nil, append_assoc}
+use Rattle.std.proofs.lemmas.List.{append_assoc}
 use Rattle.tcap_parts.specs.declared.code.Code.{Code}
 use Rattle.tcap_parts.specs.declared.problem.Problem.TheVariants as problems
 use Rattle.tcap_parts.specs.declared.component.ResultBody.{ResultBody}
@@ -26,56 +26,14 @@ use Rattle.tcap_refute.proofs.LedLawsAnswered.{answer_takes, any_brought, any_ta
 use Rattle.tcap_refute.proofs.LedLawsClasses.{count_reporting, count_reports}
 use Rattle.tcap_refute.proofs.LedLawsCounts.{any_counts, count_both, count_weaker, counts_any, one}
 use Rattle.tcap_refute.proofs.LedLawsLasting.{ended_2_4, ended_3_4, ended_4, ended_any}
+use Rattle.tcap_refute.proofs.LedLawsMessages.{neither, none_has, none_of_four, sent_more}
 use Rattle.tcap_refute.proofs.LedLawsOwn.{invoked_along}
 use Rattle.tcap_refute.proofs.LedLawsSteps.{answers_step, invokes_step}
 use Rattle.tcap_refute.proofs.LedLawsTaken.{spent_within}
 
--- ---- one component after the other
-
--- What was sent, and one component more.
-pub sent_more : (table : Table) (own : List Component) (c : Component) (g h k : Half)
-    → send_components table g own ≡ Ok h → send_component table h c ≡ Ok k → send_components table g (own ++ c ∷ []) ≡ Ok k
-sent_more table [] c g h k is next = let same = ok_same {F = EndFault} g h is in rw (same, next) refl
-sent_more table (d ∷ own) c g h k is next =
-    let (g', first, rest) = then_ok (send_component table g d) (λ n. send_components table n own) h is in
-    rw first (sent_more table own c g' h k rest next)
-
-neither : {A B : Type 0} → A ⊎ B → (A → ⊥) → (B → ⊥) → ⊥
-neither (inl a) left right = left a
-neither (inr b) left right = right b
-
--- Where no component is so behind those before it, none of a message is.
-module _ (table : Table) (g : Half) (sent : List Component) (is_so : List Component → List Component → Component → Bool)
-    (none : (own : List Component) (h k : Half) (c : Component) → send_components table g own ≡ Ok h
-    → send_component table h c ≡ Ok k → is_so own (sent ++ own) c ≡ true → ⊥) where
-  none_behind : (own before components : List Component) (h k : Half) → before ≡ sent ++ own
-      → send_components table g own ≡ Ok h → send_components table h components ≡ Ok k
-      → has_component is_so own before components ≡ true → ⊥
-  none_behind own before [] h k same was is has = cc
-  none_behind own before (c ∷ more) h k same was is has =
-      let (next, first, rest) = then_ok (send_component table h c) (λ n. send_components table n more) k is in
-      neither (or_cases (is_so own before c) _ has) (λ so. none own h next c was first (rw same at so))
-      (none_behind (own ++ c ∷ []) (before ++ c ∷ []) more next k
-      (ap (λ list. list ++ c ∷ []) same ∙ append_assoc sent own (c ∷ [])) (sent_more table own c g h next was first) rest)
-
-  pub none_has : (components : List Component) (k : Half) → send_components table g components ≡ Ok k
-      → has_component is_so [] sent components ≡ true → ⊥
-  none_has components k = none_behind [] sent components g k (sym (append-nil sent)) refl
-
--- ---- tests that none passes
-
-none_of_two : (a b : Bool) → a ≡ false → b ≡ false → (a || b) ≡ true → ⊥
-none_of_two a b none nor is = by a b none nor is
-  where
-    by : (a b : Bool) → a ≡ false → b ≡ false → (a || b) ≡ true → ⊥
-    by true b none nor is = cc
-    by false b none nor is = both_ways b nor is
-
-none_of_four : (a b c d : Bool) → a ≡ false → b ≡ false → c ≡ false → d ≡ false → (a || b || c || d) ≡ true → ⊥
-none_of_four true b c d first second third fourth is = cc
-none_of_four false true c d first second third fourth is = cc
-none_of_four false false true d first second third fourth is = cc
-none_of_four false false false d first second third fourth is = both_ways d fourth is
+-- It is not less.
+not_less : (a b : ℕ) → b ≤ a → ltb a b ≡ true → ⊥
+not_less a b below = both_ways (ltb a b) (le-ltb a b below)
 
 module _ (table : Table) (s : Speaker) (past : List Happening) (g : Half) (bounds : Bounds s (sent_in past) (got_in past))
     (led : IsLed table past g) where
@@ -106,10 +64,10 @@ module _ (table : Table) (s : Speaker) (past : List Happening) (g : Half) (bound
   not_busy id free is =
       none_of_four (ltb (results + errors + rejects) (lasting_so (λ code. true))) (ltb rejects (of_class 4))
       (ltb (rejects + errors) (of_class 2 + of_class 4)) (ltb (rejects + results) (of_class 3 + of_class 4))
-      (le-ltb (results + errors + rejects) (lasting_so (λ code. true)) (ended_any table s past g bounds led id none))
-      (le-ltb rejects (of_class 4) (ended_4 table s past g bounds led id none))
-      (le-ltb (rejects + errors) (of_class 2 + of_class 4) (ended_2_4 table s past g bounds led id none))
-      (le-ltb (rejects + results) (of_class 3 + of_class 4) (ended_3_4 table s past g bounds led id none)) is
+      (not_less (results + errors + rejects) (lasting_so (λ code. true)) (ended_any table s past g bounds led id none))
+      (not_less rejects (of_class 4) (ended_4 table s past g bounds led id none))
+      (not_less (rejects + errors) (of_class 2 + of_class 4) (ended_2_4 table s past g bounds led id none))
+      (not_less (rejects + results) (of_class 3 + of_class 4) (ended_3_4 table s past g bounds led id none)) is
     where
       none : operation_sent g id ≡ None
       none = ap operation_sent_by free
@@ -232,10 +190,10 @@ module _ (table : Table) (s : Speaker) (past : List Happening) (g : Half) (bound
         none_of_four (ltb (of_class 1 + of_class 3) results) (ltb (of_class 1 + of_class 2) errors)
         (ltb (of_class 1 + of_class 2 + of_class 3) (results + errors))
         (ltb (count (invokes id) s.heard) (results + errors + rejects))
-        (le-ltb _ _ (omega (arith, fewer, both (is_last_result id), sent_results)))
-        (le-ltb _ _ (omega (arith, both (is_error id), sent_errors)))
-        (le-ltb _ _ (omega (arith, fewer, both (is_last_result id), both (is_error id), sent_answers, either)))
-        (le-ltb _ _ (omega (arith, fewer, both (is_last_result id), both (is_error id), both (rejects_invoke id any_problem),
+        (not_less _ _ (omega (arith, fewer, both (is_last_result id), sent_results)))
+        (not_less _ _ (omega (arith, both (is_error id), sent_errors)))
+        (not_less _ _ (omega (arith, fewer, both (is_last_result id), both (is_error id), sent_answers, either)))
+        (not_less _ _ (omega (arith, fewer, both (is_last_result id), both (is_error id), both (rejects_invoke id any_problem),
         sent_takes, any))) is
       where
         of_class : ℕ → ℕ

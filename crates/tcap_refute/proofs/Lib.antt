@@ -24,3 +24,4 @@ pub mod LedLawsRejects
 pub mod LedLawsLinks
 pub mod LedLawsGrants
 pub mod LedLawsMistyped
+pub mod LedLawsMessages
