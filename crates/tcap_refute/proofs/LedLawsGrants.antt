@@ -50,7 +50,7 @@ grant_so sort passes answer = cond sort answer.is_result (not answer.is_result) 
 -- ---- what takes an answer
 
 -- A Reject with a problem that passes takes one that allows such a problem.
-grant_found : (sort : Bool) (n : ℕ) (passes : ℕ → Bool) → passes n ≡ true → (answer : Answer)
+pub grant_found : (sort : Bool) (n : ℕ) (passes : ℕ → Bool) → passes n ≡ true → (answer : Answer)
     → allows_for sort n answer ≡ true → grant_so sort passes answer ≡ true
 grant_found sort n passes pass answer is =
     let (of_sort, has) = and_parts (cond sort answer.is_result (not answer.is_result)) _ is in

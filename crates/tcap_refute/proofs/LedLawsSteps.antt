@@ -66,7 +66,7 @@ pub rejects_invoke_step : (h k : Half) (id : ℤ) (n : ℕ) → send_reject h (S
 rejects_invoke_step h k id n is =
     let one = needs_ok (one_fits id (allows n) h.inn) faults.RejectNotAllowed _ k is in (one.0, this _ k one.1)
 
-abbrev answer_problem : Bool → ℕ → Problem
+abbrev pub answer_problem : Bool → ℕ → Problem
 answer_problem true n = problems.ReturnResult n
 answer_problem false n = problems.ReturnError n
 

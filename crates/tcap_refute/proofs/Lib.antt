@@ -25,3 +25,4 @@ pub mod LedLawsLinks
 pub mod LedLawsGrants
 pub mod LedLawsMistyped
 pub mod LedLawsMessages
+pub mod LedLawsWrong
