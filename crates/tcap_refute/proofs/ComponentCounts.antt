@@ -18,18 +18,19 @@ use Rattle.tcap_end.specs.Component.{class_reports, is_code, links, may_answer, 
 use Rattle.tcap_end.specs.Message.{send_components}
 use Rattle.tcap_end.proofs.AnsweringLaws.{ok_same, then_ok}
 use Rattle.tcap_refute.specs.Before.{invokes}
-use Rattle.tcap_refute.specs.ComponentKinds.{answers_again, has_component, invokes_busy, is_badly_linked, is_busy, is_operation_overspent, is_overspent, links_badly, more_last}
-use Rattle.tcap_refute.specs.Counts.{any_problem, count, count_class, count_lasting, has_class, invokes_so, is_error, is_last_result, is_result_of, rejects_invoke, takes}
+use Rattle.tcap_refute.specs.ComponentKinds.{answers_again, has_component, invokes_busy, is_badly_linked, is_busy, is_operation_overspent, is_overspent, links_badly, more_last, rejects_wrongly}
+use Rattle.tcap_refute.specs.Counts.{any_problem, count, count_class, count_lasting, has_class, invokes_so, is_error, is_last_result, is_not_last, is_result_of, rejects_invoke, takes}
 use Rattle.tcap_refute.specs.Speaker.{Speaker}
 use Rattle.tcap_refute.proofs.Lives.{Bounds, Happening, IsLed, got_in, sent_in}
 use Rattle.tcap_refute.proofs.LedLawsAnswered.{answer_takes, any_brought, any_takes, code_brought, count_answers, count_takes, error_takes, named_takes, none_takes, result_takes}
 use Rattle.tcap_refute.proofs.LedLawsClasses.{count_reporting, count_reports}
-use Rattle.tcap_refute.proofs.LedLawsCounts.{any_counts, count_both, count_weaker, counts_any, one}
+use Rattle.tcap_refute.proofs.LedLawsCounts.{any_counts, count_both, count_never, count_weaker, counts_any, one}
 use Rattle.tcap_refute.proofs.LedLawsLasting.{ended_2_4, ended_3_4, ended_4, ended_any}
 use Rattle.tcap_refute.proofs.LedLawsMessages.{neither, none_has, none_of_four, sent_more}
 use Rattle.tcap_refute.proofs.LedLawsOwn.{invoked_along}
 use Rattle.tcap_refute.proofs.LedLawsSteps.{answers_step, invokes_step}
 use Rattle.tcap_refute.proofs.LedLawsTaken.{spent_within}
+use Rattle.tcap_refute.proofs.LedLawsWrong.{answer_not_wrong, invoke_not_wrong}
 
 -- It is not less.
 not_less : (a b : ℕ) → b ≤ a → ltb a b ≡ true → ⊥
@@ -281,3 +282,24 @@ module _ (table : Table) (s : Speaker) (past : List Happening) (g : Half) (bound
   pub answers_none_again : (components : List Component) (k : Half) → send_components table g components ≡ Ok k
       → has_component (answers_again table s) [] s.sent components ≡ true → ⊥
   answers_none_again = none_has table g s.sent (answers_again table s) none_again
+
+  -- ---- Rejects
+
+  none_wrongly : (own : List Component) (h k : Half) (c : Component) → send_components table g own ≡ Ok h
+      → send_component table h c ≡ Ok k → rejects_wrongly table s own (s.sent ++ own) c ≡ true → ⊥
+  none_wrongly own h k (Invoke id linked code parameter) was is bad = cc
+  none_wrongly own h k (ReturnResult last id body) was is bad = cc
+  none_wrongly own h k (ReturnError id code parameter) was is bad = cc
+  none_wrongly own h k (Reject None problem) was is bad = cc
+  none_wrongly own h k (Reject (Some id) (problems.General n)) was is bad = cc
+  none_wrongly own h k (Reject (Some id) (problems.Invoke n)) was is bad =
+      invoke_not_wrong table s past g bounds led own h k id n was is bad
+  none_wrongly own h k (Reject (Some id) (problems.ReturnResult n)) was is bad =
+      answer_not_wrong table s past g bounds led own h k id n was true is (count (is_not_last id) s.heard) (omega arith) bad
+  none_wrongly own h k (Reject (Some id) (problems.ReturnError n)) was is bad =
+      answer_not_wrong table s past g bounds led own h k id n was false is 0 (omega (arith, count_never s.heard)) bad
+
+  -- No Reject of a message has a problem that nothing which was received has.
+  pub rejects_none_wrongly : (components : List Component) (k : Half) → send_components table g components ≡ Ok k
+      → has_component (rejects_wrongly table s) [] s.sent components ≡ true → ⊥
+  rejects_none_wrongly = none_has table g s.sent (rejects_wrongly table s) none_wrongly
