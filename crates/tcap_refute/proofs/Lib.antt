@@ -26,3 +26,4 @@ pub mod LedLawsGrants
 pub mod LedLawsMistyped
 pub mod LedLawsMessages
 pub mod LedLawsWrong
+pub mod LedLawsFirst
