@@ -10,14 +10,22 @@ use Rattle.tcap_parts.specs.declared.problem.Problem.TheVariants as problems
 use Rattle.tcap_parts.specs.declared.component.ResultBody.{ResultBody}
 use Rattle.tcap_parts.specs.declared.component.Component.{Component}
 use Rattle.tcap_parts.specs.declared.component.Component.TheVariants.{Invoke, ReturnResult, ReturnError, Reject}
+use Rattle.tcap_parts.specs.declared.dialogue.Dialogue.{Dialogue}
+use Rattle.tcap_msg.specs.declared.message.Message.{Message}
+use Rattle.tcap_msg.specs.declared.message.Message.TheVariants.{Unidirectional, Begin, Continue, End as EndMessage, Abort}
+use Rattle.tcap_msg.specs.Parts.{dtid_in, items_of}
 use Rattle.tcap_end.specs.declared.fault.EndFault.{EndFault}
 use Rattle.tcap_end.specs.declared.outs.OwnInvocation.{OwnInvocation}
 use Rattle.tcap_end.specs.Table.{Table}
 use Rattle.tcap_end.specs.Half.{Half, Invocation, listed, one_fits}
 use Rattle.tcap_end.specs.Component.{class_reports, is_code, links, may_answer, operation_sent, operation_sent_by, own_invocation, send_component}
-use Rattle.tcap_end.specs.Message.{send_components}
+use Rattle.tcap_end.specs.End.{End}
+use Rattle.tcap_end.specs.Message.{send, send_components}
 use Rattle.tcap_end.proofs.AnsweringLaws.{ok_same, then_ok}
+use Rattle.tcap_refute.specs.declared.kind.Kind.{Kind}
+use Rattle.tcap_refute.specs.declared.kind.Kind.TheVariants as kinds
 use Rattle.tcap_refute.specs.Before.{invokes}
+use Rattle.tcap_refute.specs.Blame.{is_of_first_kind}
 use Rattle.tcap_refute.specs.ComponentKinds.{answers_again, has_component, invokes_busy, is_badly_linked, is_busy, is_operation_overspent, is_overspent, links_badly, more_last, rejects_wrongly}
 use Rattle.tcap_refute.specs.Counts.{any_problem, count, count_class, count_lasting, has_class, invokes_so, is_error, is_last_result, is_not_last, is_result_of, rejects_invoke, takes}
 use Rattle.tcap_refute.specs.Speaker.{Speaker}
@@ -25,6 +33,7 @@ use Rattle.tcap_refute.proofs.Lives.{Bounds, Happening, IsLed, got_in, sent_in}
 use Rattle.tcap_refute.proofs.LedLawsAnswered.{answer_takes, any_brought, any_takes, code_brought, count_answers, count_takes, error_takes, named_takes, none_takes, result_takes}
 use Rattle.tcap_refute.proofs.LedLawsClasses.{count_reporting, count_reports}
 use Rattle.tcap_refute.proofs.LedLawsCounts.{any_counts, count_both, count_never, count_weaker, counts_any, one}
+use Rattle.tcap_refute.proofs.LedLawsFirst.{begin_none_again, begin_none_linked, uni_none_again, uni_none_linked}
 use Rattle.tcap_refute.proofs.LedLawsLasting.{ended_2_4, ended_3_4, ended_4, ended_any}
 use Rattle.tcap_refute.proofs.LedLawsMessages.{neither, none_has, none_of_four, sent_more}
 use Rattle.tcap_refute.proofs.LedLawsOwn.{invoked_along}
@@ -303,3 +312,59 @@ module _ (table : Table) (s : Speaker) (past : List Happening) (g : Half) (bound
   pub rejects_none_wrongly : (components : List Component) (k : Half) → send_components table g components ≡ Ok k
       → has_component (rejects_wrongly table s) [] s.sent components ≡ true → ⊥
   rejects_none_wrongly = none_has table g s.sent (rejects_wrongly table s) none_wrongly
+
+-- ---- a message without destination ID
+
+-- A Begin that may be sent is of no such kind,
+begin_of_none : (table : Table) (e made : End) (otid : List ℕ) (dialogue : Option Dialogue)
+    (components : Option (List Component)) (kind : Kind) → send table e (Begin otid dialogue components) ≡ Ok made
+    → is_of_first_kind (Begin otid dialogue components) kind ≡ true → ⊥
+begin_of_none table e made otid dialogue components kinds.BadMessage is so = cc
+begin_of_none table e made otid dialogue components kinds.UnknownTransaction is so = cc
+begin_of_none table e made otid dialogue components kinds.ReusedId is so = cc
+begin_of_none table e made otid dialogue components kinds.AfterEnd is so = cc
+begin_of_none table e made otid dialogue components kinds.AnswersNothing is so = cc
+begin_of_none table e made otid dialogue components kinds.WrongOperation is so = cc
+begin_of_none table e made otid dialogue components kinds.MisplacedDialogue is so = cc
+begin_of_none table e made otid dialogue components kinds.WrongHalf is so = cc
+begin_of_none table e made otid dialogue components kinds.WrongDialogue is so = cc
+begin_of_none table e made otid dialogue components kinds.InvokeIdBusy is so =
+    begin_none_again table e made otid dialogue (items_of components) is so
+begin_of_none table e made otid dialogue components kinds.BadLink is so =
+    begin_none_linked table e made otid dialogue (items_of components) is so
+begin_of_none table e made otid dialogue components kinds.AnsweredAlready is so = cc
+begin_of_none table e made otid dialogue components kinds.RejectNotAllowed is so = cc
+begin_of_none table e made otid dialogue components kinds.WrongReply is so = cc
+begin_of_none table e made otid dialogue components kinds.OpenAtMark is so = cc
+
+-- nor is a Unidirectional,
+uni_of_none : (table : Table) (e made : End) (dialogue : Option Dialogue) (components : List Component) (kind : Kind)
+    → send table e (Unidirectional dialogue components) ≡ Ok made
+    → is_of_first_kind (Unidirectional dialogue components) kind ≡ true → ⊥
+uni_of_none table e made dialogue components kinds.BadMessage is so = cc
+uni_of_none table e made dialogue components kinds.UnknownTransaction is so = cc
+uni_of_none table e made dialogue components kinds.ReusedId is so = cc
+uni_of_none table e made dialogue components kinds.AfterEnd is so = cc
+uni_of_none table e made dialogue components kinds.AnswersNothing is so = cc
+uni_of_none table e made dialogue components kinds.WrongOperation is so = cc
+uni_of_none table e made dialogue components kinds.MisplacedDialogue is so = cc
+uni_of_none table e made dialogue components kinds.WrongHalf is so = cc
+uni_of_none table e made dialogue components kinds.WrongDialogue is so = cc
+uni_of_none table e made dialogue components kinds.InvokeIdBusy is so =
+    uni_none_again table e made dialogue components is so
+uni_of_none table e made dialogue components kinds.BadLink is so = uni_none_linked table e made dialogue components is so
+uni_of_none table e made dialogue components kinds.AnsweredAlready is so = cc
+uni_of_none table e made dialogue components kinds.RejectNotAllowed is so = cc
+uni_of_none table e made dialogue components kinds.WrongReply is so = cc
+uni_of_none table e made dialogue components kinds.OpenAtMark is so = cc
+
+-- and other messages have a destination ID.
+pub of_no_first_kind : (table : Table) (e made : End) (m : Message) (kind : Kind) → send table e m ≡ Ok made
+    → dtid_in m ≡ None → is_of_first_kind m kind ≡ true → ⊥
+of_no_first_kind table e made (Unidirectional dialogue components) kind is none so =
+    uni_of_none table e made dialogue components kind is so
+of_no_first_kind table e made (Begin otid dialogue components) kind is none so =
+    begin_of_none table e made otid dialogue components kind is so
+of_no_first_kind table e made (Continue otid dtid dialogue components) kind is none so = cc
+of_no_first_kind table e made (EndMessage dtid dialogue components) kind is none so = cc
+of_no_first_kind table e made (Abort dtid reason) kind is none so = cc
