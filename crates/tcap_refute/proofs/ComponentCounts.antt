@@ -4,78 +4,46 @@ use Rattle.std.proofs.Common.{◌≡◌, ◌⊎◌, inl, inr, ℕ, ℤ, ◌+◌,
 use Rattle.std.specs.Prelude.{◌&&◌, ◌||◌, option_map}
 use Rattle.std.specs.List.{list_any}
 use Rattle.std.proofs.lemmas.Bool.{and_parts, both_ways, leb-true, le-ltb, not-true, or_cases, or_left}
-use Rattle.std.proofs.lemmas.List.{append-nil, append_assoc}
+use Rattle.std.proofs.lemmas.List.{append_assoc}
 use Rattle.tcap_parts.specs.declared.code.Code.{Code}
 use Rattle.tcap_parts.specs.declared.problem.Problem.TheVariants as problems
 use Rattle.tcap_parts.specs.declared.component.ResultBody.{ResultBody}
 use Rattle.tcap_parts.specs.declared.component.Component.{Component}
 use Rattle.tcap_parts.specs.declared.component.Component.TheVariants.{Invoke, ReturnResult, ReturnError, Reject}
+use Rattle.tcap_parts.specs.declared.dialogue.Dialogue.{Dialogue}
+use Rattle.tcap_msg.specs.declared.message.Message.{Message}
+use Rattle.tcap_msg.specs.declared.message.Message.TheVariants.{Unidirectional, Begin, Continue, End as EndMessage, Abort}
+use Rattle.tcap_msg.specs.Parts.{dtid_in, items_of}
 use Rattle.tcap_end.specs.declared.fault.EndFault.{EndFault}
 use Rattle.tcap_end.specs.declared.outs.OwnInvocation.{OwnInvocation}
 use Rattle.tcap_end.specs.Table.{Table}
 use Rattle.tcap_end.specs.Half.{Half, Invocation, listed, one_fits}
 use Rattle.tcap_end.specs.Component.{class_reports, is_code, links, may_answer, operation_sent, operation_sent_by, own_invocation, send_component}
-use Rattle.tcap_end.specs.Message.{send_components}
+use Rattle.tcap_end.specs.End.{End}
+use Rattle.tcap_end.specs.Message.{send, send_components}
 use Rattle.tcap_end.proofs.AnsweringLaws.{ok_same, then_ok}
+use Rattle.tcap_refute.specs.declared.kind.Kind.{Kind}
+use Rattle.tcap_refute.specs.declared.kind.Kind.TheVariants as kinds
 use Rattle.tcap_refute.specs.Before.{invokes}
-use Rattle.tcap_refute.specs.ComponentKinds.{answers_again, has_component, invokes_busy, is_badly_linked, is_busy, is_operation_overspent, is_overspent, links_badly, more_last}
-use Rattle.tcap_refute.specs.Counts.{any_problem, count, count_class, count_lasting, has_class, invokes_so, is_error, is_last_result, is_result_of, rejects_invoke, takes}
+use Rattle.tcap_refute.specs.Blame.{is_of_first_kind}
+use Rattle.tcap_refute.specs.ComponentKinds.{answers_again, has_component, invokes_busy, is_badly_linked, is_busy, is_operation_overspent, is_overspent, links_badly, more_last, rejects_wrongly}
+use Rattle.tcap_refute.specs.Counts.{any_problem, count, count_class, count_lasting, has_class, invokes_so, is_error, is_last_result, is_not_last, is_result_of, rejects_invoke, takes}
 use Rattle.tcap_refute.specs.Speaker.{Speaker}
 use Rattle.tcap_refute.proofs.Lives.{Bounds, Happening, IsLed, got_in, sent_in}
 use Rattle.tcap_refute.proofs.LedLawsAnswered.{answer_takes, any_brought, any_takes, code_brought, count_answers, count_takes, error_takes, named_takes, none_takes, result_takes}
 use Rattle.tcap_refute.proofs.LedLawsClasses.{count_reporting, count_reports}
-use Rattle.tcap_refute.proofs.LedLawsCounts.{any_counts, count_both, count_weaker, counts_any, one}
+use Rattle.tcap_refute.proofs.LedLawsCounts.{any_counts, count_both, count_never, count_weaker, counts_any, one}
+use Rattle.tcap_refute.proofs.LedLawsFirst.{begin_none_again, begin_none_linked, uni_none_again, uni_none_linked}
 use Rattle.tcap_refute.proofs.LedLawsLasting.{ended_2_4, ended_3_4, ended_4, ended_any}
+use Rattle.tcap_refute.proofs.LedLawsMessages.{neither, none_has, none_of_four, sent_more}
 use Rattle.tcap_refute.proofs.LedLawsOwn.{invoked_along}
 use Rattle.tcap_refute.proofs.LedLawsSteps.{answers_step, invokes_step}
 use Rattle.tcap_refute.proofs.LedLawsTaken.{spent_within}
+use Rattle.tcap_refute.proofs.LedLawsWrong.{answer_not_wrong, invoke_not_wrong}
 
--- ---- one component after the other
-
--- What was sent, and one component more.
-pub sent_more : (table : Table) (own : List Component) (c : Component) (g h k : Half)
-    → send_components table g own ≡ Ok h → send_component table h c ≡ Ok k → send_components table g (own ++ c ∷ []) ≡ Ok k
-sent_more table [] c g h k is next = let same = ok_same {F = EndFault} g h is in rw (same, next) refl
-sent_more table (d ∷ own) c g h k is next =
-    let (g', first, rest) = then_ok (send_component table g d) (λ n. send_components table n own) h is in
-    rw first (sent_more table own c g' h k rest next)
-
-neither : {A B : Type 0} → A ⊎ B → (A → ⊥) → (B → ⊥) → ⊥
-neither (inl a) left right = left a
-neither (inr b) left right = right b
-
--- Where no component is so behind those before it, none of a message is.
-module _ (table : Table) (g : Half) (sent : List Component) (is_so : List Component → List Component → Component → Bool)
-    (none : (own : List Component) (h k : Half) (c : Component) → send_components table g own ≡ Ok h
-    → send_component table h c ≡ Ok k → is_so own (sent ++ own) c ≡ true → ⊥) where
-  none_behind : (own before components : List Component) (h k : Half) → before ≡ sent ++ own
-      → send_components table g own ≡ Ok h → send_components table h components ≡ Ok k
-      → has_component is_so own before components ≡ true → ⊥
-  none_behind own before [] h k same was is has = cc
-  none_behind own before (c ∷ more) h k same was is has =
-      let (next, first, rest) = then_ok (send_component table h c) (λ n. send_components table n more) k is in
-      neither (or_cases (is_so own before c) _ has) (λ so. none own h next c was first (rw same at so))
-      (none_behind (own ++ c ∷ []) (before ++ c ∷ []) more next k
-      (ap (λ list. list ++ c ∷ []) same ∙ append_assoc sent own (c ∷ [])) (sent_more table own c g h next was first) rest)
-
-  pub none_has : (components : List Component) (k : Half) → send_components table g components ≡ Ok k
-      → has_component is_so [] sent components ≡ true → ⊥
-  none_has components k = none_behind [] sent components g k (sym (append-nil sent)) refl
-
--- ---- tests that none passes
-
-none_of_two : (a b : Bool) → a ≡ false → b ≡ false → (a || b) ≡ true → ⊥
-none_of_two a b none nor is = by a b none nor is
-  where
-    by : (a b : Bool) → a ≡ false → b ≡ false → (a || b) ≡ true → ⊥
-    by true b none nor is = cc
-    by false b none nor is = both_ways b nor is
-
-none_of_four : (a b c d : Bool) → a ≡ false → b ≡ false → c ≡ false → d ≡ false → (a || b || c || d) ≡ true → ⊥
-none_of_four true b c d first second third fourth is = cc
-none_of_four false true c d first second third fourth is = cc
-none_of_four false false true d first second third fourth is = cc
-none_of_four false false false d first second third fourth is = both_ways d fourth is
+-- It is not less.
+not_less : (a b : ℕ) → b ≤ a → ltb a b ≡ true → ⊥
+not_less a b below = both_ways (ltb a b) (le-ltb a b below)
 
 module _ (table : Table) (s : Speaker) (past : List Happening) (g : Half) (bounds : Bounds s (sent_in past) (got_in past))
     (led : IsLed table past g) where
@@ -106,10 +74,10 @@ module _ (table : Table) (s : Speaker) (past : List Happening) (g : Half) (bound
   not_busy id free is =
       none_of_four (ltb (results + errors + rejects) (lasting_so (λ code. true))) (ltb rejects (of_class 4))
       (ltb (rejects + errors) (of_class 2 + of_class 4)) (ltb (rejects + results) (of_class 3 + of_class 4))
-      (le-ltb (results + errors + rejects) (lasting_so (λ code. true)) (ended_any table s past g bounds led id none))
-      (le-ltb rejects (of_class 4) (ended_4 table s past g bounds led id none))
-      (le-ltb (rejects + errors) (of_class 2 + of_class 4) (ended_2_4 table s past g bounds led id none))
-      (le-ltb (rejects + results) (of_class 3 + of_class 4) (ended_3_4 table s past g bounds led id none)) is
+      (not_less (results + errors + rejects) (lasting_so (λ code. true)) (ended_any table s past g bounds led id none))
+      (not_less rejects (of_class 4) (ended_4 table s past g bounds led id none))
+      (not_less (rejects + errors) (of_class 2 + of_class 4) (ended_2_4 table s past g bounds led id none))
+      (not_less (rejects + results) (of_class 3 + of_class 4) (ended_3_4 table s past g bounds led id none)) is
     where
       none : operation_sent g id ≡ None
       none = ap operation_sent_by free
@@ -232,10 +200,10 @@ module _ (table : Table) (s : Speaker) (past : List Happening) (g : Half) (bound
         none_of_four (ltb (of_class 1 + of_class 3) results) (ltb (of_class 1 + of_class 2) errors)
         (ltb (of_class 1 + of_class 2 + of_class 3) (results + errors))
         (ltb (count (invokes id) s.heard) (results + errors + rejects))
-        (le-ltb _ _ (omega (arith, fewer, both (is_last_result id), sent_results)))
-        (le-ltb _ _ (omega (arith, both (is_error id), sent_errors)))
-        (le-ltb _ _ (omega (arith, fewer, both (is_last_result id), both (is_error id), sent_answers, either)))
-        (le-ltb _ _ (omega (arith, fewer, both (is_last_result id), both (is_error id), both (rejects_invoke id any_problem),
+        (not_less _ _ (omega (arith, fewer, both (is_last_result id), sent_results)))
+        (not_less _ _ (omega (arith, both (is_error id), sent_errors)))
+        (not_less _ _ (omega (arith, fewer, both (is_last_result id), both (is_error id), sent_answers, either)))
+        (not_less _ _ (omega (arith, fewer, both (is_last_result id), both (is_error id), both (rejects_invoke id any_problem),
         sent_takes, any))) is
       where
         of_class : ℕ → ℕ
@@ -323,3 +291,80 @@ module _ (table : Table) (s : Speaker) (past : List Happening) (g : Half) (bound
   pub answers_none_again : (components : List Component) (k : Half) → send_components table g components ≡ Ok k
       → has_component (answers_again table s) [] s.sent components ≡ true → ⊥
   answers_none_again = none_has table g s.sent (answers_again table s) none_again
+
+  -- ---- Rejects
+
+  none_wrongly : (own : List Component) (h k : Half) (c : Component) → send_components table g own ≡ Ok h
+      → send_component table h c ≡ Ok k → rejects_wrongly table s own (s.sent ++ own) c ≡ true → ⊥
+  none_wrongly own h k (Invoke id linked code parameter) was is bad = cc
+  none_wrongly own h k (ReturnResult last id body) was is bad = cc
+  none_wrongly own h k (ReturnError id code parameter) was is bad = cc
+  none_wrongly own h k (Reject None problem) was is bad = cc
+  none_wrongly own h k (Reject (Some id) (problems.General n)) was is bad = cc
+  none_wrongly own h k (Reject (Some id) (problems.Invoke n)) was is bad =
+      invoke_not_wrong table s past g bounds led own h k id n was is bad
+  none_wrongly own h k (Reject (Some id) (problems.ReturnResult n)) was is bad =
+      answer_not_wrong table s past g bounds led own h k id n was true is (count (is_not_last id) s.heard) (omega arith) bad
+  none_wrongly own h k (Reject (Some id) (problems.ReturnError n)) was is bad =
+      answer_not_wrong table s past g bounds led own h k id n was false is 0 (omega (arith, count_never s.heard)) bad
+
+  -- No Reject of a message has a problem that nothing which was received has.
+  pub rejects_none_wrongly : (components : List Component) (k : Half) → send_components table g components ≡ Ok k
+      → has_component (rejects_wrongly table s) [] s.sent components ≡ true → ⊥
+  rejects_none_wrongly = none_has table g s.sent (rejects_wrongly table s) none_wrongly
+
+-- ---- a message without destination ID
+
+-- A Begin that may be sent is of no such kind,
+begin_of_none : (table : Table) (e made : End) (otid : List ℕ) (dialogue : Option Dialogue)
+    (components : Option (List Component)) (kind : Kind) → send table e (Begin otid dialogue components) ≡ Ok made
+    → is_of_first_kind (Begin otid dialogue components) kind ≡ true → ⊥
+begin_of_none table e made otid dialogue components kinds.BadMessage is so = cc
+begin_of_none table e made otid dialogue components kinds.UnknownTransaction is so = cc
+begin_of_none table e made otid dialogue components kinds.ReusedId is so = cc
+begin_of_none table e made otid dialogue components kinds.AfterEnd is so = cc
+begin_of_none table e made otid dialogue components kinds.AnswersNothing is so = cc
+begin_of_none table e made otid dialogue components kinds.WrongOperation is so = cc
+begin_of_none table e made otid dialogue components kinds.MisplacedDialogue is so = cc
+begin_of_none table e made otid dialogue components kinds.WrongHalf is so = cc
+begin_of_none table e made otid dialogue components kinds.WrongDialogue is so = cc
+begin_of_none table e made otid dialogue components kinds.InvokeIdBusy is so =
+    begin_none_again table e made otid dialogue (items_of components) is so
+begin_of_none table e made otid dialogue components kinds.BadLink is so =
+    begin_none_linked table e made otid dialogue (items_of components) is so
+begin_of_none table e made otid dialogue components kinds.AnsweredAlready is so = cc
+begin_of_none table e made otid dialogue components kinds.RejectNotAllowed is so = cc
+begin_of_none table e made otid dialogue components kinds.WrongReply is so = cc
+begin_of_none table e made otid dialogue components kinds.OpenAtMark is so = cc
+
+-- nor is a Unidirectional,
+uni_of_none : (table : Table) (e made : End) (dialogue : Option Dialogue) (components : List Component) (kind : Kind)
+    → send table e (Unidirectional dialogue components) ≡ Ok made
+    → is_of_first_kind (Unidirectional dialogue components) kind ≡ true → ⊥
+uni_of_none table e made dialogue components kinds.BadMessage is so = cc
+uni_of_none table e made dialogue components kinds.UnknownTransaction is so = cc
+uni_of_none table e made dialogue components kinds.ReusedId is so = cc
+uni_of_none table e made dialogue components kinds.AfterEnd is so = cc
+uni_of_none table e made dialogue components kinds.AnswersNothing is so = cc
+uni_of_none table e made dialogue components kinds.WrongOperation is so = cc
+uni_of_none table e made dialogue components kinds.MisplacedDialogue is so = cc
+uni_of_none table e made dialogue components kinds.WrongHalf is so = cc
+uni_of_none table e made dialogue components kinds.WrongDialogue is so = cc
+uni_of_none table e made dialogue components kinds.InvokeIdBusy is so =
+    uni_none_again table e made dialogue components is so
+uni_of_none table e made dialogue components kinds.BadLink is so = uni_none_linked table e made dialogue components is so
+uni_of_none table e made dialogue components kinds.AnsweredAlready is so = cc
+uni_of_none table e made dialogue components kinds.RejectNotAllowed is so = cc
+uni_of_none table e made dialogue components kinds.WrongReply is so = cc
+uni_of_none table e made dialogue components kinds.OpenAtMark is so = cc
+
+-- and other messages have a destination ID.
+pub of_no_first_kind : (table : Table) (e made : End) (m : Message) (kind : Kind) → send table e m ≡ Ok made
+    → dtid_in m ≡ None → is_of_first_kind m kind ≡ true → ⊥
+of_no_first_kind table e made (Unidirectional dialogue components) kind is none so =
+    uni_of_none table e made dialogue components kind is so
+of_no_first_kind table e made (Begin otid dialogue components) kind is none so =
+    begin_of_none table e made otid dialogue components kind is so
+of_no_first_kind table e made (Continue otid dtid dialogue components) kind is none so = cc
+of_no_first_kind table e made (EndMessage dtid dialogue components) kind is none so = cc
+of_no_first_kind table e made (Abort dtid reason) kind is none so = cc

@@ -37,10 +37,10 @@ sent_so passes (Some code) = passes code
 abbrev pub is_sent_so : (Code → Bool) → Half → ℤ → Bool
 is_sent_so passes h x = sent_so passes (operation_sent h x)
 
-sent_same : (passes : Code → Bool) (x : ℤ) (g h : Half) → SameLists g h → is_sent_so passes h x ≡ is_sent_so passes g x
+pub sent_same : (passes : Code → Bool) (x : ℤ) (g h : Half) → SameLists g h → is_sent_so passes h x ≡ is_sent_so passes g x
 sent_same passes x g h same = rw (same.0) refl
 
-sent_none : (passes : Code → Bool) (x : ℤ) (h : Half) → h.out ≡ [] → is_sent_so passes h x ≡ false
+pub sent_none : (passes : Code → Bool) (x : ℤ) (h : Half) → h.out ≡ [] → is_sent_so passes h x ≡ false
 sent_none passes x h none = rw none refl
 
 -- An Invoke that is sent is there, where none was.
@@ -59,13 +59,13 @@ began_so passes x (ReturnResult last id body) was now began = rw began (omega ar
 began_so passes x (ReturnError id code parameter) was now began = rw began (omega arith)
 began_so passes x (Reject id problem) was now began = rw began (omega arith)
 
-sent_began : (table : Table) (passes : Code → Bool) (x : ℤ) (g k : Half) (c : Component) → send_component table g c ≡ Ok k
+pub sent_began : (table : Table) (passes : Code → Bool) (x : ℤ) (g k : Half) (c : Component) → send_component table g c ≡ Ok k
     → one (invokes_so x passes c) + one (is_sent_so passes g x) ≡ one (is_sent_so passes k x)
 sent_began table passes x g k c is =
     began_so passes x c (own_invocation g x) (own_invocation k x) (sent_out table g k c x is)
 
 -- What ends is no longer there.
-stays_fewer : (passes ends : Code → Bool) (o : Option Code) → one (sent_so passes (stays ends o)) ≤ one (sent_so passes o)
+pub stays_fewer : (passes ends : Code → Bool) (o : Option Code) → one (sent_so passes (stays ends o)) ≤ one (sent_so passes o)
 stays_fewer passes ends None = omega arith
 stays_fewer passes ends (Some code) = by (ends code)
   where

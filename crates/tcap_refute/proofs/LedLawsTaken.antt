@@ -36,7 +36,7 @@ IsBrought table x passes brings =
 
 module _ (table : Table) (x : ℤ) (spends : Component → Bool) (passes : Invocation → Bool)
     (taking : IsTaking table x spends passes) where
-  sent_spends : (g k : Half) (c : Component) → IsRisen g → send_component table g c ≡ Ok k
+  pub sent_spends : (g k : Half) (c : Component) → IsRisen g → send_component table g c ≡ Ok k
       → one (spends c) + count passes (listed x k.inn) ≤ count passes (listed x g.inn)
   sent_spends g k c risen is =
       count_taken (takes_inn table x c) passes (spends c) (listed x g.inn) (listed x k.inn)

@@ -22,6 +22,7 @@ pub mod HalfLawsOpen
 pub mod HalfLawsClosed
 pub mod LedLawsCounts
 pub mod LedLawsLists
+pub mod LedLawsSteps
 pub mod LedLawsGains
 pub mod LedLaws
 pub mod LedLawsOwn
@@ -44,3 +45,10 @@ pub mod SpeakerFacts
 pub mod SpeakerLaws
 pub mod HalfKindsLaws
 pub mod HalfDialogueLaws
+pub mod LedLawsRejects
+pub mod LedLawsLinks
+pub mod LedLawsGrants
+pub mod LedLawsMistyped
+pub mod LedLawsMessages
+pub mod LedLawsWrong
+pub mod LedLawsFirst
