@@ -101,7 +101,7 @@ module _ (side : Side) (c : Count) (id : List ℕ) where
   given_said items m = rw (their_same side m items) refl
 
   -- What is taken from the channel is there no longer.
-  taken_head : (coming : List Message) (items : List Item) (m : Message)
+  pub taken_head : (coming : List Message) (items : List Item) (m : Message)
       → taken side c id (m ∷ coming) items ≡ one (comes_from c id m) + taken side c id coming items
   taken_head coming items m = let more = count_more (comes_from c id) m coming in omega arith
 

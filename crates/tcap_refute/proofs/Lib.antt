@@ -52,3 +52,4 @@ pub mod LedLawsMistyped
 pub mod LedLawsMessages
 pub mod LedLawsWrong
 pub mod LedLawsFirst
+pub mod ReplyKinds
