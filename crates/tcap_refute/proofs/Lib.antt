@@ -53,3 +53,4 @@ pub mod LedLawsMessages
 pub mod LedLawsWrong
 pub mod LedLawsFirst
 pub mod ReplyKinds
+pub mod MarkKinds

@@ -37,7 +37,7 @@ pub record IsMoment (table : Table) (side : Side) (before : List Item) (message 
 -- ---- lists with one item more
 
 -- A place in such a list is the last, or was there before.
-last_or_before : (item at : Item) (items front behind : List Item) → items ++ item ∷ [] ≡ front ++ at ∷ behind
+pub last_or_before : (item at : Item) (items front behind : List Item) → items ++ item ∷ [] ≡ front ++ at ∷ behind
     → ((item ≡ at) × (items ≡ front)) ⊎ ((rest : List Item) × (items ≡ front ++ at ∷ rest))
 last_or_before item at [] [] behind is = inl (cc, refl)
 last_or_before item at [] (f ∷ front) behind is = none front cc
