@@ -54,3 +54,4 @@ pub mod LedLawsWrong
 pub mod LedLawsFirst
 pub mod ReplyKinds
 pub mod MarkKinds
+pub mod BlameLaws

@@ -87,7 +87,7 @@ module _ {table : Table} {side : Side} {e : End} {coming : List Message} {items 
 
   -- ---- a Begin is refused
 
-  begin_left : (id : List ℕ) → is_a forms.Begin m ≡ true → otid_in m ≡ Some id → with_peer e id ≡ None
+  pub begin_left : (id : List ℕ) → is_a forms.Begin m ≡ true → otid_in m ≡ Some id → with_peer e id ≡ None
       → count (is_a forms.Begin) (asked side id items) < 2 → is_wrong_reply table side id items 4 ≡ true → ⊥
   begin_left id begins from none few is =
       by (or_cases (not (has_a forms.Begin (asked side id items)) || list_any (is_abort_with 4 id) (sent_by side items)) _ is)
