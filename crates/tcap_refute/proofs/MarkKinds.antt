@@ -162,13 +162,23 @@ none_at_first : {P : Type 0} (front behind : List Item) → [] ≡ front ++ Item
 none_at_first [] behind is = cc
 none_at_first (item ∷ front) behind is = cc
 
--- At no quiet mark of a run a half of an end that keeps the rules is surely open.
-pub no_open_mark : (table : Table) (events : List Event) (w : World) (before behind : List Item) (side : Side)
+open_at_none : (table : Table) (events : List Event) (w : World) (before behind : List Item) (side : Side)
     → Runs table events w → KeepsRules side events → w.sent ≡ before ++ Item.Quiet ∷ behind
     → is_open_at_mark table side (since_quiet before) ≡ true → ⊥
-no_open_mark table events w before behind side runs keeps sent is =
+open_at_none table events w before behind side runs keeps sent is =
     runs_keep table (HasNoOpen table side) (λ keeps front behind sent is. none_at_first front behind sent)
     (λ earlier event v next ran step had keeps front behind sent is.
     let (kept, told) = kept_before side earlier event keeps in
     by_step table side earlier v next ran had kept front behind sent is event step)
     events w runs keeps before behind sent is
+
+-- At no quiet mark of a run a half of an end that keeps the rules is surely open.
+pub no_open_mark : (table : Table) (events : List Event) (w : World) (before behind : List Item) (side : Side)
+    → Runs table events w → KeepsRules side events → w.sent ≡ before ++ Item.Quiet ∷ behind
+    → is_open_at_mark table side (since_quiet before) ≡ false
+no_open_mark table events w before behind side runs keeps sent =
+    by (is_open_at_mark table side (since_quiet before)) refl
+  where
+    by : (b : Bool) → is_open_at_mark table side (since_quiet before) ≡ b → b ≡ false
+    by true is = absurd (open_at_none table events w before behind side runs keeps sent is)
+    by false is = refl

@@ -1,7 +1,7 @@
 //! What refutations say of all runs. Each function says by its contract alone what holds of every run in which an end keeps
 //! the rules, whatever the other end does.
 
-ghost use Rattle.std.specs.Prelude.{◌≡◌, List, ◌∷◌, ◌++◌, true};
+ghost use Rattle.std.specs.Prelude.{◌≡◌, List, ◌∷◌, ◌++◌, true, false};
 ghost use Rattle.tcap_msg.specs.declared.message.Message.{Message};
 ghost use Rattle.tcap_record.specs.declared.entry.End.{End as Side};
 ghost use Rattle.tcap_end.specs.Table.{Table};
@@ -9,6 +9,7 @@ ghost use Rattle.tcap_check.specs.World.{Item, Sent, World};
 ghost use Rattle.tcap_check.specs.Run.{Event, KeepsRules, Runs};
 ghost use Rattle.tcap_refute.specs.declared.kind.Kind.{Kind};
 ghost use Rattle.tcap_refute.specs.Before.{since_quiet};
+ghost use Rattle.tcap_refute.specs.Blame.{is_fault, is_open_at_mark};
 ghost use Rattle.tcap_refute.specs.Kind.{is_of_kind};
 
 /// A message that has a kind, behind what was sent before it, is sent in no run in which its end keeps the rules, whatever
@@ -18,4 +19,20 @@ pub fn no_run_sends()
         (message : Message) (kind : Kind) → Runs table events w → KeepsRules side events
         → w.sent ≡ before ++ Sent side message ∷ behind
         → is_of_kind table side (since_quiet before) message kind ≡ true → ⊥ }
+{}
+
+/// The same of all kinds, the further ones too: a message that has one is at fault, and no end sends it that keeps the rules,
+/// whatever the other end sends.
+pub fn no_end_sends()
+    ensures { (table : Table) (events : List Event) (w : World) (before behind : List Item) (side : Side)
+        (message : Message) (kind : Kind) → Runs table events w → KeepsRules side events
+        → w.sent ≡ before ++ Sent side message ∷ behind
+        → is_fault table side (since_quiet before) message kind ≡ true → ⊥ }
+{}
+
+/// At a quiet mark no half of an end that keeps the rules is surely open, whatever the other end sends.
+pub fn no_mark_is_open()
+    ensures { (table : Table) (events : List Event) (w : World) (before behind : List Item) (side : Side)
+        → Runs table events w → KeepsRules side events → w.sent ≡ before ++ Item.Quiet ∷ behind
+        → is_open_at_mark table side (since_quiet before) ≡ false }
 {}

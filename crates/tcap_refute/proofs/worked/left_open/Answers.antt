@@ -1,1 +1,0 @@
-use Rattle.tcap_refute.proofs.OverLaws.{over}
