@@ -1,23 +1,22 @@
--- Which invocations each sort of component takes of those that a half received, and which Invokes brought them (Q.774 3.2,
--- Q.771 3.1.2).
-use Rattle.std.proofs.Common.{◌≡◌, ◌⊎◌, inl, inr, ℕ, ℤ, ◌+◌, ◌≤◌, arith, Bool, true, false, cond, List, Option, Some, None, refl, ap}
+-- Which invocations each sort of component takes of those that a half received, and which Invokes brought them (Q.774
+-- 3.2, Q.771 3.1.2).
+use Rattle.std.proofs.Common.{◌≡◌, ◌⊎◌, inl, inr, ℤ, ◌+◌, ◌≤◌, arith, Bool, true, false, cond, List, Some, None, refl, ap}
 use Rattle.std.specs.Prelude.{◌&&◌, ◌||◌, option_map}
-use Rattle.std.proofs.lemmas.Bool.{and_from, and_parts, or_cases, or_left, or_right}
+use Rattle.std.proofs.lemmas.Bool.{and_parts, or_cases, or_left, or_right}
 use Rattle.std.proofs.lemmas.Map.Lookups.{exact_bytes, exact_signed}
 use Rattle.std.proofs.lemmas.Map.Views.{tells_apart}
 use Rattle.tcap_parts.specs.declared.code.Code.{Code}
 use Rattle.tcap_parts.specs.declared.code.Code.TheVariants.{Local, Global}
 use Rattle.tcap_parts.specs.declared.problem.Problem.TheVariants as problems
-use Rattle.tcap_parts.specs.declared.component.ResultBody.{ResultBody}
 use Rattle.tcap_parts.specs.declared.component.Component.{Component}
 use Rattle.tcap_parts.specs.declared.component.Component.TheVariants.{Invoke, ReturnResult, ReturnError, Reject}
 use Rattle.tcap_end.specs.Table.{Table}
-use Rattle.tcap_end.specs.Half.{Half, Invocation}
-use Rattle.tcap_end.specs.Component.{class_reports, is_code, may_answer, names}
+use Rattle.tcap_end.specs.Half.{Invocation}
+use Rattle.tcap_end.specs.Component.{class_reports, is_code, may_answer}
 use Rattle.tcap_refute.specs.Before.{invokes, is_invoke_id}
 use Rattle.tcap_refute.specs.Counts.{any_problem, count, invokes_so, is_error, is_last_result, is_result_of, rejects_invoke, takes}
 use Rattle.tcap_refute.proofs.LedLawsCounts.{count_apart, count_covered}
-use Rattle.tcap_refute.proofs.LedLawsGains.{gains_inn, item_of}
+use Rattle.tcap_refute.proofs.LedLawsGains.{item_of}
 use Rattle.tcap_refute.proofs.LedLawsLists.{TakesWhat, gain}
 use Rattle.tcap_refute.proofs.LedLawsSteps.{takes_inn}
 use Rattle.tcap_refute.proofs.LedLawsTaken.{IsBrought, IsTaking}
@@ -98,7 +97,8 @@ pub answer_takes : (table : Table) (x : ℤ) → IsTaking table x (λ c. is_last
 answer_takes table x (Invoke id linked code parameter) is = cc
 answer_takes table x (ReturnResult last id body) is = by (or_cases _ _ is)
   where
-    by : ((last && is_invoke_id x id) ≡ true) ⊎ (false ≡ true) → TakesWhat (takes_inn table x (ReturnResult last id body))
+    by : ((last && is_invoke_id x id) ≡ true) ⊎ (false ≡ true)
+        → TakesWhat (takes_inn table x (ReturnResult last id body))
         (λ item. class_reports table true item.code || class_reports table false item.code)
     by (inl so) =
         let (is_last, here) = and_parts last (is_invoke_id x id) so in
@@ -146,7 +146,8 @@ not_both x (ReturnResult last id body) first second = cc
 not_both x (ReturnError id code parameter) first second = cc
 not_both x (Reject id problem) first second = cc
 
-not_third : (x : ℤ) (c : Component) → (is_last_result x c || is_error x c) ≡ true → rejects_invoke x any_problem c ≡ true → ⊥
+not_third : (x : ℤ) (c : Component) → (is_last_result x c || is_error x c) ≡ true
+    → rejects_invoke x any_problem c ≡ true → ⊥
 not_third x (Invoke id linked code parameter) first second = cc
 not_third x (ReturnResult last id body) first second = cc
 not_third x (ReturnError id code parameter) first second = cc
@@ -163,14 +164,21 @@ count_answers x cs =
 pub count_takes : (x : ℤ) (cs : List Component)
     → count (is_last_result x) cs + count (is_error x) cs + count (rejects_invoke x any_problem) cs ≤ count (takes x) cs
 count_takes x cs =
-    omega (arith, count_answers x cs,
-    count_apart (λ c. is_last_result x c || is_error x c) (rejects_invoke x any_problem) (takes x) cs
-    (λ c is. or_left (is_last_result x c || is_error x c) (rejects_invoke x any_problem c) is)
-    (λ c is. or_right (is_last_result x c || is_error x c) (rejects_invoke x any_problem c) is) (not_third x))
+    omega (
+      arith,
+      count_answers x cs,
+      count_apart (λ c. is_last_result x c || is_error x c) (rejects_invoke x any_problem) (takes x) cs
+          (λ c is. or_left (is_last_result x c || is_error x c) (rejects_invoke x any_problem c) is)
+          (λ c is. or_right (is_last_result x c || is_error x c) (rejects_invoke x any_problem c) is) (not_third x),
+    )
 
 -- Both are not more than each by itself.
 pub count_takes_all : (x : ℤ) (cs : List Component)
     → count (takes x) cs ≤ count (is_last_result x) cs + count (is_error x) cs + count (rejects_invoke x any_problem) cs
 count_takes_all x cs =
-    omega (arith, count_covered (λ c. is_last_result x c || is_error x c) (rejects_invoke x any_problem) (takes x) cs
-    (λ c is. is), count_covered (is_last_result x) (is_error x) (λ c. is_last_result x c || is_error x c) cs (λ c is. is))
+    omega (
+      arith,
+      count_covered (λ c. is_last_result x c || is_error x c) (rejects_invoke x any_problem) (takes x) cs
+          (λ c is. is),
+      count_covered (is_last_result x) (is_error x) (λ c. is_last_result x c || is_error x c) cs (λ c is. is),
+    )

@@ -1,7 +1,7 @@
 -- Invokes by the tests that their operations pass, and by the classes of these (Q.771 3.1.2).
-use Rattle.std.proofs.Common.{◌≡◌, ◌≢◌, ℕ, ℤ, ◌+◌, ◌≤◌, arith, Bool, true, false, cond, List, [], ◌∷◌, Option, Some, None, not, refl, sym, ◌∙◌}
+use Rattle.std.proofs.Common.{◌≡◌, ◌≢◌, ℕ, ℤ, ◌+◌, ◌≤◌, arith, Bool, true, false, cond, List, Option, Some, None, not, refl, sym, ◌∙◌}
 use Rattle.std.specs.Prelude.{◌&&◌, ◌||◌, ◌==◌}
-use Rattle.std.proofs.lemmas.Bool.{and_from, and_parts, both_ways, eqb-true, not-true, or_cases, or_left, or_right}
+use Rattle.std.proofs.lemmas.Bool.{and_parts, both_ways, eqb-true, not-true, or_left, or_right}
 use Rattle.tcap_parts.specs.declared.code.Code.{Code}
 use Rattle.tcap_parts.specs.declared.component.Component.{Component}
 use Rattle.tcap_parts.specs.declared.component.Component.TheVariants.{Invoke, ReturnResult, ReturnError, Reject}
@@ -53,7 +53,8 @@ invokes_apart p q apart x (Reject id problem) first second = cc
 
 -- So they are counted.
 module _ (p q r : Code → Bool) (x : ℤ) (cs : List Component) where
-  pub codes_weaker : ((code : Code) → p code ≡ true → r code ≡ true) → count (invokes_so x p) cs ≤ count (invokes_so x r) cs
+  pub codes_weaker : ((code : Code) → p code ≡ true → r code ≡ true)
+      → count (invokes_so x p) cs ≤ count (invokes_so x r) cs
   codes_weaker weaker = count_weaker (invokes_so x p) (invokes_so x r) cs (invokes_weaker p r weaker x)
 
   pub codes_covered : ((code : Code) → r code ≡ true → (p code || q code) ≡ true)

@@ -1,5 +1,5 @@
 -- How many of a list pass a test.
-use Rattle.std.proofs.Common.{◌≡◌, ℕ, ◌+◌, ◌≤◌, ◌⊎◌, inl, inr, arith, Bool, true, false, cond, List, [], ◌∷◌, ◌++◌, length, filter, refl}
+use Rattle.std.proofs.Common.{◌≡◌, ℕ, ◌+◌, ◌≤◌, arith, Bool, true, false, cond, List, [], ◌∷◌, ◌++◌, length, filter, refl}
 use Rattle.std.specs.Prelude.{◌||◌}
 use Rattle.std.specs.List.{list_any}
 use Rattle.tcap_refute.specs.Counts.{count}
@@ -69,16 +69,28 @@ pub count_apart : {A : Type 0} (p q r : A → Bool) (xs : List A) → ((x : A) �
     → count p xs + count q xs ≤ count r xs
 count_apart p q r [] left right apart = omega arith
 count_apart p q r (x ∷ xs) left right apart =
-    omega (arith, count_more p x xs, count_more q x xs, count_more r x xs,
-    one_apart (p x) (q x) (r x) (left x) (right x) (apart x), count_apart p q r xs left right apart)
+    omega (
+      arith,
+      count_more p x xs,
+      count_more q x xs,
+      count_more r x xs,
+      one_apart (p x) (q x) (r x) (left x) (right x) (apart x),
+      count_apart p q r xs left right apart,
+    )
 
 -- and one of which one of two follows, than both.
 pub count_covered : {A : Type 0} (p q r : A → Bool) (xs : List A) → ((x : A) → r x ≡ true → (p x || q x) ≡ true)
     → count r xs ≤ count p xs + count q xs
 count_covered p q r [] covered = omega arith
 count_covered p q r (x ∷ xs) covered =
-    omega (arith, count_more p x xs, count_more q x xs, count_more r x xs,
-    one_covered (p x) (q x) (r x) (covered x), count_covered p q r xs covered)
+    omega (
+      arith,
+      count_more p x xs,
+      count_more q x xs,
+      count_more r x xs,
+      one_covered (p x) (q x) (r x) (covered x),
+      count_covered p q r xs covered,
+    )
 
 -- None pass what never is so.
 pub count_never : {A : Type 0} (xs : List A) → count (λ x. false) xs ≡ 0

@@ -1,13 +1,15 @@
 -- A message without destination ID: nothing came before what it invokes (Q.774 3.2).
-use Rattle.std.proofs.Common.{◌≡◌, ◌⊎◌, inl, inr, ℕ, ℤ, ◌+◌, ◌≤◌, arith, Bool, true, false, cond, List, [], ◌∷◌, ◌++◌, Option, Some, None, Result, Ok, Err, is_none, is_some, not, refl, sym, ap, ◌∙◌}
+use Rattle.std.proofs.Common.{◌≡◌, ◌⊎◌, inl, inr, ℕ, ℤ, arith, Bool, true, false, List, [], ◌∷◌, ◌++◌, Option, Some, None, Result, Ok, Err, is_none, is_some, not, refl, sym, ap, ◌∙◌}
 use Rattle.std.specs.Prelude.{◌||◌, ok_or}
 use Rattle.std.specs.List.{list_any}
-use Rattle.std.proofs.lemmas.Bool.{both_ways, not-true, or_cases, or_left, or_right}
+use Rattle.std.proofs.lemmas.Bool.{both_ways, not-true, or_cases}
 use Rattle.std.proofs.lemmas.List.Folds.{list_any-append}
 use Rattle.tcap_parts.specs.declared.code.Code.{Code}
 use Rattle.tcap_parts.specs.declared.component.Component.{Component}
 use Rattle.tcap_parts.specs.declared.component.Component.TheVariants.{Invoke, ReturnResult, ReturnError, Reject}
 use Rattle.tcap_parts.specs.declared.dialogue.Dialogue.{Dialogue}
+use Rattle.tcap_msg.specs.declared.message.Message.{Message}
+use Rattle.tcap_msg.specs.Parts.{components_in}
 use Rattle.tcap_end.specs.declared.fault.EndFault.{EndFault}
 use Rattle.tcap_end.specs.declared.fault.EndFault.TheVariants as faults
 use Rattle.tcap_end.specs.declared.half.Phase.TheVariants as phases
@@ -15,20 +17,43 @@ use Rattle.tcap_end.specs.declared.half.Slot.TheVariants.{Begun}
 use Rattle.tcap_end.specs.Class.{reports_neither}
 use Rattle.tcap_end.specs.Table.{Table, class_of}
 use Rattle.tcap_end.specs.Half.{Half, fresh, one_fits}
-use Rattle.tcap_end.specs.Component.{links, own_invocation, send_component}
+use Rattle.tcap_end.specs.Component.{links, send_component}
 use Rattle.tcap_end.specs.Dialogue.{first_standing, may_be_uni, may_begin}
 use Rattle.tcap_end.specs.End.{End, put, with_own}
 use Rattle.tcap_end.specs.Message.{has_id, send_begin, send_components, send_uni, send_uni_components}
 use Rattle.tcap_end.specs.Step.{◌>>◌}
 use Rattle.tcap_end.proofs.AnsweringLaws.{needs_ok, then_ok}
 use Rattle.tcap_end.proofs.ComponentLaws.{all_sends}
+use Rattle.tcap_refute.specs.declared.kind.Kind.{Kind}
+use Rattle.tcap_refute.specs.declared.kind.Kind.TheVariants as kinds
 use Rattle.tcap_refute.specs.Before.{invokes}
+use Rattle.tcap_refute.specs.Blame.{is_of_first_kind}
 use Rattle.tcap_refute.specs.ComponentKinds.{has_component, invokes_again, is_linked}
-use Rattle.tcap_refute.specs.Counts.{count}
 use Rattle.tcap_refute.proofs.LedLawsCounts.{any_counts, one}
 use Rattle.tcap_refute.proofs.LedLawsMessages.{neither, none_has}
 use Rattle.tcap_refute.proofs.LedLawsOwn.{invoked_along}
 use Rattle.tcap_refute.proofs.LedLawsSteps.{invokes_step}
+
+-- ---- kinds
+
+-- It is of a kind only where it invokes an ID twice, or an Invoke of it is linked.
+pub first_kinds : (m : Message) (kind : Kind) → is_of_first_kind m kind ≡ true
+    → (has_component invokes_again [] [] (components_in m) ≡ true) ⊎ (list_any is_linked (components_in m) ≡ true)
+first_kinds m kinds.BadMessage so = cc
+first_kinds m kinds.UnknownTransaction so = cc
+first_kinds m kinds.ReusedId so = cc
+first_kinds m kinds.AfterEnd so = cc
+first_kinds m kinds.AnswersNothing so = cc
+first_kinds m kinds.WrongOperation so = cc
+first_kinds m kinds.MisplacedDialogue so = cc
+first_kinds m kinds.WrongHalf so = cc
+first_kinds m kinds.WrongDialogue so = cc
+first_kinds m kinds.InvokeIdBusy so = inl so
+first_kinds m kinds.BadLink so = inr so
+first_kinds m kinds.AnsweredAlready so = cc
+first_kinds m kinds.RejectNotAllowed so = cc
+first_kinds m kinds.WrongReply so = cc
+first_kinds m kinds.OpenAtMark so = cc
 
 -- ---- a Begin
 
@@ -115,7 +140,8 @@ first_uni table ids id linked code parameter more is =
     let alone = needs_ok (is_none linked) faults.BadLink _ tt free.1 in
     record { free = not-true (has_id id ids) free.0; alone = none_is linked alone.0; rest = alone.1 }
 
-uni_linked : (table : Table) (ids : List ℤ) (components : List Component) → send_uni_components table ids components ≡ Ok tt
+uni_linked : (table : Table) (ids : List ℤ) (components : List Component)
+    → send_uni_components table ids components ≡ Ok tt
     → list_any is_linked components ≡ true → ⊥
 uni_linked table ids [] is found = cc
 uni_linked table ids (Invoke id linked code parameter ∷ more) is found =
@@ -131,8 +157,10 @@ uni_again : (table : Table) (ids : List ℤ) (own before components : List Compo
 uni_again table ids own before [] known is has = cc
 uni_again table ids own before (Invoke id linked code parameter ∷ more) known is has =
     let first = first_uni table ids id linked code parameter more is in
-    neither (or_cases (list_any (invokes id) own) _ has) (λ again. both_ways (has_id id ids) first.free (known id again))
-    (uni_again table (id ∷ ids) (own ++ Invoke id linked code parameter ∷ []) (before ++ Invoke id linked code parameter ∷ [])
+    neither (or_cases (list_any (invokes id) own) _ has)
+    (λ again. both_ways (has_id id ids) first.free (known id again))
+    (uni_again table (id ∷ ids) (own ++ Invoke id linked code parameter ∷ [])
+    (before ++ Invoke id linked code parameter ∷ [])
     more next first.rest)
   where
     turned : (a b c : Bool) → (a ≡ true → c ≡ true) → (a || (b || false)) ≡ true → (b || c) ≡ true
@@ -140,7 +168,8 @@ uni_again table ids own before (Invoke id linked code parameter ∷ more) known 
     turned true false c from is = from refl
     turned false false c from is = cc
 
-    next : (q : ℤ) → list_any (invokes q) (own ++ Invoke id linked code parameter ∷ []) ≡ true → has_id q (id ∷ ids) ≡ true
+    next : (q : ℤ) → list_any (invokes q) (own ++ Invoke id linked code parameter ∷ []) ≡ true
+        → has_id q (id ∷ ids) ≡ true
     next q found =
         turned (list_any (invokes q) own) (invokes q (Invoke id linked code parameter)) (has_id q ids) (known q)
         (sym (list_any-append (invokes q) own (Invoke id linked code parameter ∷ [])) ∙ found)

@@ -59,7 +59,8 @@ record AnswerDoes (h g : Half) (is_result last : Bool) (id : ℤ) (o : Option (C
 
 waits_out : (h : Half) (id : ℤ) (code : Code) (x : ℤ)
     → operation_sent_by (own_invocation (record h {
-    out = insert_entry int_cmp h.out id (record { code = code; state = states.WaitForReject }) }) x)
+      out = insert_entry int_cmp h.out id (record { code = code; state = states.WaitForReject });
+    }) x)
     ≡ cond (is_invoke_id x id) None (operation_sent h x)
 waits_out h id code x = ap operation_sent_by (kept_inserted x id made h.out) ∙ by (is_invoke_id x id)
   where
@@ -82,7 +83,8 @@ answer_does h is_result true id (Some (code, class)) = by (reports is_result cla
 answer_does h is_result false id (Some (code, class)) = by (reports is_result class) refl
   where
     by : (b : Bool) → reports is_result class ≡ b
-        → AnswerDoes h (receive_answer h is_result false id (Some (code, class))) is_result false id (Some (code, class))
+        → AnswerDoes h (receive_answer h is_result false id (Some (code, class))) is_result false id
+        (Some (code, class))
     by true is = record { inn = rw is refl; grants = rw is refl; out = λ x. rw is refl }
     by false is = record { inn = rw is refl; grants = rw is refl; out = λ x. rw is refl }
 
@@ -93,8 +95,8 @@ abbrev pub stays : (Code → Bool) → Option Code → Option Code
 stays ends None = None
 stays ends (Some code) = cond (ends code) None (Some code)
 
--- whether a component ends an own invocation of an ID, by its operation: its last Return Result or its Return Error, where the
--- class reports it, or a Reject with an invoke problem
+-- whether a component ends an own invocation of an ID, by its operation: its last Return Result or its Return Error,
+-- where the class reports it, or a Reject with an invoke problem
 abbrev pub ends_by : Table → ℤ → Component → Code → Bool
 ends_by table x (ReturnResult last id body) code = last && is_invoke_id x id && class_reports table true code
 ends_by table x (ReturnError id error parameter) code = is_invoke_id x id && class_reports table false code

@@ -1,7 +1,7 @@
--- The answers that a half received: what it sent rejected some of them, and which problems the others allow (Q.773 4.2.2, Q.774
--- 3.2).
-use Rattle.std.proofs.Common.{◌≡◌, ℕ, ℤ, ◌+◌, ◌≤◌, arith, Bool, true, false, cond, ltb, List, [], ◌∷◌, Option, Some, None, Ok, not, refl, sym, ap, ◌∙◌}
-use Rattle.std.specs.Prelude.{◌&&◌, ◌||◌, nat_le, option_map}
+-- The answers that a half received: what it sent rejected some of them, and which problems the others allow (Q.773
+-- 4.2.2, Q.774 3.2).
+use Rattle.std.proofs.Common.{◌≡◌, ℕ, ℤ, ◌+◌, ◌≤◌, arith, Bool, true, false, cond, List, [], ◌∷◌, Option, Some, None, Ok, not, refl, ap}
+use Rattle.std.specs.Prelude.{◌&&◌, option_map}
 use Rattle.std.specs.List.{list_any}
 use Rattle.std.proofs.lemmas.Bool.{and_from, and_parts}
 use Rattle.tcap_parts.specs.declared.code.Code.{Code}
@@ -18,12 +18,12 @@ use Rattle.tcap_end.proofs.AnsweringLaws.{ok_same, then_ok}
 use Rattle.tcap_refute.specs.Before.{is_invoke_id}
 use Rattle.tcap_refute.specs.ComponentKinds.{is_problem}
 use Rattle.tcap_refute.specs.Counts.{count, invokes_so, is_error, is_not_last, is_result, rejects_error, rejects_result}
-use Rattle.tcap_refute.proofs.Lives.{Ends, Gets, Happening, IsLed, SameLists, Sends, got_in, sent_in}
+use Rattle.tcap_refute.proofs.Lives.{Gets, Happening, IsLed, got_in, sent_in}
 use Rattle.tcap_refute.proofs.LedLaws.{IsKept, IsRisen, holds, risen_sends}
 use Rattle.tcap_refute.proofs.LedLawsCounts.{count_more, one, one_weaker}
-use Rattle.tcap_refute.proofs.LedLawsGains.{answered_by, ends_by, gains_grants, got_grants, got_out, grant_of, problems_of, stays, without_out}
+use Rattle.tcap_refute.proofs.LedLawsGains.{answered_by, gains_grants, got_grants, grant_of, problems_of}
 use Rattle.tcap_refute.proofs.LedLawsLists.{TakesWhat, count_gained, count_taken, gain, id_same}
-use Rattle.tcap_refute.proofs.LedLawsOwn.{is_sent_so, sent_began, sent_invoked, sent_none, sent_same, sent_so, stays_fewer}
+use Rattle.tcap_refute.proofs.LedLawsOwn.{is_sent_so, sent_invoked, sent_so}
 use Rattle.tcap_refute.proofs.LedLawsRejects.{one_found}
 use Rattle.tcap_refute.proofs.LedLawsSteps.{sent_grants, takes_grants}
 
@@ -98,8 +98,8 @@ module _ (table : Table) (x : ℤ) (sort : Bool) (passes : ℕ → Bool) where
 
 -- ---- what brings an answer
 
--- One that allows a problem that passes was brought by an answer of its sort, and the operation that it is for shows such a
--- problem.
+-- One that allows a problem that passes was brought by an answer of its sort, and the operation that it is for shows
+-- such a problem.
 pub granted : (table : Table) (h : Half) (x : ℤ) (c : Component) (sort : Bool) (passes : ℕ → Bool)
     → gain (grant_so sort passes) (gains_grants table h x c) ≡ true → (answers_of sort x c ≡ true)
     × (list_any passes (problems_of sort (answered_by table (operation_sent h x))) ≡ true)
@@ -188,12 +188,21 @@ module _ (table : Table) (x : ℤ) (sort : Bool) (passes : ℕ → Bool) where
     same = λ past g h lists was. rw (lists.2) was;
     start = λ h out inn grants. rw grants (omega arith);
     sends = λ past g k c led risen is was.
-        omega (arith, was, sent_rejects table x sort passes g k c risen is,
-        count_more (rejects_of sort x passes) c (sent_in past));
+        omega (
+          arith,
+          was,
+          sent_rejects table x sort passes g k c risen is,
+          count_more (rejects_of sort x passes) c (sent_in past),
+        );
     gets = λ past g c led risen was.
-        omega (arith, was, grants_got g c risen, count_more (answers_of sort x) c (got_in past),
-        one_weaker (gain (grant_so sort passes) (gains_grants table g x c)) (answers_of sort x c)
-        (λ gained. (granted table g x c sort passes gained).0));
+        omega (
+          arith,
+          was,
+          grants_got g c risen,
+          count_more (answers_of sort x) c (got_in past),
+          one_weaker (gain (grant_so sort passes) (gains_grants table g x c)) (answers_of sort x c)
+              (λ gained. (granted table g x c sort passes gained).0),
+        );
     ends = λ past g id led risen may was. was;
   }
 
@@ -204,35 +213,39 @@ module _ (table : Table) (x : ℤ) (sort : Bool) (passes : ℕ → Bool) where
 
   -- and an answer that is there shows an own invocation of an operation that passes, where its problem does.
   module _ (test : Code → Bool)
-      (shows : (o : Option Code) → list_any passes (problems_of sort (answered_by table o)) ≡ true → sent_so test o ≡ true)
-      where
-    abbrev AreShown : List Happening → Half → Type 0
-    AreShown past h =
-        1 ≤ count (grant_so sort passes) (listed x h.grants) → 1 ≤ count (invokes_so x test) (sent_in past)
+      (shows : (o : Option Code) → list_any passes (problems_of sort (answered_by table o)) ≡ true
+      → sent_so test o ≡ true)
+    where
+      abbrev AreShown : List Happening → Half → Type 0
+      AreShown past h =
+          1 ≤ count (grant_so sort passes) (listed x h.grants) → 1 ≤ count (invokes_so x test) (sent_in past)
 
-    shown_gets : (past : List Happening) (g : Half) (c : Component) → IsLed table past g → IsRisen g → AreShown past g
-        → AreShown (Gets c ∷ past) (receive_component table g c)
-    shown_gets past g c led risen was some = by (gain (grant_so sort passes) (gains_grants table g x c)) refl
-      where
-        by : (b : Bool) → gain (grant_so sort passes) (gains_grants table g x c) ≡ b
-            → 1 ≤ count (invokes_so x test) (sent_in past)
-        by true is =
-            let sent : is_sent_so test g x ≡ true =
-            shows (operation_sent g x) (granted table g x c sort passes is).1 in
-            omega (arith, ap one sent, sent_invoked table test x past g led)
-        by false is = was (omega (arith, some, grants_got g c risen, ap one is))
+      shown_gets : (past : List Happening) (g : Half) (c : Component) → IsLed table past g → IsRisen g → AreShown past g
+          → AreShown (Gets c ∷ past) (receive_component table g c)
+      shown_gets past g c led risen was some = by (gain (grant_so sort passes) (gains_grants table g x c)) refl
+        where
+          by : (b : Bool) → gain (grant_so sort passes) (gains_grants table g x c) ≡ b
+              → 1 ≤ count (invokes_so x test) (sent_in past)
+          by true is =
+              let sent : is_sent_so test g x ≡ true =
+              shows (operation_sent g x) (granted table g x c sort passes is).1 in
+              omega (arith, ap one sent, sent_invoked table test x past g led)
+          by false is = was (omega (arith, some, grants_got g c risen, ap one is))
 
-    are_shown : IsKept table AreShown
-    are_shown = record {
-      same = λ past g h lists was. rw (lists.2) was;
-      start = λ h out inn grants. rw grants (λ some. absurd (omega (arith, some)));
-      sends = λ past g k c led risen is was some.
-          omega (arith, was (omega (arith, some, sent_rejects table x sort passes g k c risen is)),
-          count_more (invokes_so x test) c (sent_in past));
-      gets = shown_gets;
-      ends = λ past g id led risen may was. was;
-    }
+      are_shown : IsKept table AreShown
+      are_shown = record {
+        same = λ past g h lists was. rw (lists.2) was;
+        start = λ h out inn grants. rw grants (λ some. absurd (omega (arith, some)));
+        sends = λ past g k c led risen is was some.
+            omega (
+              arith,
+              was (omega (arith, some, sent_rejects table x sort passes g k c risen is)),
+              count_more (invokes_so x test) c (sent_in past),
+            );
+        gets = shown_gets;
+        ends = λ past g id led risen may was. was;
+      }
 
-    pub shown : (past : List Happening) (h : Half) → IsLed table past h
-        → 1 ≤ count (grant_so sort passes) (listed x h.grants) → 1 ≤ count (invokes_so x test) (sent_in past)
-    shown = holds table AreShown are_shown
+      pub shown : (past : List Happening) (h : Half) → IsLed table past h
+          → 1 ≤ count (grant_so sort passes) (listed x h.grants) → 1 ≤ count (invokes_so x test) (sent_in past)
+      shown = holds table AreShown are_shown

@@ -73,7 +73,8 @@ either_lasts : (table : Table) (n : ℕ) (x : ℤ) (cs : List Component) → ◌
     → count_lasting table x (has_class table n) cs + count_lasting table x (has_class table 4) cs
     ≤ count_lasting table x (of_either table n) cs
 either_lasts table n x cs not_4 =
-    codes_apart (lasting table (has_class table n)) (lasting table (has_class table 4)) (lasting table (of_either table n)) x cs
+    codes_apart (lasting table (has_class table n)) (lasting table (has_class table 4))
+    (lasting table (of_either table n)) x cs
     (λ code is. widened code (has_class table n code) (or_left (has_class table n code) (has_class table 4 code)) is)
     (λ code is. widened code (has_class table 4 code) (or_right (has_class table n code) (has_class table 4 code)) is)
     (λ code first second. class_apart table n 4 not_4 code (and_parts (not (expires_of table code)) _ first).1
@@ -86,7 +87,8 @@ either_lasts table n x cs not_4 =
         and_from (not (expires_of table code)) (of_either table n code) parts.0 (wider parts.1)
 
 -- Where nothing of the ID is in Operation Sent, no more were sent than what was heard and shows the ends of such.
-module _ (table : Table) (s : Speaker) (past : List Happening) (g : Half) (bounds : Bounds s (sent_in past) (got_in past))
+module _ (table : Table) (s : Speaker) (past : List Happening) (g : Half)
+    (bounds : Bounds s (sent_in past) (got_in past))
     (led : IsLed table past g) (x : ℤ) (none : operation_sent g x ≡ None) where
   module _ (passes : Code → Bool) (shows : Component → Bool)
       (by_result : (c : Component) (code : Code) → is_last_result x c ≡ true → class_reports table true code ≡ true
@@ -113,20 +115,28 @@ module _ (table : Table) (s : Speaker) (past : List Happening) (g : Half) (bound
         let lasts = λ (code : Code) (is : lasting table passes code ≡ true).
         not-true (expires_of table code) (and_parts (not (expires_of table code)) (passes code) is).0 in
         let free : is_sent_so (lasting table passes) g x ≡ false = rw none refl in
-        omega (arith, sent_ended table (lasting table passes) shows x lasts shown past g led,
-        bounds.invoked (invokes_so x (lasting table passes)), bounds.heard shows, ap one free)
+        omega (
+          arith,
+          sent_ended table (lasting table passes) shows x lasts shown past g led,
+          bounds.invoked (invokes_so x (lasting table passes)),
+          bounds.heard shows,
+          ap one free,
+        )
 
   -- Any is ended by what takes one;
   pub ended_any : count_lasting table x (λ code. true) s.invoked
       ≤ count (is_last_result x) s.heard + count (is_error x) s.heard + count (rejects_invoke x any_problem) s.heard
   ended_any =
-      omega (arith, ended (λ code. true) (takes x)
-      (λ c code so class pass. or_left (is_last_result x c || is_error x c) (rejects_invoke x any_problem c)
-      (or_left (is_last_result x c) (is_error x c) so))
-      (λ c code so class pass. or_left (is_last_result x c || is_error x c) (rejects_invoke x any_problem c)
-      (or_right (is_last_result x c) (is_error x c) so))
-      (λ c so. or_right (is_last_result x c || is_error x c) (rejects_invoke x any_problem c) so),
-      count_takes_all x s.heard)
+      omega (
+        arith,
+        ended (λ code. true) (takes x)
+            (λ c code so class pass. or_left (is_last_result x c || is_error x c) (rejects_invoke x any_problem c)
+            (or_left (is_last_result x c) (is_error x c) so))
+            (λ c code so class pass. or_left (is_last_result x c || is_error x c) (rejects_invoke x any_problem c)
+            (or_right (is_last_result x c) (is_error x c) so))
+            (λ c so. or_right (is_last_result x c || is_error x c) (rejects_invoke x any_problem c) so),
+        count_takes_all x s.heard,
+      )
 
   -- one of class 4 by a Reject;
   pub ended_4 : count_lasting table x (has_class table 4) s.invoked ≤ count (rejects_invoke x any_problem) s.heard
@@ -137,25 +147,38 @@ module _ (table : Table) (s : Speaker) (past : List Happening) (g : Half) (bound
       (λ c so. so)
 
   -- one of class 2 or 4 by that or a Return Error;
-  pub ended_2_4 : count_lasting table x (has_class table 2) s.invoked + count_lasting table x (has_class table 4) s.invoked
+  pub ended_2_4 : count_lasting table x (has_class table 2) s.invoked
+      + count_lasting table x (has_class table 4) s.invoked
       ≤ count (rejects_invoke x any_problem) s.heard + count (is_error x) s.heard
   ended_2_4 =
-      omega (arith, either_lasts table 2 x s.invoked (omega arith), ended (of_either table 2)
-      (λ c. is_error x c || rejects_invoke x any_problem c)
-      (λ c code so class pass. absurd (none_reported table true 2 code (omega arith) (omega arith) (omega arith) pass class))
-      (λ c code so class pass. or_left (is_error x c) (rejects_invoke x any_problem c) so)
-      (λ c so. or_right (is_error x c) (rejects_invoke x any_problem c) so),
-      count_covered (is_error x) (rejects_invoke x any_problem) (λ c. is_error x c || rejects_invoke x any_problem c) s.heard
-      (λ c is. is))
+      omega (
+        arith,
+        either_lasts table 2 x s.invoked (omega arith),
+        ended (of_either table 2)
+            (λ c. is_error x c || rejects_invoke x any_problem c)
+            (λ c code so class pass. absurd
+            (none_reported table true 2 code (omega arith) (omega arith) (omega arith) pass class))
+            (λ c code so class pass. or_left (is_error x c) (rejects_invoke x any_problem c) so)
+            (λ c so. or_right (is_error x c) (rejects_invoke x any_problem c) so),
+        count_covered (is_error x) (rejects_invoke x any_problem) (λ c. is_error x c || rejects_invoke x any_problem c)
+            s.heard
+            (λ c is. is),
+      )
 
   -- and one of class 3 or 4 by that or a last Return Result.
-  pub ended_3_4 : count_lasting table x (has_class table 3) s.invoked + count_lasting table x (has_class table 4) s.invoked
+  pub ended_3_4 : count_lasting table x (has_class table 3) s.invoked
+      + count_lasting table x (has_class table 4) s.invoked
       ≤ count (rejects_invoke x any_problem) s.heard + count (is_last_result x) s.heard
   ended_3_4 =
-      omega (arith, either_lasts table 3 x s.invoked (omega arith), ended (of_either table 3)
-      (λ c. is_last_result x c || rejects_invoke x any_problem c)
-      (λ c code so class pass. or_left (is_last_result x c) (rejects_invoke x any_problem c) so)
-      (λ c code so class pass. absurd (none_reported table false 3 code (omega arith) (omega arith) (omega arith) pass class))
-      (λ c so. or_right (is_last_result x c) (rejects_invoke x any_problem c) so),
-      count_covered (is_last_result x) (rejects_invoke x any_problem)
-      (λ c. is_last_result x c || rejects_invoke x any_problem c) s.heard (λ c is. is))
+      omega (
+        arith,
+        either_lasts table 3 x s.invoked (omega arith),
+        ended (of_either table 3)
+            (λ c. is_last_result x c || rejects_invoke x any_problem c)
+            (λ c code so class pass. or_left (is_last_result x c) (rejects_invoke x any_problem c) so)
+            (λ c code so class pass. absurd
+            (none_reported table false 3 code (omega arith) (omega arith) (omega arith) pass class))
+            (λ c so. or_right (is_last_result x c) (rejects_invoke x any_problem c) so),
+        count_covered (is_last_result x) (rejects_invoke x any_problem)
+            (λ c. is_last_result x c || rejects_invoke x any_problem c) s.heard (λ c is. is),
+      )

@@ -1,6 +1,6 @@
--- Rejects with a problem of a link: an invocation that allows linkedResponseUnexpected (6) or unexpectedLinkedOperation (7) was
--- brought by an Invoke that names an own invocation of such an operation (Q.773 4.2.2, Q.774 3.2).
-use Rattle.std.proofs.Common.{◌≡◌, ◌⊎◌, inl, inr, ℕ, ℤ, ◌+◌, ◌≤◌, arith, Bool, true, false, cond, List, [], ◌∷◌, Option, Some, None, Ok, not, refl, sym, ap, ◌∙◌}
+-- Rejects with a problem of a link: an invocation that allows linkedResponseUnexpected (6) or unexpectedLinkedOperation
+-- (7) was brought by an Invoke that names an own invocation of such an operation (Q.773 4.2.2, Q.774 3.2).
+use Rattle.std.proofs.Common.{◌≡◌, ◌⊎◌, inl, inr, ℕ, ℤ, ◌+◌, ◌≤◌, arith, Bool, true, false, List, [], ◌∷◌, Option, Some, None, Ok, not, refl, sym, ap, ◌∙◌}
 use Rattle.std.specs.Prelude.{◌&&◌, ◌||◌, ◌==◌}
 use Rattle.std.specs.List.{list_any}
 use Rattle.std.proofs.lemmas.Bool.{and_from, and_parts, both_ways, not-true, or_cases, or_right}
@@ -8,18 +8,18 @@ use Rattle.tcap_parts.specs.declared.code.Code.{Code}
 use Rattle.tcap_parts.specs.declared.component.Component.{Component}
 use Rattle.tcap_parts.specs.declared.component.Component.TheVariants.{Invoke, ReturnResult, ReturnError, Reject}
 use Rattle.tcap_end.specs.Table.{Table, linked_of}
-use Rattle.tcap_end.specs.Half.{Half, Invocation, listed, one_fits}
-use Rattle.tcap_end.specs.Component.{allows, id_problems, link_problems, link_problems_of, links, operation_sent, receive_component, send_component}
+use Rattle.tcap_end.specs.Half.{Half, listed, one_fits}
+use Rattle.tcap_end.specs.Component.{allows, link_problems, link_problems_of, links, operation_sent, receive_component, send_component}
 use Rattle.tcap_end.specs.Message.{send_components}
 use Rattle.tcap_refute.specs.Before.{is_invoke_id}
 use Rattle.tcap_refute.specs.ComponentKinds.{is_link_fine, is_linked_to, is_problem, lists_nothing}
 use Rattle.tcap_refute.specs.Counts.{count, invokes_so}
 use Rattle.tcap_refute.specs.Speaker.{Speaker}
-use Rattle.tcap_refute.proofs.Lives.{Bounds, Ends, Gets, Happening, IsLed, SameLists, Sends, got_in, sent_in}
+use Rattle.tcap_refute.proofs.Lives.{Bounds, Gets, Happening, IsLed, Sends, got_in, sent_in}
 use Rattle.tcap_refute.proofs.LedLaws.{IsKept, IsRisen, holds, risen}
 use Rattle.tcap_refute.proofs.LedLawsAnswered.{none_takes}
 use Rattle.tcap_refute.proofs.LedLawsCounts.{any_counts, count_more, count_weaker, counts_any, one}
-use Rattle.tcap_refute.proofs.LedLawsGains.{gains_inn, got_inn, item_of}
+use Rattle.tcap_refute.proofs.LedLawsGains.{gains_inn, got_inn}
 use Rattle.tcap_refute.proofs.LedLawsLists.{count_gained, gain}
 use Rattle.tcap_refute.proofs.LedLawsOwn.{is_sent_so, sent_invoked, sent_so}
 use Rattle.tcap_refute.proofs.LedLawsRejects.{Brings, allows_so, brings_it, fits_so, link_problems_by, linked_are, none_of_id, problem_found}
@@ -40,7 +40,8 @@ linked_weaker names x some more weaker (ReturnResult last id body) is = cc
 linked_weaker names x some more weaker (ReturnError id code parameter) is = cc
 linked_weaker names x some more weaker (Reject id problem) is = cc
 
--- The problem shows that the Invoke names an own invocation in Operation Sent whose operation, with the Invoke's, passes a test.
+-- The problem shows that the Invoke names an own invocation in Operation Sent whose operation, with the Invoke's,
+-- passes a test.
 abbrev pub Shows : Table → ℕ → (Code → Code → Bool) → Type 0
 Shows table n names =
     (code : Code) (o : Option Code) → list_any (is_problem n) (link_problems_of table code o) ≡ true
@@ -54,7 +55,8 @@ pub record IsOfLink (n : ℕ) : Type 0 where
   pub not_3 : is_problem n 3 ≡ false
   pub not_4 : is_problem n 4 ≡ false
 
-module _ (table : Table) (n : ℕ) (names : Code → Code → Bool) (of_link : IsOfLink n) (shows : Shows table n names) (x : ℤ) where
+module _ (table : Table) (n : ℕ) (names : Code → Code → Bool) (of_link : IsOfLink n) (shows : Shows table n names)
+    (x : ℤ) where
   -- So an invocation that allows it was brought by an Invoke that does.
   linked_brought : (past : List Happening) (g : Half) (c : Component) → IsLed table past g
       → gain (allows_so (is_problem n)) (gains_inn table g x c) ≡ true → is_linked_to names (sent_in past) x c ≡ true
@@ -89,10 +91,17 @@ module _ (table : Table) (n : ℕ) (names : Code → Code → Bool) (of_link : I
   linked_sends : (past : List Happening) (g k : Half) (c : Component) → IsLed table past g → IsRisen g
       → send_component table g c ≡ Ok k → AreLinked past g → AreLinked (Sends c ∷ past) k
   linked_sends past g k c led risen is was some =
-      omega (arith, was (omega (arith, some, sent_spends table x (λ d. false) (allows_so (is_problem n))
-      (none_takes table x (allows_so (is_problem n))) g k c risen is)),
-      count_weaker (is_linked_to names (sent_in past) x) (is_linked_to names (c ∷ sent_in past) x) (got_in past)
-      (linked_weaker names x (sent_in past) (c ∷ sent_in past) (λ test found. or_right (test c) _ found)))
+      omega (
+        arith,
+        was (omega (
+          arith,
+          some,
+          sent_spends table x (λ d. false) (allows_so (is_problem n))
+              (none_takes table x (allows_so (is_problem n))) g k c risen is,
+        )),
+        count_weaker (is_linked_to names (sent_in past) x) (is_linked_to names (c ∷ sent_in past) x) (got_in past)
+            (linked_weaker names x (sent_in past) (c ∷ sent_in past) (λ test found. or_right (test c) _ found)),
+      )
 
   linked_gets : (past : List Happening) (g : Half) (c : Component) → IsLed table past g → IsRisen g → AreLinked past g
       → AreLinked (Gets c ∷ past) (receive_component table g c)
@@ -125,19 +134,28 @@ module _ (table : Table) (n : ℕ) (names : Code → Code → Bool) (of_link : I
 
   -- Where all own invocations are known, one that names such an own invocation was heard.
   pub linked_within : (s : Speaker) (past : List Happening) (g h : Half) (own : List Component)
-      → Bounds s (sent_in past) (got_in past) → s.is_all ≡ true → IsLed table past g → send_components table g own ≡ Ok h
+      → Bounds s (sent_in past) (got_in past) → s.is_all ≡ true → IsLed table past g
+      → send_components table g own ≡ Ok h
       → 1 ≤ count (allows_so (is_problem n)) (listed x h.inn)
       → list_any (is_linked_to names s.invoked x) s.heard ≡ true
   linked_within s past g h own bounds all led is some =
       counts_any (is_linked_to names s.invoked x) s.heard
-      (omega (arith, holds table AreLinked are_linked past g led before, bounds.heard (is_linked_to names s.invoked x),
-      count_weaker (is_linked_to names (sent_in past) x) (is_linked_to names s.invoked x) (got_in past)
-      (linked_weaker names x (sent_in past) s.invoked known)))
+      (omega (
+        arith,
+        holds table AreLinked are_linked past g led before,
+        bounds.heard (is_linked_to names s.invoked x),
+        count_weaker (is_linked_to names (sent_in past) x) (is_linked_to names s.invoked x) (got_in past)
+            (linked_weaker names x (sent_in past) s.invoked known),
+      ))
     where
       before : 1 ≤ count (allows_so (is_problem n)) (listed x g.inn)
       before =
-          omega (arith, some, spent_along table x (λ d. false) (allows_so (is_problem n))
-          (none_takes table x (allows_so (is_problem n))) own g h (risen table past g led) is)
+          omega (
+            arith,
+            some,
+            spent_along table x (λ d. false) (allows_so (is_problem n))
+                (none_takes table x (allows_so (is_problem n))) own g h (risen table past g led) is,
+          )
 
       known : (test : Component → Bool) → list_any test (sent_in past) ≡ true → list_any test s.invoked ≡ true
       known test found =
@@ -154,9 +172,12 @@ of_7 = record { not_0 = refl; not_1 = refl; not_2 = refl; not_3 = refl; not_4 = 
 -- The first shows an own invocation of an operation that lists nothing,
 shows_6 : (table : Table) → Shows table 6 (λ to code. lists_nothing table to)
 shows_6 table code None found = cc
-shows_6 table code (Some to) found =
-    (to, refl, by (linked_of table to) (links table to code) refl
-    (ap (list_any (is_problem 6)) (sym (linked_are table code to)) ∙ found))
+shows_6 table code (Some to) found = (
+  to,
+  refl,
+  by (linked_of table to) (links table to code) refl
+      (ap (list_any (is_problem 6)) (sym (linked_are table code to)) ∙ found),
+)
   where
     by : (list : List (Code × Unit {0})) (b : Bool) → linked_of table to ≡ list
         → list_any (is_problem 6) (link_problems_by list b) ≡ true → lists_nothing table to ≡ true
@@ -167,9 +188,12 @@ shows_6 table code (Some to) found =
 -- the second one of an operation that lists others.
 shows_7 : (table : Table) → Shows table 7 (λ to code. not (lists_nothing table to) && not (links table to code))
 shows_7 table code None found = cc
-shows_7 table code (Some to) found =
-    (to, refl, by (linked_of table to) (links table to code) refl refl
-    (ap (list_any (is_problem 7)) (sym (linked_are table code to)) ∙ found))
+shows_7 table code (Some to) found = (
+  to,
+  refl,
+  by (linked_of table to) (links table to code) refl refl
+      (ap (list_any (is_problem 7)) (sym (linked_are table code to)) ∙ found),
+)
   where
     by : (list : List (Code × Unit {0})) (b : Bool) → linked_of table to ≡ list → links table to code ≡ b
         → list_any (is_problem 7) (link_problems_by list b) ≡ true

@@ -1,6 +1,6 @@
--- What is kept of one invoke ID behind a change of what is kept of this or another: nothing, one item more, or all but the
--- oldest that fits.
-use Rattle.std.proofs.Common.{◌≡◌, ◌≢◌, ◌⊎◌, inl, inr, ℕ, ℤ, ◌+◌, ◌≤◌, arith, Bool, true, false, cond, List, [], ◌∷◌, ◌++◌, Option, Some, None, refl, sym, ap, ◌∙◌}
+-- What is kept of one invoke ID behind a change of what is kept of this or another: nothing, one item more, or all but
+-- the oldest that fits.
+use Rattle.std.proofs.Common.{◌≡◌, ◌≢◌, ◌⊎◌, inl, inr, ℤ, ◌+◌, ◌≤◌, arith, Bool, true, false, cond, List, [], ◌∷◌, ◌++◌, Option, Some, None, refl, sym, ap, ◌∙◌}
 use Rattle.std.specs.Prelude.{◌||◌}
 use Rattle.std.specs.List.{list_any}
 use Rattle.std.specs.Map.{keys_of, remove_entry}
@@ -71,7 +71,8 @@ kept_inserted {A} x id v items = by (is_invoke_id x id) refl
 
 -- and where an entry was removed.
 pub kept_removed : {A : Type 0} (x id : ℤ) (items : List (ℤ × A)) → Rises int_cmp items
-    → kept_at int_cmp (remove_entry (is_at (int_cmp id)) items) x ≡ cond (is_invoke_id x id) None (kept_at int_cmp items x)
+    → kept_at int_cmp (remove_entry (is_at (int_cmp id)) items) x
+    ≡ cond (is_invoke_id x id) None (kept_at int_cmp items x)
 kept_removed x id items rises = left ∙ ap (λ b. cond b None (kept_at int_cmp items x)) (id_turned x id)
   where
     one_key : (k q : ℤ) → is_at (int_cmp id) k ≡ true → is_at (int_cmp id) q ≡ eq_by_cmp int_cmp k q

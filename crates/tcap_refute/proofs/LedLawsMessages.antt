@@ -26,7 +26,8 @@ none_of_four false false false d first second third fourth is = fourth is
 
 -- What was sent, and one component more.
 pub sent_more : (table : Table) (own : List Component) (c : Component) (g h k : Half)
-    → send_components table g own ≡ Ok h → send_component table h c ≡ Ok k → send_components table g (own ++ c ∷ []) ≡ Ok k
+    → send_components table g own ≡ Ok h → send_component table h c ≡ Ok k
+    → send_components table g (own ++ c ∷ []) ≡ Ok k
 sent_more table [] c g h k is next = let same = ok_same {F = EndFault} g h is in rw (same, next) refl
 sent_more table (d ∷ own) c g h k is next =
     let (g', first, rest) = then_ok (send_component table g d) (λ n. send_components table n own) h is in
@@ -49,7 +50,8 @@ module _ (table : Table) (g : Half) (sent : List Component) (is_so : List Compon
       let (next, first, rest) = then_ok (send_component table h c) (λ n. send_components table n more) k is in
       neither (or_cases (is_so own before c) _ has) (λ so. none own h next c was first (rw same at so))
       (none_behind (own ++ c ∷ []) (before ++ c ∷ []) more next k
-      (ap (λ list. list ++ c ∷ []) same ∙ append_assoc sent own (c ∷ [])) (sent_more table own c g h next was first) rest)
+      (ap (λ list. list ++ c ∷ []) same ∙ append_assoc sent own (c ∷ []))
+      (sent_more table own c g h next was first) rest)
 
   pub none_has : (components : List Component) (k : Half) → send_components table g components ≡ Ok k
       → has_component is_so [] sent components ≡ true → ⊥

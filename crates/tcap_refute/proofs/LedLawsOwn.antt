@@ -1,9 +1,6 @@
 -- A half's own invocations: what it sent, what ended it, and what is in Operation Sent (Q.774 3.2).
-use Rattle.std.proofs.Common.{◌≡◌, ℕ, ℤ, ◌+◌, ◌≤◌, arith, Bool, true, false, cond, List, [], ◌∷◌, Option, Some, None, Ok, is_some, refl, sym, ap, ◌∙◌}
+use Rattle.std.proofs.Common.{◌≡◌, ℤ, ◌+◌, ◌≤◌, arith, Bool, true, false, cond, List, [], ◌∷◌, Option, Some, None, Ok, is_some, refl, sym, ◌∙◌}
 use Rattle.std.specs.Prelude.{◌&&◌}
-use Rattle.std.specs.BTreeMap.{is_at}
-use Rattle.std.specs.Map.{lookup}
-use Rattle.std.specs.Ordering.{int_cmp}
 use Rattle.tcap_parts.specs.declared.code.Code.{Code}
 use Rattle.tcap_parts.specs.declared.component.Component.{Component}
 use Rattle.tcap_parts.specs.declared.component.Component.TheVariants.{Invoke, ReturnResult, ReturnError, Reject}
@@ -13,14 +10,14 @@ use Rattle.tcap_end.specs.declared.half.InvocationState.TheVariants as states
 use Rattle.tcap_end.specs.declared.outs.OwnInvocation.{OwnInvocation}
 use Rattle.tcap_end.specs.Table.{Table, expires_of}
 use Rattle.tcap_end.specs.Half.{Half}
-use Rattle.tcap_end.specs.Component.{operation_sent, operation_sent_by, own_invocation, receive_component, send_component}
-use Rattle.tcap_end.specs.Hidden.{may_expire, without_invocation}
+use Rattle.tcap_end.specs.Component.{operation_sent, operation_sent_by, own_invocation, send_component}
+use Rattle.tcap_end.specs.Hidden.{may_expire}
 use Rattle.tcap_end.specs.Message.{send_components}
 use Rattle.tcap_end.proofs.AnsweringLaws.{ok_same, then_ok}
 use Rattle.tcap_refute.specs.Before.{invokes, is_invoke_id}
 use Rattle.tcap_refute.specs.Counts.{count, invokes_so}
-use Rattle.tcap_refute.proofs.Lives.{Ends, Gets, Happening, IsLed, SameLists, Sends, got_in, sent_in}
-use Rattle.tcap_refute.proofs.LedLaws.{IsKept, IsRisen, holds}
+use Rattle.tcap_refute.proofs.Lives.{Happening, IsLed, SameLists, got_in, sent_in}
+use Rattle.tcap_refute.proofs.LedLaws.{IsKept, holds}
 use Rattle.tcap_refute.proofs.LedLawsCounts.{count_more, one, one_weaker}
 use Rattle.tcap_refute.proofs.LedLawsGains.{ends_by, got_out, stays, without_out}
 use Rattle.tcap_refute.proofs.LedLawsLists.{id_same}
@@ -37,7 +34,8 @@ sent_so passes (Some code) = passes code
 abbrev pub is_sent_so : (Code → Bool) → Half → ℤ → Bool
 is_sent_so passes h x = sent_so passes (operation_sent h x)
 
-pub sent_same : (passes : Code → Bool) (x : ℤ) (g h : Half) → SameLists g h → is_sent_so passes h x ≡ is_sent_so passes g x
+pub sent_same : (passes : Code → Bool) (x : ℤ) (g h : Half) → SameLists g h
+    → is_sent_so passes h x ≡ is_sent_so passes g x
 sent_same passes x g h same = rw (same.0) refl
 
 pub sent_none : (passes : Code → Bool) (x : ℤ) (h : Half) → h.out ≡ [] → is_sent_so passes h x ≡ false
@@ -59,13 +57,15 @@ began_so passes x (ReturnResult last id body) was now began = rw began (omega ar
 began_so passes x (ReturnError id code parameter) was now began = rw began (omega arith)
 began_so passes x (Reject id problem) was now began = rw began (omega arith)
 
-pub sent_began : (table : Table) (passes : Code → Bool) (x : ℤ) (g k : Half) (c : Component) → send_component table g c ≡ Ok k
+pub sent_began : (table : Table) (passes : Code → Bool) (x : ℤ) (g k : Half) (c : Component)
+    → send_component table g c ≡ Ok k
     → one (invokes_so x passes c) + one (is_sent_so passes g x) ≡ one (is_sent_so passes k x)
 sent_began table passes x g k c is =
     began_so passes x c (own_invocation g x) (own_invocation k x) (sent_out table g k c x is)
 
 -- What ends is no longer there.
-pub stays_fewer : (passes ends : Code → Bool) (o : Option Code) → one (sent_so passes (stays ends o)) ≤ one (sent_so passes o)
+pub stays_fewer : (passes ends : Code → Bool) (o : Option Code)
+    → one (sent_so passes (stays ends o)) ≤ one (sent_so passes o)
 stays_fewer passes ends None = omega arith
 stays_fewer passes ends (Some code) = by (ends code)
   where
@@ -176,5 +176,9 @@ pub invoked_along : (table : Table) (x : ℤ) (own : List Component) (g h : Half
 invoked_along table x [] g h is = let same = ok_same {F = EndFault} g h is in rw (same) (omega arith)
 invoked_along table x (c ∷ more) g h is =
     let (next, first, rest) = then_ok (send_component table g c) (λ next. send_components table next more) h is in
-    omega (arith, began_any x c (own_invocation g x) (own_invocation next x) (sent_out table g next c x first),
-    invoked_along table x more next h rest, count_more (invokes x) c more)
+    omega (
+      arith,
+      began_any x c (own_invocation g x) (own_invocation next x) (sent_out table g next c x first),
+      invoked_along table x more next h rest,
+      count_more (invokes x) c more,
+    )

@@ -1,7 +1,7 @@
--- Rejects with an invoke problem: which problems an invocation that a half received allows, and which Invokes show them (Q.773
--- 4.2.2, Q.774 3.2).
-use Rattle.std.proofs.Common.{◌≡◌, ◌≢◌, ℕ, ℤ, ◌+◌, ◌-◌, ◌≤◌, arith, Bool, true, false, cond, ltb, List, [], ◌∷◌, ◌++◌, Option, Some, None, Ok, is_some, not, refl, sym, ap, ◌∙◌}
-use Rattle.std.specs.Prelude.{◌&&◌, ◌||◌, ◌==◌}
+-- Rejects with an invoke problem: which problems an invocation that a half received allows, and which Invokes show them
+-- (Q.773 4.2.2, Q.774 3.2).
+use Rattle.std.proofs.Common.{◌≡◌, ℕ, ℤ, ◌+◌, ◌-◌, ◌≤◌, arith, Bool, true, false, cond, ltb, List, [], ◌∷◌, ◌++◌, Option, Some, None, Ok, is_some, refl, sym, ap, ◌∙◌}
+use Rattle.std.specs.Prelude.{◌||◌, ◌==◌}
 use Rattle.std.specs.List.{list_any}
 use Rattle.std.proofs.lemmas.Bool.{and_from, and_parts, eqb-true, or_from, or_right}
 use Rattle.tcap_parts.specs.declared.code.Code.{Code}
@@ -13,18 +13,16 @@ use Rattle.tcap_end.specs.Half.{Half, Invocation, is_one_of, listed, one_fits}
 use Rattle.tcap_end.specs.Component.{allows, id_problems, link_problems, link_problems_of, links, operation_sent, receive_component}
 use Rattle.tcap_end.specs.Message.{send_components}
 use Rattle.tcap_refute.specs.Before.{invokes, is_invoke_id}
-use Rattle.tcap_refute.specs.ComponentKinds.{is_linked_to, is_of_link, is_problem, lists_nothing}
-use Rattle.tcap_refute.specs.Counts.{count, invokes_linked, invokes_so, rejects_invoke}
+use Rattle.tcap_refute.specs.ComponentKinds.{is_of_link, is_problem}
+use Rattle.tcap_refute.specs.Counts.{count, invokes_linked, rejects_invoke}
 use Rattle.tcap_refute.specs.Speaker.{Speaker}
-use Rattle.tcap_refute.proofs.Lives.{Bounds, Ends, Gets, Happening, IsLed, SameLists, Sends, got_in, sent_in}
+use Rattle.tcap_refute.proofs.Lives.{Bounds, Gets, Happening, IsLed, got_in, sent_in}
 use Rattle.tcap_refute.proofs.LedLaws.{IsKept, IsRisen, holds, risen}
 use Rattle.tcap_refute.proofs.LedLawsAnswered.{any_brought, none_takes}
-use Rattle.tcap_refute.proofs.LedLawsCounts.{any_counts, count_more, count_never, count_weaker, counts_any, one, one_weaker}
+use Rattle.tcap_refute.proofs.LedLawsCounts.{any_counts, count_more, count_weaker, one}
 use Rattle.tcap_refute.proofs.LedLawsGains.{gains_inn, got_inn, item_of}
-use Rattle.tcap_refute.proofs.LedLawsLists.{TakesWhat, count_gained, gain, id_same}
-use Rattle.tcap_refute.proofs.LedLawsOwn.{is_sent_so, sent_invoked}
-use Rattle.tcap_refute.proofs.LedLawsSteps.{takes_inn}
-use Rattle.tcap_refute.proofs.LedLawsTaken.{IsBrought, IsTaking, sent_spends, spent, spent_along, spent_within}
+use Rattle.tcap_refute.proofs.LedLawsLists.{count_gained, gain, id_same}
+use Rattle.tcap_refute.proofs.LedLawsTaken.{IsBrought, IsTaking, sent_spends, spent, spent_along}
 
 -- ---- problems
 
@@ -55,8 +53,8 @@ linked_are table code to = by (linked_of table to) (links table to code) refl re
     by [] b is is_listed = rw is refl
     by (first ∷ more) b is is_listed = rw is (ap (λ listed. cond listed [] (7 ∷ [])) is_listed)
 
--- A test that finds one of the problems of an Invoke finds 0, where another invocation has its ID, or one from 1 to 4, or one of
--- its link.
+-- A test that finds one of the problems of an Invoke finds 0, where another invocation has its ID, or one from 1 to 4,
+-- or one of its link.
 pub problem_found : (table : Table) (h : Half) (id : ℤ) (linked : Option ℤ) (code : Code) (passes : ℕ → Bool)
     → passes 1 ≡ false → passes 2 ≡ false → passes 3 ≡ false → passes 4 ≡ false
     → list_any passes (item_of table h id linked code).problems
@@ -95,7 +93,8 @@ none_of_link table h (Some id) code passes not_5 not_6 not_7 = by (operation_sen
     by (Some to) = ap (list_any passes) (linked_are table code to) ∙ by_list (linked_of table to) (links table to code)
 
 -- one of others nothing of the ID.
-pub none_of_id : (list : List Invocation) (passes : ℕ → Bool) → passes 0 ≡ false → list_any passes (id_problems list) ≡ false
+pub none_of_id : (list : List Invocation) (passes : ℕ → Bool) → passes 0 ≡ false
+    → list_any passes (id_problems list) ≡ false
 none_of_id [] passes not_0 = refl
 none_of_id (first ∷ more) passes not_0 = rw not_0 refl
 
@@ -123,9 +122,12 @@ reject_takes table x passes (Reject (Some id) (problems.ReturnError n)) is = cc
 pub fits_so : (h : Half) (id : ℤ) (problem : ℕ) (passes : ℕ → Bool) → one_fits id (allows problem) h.inn ≡ true
     → passes problem ≡ true → 1 ≤ count (allows_so passes) (listed id h.inn)
 fits_so h id problem passes fits pass =
-    omega (arith, any_counts (allows problem) (listed id h.inn) fits,
-    count_weaker (allows problem) (allows_so passes) (listed id h.inn)
-    (λ item is. one_found problem passes item.problems is pass))
+    omega (
+      arith,
+      any_counts (allows problem) (listed id h.inn) fits,
+      count_weaker (allows problem) (allows_so passes) (listed id h.inn)
+          (λ item is. one_found problem passes item.problems is pass),
+    )
 
 -- The Invoke that brings an invocation which passes.
 pub record Brings (table : Table) (h : Half) (x : ℤ) (c : Component) (passes : Invocation → Bool) : Type 0 where
@@ -165,7 +167,8 @@ link_brought table x h c gained =
     let it = brings_it table h x c (allows_so is_of_link) gained in
     rw (it.is) (and_from (is_invoke_id x it.id) (is_some it.linked) it.here (by it.id it.linked it.code it.fits))
   where
-    by : (id : ℤ) (linked : Option ℤ) (code : Code) → list_any is_of_link (item_of table h id linked code).problems ≡ true
+    by : (id : ℤ) (linked : Option ℤ) (code : Code)
+        → list_any is_of_link (item_of table h id linked code).problems ≡ true
         → is_some linked ≡ true
     by id None code found =
         let none = problem_found table h id None code is_of_link refl refl refl refl
@@ -182,7 +185,8 @@ pub over_brought : (table : Table) (x : ℤ) → IsBrought table x (allows_so ov
 over_brought table x h c gained =
     let it = brings_it table h x c (allows_so over_7) gained in
     let none = problem_found table h it.id it.linked it.code over_7 refl refl refl refl
-    ∙ or_from _ _ (none_of_id (listed it.id h.inn) over_7 refl) (none_of_link table h it.linked it.code over_7 refl refl refl) in
+    ∙ or_from _ _ (none_of_id (listed it.id h.inn) over_7 refl)
+    (none_of_link table h it.linked it.code over_7 refl refl refl) in
     sym none ∙ it.fits
 
 -- ---- duplicateInvokeID (0)
@@ -243,9 +247,14 @@ module _ (table : Table) (x : ℤ) where
     same = λ past g h lists was. rw (lists.1) was;
     start = λ h out inn grants. rw inn (omega arith);
     sends = λ past g k c led risen is was.
-        omega (arith, was, count_more (rejects_invoke x (is_problem 0)) c (sent_in past),
-        sent_spends table x (rejects_invoke x (is_problem 0)) (allows_so (is_problem 0)) (reject_takes table x (is_problem 0))
-        g k c risen is);
+        omega (
+          arith,
+          was,
+          count_more (rejects_invoke x (is_problem 0)) c (sent_in past),
+          sent_spends table x (rejects_invoke x (is_problem 0)) (allows_so (is_problem 0))
+              (reject_takes table x (is_problem 0))
+              g k c risen is,
+        );
     gets = second_gets;
     ends = λ past g id led risen may was. was;
   }
@@ -255,6 +264,11 @@ module _ (table : Table) (x : ℤ) where
       → count (rejects_invoke x (is_problem 0)) s.sent + count (rejects_invoke x (is_problem 0)) own
       ≤ count (invokes x) s.heard - 1
   second_within s past g h own bounds led is =
-      omega (arith, holds table AreSecond are_second past g led, bounds.told (rejects_invoke x (is_problem 0)),
-      bounds.heard (invokes x), spent_along table x (rejects_invoke x (is_problem 0)) (allows_so (is_problem 0))
-      (reject_takes table x (is_problem 0)) own g h (risen table past g led) is)
+      omega (
+        arith,
+        holds table AreSecond are_second past g led,
+        bounds.told (rejects_invoke x (is_problem 0)),
+        bounds.heard (invokes x),
+        spent_along table x (rejects_invoke x (is_problem 0)) (allows_so (is_problem 0))
+            (reject_takes table x (is_problem 0)) own g h (risen table past g led) is,
+      )

@@ -1,8 +1,7 @@
 -- What a component that is sent or received does to what a half keeps of one invoke ID (Q.774 3.2).
-use Rattle.std.proofs.Common.{◌≡◌, ℕ, ℤ, Bool, true, false, cond, List, [], ◌∷◌, ◌++◌, Option, Some, None, Result, Ok, is_none, is_some, refl, sym, ap, ◌∙◌}
-use Rattle.std.specs.Prelude.{◌&&◌, option_map}
-use Rattle.std.specs.BTreeMap.{insert_entry, is_at}
-use Rattle.std.specs.Map.{remove_entry}
+use Rattle.std.proofs.Common.{◌≡◌, ℕ, ℤ, Bool, true, false, cond, Option, Some, None, Result, Ok, is_none, is_some, refl}
+use Rattle.std.specs.Prelude.{option_map}
+use Rattle.std.specs.BTreeMap.{insert_entry}
 use Rattle.std.specs.Ordering.{int_cmp}
 use Rattle.tcap_parts.specs.declared.code.Code.{Code}
 use Rattle.tcap_parts.specs.declared.problem.Problem.{Problem}
@@ -13,14 +12,13 @@ use Rattle.tcap_end.specs.declared.fault.EndFault.{EndFault}
 use Rattle.tcap_end.specs.declared.fault.EndFault.TheVariants as faults
 use Rattle.tcap_end.specs.declared.half.InvocationState.TheVariants as states
 use Rattle.tcap_end.specs.declared.outs.OwnInvocation.{OwnInvocation}
-use Rattle.tcap_end.specs.Class.{reports}
-use Rattle.tcap_end.specs.Table.{Table, class_of, operation_of}
+use Rattle.tcap_end.specs.Table.{Table, operation_of}
 use Rattle.tcap_end.specs.Half.{Answer, Half, Invocation, listed, one_fits, without_oldest_of}
-use Rattle.tcap_end.specs.Component.{allows, allows_for, answer_problems, answered_operation, class_reports, id_problems, link_problems, may_answer, may_link, operation_sent, operation_sent_by, own_invocation, receive_answer, receive_component, send_answer, send_component, send_invoke, send_reject}
+use Rattle.tcap_end.specs.Component.{allows, allows_for, may_answer, may_link, own_invocation, send_answer, send_component, send_invoke, send_reject}
 use Rattle.tcap_end.specs.Sound.{Rises}
 use Rattle.tcap_end.proofs.AnsweringLaws.{needs_ok, ok_same}
 use Rattle.tcap_refute.specs.Before.{is_invoke_id}
-use Rattle.tcap_refute.proofs.LedLawsLists.{Gained, Took, gained_of, id_same, kept_inserted, kept_removed, took_of}
+use Rattle.tcap_refute.proofs.LedLawsLists.{Took, id_same, kept_inserted, took_of}
 
 -- ---- the steps of sending, taken apart
 
@@ -75,9 +73,11 @@ pub rejects_answer_step : (h k : Half) (id : ℤ) (is_result : Bool) (n : ℕ)
     → (one_fits id (allows_for is_result n) h.grants ≡ true)
     × (record h { grants = without_oldest_of id (allows_for is_result n) h.grants } ≡ k)
 rejects_answer_step h k id true n is =
-    let one = needs_ok (one_fits id (allows_for true n) h.grants) faults.RejectNotAllowed _ k is in (one.0, this _ k one.1)
+    let one = needs_ok (one_fits id (allows_for true n) h.grants) faults.RejectNotAllowed _ k is in
+    (one.0, this _ k one.1)
 rejects_answer_step h k id false n is =
-    let one = needs_ok (one_fits id (allows_for false n) h.grants) faults.RejectNotAllowed _ k is in (one.0, this _ k one.1)
+    let one = needs_ok (one_fits id (allows_for false n) h.grants) faults.RejectNotAllowed _ k is in
+    (one.0, this _ k one.1)
 
 -- ---- sending: invocations that were received
 

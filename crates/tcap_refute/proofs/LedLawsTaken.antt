@@ -1,24 +1,18 @@
--- The invocations that a half received: what it sent took some of them, each one that allows it, and the others are there
--- (Q.774 3.2).
-use Rattle.std.proofs.Common.{◌≡◌, ℕ, ℤ, ◌+◌, ◌≤◌, arith, Bool, true, false, cond, List, [], ◌∷◌, Option, Some, None, Ok, refl}
-use Rattle.std.specs.Prelude.{◌&&◌, ◌||◌, option_map}
-use Rattle.std.proofs.lemmas.Bool.{and_from, and_parts, or_cases, or_left, or_right}
-use Rattle.tcap_parts.specs.declared.code.Code.{Code}
-use Rattle.tcap_parts.specs.declared.problem.Problem.TheVariants as problems
+-- The invocations that a half received: what it sent took some of them, each one that allows it, and the others are
+-- there (Q.774 3.2).
+use Rattle.std.proofs.Common.{◌≡◌, ℤ, ◌+◌, ◌≤◌, arith, Bool, true, List, [], ◌∷◌, Ok}
 use Rattle.tcap_parts.specs.declared.component.Component.{Component}
-use Rattle.tcap_parts.specs.declared.component.Component.TheVariants.{Invoke, ReturnResult, ReturnError, Reject}
 use Rattle.tcap_end.specs.declared.fault.EndFault.{EndFault}
 use Rattle.tcap_end.specs.Table.{Table}
 use Rattle.tcap_end.specs.Half.{Half, Invocation, listed}
-use Rattle.tcap_end.specs.Component.{class_reports, may_answer, names, receive_component, send_component}
+use Rattle.tcap_end.specs.Component.{receive_component, send_component}
 use Rattle.tcap_end.specs.Message.{send_components}
 use Rattle.tcap_end.proofs.AnsweringLaws.{ok_same, then_ok}
-use Rattle.tcap_refute.specs.Before.{invokes, is_invoke_id}
-use Rattle.tcap_refute.specs.Counts.{count, invokes_so}
+use Rattle.tcap_refute.specs.Counts.{count}
 use Rattle.tcap_refute.specs.Speaker.{Speaker}
-use Rattle.tcap_refute.proofs.Lives.{Bounds, Ends, Gets, Happening, IsLed, SameLists, Sends, got_in, sent_in}
+use Rattle.tcap_refute.proofs.Lives.{Bounds, Happening, IsLed, got_in, sent_in}
 use Rattle.tcap_refute.proofs.LedLaws.{IsKept, IsRisen, holds, risen, risen_sends}
-use Rattle.tcap_refute.proofs.LedLawsCounts.{count_both, count_more, one, one_weaker}
+use Rattle.tcap_refute.proofs.LedLawsCounts.{count_more, one, one_weaker}
 use Rattle.tcap_refute.proofs.LedLawsGains.{gains_inn, got_inn}
 use Rattle.tcap_refute.proofs.LedLawsLists.{TakesWhat, count_gained, count_taken, gain}
 use Rattle.tcap_refute.proofs.LedLawsSteps.{sent_inn, takes_inn}
@@ -62,10 +56,14 @@ module _ (table : Table) (x : ℤ) (spends : Component → Bool) (passes : Invoc
       sends = λ past g k c led risen is was.
           omega (arith, was, sent_spends g k c risen is, count_more spends c (sent_in past));
       gets = λ past g c led risen was.
-          omega (arith, was, count_more brings c (got_in past),
-          count_gained (gains_inn table g x c) passes (listed x g.inn) (listed x (receive_component table g c).inn)
-          (got_inn table g c x (risen.inn.0)),
-          one_weaker (gain passes (gains_inn table g x c)) (brings c) (brought g c));
+          omega (
+            arith,
+            was,
+            count_more brings c (got_in past),
+            count_gained (gains_inn table g x c) passes (listed x g.inn) (listed x (receive_component table g c).inn)
+                (got_inn table g c x (risen.inn.0)),
+            one_weaker (gain passes (gains_inn table g x c)) (brings c) (brought g c),
+          );
       ends = λ past g id led risen may was. was;
     }
 
@@ -79,5 +77,10 @@ module _ (table : Table) (x : ℤ) (spends : Component → Bool) (passes : Invoc
         → Bounds s (sent_in past) (got_in past) → IsLed table past g → send_components table g own ≡ Ok h
         → count spends s.sent + count spends own + count passes (listed x h.inn) ≤ count brings s.heard
     spent_within s past g h own bounds led is =
-        omega (arith, spent past g led, spent_along own g h (risen table past g led) is, bounds.told spends,
-        bounds.heard brings)
+        omega (
+          arith,
+          spent past g led,
+          spent_along own g h (risen table past g led) is,
+          bounds.told spends,
+          bounds.heard brings,
+        )

@@ -1,6 +1,6 @@
 -- No Reject that a half sends has a problem that nothing which the half received has (Q.773 4.2.2, Q.774 3.2).
-use Rattle.std.proofs.Common.{◌≡◌, ◌⊎◌, inl, inr, ℕ, ℤ, ◌+◌, ◌≤◌, arith, Bool, true, false, cond, eqb, leb, ltb, List, [], ◌∷◌, ◌++◌, Option, Some, None, Ok, not, refl, sym, ap, ◌∙◌}
-use Rattle.std.specs.Prelude.{◌&&◌, ◌||◌, ◌==◌, nat_le}
+use Rattle.std.proofs.Common.{◌≡◌, ℕ, ℤ, ◌+◌, ◌≤◌, arith, Bool, true, false, cond, eqb, leb, ltb, List, [], ◌∷◌, ◌++◌, Option, Some, Ok, not, refl, ap}
+use Rattle.std.specs.Prelude.{◌&&◌, ◌||◌, nat_le}
 use Rattle.std.specs.List.{list_any}
 use Rattle.std.proofs.lemmas.Bool.{and_from, and_parts, eqb-true, le-ltb, leb-true, ltb-true, or_cases}
 use Rattle.tcap_parts.specs.declared.code.Code.{Code}
@@ -31,7 +31,8 @@ use Rattle.tcap_refute.proofs.LedLawsRejects.{allows_so, fits_so, link_brought, 
 use Rattle.tcap_refute.proofs.LedLawsSteps.{answer_problem, rejects_answer_step, rejects_invoke_step}
 use Rattle.tcap_refute.proofs.LedLawsTaken.{spent_within}
 
-module _ (table : Table) (s : Speaker) (past : List Happening) (g : Half) (bounds : Bounds s (sent_in past) (got_in past))
+module _ (table : Table) (s : Speaker) (past : List Happening) (g : Half)
+    (bounds : Bounds s (sent_in past) (got_in past))
     (led : IsLed table past g) (own : List Component) (h k : Half) (id : ℤ) (n : ℕ)
     (was : send_components table g own ≡ Ok h) where
   -- ---- of an invocation
@@ -47,7 +48,12 @@ module _ (table : Table) (s : Speaker) (past : List Happening) (g : Half) (bound
     counted : (passes : Component → Bool) → count passes (s.sent ++ own ++ reject ∷ [])
         ≡ count passes s.sent + count passes (own ++ reject ∷ [])
     counted passes =
-        omega (arith, count_last passes (s.sent ++ own) reject, count_both passes s.sent own, count_last passes own reject)
+        omega (
+          arith,
+          count_last passes (s.sent ++ own) reject,
+          count_both passes s.sent own,
+          count_last passes own reject,
+        )
 
     -- duplicateInvokeID: so many Invokes of the ID were heard, and one more;
     none_second : (eqb n 0 && leb (count (invokes id) s.heard)
@@ -55,25 +61,38 @@ module _ (table : Table) (s : Speaker) (past : List Happening) (g : Half) (bound
     none_second so =
         let (zero, more) = and_parts (eqb n 0) _ so in
         let it = and_from (is_invoke_id id id) (is_problem 0 n) (id_itself id) zero in
-        absurd (omega (arith, leb-true _ _ more, counted (rejects_invoke id (is_problem 0)), ap one it,
-        count_last (rejects_invoke id (is_problem 0)) own reject,
-        second_within table id s past g k (own ++ reject ∷ []) bounds led behind))
+        absurd (omega (
+          arith,
+          leb-true _ _ more,
+          counted (rejects_invoke id (is_problem 0)),
+          ap one it,
+          count_last (rejects_invoke id (is_problem 0)) own reject,
+          second_within table id s past g k (own ++ reject ∷ []) bounds led behind,
+        ))
 
     -- a problem of a link: so many linked Invokes;
     none_linked : (is_of_link n && ltb (count (invokes_linked id) s.heard)
         (count (rejects_invoke id is_of_link) (s.sent ++ own ++ reject ∷ []))) ≡ true → ⊥
     none_linked so =
-        absurd (omega (arith, ltb-true _ _ ((and_parts (is_of_link n) _ so).1), counted (rejects_invoke id is_of_link),
-        spent_within table id (rejects_invoke id is_of_link) (allows_so is_of_link) (reject_takes table id is_of_link)
-        (invokes_linked id) (link_brought table id) s past g k (own ++ reject ∷ []) bounds led behind))
+        absurd (omega (
+          arith,
+          ltb-true _ _ ((and_parts (is_of_link n) _ so).1),
+          counted (rejects_invoke id is_of_link),
+          spent_within table id (rejects_invoke id is_of_link) (allows_so is_of_link) (reject_takes table id is_of_link)
+              (invokes_linked id) (link_brought table id) s past g k (own ++ reject ∷ []) bounds led behind,
+        ))
 
     -- no problem over 7.
     none_over : ltb 7 n ≡ true → ⊥
     none_over so =
         let (fits, same) = rejects_invoke_step h k id n is in
-        absurd (omega (arith, fits_so h id n over_7 fits so, count_never s.heard,
-        spent_within table id (λ c. false) (allows_so over_7) (none_takes table id (allows_so over_7)) (λ c. false)
-        (over_brought table id) s past g h own bounds led was))
+        absurd (omega (
+          arith,
+          fits_so h id n over_7 fits so,
+          count_never s.heard,
+          spent_within table id (λ c. false) (allows_so over_7) (none_takes table id (allows_so over_7)) (λ c. false)
+              (over_brought table id) s past g h own bounds led was,
+        ))
 
     pub invoke_not_wrong : is_invoke_reject_wrong table s (s.sent ++ own ++ reject ∷ []) id n ≡ true → ⊥
     invoke_not_wrong =
@@ -91,10 +110,15 @@ module _ (table : Table) (s : Speaker) (past : List Happening) (g : Half) (bound
         + count (grant_so sort passes) (listed id k.grants)
         ≤ count (rejects_of sort id passes) (sent_in past) + count (grant_so sort passes) (listed id g.grants)
     along passes =
-        omega (arith, count_last (rejects_of sort id passes) (s.sent ++ own) answer_reject,
-        count_both (rejects_of sort id passes) s.sent own, count_last (rejects_of sort id passes) own answer_reject,
-        bounds.told (rejects_of sort id passes), rejects_along table id sort passes (own ++ answer_reject ∷ []) g k
-        (risen table past g led) (sent_more table own answer_reject g h k was is))
+        omega (
+          arith,
+          count_last (rejects_of sort id passes) (s.sent ++ own) answer_reject,
+          count_both (rejects_of sort id passes) s.sent own,
+          count_last (rejects_of sort id passes) own answer_reject,
+          bounds.told (rejects_of sort id passes),
+          rejects_along table id sort passes (own ++ answer_reject ∷ []) g k
+              (risen table past g led) (sent_more table own answer_reject g h k was is),
+        )
 
     -- An answer that allows the problem was there before the message.
     fits : one_fits id (allows_for sort n) h.grants ≡ true
@@ -107,22 +131,33 @@ module _ (table : Table) (s : Speaker) (past : List Happening) (g : Half) (bound
 
     there : (passes : ℕ → Bool) → passes n ≡ true → 1 ≤ count (grant_so sort passes) (listed id g.grants)
     there passes pass =
-        omega (arith, any_counts (allows_for sort n) (listed id h.grants) fits,
-        count_weaker (allows_for sort n) (grant_so sort passes) (listed id h.grants) (grant_found sort n passes pass),
-        rejects_along table id sort passes own g h (risen table past g led) was)
+        omega (
+          arith,
+          any_counts (allows_for sort n) (listed id h.grants) fits,
+          count_weaker (allows_for sort n) (grant_so sort passes) (listed id h.grants) (grant_found sort n passes pass),
+          rejects_along table id sort passes own g h (risen table past g led) was,
+        )
 
     -- No more are rejected than were heard;
     none_more : ltb (count (answers_of sort id) s.heard)
         (count (rejects_of sort id any_problem) (s.sent ++ own ++ answer_reject ∷ [])) ≡ true → ⊥
     none_more so =
-        absurd (omega (arith, ltb-true _ _ so, along any_problem, rejected table id sort any_problem past g led,
-        bounds.heard (answers_of sort id)))
+        absurd (omega (
+          arith,
+          ltb-true _ _ so,
+          along any_problem,
+          rejected table id sort any_problem past g led,
+          bounds.heard (answers_of sort id),
+        ))
 
     -- the problem is an answer's;
     none_higher : ltb (cond sort 2 4) n ≡ true → ⊥
     none_higher so =
-        absurd (omega (arith, shown table id sort higher (λ code. false) shows_none past g led (there higher so),
-        never (sent_in past)))
+        absurd (omega (
+          arith,
+          shown table id sort higher (λ code. false) shows_none past g led (there higher so),
+          never (sent_in past),
+        ))
       where
         higher : ℕ → Bool
         higher m = ltb (cond sort 2 4) m
@@ -130,7 +165,8 @@ module _ (table : Table) (s : Speaker) (past : List Happening) (g : Half) (bound
         shows_none : (o : Option Code) → list_any higher (problems_of sort (answered_by table o)) ≡ true
             → sent_so (λ code. false) o ≡ true
         shows_none o found =
-            let (sent, bad) = shows_reported table sort higher o (low sort 0 (omega arith)) (low sort 1 (omega arith)) found in
+            let (sent, bad) = shows_reported table sort higher o (low sort 0 (omega arith))
+            (low sort 1 (omega arith)) found in
             absurd (by sort bad)
           where
             low : (b : Bool) (m : ℕ) → m ≤ 1 → ltb (cond b 2 4) m ≡ false
@@ -157,10 +193,16 @@ module _ (table : Table) (s : Speaker) (past : List Happening) (g : Half) (bound
     none_unexpected so =
         let (before, same) = and_parts (s.is_all && eqb n 1) _ so in
         let (all, is_1) = and_parts s.is_all (eqb n 1) before in
-        absurd (omega (arith, eqb-true _ _ same, count_reports table sort id s.invoked,
-        codes_either (class_reports table sort) id s.invoked,
-        shown table id sort (is_problem 1) (λ code. not (class_reports table sort code)) (shows_other table sort) past g led
-        (there (is_problem 1) is_1), bounds.all all (invokes_so id (λ code. not (class_reports table sort code)))))
+        absurd (omega (
+          arith,
+          eqb-true _ _ same,
+          count_reports table sort id s.invoked,
+          codes_either (class_reports table sort) id s.invoked,
+          shown table id sort (is_problem 1) (λ code. not (class_reports table sort code))
+              (shows_other table sort) past g led
+              (there (is_problem 1) is_1),
+          bounds.all all (invokes_so id (λ code. not (class_reports table sort code))),
+        ))
 
     -- others where one allows it, and no more of these than such answers.
     none_mistyped : (not_lasts : ℕ) → count (not_lasts_of sort id) s.heard ≤ not_lasts
@@ -172,16 +214,31 @@ module _ (table : Table) (s : Speaker) (past : List Happening) (g : Half) (bound
         let (all, high) = and_parts s.is_all (nat_le 2 n) before in
         let known = bounds.all all (invokes_so id (class_reports table sort)) in
         neither (or_cases (eqb (count_suited table sort id s.invoked) 0) _ either)
-        (λ none. absurd (omega (arith, eqb-true _ _ none, count_reports table sort id s.invoked, known,
-        shown table id sort (nat_le 2) (class_reports table sort)
-        (λ o found. (shows_reported table sort (nat_le 2) o refl refl found).0) past g led (there (nat_le 2) high))))
-        (λ more. absurd (omega (arith, ltb-true _ _ more, fewer, count_reports table sort id s.invoked, known,
-        along (nat_le 2), mistyped table id sort past g led, bounds.heard (not_lasts_of sort id))))
+        (λ none. absurd (omega (
+          arith,
+          eqb-true _ _ none,
+          count_reports table sort id s.invoked,
+          known,
+          shown table id sort (nat_le 2) (class_reports table sort)
+              (λ o found. (shows_reported table sort (nat_le 2) o refl refl found).0) past g led
+              (there (nat_le 2) high),
+        )))
+        (λ more. absurd (omega (
+          arith,
+          ltb-true _ _ more,
+          fewer,
+          count_reports table sort id s.invoked,
+          known,
+          along (nat_le 2),
+          mistyped table id sort past g led,
+          bounds.heard (not_lasts_of sort id),
+        )))
 
     pub answer_not_wrong : (not_lasts : ℕ) → count (not_lasts_of sort id) s.heard ≤ not_lasts
         → is_answer_reject_wrong table s sort id n
         (count (rejects_of sort id any_problem) (s.sent ++ own ++ answer_reject ∷ []))
-        (count (rejects_of sort id (nat_le 2)) (s.sent ++ own ++ answer_reject ∷ [])) (count (answers_of sort id) s.heard)
+        (count (rejects_of sort id (nat_le 2)) (s.sent ++ own ++ answer_reject ∷ []))
+        (count (answers_of sort id) s.heard)
         not_lasts ≡ true → ⊥
     answer_not_wrong not_lasts fewer =
         none_of_four _ _ _ _ none_more none_higher none_unexpected (none_mistyped not_lasts fewer)
