@@ -9,3 +9,4 @@ pub mod ComponentKinds
 pub mod DialogueKinds
 pub mod KindLaws
 pub mod Lives
+pub mod RefutedLaws

@@ -17,3 +17,4 @@ pub mod BlameRows6
 pub mod BlameRows7
 pub mod BlameRows8
 pub mod BlameRows9
+pub mod Unsendable
