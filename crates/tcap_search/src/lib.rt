@@ -2,11 +2,14 @@
 //! it is believed: `tcap_check` replays it.
 #![tactic(auto)]
 
+mod candidates;
 mod closings;
 mod expiries;
 mod fates;
+mod leasts;
 mod lines;
 mod search;
+mod stacks;
 mod tie;
 mod ties;
 pub mod worked;

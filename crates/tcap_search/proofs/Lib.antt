@@ -1,0 +1,5 @@
+pub mod LineLaws
+pub mod IdLaws
+pub mod LatestLaws
+pub mod TieLaws
+pub mod ClosingLaws
