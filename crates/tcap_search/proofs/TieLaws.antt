@@ -208,9 +208,11 @@ one_key side asked id dtid cause given e is is_too =
     let first = and_parts (is_end side e.side && is_from id e) (is_answered_by cause (message_of e)) is in
     let second = and_parts (is_end asked e.side && is_from dtid e) (is_answered_by given (message_of e)) is_too in
     let sent = and_parts (is_end side e.side) (is_from id e) first.0 in
-    let sent_too = and_parts (is_end asked e.side) (is_from dtid e) second.0 in
-    (one_side side asked e.side sent.0 sent_too.0, one_from id dtid e sent.1 sent_too.1,
-    one_cause cause given (message_of e) first.1 second.1)
+    let sent_too = and_parts (is_end asked e.side) (is_from dtid e) second.0 in (
+      one_side side asked e.side sent.0 sent_too.0,
+      one_from id dtid e sent.1 sent_too.1,
+      one_cause cause given (message_of e) first.1 second.1,
+    )
 
 -- ---- what an Abort asks for
 

@@ -6,3 +6,4 @@ pub mod Proposed
 pub mod Shown
 pub mod Traced
 pub mod WorkedProposals
+pub mod Found

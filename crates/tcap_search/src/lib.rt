@@ -6,6 +6,7 @@ mod candidates;
 mod closings;
 mod expiries;
 mod fates;
+mod found;
 mod leasts;
 mod lines;
 mod search;

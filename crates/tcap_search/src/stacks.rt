@@ -36,10 +36,7 @@ fn push_to(
 }
 
 /// Takes the top number of an ID, where there is one.
-fn pop_from(
-    stacks: &mut BTreeMap<TransactionId, Vec<u32>>,
-    id: TransactionIdView,
-) -> Option<u32>
+fn pop_from(stacks: &mut BTreeMap<TransactionId, Vec<u32>>, id: TransactionIdView) -> Option<u32>
     ensures top { result ≡ top (stack_in id.entry.octets.now stacks.old.entries) }
     ensures left { (key : List ℕ) → stack_in key stacks.new.entries
         ≡ cond (is_at (octets_cmp id.entry.octets.now) key) (under_top (stack_in key stacks.old.entries))
