@@ -1,12 +1,12 @@
 -- What ended transactions, what told of it, and what is listed.
-use Rattle.std.proofs.Common.{◌≡◌, ℕ, ◌+◌, ◌<◌, ◌≤◌, ◌==◌, ◌&&◌, ◌||◌, not, Bool, true, false, cond, List, [], ◌∷◌, ◌++◌, length, map, take, drop, get_or, Option, Some, None, is_some, refl, sym, ap, ◌∙◌, arith}
+use Rattle.std.proofs.Common.{◌≡◌, ℕ, zero, suc, ◌+◌, ◌<◌, ◌≤◌, ◌==◌, ◌&&◌, ◌||◌, not, Bool, true, false, cond, List, [], ◌∷◌, ◌++◌, length, map, take, drop, get_or, Option, Some, None, is_some, refl, sym, ap, ◌∙◌, arith}
 use Rattle.std.specs.Prelude.{min, nat_le, nat_lt, option_map, slice_get}
 use Rattle.std.specs.List.{list_any}
 use Rattle.std.proofs.lemmas.Bool.{eq-eqb, eqb-false, eqb-true, ne_eqb}
 use Rattle.std.proofs.lemmas.Bool.Decides.{nat_tests}
 use Rattle.std.proofs.lemmas.List.{drop_all, drop_more, length-map, length-take-le, take_all, take_more}
 use Rattle.std.proofs.lemmas.List.Folds.{list_any-append}
-use Rattle.std.proofs.lemmas.Option.{slice_get-map, slice_get_within}
+use Rattle.std.proofs.lemmas.Option.{same_Some, slice_get-map, slice_get_within}
 use Rattle.tcap_record.specs.declared.entry.End.{End as Side}
 use Rattle.tcap_record.specs.declared.entry.Entry.{Entry}
 use Rattle.tcap_check.specs.World.{is_side, other}
@@ -20,7 +20,7 @@ use Rattle.tcap_search.specs.Lines.{Line, are_of_one_end, is_end, is_of_peer, li
 use Rattle.tcap_search.specs.Proposed.{Fated, all_fated, closing_by, closings_from, closings_of, ends, fate_of, fated, first_fates, is_closing_of, is_continue, is_delivered_by, is_end_or_abort, ties_of, was_ended, was_told, with_closing, with_losses}
 use Rattle.tcap_search.specs.Shown.{KeepsEnded, KeepsListed, KeepsTold, both_of, shown_by}
 use Rattle.tcap_search.specs.Traced.{AreFates, AreTransactions}
-use Rattle.tcap_search.proofs.LineLaws.{count_behind, count_taken, line_at, lines_more, transaction_below}
+use Rattle.tcap_search.proofs.LineLaws.{count_lines, count_taken, line_at, lines_more, transaction_below}
 
 -- ---- numbers that are noted
 
@@ -112,9 +112,9 @@ turned_tests a b c d x y z is_x is_y is_true is_z =
 -- ---- what ended transactions
 
 -- what is noted of the first entries
-pub record Ended (entries : List Entry) (count : ℕ) (ended : Leasts) : Type 0 where
-  pub room : HasRoom (length entries) ended
-  pub kept : KeepsEnded (length entries) (lines_of (take count entries)) ended
+pub record Ended (entries : List Entry) (count : ℕ) (l : Leasts) : Type 0 where
+  pub room : HasRoom (length entries) l
+  pub kept : KeepsEnded (length entries) (lines_of (take count entries)) l
 
 pub ended_none : (entries : List Entry) (ended : Leasts)
     → ((side : Side) (transaction : ℕ) → least_at side transaction ended ≡ None) → HasRoom (length entries) ended
@@ -231,7 +231,7 @@ count_fates entries fates are =
     let one : length (map (λ (x : Fated). x.fate) all) ≡ length all = length-map all (λ (x : Fated). x.fate) in
     let two : length (map (λ (x : Fated). x.line) all) ≡ length all = length-map all (λ (x : Fated). x.line) in
     let three : length (map (λ (x : Fated). x.line) all) ≡ length (lines_of entries) = ap (length {A = Line}) (all_lines (lines_of entries)) in
-    let four : length (lines_of entries) ≡ length ([] {A = Line}) + length entries = count_behind [] entries in
+    let four : length (lines_of entries) ≡ length entries = count_lines entries in
     let five : length fates ≡ length (map (λ (x : Fated). x.fate) all) = ap (length {A = Fate}) are in
     omega arith
 
@@ -240,7 +240,7 @@ pub count_transactions : (entries : List Entry) (transactions : List (Option ℕ
 count_transactions entries transactions are =
     let one : length (map (λ (x : Line). x.transaction) (lines_of entries)) ≡ length (lines_of entries)
     = length-map (lines_of entries) (λ (x : Line). x.transaction) in
-    let four : length (lines_of entries) ≡ length ([] {A = Line}) + length entries = count_behind [] entries in
+    let four : length (lines_of entries) ≡ length entries = count_lines entries in
     let five : length transactions ≡ length (map (λ (x : Line). x.transaction) (lines_of entries))
     = ap (length {A = Option ℕ}) are in
     omega arith
@@ -358,6 +358,11 @@ module _ (entries : List Entry) (fates : List Fate) (i : ℕ) (old : Leasts) (e 
 
 -- ---- the half that a tie shows to have closed
 
+none_within : {A : Type 0} (xs : List A) (k : ℕ) → k < length xs → slice_get xs k ≡ None → ⊥
+none_within [] k within none = omega arith
+none_within (x ∷ xs) zero within none = cc
+none_within (x ∷ xs) (suc k) within none = none_within xs k (omega arith) none
+
 pub no_line : (entries : List Entry) (k : ℕ) → slice_get entries k ≡ None → slice_get (lines_of entries) k ≡ None
 no_line entries k none = by (slice_get (lines_of entries) k) refl
   where
@@ -365,16 +370,13 @@ no_line entries k none = by (slice_get (lines_of entries) k) refl
     by None is = refl
     by (Some x) is =
         let within : k < length (lines_of entries) = slice_get_within (lines_of entries) k x is in
-        let counted : length (lines_of entries) ≡ length ([] {A = Line}) + length entries = count_behind [] entries in
-        absurd (past within counted)
-      where
-        past : k < length (lines_of entries) → length (lines_of entries) ≡ length ([] {A = Line}) + length entries → ⊥
-        past within counted = none_within entries k (omega arith) none
+        let counted = count_lines entries in
+        let within_entries : k < length entries = omega arith in
+        absurd (none_within entries k within_entries none)
 
-        none_within : (es : List Entry) (k : ℕ) → k < length es → slice_get es k ≡ None → ⊥
-        none_within [] k within none = omega arith
-        none_within (e ∷ es) zero within none = cc
-        none_within (e ∷ es) (suc k) within none = none_within es k (omega arith) none
+both_same : {A : Type 0} (b : Bool) (x : A) → cond b x x ≡ x
+both_same true x = refl
+both_same false x = refl
 
 module _ (entries : List Entry) (all : List Fated) (k reply : ℕ) (e : Entry) (is : slice_get entries k ≡ Some e) where
   abbrev line_there : Line
@@ -388,16 +390,12 @@ module _ (entries : List Entry) (all : List Fated) (k reply : ℕ) (e : Entry) (
       cond (is_continue (message_of e) && not (was_ended (lines_of entries) line_there reply) && not (was_told all line_there reply))
       (both_of (option_map other side) transaction) None
 
-  none_there : (b : Bool) → cond b (None {A = Side × ℕ}) None ≡ None
-  none_there true = refl
-  none_there false = refl
-
   pub no_side : e.side ≡ None → shown_by all (lines_of entries) reply (slice_get (lines_of entries) k) ≡ None
   no_side none =
       ap (shown_by all (lines_of entries) reply) there
       ∙ (ap (λ (side : Option Side). both_there side line_there.transaction) none
-      ∙ none_there (is_continue (message_of e) && not (was_ended (lines_of entries) line_there reply)
-      && not (was_told all line_there reply)))
+      ∙ both_same (is_continue (message_of e) && not (was_ended (lines_of entries) line_there reply)
+      && not (was_told all line_there reply)) None)
 
   pub no_transaction : (side : Side) → e.side ≡ Some side → line_there.transaction ≡ None
       → shown_by all (lines_of entries) reply (slice_get (lines_of entries) k) ≡ None
@@ -405,8 +403,8 @@ module _ (entries : List Entry) (all : List Fated) (k reply : ℕ) (e : Entry) (
       ap (shown_by all (lines_of entries) reply) there
       ∙ (ap (λ (s : Option Side). both_there s line_there.transaction) sent
       ∙ (ap (both_there (Some side)) none
-      ∙ none_there (is_continue (message_of e) && not (was_ended (lines_of entries) line_there reply)
-      && not (was_told all line_there reply))))
+      ∙ both_same (is_continue (message_of e) && not (was_ended (lines_of entries) line_there reply)
+      && not (was_told all line_there reply)) None))
 
   pub shown_is : (ended told : Leasts) (side : Side) (transaction : ℕ) → e.side ≡ Some side
       → line_there.transaction ≡ Some transaction → KeepsEnded (length entries) (lines_of entries) ended
@@ -433,15 +431,15 @@ shown_below entries all k reply side transaction is = by (slice_get (lines_of en
   where
     by : (o : Option Line) → slice_get (lines_of entries) k ≡ o
         → shown_by all (lines_of entries) reply o ≡ Some (side, transaction) → transaction < length entries
-    by None there is = cc
-    by (Some x) there is =
-        transaction_below entries k x transaction there
+    by None found is = cc
+    by (Some x) found is =
+        transaction_below entries k x transaction found
         (of_both (is_continue (message_of x.entry) && not (was_ended (lines_of entries) x reply) && not (was_told all x reply))
         (option_map other x.entry.side) x.transaction is)
       where
         of_both : (b : Bool) (s : Option Side) (t : Option ℕ) → cond b (both_of s t) None ≡ Some (side, transaction)
             → t ≡ Some transaction
-        of_both true (Some s) (Some t) is = cc
+        of_both true (Some s) (Some t) is = ap (λ (p : Side × ℕ). Some p.1) (same_Some (s, t) (side, transaction) is)
         of_both true (Some s) None is = cc
         of_both true None t is = cc
         of_both false s t is = cc
@@ -471,9 +469,9 @@ closing_is all lines listed reply (Some x) =
 
 -- What is listed so far, and what the ties that are left add to it.
 pub record Listed (all : List Fated) (lines : List Line) (ties : List Tie) (count i : ℕ) (listed : List Closing)
-    (kept : Leasts) : Type 0 where
-  pub room : HasRoom count kept
-  pub kept : KeepsListed count listed kept
+    (l : Leasts) : Type 0 where
+  pub room : HasRoom count l
+  pub kept : KeepsListed count listed l
   pub left : closings_from all lines (drop i ties) listed ≡ closings_of all lines ties
 
 pub listed_none : (all : List Fated) (lines : List Line) (ties : List Tie) (count : ℕ) (kept : Leasts)

@@ -68,9 +68,9 @@ latest_more lines old new e transaction is has noted side id =
 
 -- ---- the transactions so far
 
-pub record Noted (entries : List Entry) (count : ℕ) (latest : Latest) (transactions : List (Option ℕ)) : Type 0 where
-  pub latest : IsLatest (lines_of (take count entries)) latest
-  pub transactions : transactions ≡ map (λ x. x.transaction) (lines_of (take count entries))
+pub record Noted (entries : List Entry) (count : ℕ) (l : Latest) (found : List (Option ℕ)) : Type 0 where
+  pub latest : IsLatest (lines_of (take count entries)) l
+  pub transactions : found ≡ map (λ x. x.transaction) (lines_of (take count entries))
 
 pub noted_none : (entries : List Entry) (latest : Latest)
     → ((side : Side) (id : List ℕ) → latest_at side id latest ≡ None) → Noted entries 0 latest []

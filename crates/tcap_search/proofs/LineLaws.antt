@@ -35,11 +35,11 @@ count_behind earlier (e ∷ es) =
     let rest = count_behind (earlier ++ line_behind earlier e ∷ []) es in
     omega arith
 
+pub count_lines : (es : List Entry) → length (lines_of es) ≡ length es
+count_lines es = let counted = count_behind [] es in omega arith
+
 pub count_taken : (es : List Entry) (i : ℕ) → i ≤ length es → length (lines_of (take i es)) ≡ i
-count_taken es i within =
-    let counted = count_behind [] (take i es) in
-    let taken = length-take-le i es within in
-    omega arith
+count_taken es i within = count_lines (take i es) ∙ length-take-le i es within
 
 -- ---- the line of an entry
 

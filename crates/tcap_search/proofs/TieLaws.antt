@@ -71,21 +71,22 @@ top_of (x ∷ lines) = refl
 first_passes : {A : Type 0} (passes : A → Bool) (xs : List A) (y : A) (rest : List A)
     → filter passes xs ≡ y ∷ rest → passes y ≡ true
 first_passes passes [] y rest is = cc
-first_passes {A} passes (x ∷ xs) y rest is = by (passes x) refl is
+first_passes {A} passes (x ∷ xs) y rest is = by (passes x) refl (first_passes passes xs y rest) is
   where
-    by : (b : Bool) → passes x ≡ b → cond b (x ∷ filter passes xs) (filter passes xs) ≡ y ∷ rest → passes y ≡ true
-    by true so is = let same : x ≡ y = cc in rw (← same) so
-    by false so is = first_passes passes xs y rest is
+    by : (b : Bool) → passes x ≡ b → (filter passes xs ≡ y ∷ rest → passes y ≡ true)
+        → cond b (x ∷ filter passes xs) (filter passes xs) ≡ y ∷ rest → passes y ≡ true
+    by true so more is = let same : x ≡ y = cc in rw (← same) so
+    by false so more is = more is
 
 -- and what holds of each holds of it.
 first_holds : {A : Type 0} (P : A → Type 0) (passes : A → Bool) (xs : List A) (y : A) (rest : List A)
     → AllByRecursion P xs → filter passes xs ≡ y ∷ rest → P y
 first_holds P passes [] y rest all is = cc
-first_holds {A} P passes (x ∷ xs) y rest all is = by (passes x) is
+first_holds {A} P passes (x ∷ xs) y rest all is = by (passes x) (first_holds P passes xs y rest all.1) is
   where
-    by : (b : Bool) → cond b (x ∷ filter passes xs) (filter passes xs) ≡ y ∷ rest → P y
-    by true is = let same : x ≡ y = cc in rw (← same) all.0
-    by false is = first_holds P passes xs y rest all.1 is
+    by : (b : Bool) → (filter passes xs ≡ y ∷ rest → P y) → cond b (x ∷ filter passes xs) (filter passes xs) ≡ y ∷ rest → P y
+    by true more is = let same : x ≡ y = cc in rw (← same) all.0
+    by false more is = more is
 
 -- ---- one tie more
 
@@ -122,7 +123,8 @@ module _ (t : Tie) (ties : List Tie) where
   left_popped : (passes : Line → Bool) (lines : List Line) (y : Line) (rest : List Line) → Falls lines
       → left passes ties lines ≡ y ∷ rest → t.entry ≡ y.number → left passes (t ∷ ties) lines ≡ rest
   left_popped passes [] y rest falls is its = cc
-  left_popped passes (x ∷ lines) y rest falls is its = by (is_left passes ties x) refl is
+  left_popped passes (x ∷ lines) y rest falls is its =
+      by (is_left passes ties x) refl (left_popped passes lines y rest falls.1) is
     where
       dropped : is_left passes ties x ≡ false → is_left passes (t ∷ ties) x ≡ false
       dropped not_left = gone (passes x) (t.entry == x.number) (is_tied ties x) not_left
@@ -133,42 +135,44 @@ module _ (t : Tie) (ties : List Tie) where
           gone true false tied is = is
 
       by : (b : Bool) → is_left passes ties x ≡ b
+          → (left passes ties lines ≡ y ∷ rest → t.entry ≡ y.number → left passes (t ∷ ties) lines ≡ rest)
           → cond b (x ∷ left passes ties lines) (left passes ties lines) ≡ y ∷ rest
           → cond (is_left passes (t ∷ ties) x) (x ∷ left passes (t ∷ ties) lines) (left passes (t ∷ ties) lines) ≡ rest
-      by true so is =
+      by true so more is =
           let same : x ≡ y = cc in
           let others : left passes ties lines ≡ rest = cc in
           let own : t.entry ≡ x.number = its ∙ ap (λ (z : Line). z.number) (sym same) in
           ap (λ (b : Bool). cond b (x ∷ left passes (t ∷ ties) lines) (left passes (t ∷ ties) lines)) (its_own passes x own)
           ∙ (left_below passes lines (below_own x lines falls own) ∙ others)
-      by false so is =
+      by false so more is =
           ap (λ (b : Bool). cond b (x ∷ left passes (t ∷ ties) lines) (left passes (t ∷ ties) lines)) (dropped so)
-          ∙ left_popped passes lines y rest falls.1 is its
+          ∙ more is its
 
   -- Where another test fails at it, it leaves the same.
   left_others : (asked passes : Line → Bool) (lines : List Line) (y : Line) (rest : List Line) → Falls lines
       → left asked ties lines ≡ y ∷ rest → t.entry ≡ y.number → passes y ≡ false
       → left passes (t ∷ ties) lines ≡ left passes ties lines
   left_others asked passes [] y rest falls is its fails = refl
-  left_others asked passes (x ∷ lines) y rest falls is its fails = by (is_left asked ties x) is
+  left_others asked passes (x ∷ lines) y rest falls is its fails =
+      by (is_left asked ties x) (λ found. left_others asked passes lines y rest falls.1 found its fails) is
     where
-      by : (b : Bool) → cond b (x ∷ left asked ties lines) (left asked ties lines) ≡ y ∷ rest
+      by : (b : Bool) → (left asked ties lines ≡ y ∷ rest → left passes (t ∷ ties) lines ≡ left passes ties lines)
+          → cond b (x ∷ left asked ties lines) (left asked ties lines) ≡ y ∷ rest
           → cond (is_left passes (t ∷ ties) x) (x ∷ left passes (t ∷ ties) lines) (left passes (t ∷ ties) lines)
           ≡ cond (is_left passes ties x) (x ∷ left passes ties lines) (left passes ties lines)
-      by true is =
+      by true more is =
           let same : x ≡ y = cc in
           let own : t.entry ≡ x.number = its ∙ ap (λ (z : Line). z.number) (sym same) in
           let here : passes x ≡ false = ap passes same ∙ fails in
           same_left (is_left passes (t ∷ ties) x) (is_left passes ties x) x (left passes (t ∷ ties) lines) (left passes ties lines)
           (its_own passes x own ∙ sym (ap (λ (b : Bool). b && not (is_tied ties x)) here))
           (left_below passes lines (below_own x lines falls own))
-      by false is =
+      by false more is =
           let under : y.number < length lines =
           first_holds (λ (z : Line). z.number < length lines) (is_left asked ties) lines y rest
           (are_below (length lines) lines falls.1 (omega arith)) is in
           same_left (is_left passes (t ∷ ties) x) (is_left passes ties x) x (left passes (t ∷ ties) lines) (left passes ties lines)
-          (not_its passes x (λ same. let at : x.number ≡ length lines = falls.0 in omega arith))
-          (left_others asked passes lines y rest falls.1 is its fails)
+          (not_its passes x (λ same. let at : x.number ≡ length lines = falls.0 in omega arith)) (more is)
 
 -- ---- keys tell candidates apart
 
@@ -298,7 +302,7 @@ module _ (ties : List Tie) (lines : List Line) (old new : Candidates) (reply : �
 
   module _ (sender : Side) (dtid : List ℕ) (given : ℕ)
       (takes : Takes (Some sender) (Some (Abort dtid (Some (reasons.Cause given))))) where
-    asked : Line → Bool
+    abbrev asked : Line → Bool
     asked x = is_candidate (other sender) dtid given x.entry
 
     -- of the key that is asked for
@@ -461,10 +465,10 @@ collected_all entries count c all so_far =
     rw (take_all count entries all) at so_far.kept
 
 -- The ties so far, from the last Abort on, and what is kept of the entries before.
-pub record Tied (entries : List Entry) (count : ℕ) (c : Candidates) (ties : List Tie) : Type 0 where
+pub record Tied (entries : List Entry) (count : ℕ) (c : Candidates) (found : List Tie) : Type 0 where
   pub within : count ≤ length entries
-  pub kept : AreUntied (reverse ties) (reverse (lines_of (take count entries))) c
-  pub ties : ties_from (reverse (lines_of (take count entries))) (reverse ties) ≡ ties_of (lines_of entries)
+  pub kept : AreUntied (reverse found) (reverse (lines_of (take count entries))) c
+  pub ties : ties_from (reverse (lines_of (take count entries))) (reverse found) ≡ ties_of (lines_of entries)
 
 pub tied_none : (entries : List Entry) (c : Candidates) → AreUntied [] (reverse (lines_of entries)) c
     → Tied entries (length entries) c []
@@ -506,7 +510,7 @@ tied_more entries i old dropped new ties more e answered below is so_far drops h
     reversed = ap (reverse {A = Line}) (lines_more entries i e below is) ∙ reverse_push (lines_of (take i entries)) x
 
     falls : Falls (x ∷ lines)
-    falls = rw reversed at falls_of (take (i + 1) entries)
+    falls = rw reversed at (falls_of (take (i + 1) entries))
 
     kept : AreUntied (reverse ties) lines dropped
     kept =

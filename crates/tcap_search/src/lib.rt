@@ -9,10 +9,10 @@ mod fates;
 mod found;
 mod leasts;
 mod lines;
-mod search;
+mod searching;
 mod stacks;
 mod tie;
 mod ties;
 pub mod worked;
 
-pub use search::{SearchFault, search};
+pub use searching::{SearchFault, search};
