@@ -1,16 +1,51 @@
 -- What is kept of the lines so far gives the transaction of the next one.
 use Rattle.std.proofs.Common.{◌≡◌, ℕ, ◌&&◌, Bool, true, false, cond, List, [], ◌∷◌, ◌++◌, length, map, take, get_or, Option, Some, None, refl, sym, ap, ◌∙◌, ◌<◌, ◌+◌, arith}
+use Rattle.std.specs.BTreeMap.{is_at}
+use Rattle.std.specs.Map.{lookup}
+use Rattle.std.specs.Str.{bytes_eq}
 use Rattle.std.proofs.lemmas.List.{map_push}
 use Rattle.tcap_msg.specs.declared.message.Message.{Message}
 use Rattle.tcap_msg.specs.declared.message.Message.TheVariants.{Unidirectional, Begin, Continue, End as EndMessage, Abort}
 use Rattle.tcap_record.specs.declared.entry.End.{End as Side}
+use Rattle.tcap_record.specs.declared.entry.End.TheVariants as sides
 use Rattle.tcap_record.specs.declared.entry.Entry.{Entry}
-use Rattle.tcap_check.specs.World.{other}
+use Rattle.tcap_end.specs.Table.{octets_cmp}
+use Rattle.tcap_check.specs.World.{is_side, other}
 use Rattle.tcap_check.specs.Run.{then_so}
 use Rattle.tcap_search.specs.declared.lines.Latest.{Latest}
-use Rattle.tcap_search.specs.Latest.{belongs, belongs_by, latest_asked, latest_at}
+use Rattle.tcap_search.specs.Latest.{belongs, belongs_by, latest_asked, latest_at, latest_of}
 use Rattle.tcap_search.specs.Lines.{Line, is_end, is_from, last, line_behind, lines_of, message_of, transaction_by, transaction_from}
+use Rattle.tcap_search.proofs.IdLaws.{same_id}
 use Rattle.tcap_search.proofs.LineLaws.{count_taken, last_none, last_push, lines_more}
+
+-- ---- one entry more in a map
+
+put_in : (transaction : Option ℕ) (b c : Bool) (old new : Option (Option ℕ)) → b ≡ c
+    → new ≡ cond b (Some transaction) old → then_so new (λ t. t) ≡ cond c transaction (then_so old (λ t. t))
+put_in transaction true true old new same is = ap (λ (o : Option (Option ℕ)). then_so o (λ t. t)) is
+put_in transaction false false old new same is = ap (λ (o : Option (Option ℕ)). then_so o (λ t. t)) is
+put_in transaction true false old new same is = cc
+put_in transaction false true old new same is = cc
+
+-- the transactions of one end, with one more
+pub put_is : (side : Side) (id : List ℕ) (transaction : Option ℕ) (old new : Latest)
+    → ((key : List ℕ) → lookup (is_at (octets_cmp key)) (latest_of side new)
+    ≡ cond (is_at (octets_cmp id) key) (Some transaction) (lookup (is_at (octets_cmp key)) (latest_of side old)))
+    → latest_of (other side) new ≡ latest_of (other side) old
+    → (at : Side) (key : List ℕ)
+    → latest_at at key new ≡ cond (is_side at side && bytes_eq key id) transaction (latest_at at key old)
+put_is sides.A id transaction old new put kept sides.A key =
+    put_in transaction (is_at (octets_cmp id) key) (bytes_eq key id) (lookup (is_at (octets_cmp key)) old.a.entries)
+    (lookup (is_at (octets_cmp key)) new.a.entries) (same_id id key) (put key)
+put_is sides.A id transaction old new put kept sides.B key =
+    ap (λ (es : List (List ℕ × Option ℕ)). then_so (lookup (is_at (octets_cmp key)) es) (λ t. t)) kept
+put_is sides.B id transaction old new put kept sides.A key =
+    ap (λ (es : List (List ℕ × Option ℕ)). then_so (lookup (is_at (octets_cmp key)) es) (λ t. t)) kept
+put_is sides.B id transaction old new put kept sides.B key =
+    put_in transaction (is_at (octets_cmp id) key) (bytes_eq key id) (lookup (is_at (octets_cmp key)) old.b.entries)
+    (lookup (is_at (octets_cmp key)) new.b.entries) (same_id id key) (put key)
+
+-- ---- what is kept
 
 -- the transaction of the last of these lines that is of that end from that ID
 abbrev last_from : List Line → Side → List ℕ → Option ℕ

@@ -1,9 +1,8 @@
 //! The transactions that the entries of a stretch between quiet marks belong to.
 
 ghost use Rattle.std.specs.Prelude.{◌≡◌, ◌≤◌, ◌&&◌, ℕ, List, None, cond, length, IfOk, OnOk};
-ghost use Rattle.std.specs.BTreeMap.{is_at};
+ghost use Rattle.std.specs.Str.{bytes_eq};
 ghost use Rattle.tcap_record.specs.declared.entry.End.{End as Side};
-ghost use Rattle.tcap_end.specs.Table.{octets_cmp};
 ghost use Rattle.tcap_check.specs.World.{is_side, other};
 ghost use Rattle.tcap_search.specs.Latest.{belongs, latest_at};
 ghost use Rattle.tcap_search.specs.Lines.{is_end, is_from};
@@ -62,7 +61,7 @@ impl Latest {
         transaction: Option<u32>,
     ) -> Result<(), AllocError>
         ensures { OnOk result ((at : Side) (key : List ℕ) → latest_at at key self.new
-            ≡ cond (is_side at side && is_at (octets_cmp id.entry.octets.now) key) transaction (latest_at at key self.old)) }
+            ≡ cond (is_side at side && bytes_eq key id.entry.octets.now) transaction (latest_at at key self.old)) }
     {
         let key = id.to_transaction_id();
         match side {
