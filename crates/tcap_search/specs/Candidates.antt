@@ -42,10 +42,13 @@ abbrev pub under_top : List ℕ → List ℕ
 under_top [] = []
 under_top (number ∷ numbers) = numbers
 
+abbrev pub is_top : ℕ → List ℕ → Bool
+is_top number [] = false
+is_top number (first ∷ numbers) = first == number
+
 -- without that number, where it is on top
 abbrev pub without : ℕ → List ℕ → List ℕ
-without number [] = []
-without number (first ∷ numbers) = cond (first == number) numbers (first ∷ numbers)
+without number numbers = cond (is_top number numbers) (under_top numbers) numbers
 
 -- ---- candidates
 

@@ -1,11 +1,10 @@
 //! Numbers of entries by originating IDs.
 
-ghost use Rattle.std.specs.Prelude.{◌≡◌, ◌∷◌, ◌&&◌, [], ℕ, List, cond, OnOk};
-ghost use Rattle.std.specs.BTreeMap.{is_at};
+ghost use Rattle.std.specs.Prelude.{◌≡◌, ◌∷◌, ◌&&◌, [], ℕ, List, cond, reverse, OnOk};
+ghost use Rattle.std.specs.Str.{bytes_eq};
 ghost use Rattle.tcap_record.specs.declared.entry.End.{End as Side};
-ghost use Rattle.tcap_end.specs.Table.{octets_cmp};
 ghost use Rattle.tcap_check.specs.World.{is_side};
-ghost use Rattle.tcap_search.specs.Candidates.{stack_at, stack_in, top, under_top, without};
+ghost use Rattle.tcap_search.specs.Candidates.{is_top, stack_at, stack_in, top, under_top, without};
 
 use std::alloc::{AllocError, Global};
 use std::collections::BTreeMap;
@@ -27,11 +26,18 @@ fn push_to(
     number: u32,
 ) -> Result<(), AllocError>
     ensures { OnOk result ((key : List ℕ) → stack_in key stacks.new.entries
-        ≡ cond (is_at (octets_cmp id.entry.octets.now) key) (number ∷ stack_in key stacks.old.entries)
+        ≡ cond (bytes_eq key id.entry.octets.now) (number ∷ stack_in key stacks.old.entries)
         (stack_in key stacks.old.entries)) }
 {
     let key = id.to_transaction_id();
-    stacks.entry(key)?.or_insert(Vec::new(alloc)).push(number)?;
+    match stacks.get_mut(&key) {
+        Some(stack) => stack.push(number)?,
+        None => {
+            let mut stack = Vec::new(alloc);
+            stack.push(number)?;
+            stacks.insert(key, stack)?;
+        }
+    }
     Ok(())
 }
 
@@ -39,22 +45,32 @@ fn push_to(
 fn pop_from(stacks: &mut BTreeMap<TransactionId, Vec<u32>>, id: TransactionIdView) -> Option<u32>
     ensures top { result ≡ top (stack_in id.entry.octets.now stacks.old.entries) }
     ensures left { (key : List ℕ) → stack_in key stacks.new.entries
-        ≡ cond (is_at (octets_cmp id.entry.octets.now) key) (under_top (stack_in key stacks.old.entries))
+        ≡ cond (bytes_eq key id.entry.octets.now) (under_top (stack_in key stacks.old.entries))
         (stack_in key stacks.old.entries) }
 {
     let key = id.to_transaction_id();
     stacks.get_mut(&key)?.pop()
 }
 
+/// Whether that number is the last.
+fn is_top(stack: &[u32], number: u32) -> bool
+    ensures { result ≡ is_top number (reverse stack.now) }
+{
+    match stack.last() {
+        Some(top) => *top == number,
+        None => false,
+    }
+}
+
 /// Takes a number of an ID away, where it is on top.
 fn drop_from(stacks: &mut BTreeMap<TransactionId, Vec<u32>>, id: TransactionIdView, number: u32)
     ensures { (key : List ℕ) → stack_in key stacks.new.entries
-        ≡ cond (is_at (octets_cmp id.entry.octets.now) key) (without number (stack_in key stacks.old.entries))
+        ≡ cond (bytes_eq key id.entry.octets.now) (without number (stack_in key stacks.old.entries))
         (stack_in key stacks.old.entries) }
 {
     let key = id.to_transaction_id();
     if let Some(stack) = stacks.get_mut(&key) {
-        if stack.last() == Some(&number) {
+        if is_top(stack, number) {
             stack.pop();
         }
     }
@@ -80,7 +96,7 @@ impl Stacks {
         number: u32,
     ) -> Result<(), AllocError>
         ensures { OnOk result ((at : Side) (key : List ℕ) → stack_at at key self.new
-            ≡ cond (is_side at side && is_at (octets_cmp id.entry.octets.now) key) (number ∷ stack_at at key self.old)
+            ≡ cond (is_side at side && bytes_eq key id.entry.octets.now) (number ∷ stack_at at key self.old)
             (stack_at at key self.old)) }
     {
         match side {
@@ -93,7 +109,7 @@ impl Stacks {
     pub(crate) fn pop(&mut self, side: End, id: TransactionIdView) -> Option<u32>
         ensures top { result ≡ top (stack_at side id.entry.octets.now self.old) }
         ensures left { (at : Side) (key : List ℕ) → stack_at at key self.new
-            ≡ cond (is_side at side && is_at (octets_cmp id.entry.octets.now) key) (under_top (stack_at at key self.old))
+            ≡ cond (is_side at side && bytes_eq key id.entry.octets.now) (under_top (stack_at at key self.old))
             (stack_at at key self.old) }
     {
         match side {
@@ -105,7 +121,7 @@ impl Stacks {
     /// Takes a number of an ID of an end away, where it is on top.
     pub(crate) fn drop_top(&mut self, side: End, id: TransactionIdView, number: u32)
         ensures { (at : Side) (key : List ℕ) → stack_at at key self.new
-            ≡ cond (is_side at side && is_at (octets_cmp id.entry.octets.now) key) (without number (stack_at at key self.old))
+            ≡ cond (is_side at side && bytes_eq key id.entry.octets.now) (without number (stack_at at key self.old))
             (stack_at at key self.old) }
     {
         match side {
