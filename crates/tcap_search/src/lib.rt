@@ -2,12 +2,15 @@
 //! it is believed: `tcap_check` replays it.
 #![tactic(auto)]
 
+mod candidates;
 mod closings;
 mod expiries;
 mod fates;
 mod found;
+mod leasts;
 mod lines;
 mod searching;
+mod stacks;
 mod tie;
 mod ties;
 pub mod worked;
