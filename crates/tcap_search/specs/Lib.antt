@@ -1,4 +1,6 @@
+pub mod Fates
 pub mod Lines
+pub mod PerEnd
 pub mod Proposed
 pub mod Traced
 pub mod WorkedProposals

@@ -6,6 +6,7 @@ mod closings;
 mod expiries;
 mod fates;
 mod lines;
+mod per_end;
 mod search;
 mod tie;
 mod ties;

@@ -1,0 +1,5 @@
+pub mod GapLaws
+pub mod LastLaws
+pub mod LossLaws
+pub mod NumberedLaws
+pub mod ReplyLaws
