@@ -1,3 +1,4 @@
+pub mod FateSteps
 pub mod GapLaws
 pub mod LastLaws
 pub mod LossLaws

@@ -108,3 +108,11 @@ lines_fated [] [] same = refl
 lines_fated (line ∷ lines) [] same = absurd (omega arith)
 lines_fated [] (fate ∷ fates) same = absurd (omega arith)
 lines_fated (line ∷ lines) (fate ∷ fates) same = ap (λ (ls : List Line). line ∷ ls) (lines_fated lines fates (omega arith))
+
+pub entries_fated : (lines : List Line) (fates : List Fate) → length fates ≡ length lines
+    → map (λ x. x.line.entry) (fated lines fates) ≡ map (λ x. x.entry) lines
+entries_fated [] [] same = refl
+entries_fated (line ∷ lines) [] same = absurd (omega arith)
+entries_fated [] (fate ∷ fates) same = absurd (omega arith)
+entries_fated (line ∷ lines) (fate ∷ fates) same =
+    ap (λ (es : List Entry). line.entry ∷ es) (entries_fated lines fates (omega arith))
