@@ -4,3 +4,4 @@ pub mod PerEnd
 pub mod Proposed
 pub mod Traced
 pub mod WorkedProposals
+pub mod Found

@@ -5,11 +5,12 @@
 mod closings;
 mod expiries;
 mod fates;
+mod found;
 mod lines;
 mod per_end;
-mod search;
+mod searching;
 mod tie;
 mod ties;
 pub mod worked;
 
-pub use search::{SearchFault, search};
+pub use searching::{SearchFault, search};
