@@ -1,5 +1,6 @@
 pub mod FateSteps
 pub mod GapLaws
+pub mod KeyLaws
 pub mod LastLaws
 pub mod LossLaws
 pub mod NumberedLaws

@@ -2,6 +2,7 @@
 //! it is believed: `tcap_check` replays it.
 #![tactic(auto)]
 
+mod by_invocation;
 mod closings;
 mod expiries;
 mod fates;
