@@ -5,3 +5,4 @@ pub mod LastLaws
 pub mod LossLaws
 pub mod NumberedLaws
 pub mod ReplyLaws
+pub mod SweepSteps

@@ -4,5 +4,6 @@ pub mod Found
 pub mod Lines
 pub mod PerEnd
 pub mod Proposed
+pub mod Sweep
 pub mod Traced
 pub mod WorkedProposals

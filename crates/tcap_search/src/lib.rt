@@ -10,6 +10,7 @@ mod found;
 mod lines;
 mod per_end;
 mod searching;
+mod sweep;
 mod tie;
 mod ties;
 pub mod worked;
