@@ -4,3 +4,11 @@ pub mod LatestLaws
 pub mod StackLaws
 pub mod TieLaws
 pub mod ClosingLaws
+pub mod FateSteps
+pub mod GapLaws
+pub mod KeyLaws
+pub mod LastLaws
+pub mod LossLaws
+pub mod NumberedLaws
+pub mod ReplyLaws
+pub mod SweepSteps
