@@ -12,3 +12,4 @@ pub mod LossLaws
 pub mod NumberedLaws
 pub mod ReplyLaws
 pub mod SweepSteps
+pub mod StretchLaws
