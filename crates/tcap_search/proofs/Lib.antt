@@ -13,3 +13,4 @@ pub mod NumberedLaws
 pub mod ReplyLaws
 pub mod SweepSteps
 pub mod StretchLaws
+pub mod LimitLaws
