@@ -18,8 +18,9 @@ use Rattle.tcap_search.specs.declared.tie.Tie.{Tie}
 use Rattle.tcap_search.specs.Lines.{Line, are_of_one_end, is_end, is_of_peer, last, message_of, or_else, share_transaction}
 use Rattle.tcap_search.specs.Proposed.{fate_by, fate_of, first_gap, first_gap_by, gap_behind, gap_behind_reply, last_of_receiver, raised, reply_of}
 use Rattle.tcap_search.specs.Fates.{earliest, fate_from, gap_behind_last, gap_behind_line, highest, is_line_of, is_of, untied_fate}
-use Rattle.tcap_search.proofs.LastLaws.{last_among, last_more, last_same}
+use Rattle.tcap_search.proofs.LastLaws.{last_more, last_never, last_same}
 use Rattle.tcap_search.proofs.NumberedLaws.{AreNumbered}
+use Rattle.tcap_search.proofs.TestLaws.{and_and, and_false}
 
 -- ---- ends and transactions
 
@@ -36,14 +37,6 @@ of_peer e f side is = rw is refl
 
 pub of_peer_none : (e f : Entry) → e.side ≡ None → is_of_peer e f ≡ false
 of_peer_none e f is = rw is refl
-
-and_and : (a b c : Bool) → (a && b && c) ≡ (a && (b && c))
-and_and true b c = refl
-and_and false b c = refl
-
-and_false : (b : Bool) → (b && false) ≡ false
-and_false true = refl
-and_false false = refl
 
 -- A line of that end which shares that transaction is one of both.
 pub of_both : (side : Side) (t : ℕ) (x y : Line) → x.transaction ≡ Some t
@@ -118,10 +111,6 @@ gap_is x (Some y) = by (nat_lt x.number y.number) refl
         → gap_behind x (where_so b (Some y)) ≡ max (x.number + 1) (y.number + 1)
     by true test = omega (arith, ltb-true x.number y.number test)
     by false test = omega (arith, ltb-false x.number y.number test)
-
-last_never : {A : Type 0} (passes : A → Bool) (xs : List A) → ((x : A) → passes x ≡ false) → last passes xs ≡ None
-last_never passes [] never = refl
-last_never passes (x ∷ xs) never = rw (last_never passes xs never, never x) refl
 
 abbrev pub gap_of_receiver : List Line → Option Side → Option ℕ → ℕ
 gap_of_receiver lines (Some side) (Some t) = gap_behind_last (other side) t lines

@@ -1,8 +1,13 @@
+pub mod ExpiryLaws
 pub mod FateSteps
 pub mod GapLaws
 pub mod KeyLaws
 pub mod LastLaws
+pub mod LatestLaws
 pub mod LossLaws
 pub mod NumberedLaws
+pub mod OrderLaws
 pub mod ReplyLaws
+pub mod SweepLaws
 pub mod SweepSteps
+pub mod TestLaws

@@ -12,15 +12,12 @@ use Rattle.tcap_search.specs.Lines.{Line, are_of_one_end, is_end, message_of}
 use Rattle.tcap_search.specs.Proposed.{Fated, fate_before, fated, is_gap, is_overtaken, with_losses}
 use Rattle.tcap_search.specs.Fates.{fate_behind_least, least_time, sooner}
 use Rattle.tcap_search.proofs.GapLaws.{one_end, one_end_none}
+use Rattle.tcap_search.proofs.TestLaws.{or_false}
 
 -- ---- the least time
 
 min_before : (a b c : ℕ) → nat_lt (min a b) c ≡ (nat_lt a c || nat_lt b c)
 min_before a b c = grind (arith, nat_tests)
-
-or_false : (b : Bool) → (b || false) ≡ b
-or_false true = refl
-or_false false = refl
 
 -- The sooner of two times is before another where one of them is.
 sooner_is : (o p q : Option ℕ) → is_later (sooner o p) q ≡ (is_later o q || is_later p q)

@@ -11,6 +11,7 @@ use Rattle.tcap_search.specs.Lines.{message_of, or_else}
 use Rattle.tcap_search.specs.Proposed.{is_invoke_of, last_invoke, may_invoke, number_limit}
 use Rattle.tcap_search.specs.Fates.{is_of}
 use Rattle.tcap_search.specs.Sweep.{components_of, invoked_by}
+use Rattle.tcap_search.proofs.TestLaws.{and_swap}
 
 -- The last Invoke of components is that of those behind the first, or else the first.
 first_invoke : (id : ℤ) (place : ℕ) (c : Component) (more : List Component)
@@ -61,12 +62,6 @@ invoke_end here number id components place kept past =
     by : (b : Bool) → kept ≡ kept_behind b number None kept
     by true = refl
     by false = refl
-
-and_swap : (a b : Bool) → (a && b) ≡ (b && a)
-and_swap true true = refl
-and_swap true false = refl
-and_swap false true = refl
-and_swap false false = refl
 
 -- What is kept behind the components of a Begin or a Continue.
 pub entry_step : (e : Entry) (number : ℕ) (side s : Side) (transaction t : ℕ) (id : ℤ) (kept : Option (ℕ × ℕ))

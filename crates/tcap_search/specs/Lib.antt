@@ -1,4 +1,5 @@
 pub mod ByInvocation
+pub mod Due
 pub mod Fates
 pub mod Found
 pub mod Lines
