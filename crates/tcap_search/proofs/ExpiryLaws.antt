@@ -16,6 +16,7 @@ use Rattle.tcap_search.specs.declared.sweep.Answer.{Answer}
 use Rattle.tcap_search.specs.Lines.{Line, are_of_one_end, is_end, is_of_peer, last, share_transaction}
 use Rattle.tcap_search.specs.Proposed.{Fated, components_at, expiries_by, expiries_from, expiry_by, gap_in, invocation_at, is_answer_of, is_delivered_by, last_invocation, rejected_line, unrecognized, with_expiry}
 use Rattle.tcap_search.specs.Fates.{is_line_of, is_of}
+use Rattle.tcap_search.specs.Listed.{all_rejected, entry_rejected, rejected_of, with_answer}
 use Rattle.tcap_search.specs.Sweep.{answer_at, answers, components_of, invoked_in, latest}
 use Rattle.tcap_search.proofs.GapLaws.{of_both, of_peer, of_peer_none, one_end, shares_none}
 use Rattle.tcap_search.proofs.LastLaws.{last_never, last_passes, last_same}
@@ -62,10 +63,6 @@ invocation_is lines x side t id gap are at_side at_t =
     once false o = refl
 
 -- ---- what one component adds
-
-abbrev pub with_answer : Side → List Expiry → Option Answer → List Expiry
-with_answer side listed None = listed
-with_answer side listed (Some answer) = with_expiry listed (Some side) answer.gap answer.invoked
 
 abbrev pub answered_by : List Line → List Fated → ℕ → ℕ → Side → Option (Bool × ℤ) → Option Answer
 answered_by lines all limit t side None = None
@@ -175,8 +172,57 @@ module _ (lines : List Line) (all : List Fated) (x : Line) (side : Side) (t : �
               (ap₂ (λ (o : Option Side) (i : Option (ℕ × ℕ)). with_expiry listed o g i) at_side
               (invocation_is lines x side t id g are at_side at_t))
 
--- what components add, from the answers that they reject
-abbrev pub all_rejected : (Option (Bool × ℤ) → Option Answer) → Side → List Expiry → List Component → List Expiry
-all_rejected found side listed [] = listed
-all_rejected found side listed (c ∷ more) =
-    all_rejected found side (with_answer side listed (found (unrecognized c))) more
+  all_add : (listed : List Expiry) (components : List Component)
+      → expiries_by all lines x listed components
+      ≡ all_rejected (answered_by lines all (x.number + 1) t side) side listed components
+  all_add listed [] = refl
+  all_add listed (c ∷ more) =
+      ap (λ (l : List Expiry). expiries_by all lines x l more) (adds listed (unrecognized c))
+      ∙ all_add (with_answer side listed (answered_by lines all (x.number + 1) t side (unrecognized c))) more
+
+-- ---- what one line adds
+
+pub line_adds : (lines : List Line) (all : List Fated) (x : Line) (listed : List Expiry) → AreNumbered 0 lines
+    → expiries_by all lines x listed (components_at x)
+    ≡ entry_rejected (answered_by lines all (x.number + 1)) listed x.entry x.transaction
+line_adds lines all x listed are =
+    ap (expiries_by all lines x listed) (components_are x) ∙ by x.entry.side refl x.transaction refl
+  where
+    by : (s : Option Side) → x.entry.side ≡ s → (o : Option ℕ) → x.transaction ≡ o
+        → expiries_by all lines x listed (components_of x.entry)
+        ≡ rejected_of (answered_by lines all (x.number + 1)) listed s o (components_of x.entry)
+    by None at o is = all_nothing lines all x
+        (λ y. ap (λ (b : Bool). b && share_transaction x y) (of_peer_none x.entry y.entry at)) listed (components_of x.entry)
+    by (Some side) at None is = all_nothing lines all x
+        (λ y. ap (λ (b : Bool). is_of_peer x.entry y.entry && b) (shares_none x y is) ∙ and_false (is_of_peer x.entry y.entry))
+        listed (components_of x.entry)
+    by (Some side) at (Some t) is = all_add lines all x side t are at is listed (components_of x.entry)
+
+-- The same answers add the same.
+all_same : (found other : Option (Bool × ℤ) → Option Answer) → ((o : Option (Bool × ℤ)) → found o ≡ other o)
+    → (side : Side) (listed : List Expiry) (components : List Component)
+    → all_rejected found side listed components ≡ all_rejected other side listed components
+all_same found other same side listed [] = refl
+all_same found other same side listed (c ∷ more) = rw (same (unrecognized c))
+    (all_same found other same side (with_answer side listed (other (unrecognized c))) more)
+
+pub entry_same : (found other : ℕ → Side → Option (Bool × ℤ) → Option Answer)
+    → ((t : ℕ) (side : Side) (o : Option (Bool × ℤ)) → found t side o ≡ other t side o)
+    → (listed : List Expiry) (e : Entry) (transaction : Option ℕ)
+    → entry_rejected found listed e transaction ≡ entry_rejected other listed e transaction
+entry_same found other same listed e transaction = by e.side transaction
+  where
+    by : (s : Option Side) (o : Option ℕ)
+        → rejected_of found listed s o (components_of e) ≡ rejected_of other listed s o (components_of e)
+    by None o = refl
+    by (Some side) None = refl
+    by (Some side) (Some t) = all_same (found t side) (other t side) (same t side) side listed (components_of e)
+
+-- ---- one line more
+
+pub expiries_more : (all : List Fated) (lines front : List Line) (x : Line) (listed : List Expiry)
+    → expiries_from all lines (front ++ x ∷ []) listed
+    ≡ expiries_by all lines x (expiries_from all lines front listed) (components_at x)
+expiries_more all lines [] x listed = refl
+expiries_more all lines (y ∷ front) x listed =
+    expiries_more all lines front x (expiries_by all lines y listed (components_at y))

@@ -12,7 +12,7 @@ use Rattle.tcap_record.specs.declared.entry.End.TheVariants as sides
 use Rattle.tcap_check.specs.World.{is_side}
 use Rattle.tcap_search.specs.ByInvocation.{half_number, key_cmp, key_of}
 
-then_equal : (o p : Ordering) → is_eq (ordering_then o p) ≡ (is_eq o && is_eq p)
+pub then_equal : (o p : Ordering) → is_eq (ordering_then o p) ≡ (is_eq o && is_eq p)
 then_equal Less p = refl
 then_equal Equal p = refl
 then_equal Greater p = refl

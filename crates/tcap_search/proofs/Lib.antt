@@ -4,6 +4,7 @@ pub mod GapLaws
 pub mod KeyLaws
 pub mod LastLaws
 pub mod LatestLaws
+pub mod ListedLaws
 pub mod LossLaws
 pub mod NumberedLaws
 pub mod OrderLaws

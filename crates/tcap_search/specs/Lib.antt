@@ -3,6 +3,7 @@ pub mod Due
 pub mod Fates
 pub mod Found
 pub mod Lines
+pub mod Listed
 pub mod PerEnd
 pub mod Proposed
 pub mod Sweep

@@ -1,2 +1,3 @@
 use Rattle.tcap_search.proofs.SweepLaws.{answered_more}
-use Rattle.tcap_search.proofs.ExpiryLaws.{with_answer}
+use Rattle.tcap_search.proofs.ExpiryLaws.{expiries_more}
+use Rattle.tcap_search.proofs.ListedLaws.{named_more}
