@@ -1,4 +1,5 @@
 pub mod ExpiryLaws
+pub mod ExpirySteps
 pub mod FateSteps
 pub mod GapLaws
 pub mod KeyLaws

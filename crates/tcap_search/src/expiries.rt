@@ -164,10 +164,10 @@ pub(crate) fn expiries_of(
     let mut sweep = Sweep::new(alloc);
     let mut listed = Listed::new(alloc);
     for (number, entry) in entries.iter().enumerate() {
-        let numbers = due_at(&due, number);
-        sweep.deliver_all(number as u32, numbers, entries, transactions)?;
-        listed.add_entry(&sweep, entry, transactions[number])?;
-        sweep.note_entry(number as u32, entry, transactions[number])?;
+        let transaction = transactions[number];
+        sweep.deliver_all(number as u32, due_at(&due, number), entries, transactions)?;
+        listed.add_entry(&sweep, entry, transaction)?;
+        sweep.note_entry(number as u32, entry, transaction)?;
     }
     let Listed { expiries, .. } = listed;
     Ok(expiries)
