@@ -1,8 +1,8 @@
 -- Expiries, from what a sweep keeps.
-use Rattle.std.proofs.Common.{◌≡◌, ℕ, ℤ, ◌+◌, ◌<◌, ◌≤◌, ◌==◌, Bool, true, false, cond, List, [], ◌∷◌, ◌++◌, map, length, take, Option, Some, None, refl, sym, ap, ap₂, subst, ◌∙◌, arith}
+use Rattle.std.proofs.Common.{◌≡◌, ℕ, ℤ, ◌+◌, Bool, true, false, List, [], ◌∷◌, ◌++◌, take, Option, Some, None, refl, sym, ap, ap₂, ◌∙◌, arith}
 use Rattle.std.specs.Prelude.{◌&&◌, is_some, nat_lt, nat_le}
 use Rattle.std.specs.List.{list_any}
-use Rattle.std.proofs.lemmas.Bool.{and_parts, false≢true}
+use Rattle.std.proofs.lemmas.Bool.{and_parts}
 use Rattle.std.proofs.lemmas.Bool.Decides.{nat_tests}
 use Rattle.tcap_parts.specs.declared.component.Component.{Component}
 use Rattle.tcap_record.specs.declared.entry.End.{End as Side}
@@ -13,14 +13,14 @@ use Rattle.tcap_check.specs.declared.certificate.Expiry.{Expiry}
 use Rattle.tcap_check.specs.declared.certificate.Fate.{Fate}
 use Rattle.tcap_check.specs.declared.certificate.Fate.TheVariants.{Gap, Lost, By}
 use Rattle.tcap_search.specs.declared.sweep.Answer.{Answer}
-use Rattle.tcap_search.specs.Lines.{Line, are_of_one_end, is_end, is_of_peer, last, share_transaction}
-use Rattle.tcap_search.specs.Proposed.{Fated, components_at, expiries_by, expiries_from, expiry_by, gap_in, invocation_at, is_answer_of, is_delivered_by, last_invocation, rejected_line, unrecognized, with_expiry}
-use Rattle.tcap_search.specs.Fates.{is_line_of, is_of}
+use Rattle.tcap_search.specs.Lines.{Line, are_of_one_end, is_of_peer, last, share_transaction}
+use Rattle.tcap_search.specs.Proposed.{Fated, components_at, expiries_by, expiries_from, expiry_by, invocation_at, is_answer_of, is_delivered_by, last_invocation, rejected_line, unrecognized, with_expiry}
+use Rattle.tcap_search.specs.Fates.{is_line_of}
 use Rattle.tcap_search.specs.Listed.{all_rejected, entry_rejected, rejected_of, with_answer}
-use Rattle.tcap_search.specs.Sweep.{answer_at, answers, components_of, invoked_in, latest}
+use Rattle.tcap_search.specs.Sweep.{components_of, invoked_in}
 use Rattle.tcap_search.proofs.GapLaws.{of_both, of_peer, of_peer_none, one_end, shares_none}
 use Rattle.tcap_search.proofs.LastLaws.{last_never, last_passes, last_same}
-use Rattle.tcap_search.proofs.LatestLaws.{last_earlier, latest_is, latest_same}
+use Rattle.tcap_search.proofs.LastGivenLaws.{last_earlier, given_is, given_same}
 use Rattle.tcap_search.proofs.NumberedLaws.{AreNumbered}
 use Rattle.tcap_search.proofs.SweepLaws.{answer_with, answered_in, components_are, is_answering, is_in_gap_below}
 use Rattle.tcap_search.proofs.TestLaws.{and_and, and_false, and_swap}
@@ -34,8 +34,8 @@ invocation_is : (lines : List Line) (x : Line) (side : Side) (t : ℕ) (id : ℤ
 invocation_is lines x side t id gap are at_side at_t =
     ap (λ (o : Option Line). then_so o (invocation_at id)) (last_same original (λ y. nat_lt y.number gap && passes y) same lines
     ∙ last_earlier gap lines passes are)
-    ∙ latest_is passes (invocation_at id) gives (take gap lines)
-    ∙ latest_same (λ y. where_so (passes y) (invocation_at id y)) (λ y. where_so (is_line_of side t y) (invocation_at id y))
+    ∙ given_is passes (invocation_at id) gives (take gap lines)
+    ∙ given_same (λ y. where_so (passes y) (invocation_at id y)) (λ y. where_so (is_line_of side t y) (invocation_at id y))
     (λ y. once (is_line_of side t y) (invocation_at id y)) (take gap lines)
   where
     original : Line → Bool
@@ -142,7 +142,7 @@ module _ (lines : List Line) (all : List Fated) (x : Line) (side : Side) (t : �
 
       found : then_so (last (came is_result id) all) (λ y. answer_with lines t side id y.fate)
           ≡ answered_in lines all (x.number + 1) is_result t side id
-      found = latest_is (came is_result id) (λ y. answer_with lines t side id y.fate) (gives is_result id) all
+      found = given_is (came is_result id) (λ y. answer_with lines t side id y.fate) (gives is_result id) all
 
       by : (o : Option Fated) → rejected_line all x (is_result, id) ≡ o
           → ((y : Fated) → last (came is_result id) all ≡ Some y → came is_result id y ≡ true)

@@ -1,5 +1,5 @@
 -- The loop that finds expiries: one entry more.
-use Rattle.std.proofs.Common.{◌≡◌, ℕ, ℤ, ◌+◌, ◌<◌, ◌≤◌, Bool, true, false, cond, List, [], ◌∷◌, ◌++◌, map, length, take, get_or, Option, Some, None, refl, sym, ap, ◌∙◌, arith}
+use Rattle.std.proofs.Common.{◌≡◌, ℕ, ℤ, ◌+◌, ◌<◌, Bool, true, false, cond, List, [], ◌∷◌, map, length, take, get_or, Option, Some, None, refl, sym, ap, ◌∙◌, arith}
 use Rattle.std.specs.Prelude.{◌&&◌, nat_lt}
 use Rattle.std.specs.List.{list_any}
 use Rattle.std.proofs.lemmas.Bool.{le-ltb}
@@ -10,7 +10,6 @@ use Rattle.tcap_check.specs.Run.{where_so}
 use Rattle.tcap_check.specs.declared.certificate.Expiry.{Expiry}
 use Rattle.tcap_check.specs.declared.certificate.Fate.{Fate}
 use Rattle.tcap_check.specs.declared.certificate.Fate.TheVariants.{Gap, Lost, By}
-use Rattle.tcap_search.specs.declared.sweep.Answer.{Answer}
 use Rattle.tcap_search.specs.declared.sweep.Sweep.{Sweep}
 use Rattle.tcap_search.specs.Lines.{Line, lines_of, or_else}
 use Rattle.tcap_search.specs.Proposed.{Fated, all_fated, components_at, expiries_by, expiries_from, fate_of, fated, first_fates, ties_of}
@@ -19,7 +18,7 @@ use Rattle.tcap_search.specs.ByInvocation.{kept_at}
 use Rattle.tcap_search.specs.Due.{due_in}
 use Rattle.tcap_search.specs.Fates.{is_of}
 use Rattle.tcap_search.specs.Listed.{entry_rejected}
-use Rattle.tcap_search.specs.Sweep.{answer_at, answer_kept, answer_rejected, answers_at, invoked_by, invoked_in, latest}
+use Rattle.tcap_search.specs.Sweep.{answer_at, answer_kept, answer_rejected, answers_at, invoked_by, invoked_in}
 use Rattle.tcap_search.proofs.ExpiryLaws.{answered_by, entry_same, expiries_more, line_adds}
 use Rattle.tcap_search.proofs.FateSteps.{lines_more}
 use Rattle.tcap_search.proofs.LossLaws.{lines_fated, lines_kept}

@@ -1,19 +1,16 @@
 -- First fates, from what is kept: the gap behind the last entry of each end in each transaction, and the gap behind the
 -- last reply so far.
-use Rattle.std.proofs.Common.{◌≡◌, ◌≢◌, ℕ, zero, suc, ◌+◌, ◌<◌, ◌≤◌, max, ◌==◌, Bool, true, false, cond, List, [], ◌∷◌, ◌++◌, map, length, take, drop, get_or, Option, Some, None, refl, sym, ap, ap₂, subst, ◌∙◌, arith}
+use Rattle.std.proofs.Common.{◌≡◌, ℕ, zero, suc, ◌+◌, ◌<◌, ◌≤◌, max, ◌==◌, Bool, true, false, cond, List, [], ◌∷◌, ◌++◌, take, Option, Some, None, refl, sym, ap, subst, ◌∙◌, arith}
 use Rattle.std.specs.Prelude.{◌&&◌, nat_lt, option_map}
-use Rattle.std.specs.List.{AllByRecursion}
 use Rattle.std.proofs.lemmas.Bool.{le-ltb, lt-ltb, ltb-false, ltb-true}
 use Rattle.std.proofs.lemmas.Option.{none-some, same_Some}
 use Rattle.tcap_msg.specs.declared.message.Message.{Message}
 use Rattle.tcap_msg.specs.declared.message.Message.TheVariants.{Unidirectional, Begin, Continue, End, Abort}
 use Rattle.tcap_record.specs.declared.entry.End.{End as Side}
-use Rattle.tcap_record.specs.declared.entry.End.TheVariants as sides
 use Rattle.tcap_record.specs.declared.entry.Entry.{Entry}
-use Rattle.tcap_check.specs.World.{is_side, other}
+use Rattle.tcap_check.specs.World.{other}
 use Rattle.tcap_check.specs.Run.{where_so}
-use Rattle.tcap_check.specs.declared.certificate.Fate.{Fate}
-use Rattle.tcap_check.specs.declared.certificate.Fate.TheVariants.{Gap, Lost, By}
+use Rattle.tcap_check.specs.declared.certificate.Fate.TheVariants.{Gap}
 use Rattle.tcap_search.specs.declared.tie.Tie.{Tie}
 use Rattle.tcap_search.specs.Lines.{Line, are_of_one_end, is_end, is_of_peer, last, message_of, or_else, share_transaction}
 use Rattle.tcap_search.specs.Proposed.{fate_by, fate_of, first_gap, first_gap_by, gap_behind, gap_behind_reply, last_of_receiver, raised, reply_of}

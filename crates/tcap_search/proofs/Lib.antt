@@ -3,8 +3,8 @@ pub mod ExpirySteps
 pub mod FateSteps
 pub mod GapLaws
 pub mod KeyLaws
+pub mod LastGivenLaws
 pub mod LastLaws
-pub mod LatestLaws
 pub mod ListedLaws
 pub mod LossLaws
 pub mod NumberedLaws

@@ -1,11 +1,9 @@
 -- Expiries as they are listed, and lists of what is due.
-use Rattle.std.proofs.Common.{◌≡◌, ℕ, zero, suc, ◌==◌, Bool, true, false, cond, List, [], ◌∷◌, ◌++◌, Option, Some, Vec, refl, sym, ap, ap₂, ◌∙◌, arith}
-use Rattle.std.specs.Prelude.{◌&&◌, ◌||◌, slice_get}
+use Rattle.std.proofs.Common.{◌≡◌, ℕ, zero, suc, ◌==◌, Bool, true, false, cond, List, [], ◌∷◌, ◌++◌, Some, Vec, refl, sym, ap₂, ◌∙◌, arith}
+use Rattle.std.specs.Prelude.{◌&&◌, ◌||◌}
 use Rattle.std.specs.List.{list_any}
 use Rattle.std.specs.BTreeMap.{is_at}
-use Rattle.std.specs.Ordering.{is_eq, nat_cmp, ordering_then}
-use Rattle.std.specs.declared.cmp.Ordering.{Ordering}
-use Rattle.std.specs.declared.cmp.Ordering.TheVariants.{Less, Equal, Greater}
+use Rattle.std.specs.Ordering.{is_eq, nat_cmp}
 use Rattle.std.proofs.lemmas.Bool.Decides.{nat_tests}
 use Rattle.std.proofs.lemmas.List.Folds.{list_any-append}
 use Rattle.tcap_record.specs.declared.entry.End.{End as Side}
@@ -14,7 +12,6 @@ use Rattle.tcap_search.specs.Proposed.{is_expiry_of, with_expiry}
 use Rattle.tcap_search.specs.Due.{due_at}
 use Rattle.tcap_search.specs.Listed.{pair_cmp}
 use Rattle.tcap_search.proofs.KeyLaws.{then_equal}
-use Rattle.tcap_search.proofs.TestLaws.{or_false}
 
 abbrev pub expiry_at : ℕ → ℕ → Side → ℕ → Expiry
 expiry_at gap component side entry = record { gap = gap; component = component; side = side; entry = entry }

@@ -1,14 +1,14 @@
 -- Losses, from the least time of what each end sends later.
-use Rattle.std.proofs.Common.{◌≡◌, ℕ, zero, suc, ◌+◌, ◌<◌, ◌≤◌, min, Bool, true, false, cond, List, [], ◌∷◌, ◌++◌, map, length, take, drop, get_or, Option, Some, None, refl, sym, ap, ap₂, subst, ◌∙◌, arith}
+use Rattle.std.proofs.Common.{◌≡◌, ℕ, zero, suc, ◌<◌, min, Bool, true, false, cond, List, [], ◌∷◌, map, length, get_or, Option, Some, None, refl, sym, ap, arith}
 use Rattle.std.specs.Prelude.{◌&&◌, ◌||◌, is_some, nat_lt}
-use Rattle.std.specs.List.{AllByRecursion, list_any}
+use Rattle.std.specs.List.{list_any}
 use Rattle.std.proofs.lemmas.Bool.Decides.{nat_tests}
 use Rattle.tcap_record.specs.declared.entry.End.{End as Side}
 use Rattle.tcap_record.specs.declared.entry.Entry.{Entry}
 use Rattle.tcap_check.specs.declared.certificate.Fate.{Fate}
-use Rattle.tcap_check.specs.declared.certificate.Fate.TheVariants.{Gap, Lost, By}
+use Rattle.tcap_check.specs.declared.certificate.Fate.TheVariants.{Lost}
 use Rattle.tcap_check.specs.Replayed.{is_later, time_of}
-use Rattle.tcap_search.specs.Lines.{Line, are_of_one_end, is_end, message_of}
+use Rattle.tcap_search.specs.Lines.{Line, is_end, message_of}
 use Rattle.tcap_search.specs.Proposed.{Fated, fate_before, fated, is_gap, is_overtaken, with_losses}
 use Rattle.tcap_search.specs.Fates.{fate_behind_least, least_time, sooner}
 use Rattle.tcap_search.proofs.GapLaws.{one_end, one_end_none}

@@ -1,8 +1,8 @@
 -- What a sweep keeps, gap by gap and entry by entry.
-use Rattle.std.proofs.Common.{◌≡◌, ◌≢◌, ℕ, ℤ, zero, suc, ◌+◌, ◌<◌, ◌≤◌, ◌==◌, Bool, true, false, cond, List, [], ◌∷◌, ◌++◌, map, length, take, Option, Some, None, refl, sym, ap, subst, ◌∙◌, arith}
-use Rattle.std.specs.Prelude.{◌&&◌, ◌||◌, is_some, nat_lt, nat_le, slice_get, option_map}
+use Rattle.std.proofs.Common.{◌≡◌, ℕ, ℤ, suc, ◌+◌, ◌≤◌, ◌==◌, Bool, true, false, cond, List, [], ◌∷◌, ◌++◌, map, take, Option, Some, None, refl, sym, ap, ◌∙◌, arith}
+use Rattle.std.specs.Prelude.{◌&&◌, ◌||◌, is_some, nat_lt, slice_get}
 use Rattle.std.specs.List.{AllByRecursion, list_any}
-use Rattle.std.proofs.lemmas.Bool.{and_parts, eq-eqb, eqb-true, le-ltb, lt-ltb, ltb-true}
+use Rattle.std.proofs.lemmas.Bool.{and_parts, eqb-true, le-ltb, lt-ltb}
 use Rattle.std.proofs.lemmas.Bool.Decides.{nat_tests}
 use Rattle.std.proofs.lemmas.Option.{slice_get-map}
 use Rattle.tcap_parts.specs.declared.component.Component.{Component}
@@ -19,8 +19,8 @@ use Rattle.tcap_search.specs.declared.sweep.Answer.{Answer}
 use Rattle.tcap_search.specs.Lines.{Line, are_of_one_end, is_end, message_of, or_else}
 use Rattle.tcap_search.specs.Proposed.{Fated, components_at, invocation_at, is_answer_of}
 use Rattle.tcap_search.specs.Fates.{is_line_of, is_of}
-use Rattle.tcap_search.specs.Sweep.{answer_at, answers, answers_at, answers_in, components_of, invoked_by, invoked_in, latest, message_components}
-use Rattle.tcap_search.proofs.LatestLaws.{latest_more}
+use Rattle.tcap_search.specs.Sweep.{answer_at, answers, answers_at, components_of, invoked_by, invoked_in, last_given, message_components}
+use Rattle.tcap_search.proofs.LastGivenLaws.{given_more}
 use Rattle.tcap_search.proofs.OrderLaws.{AreInOrder, ComesNoEarlier}
 use Rattle.tcap_search.proofs.TestLaws.{and_false, and_true}
 
@@ -42,7 +42,7 @@ pub invoked_more : (lines : List Line) (x : Line) (t : ℕ) (s : Side) (id : ℤ
     → invoked_in (lines ++ x ∷ []) t s id
     ≡ or_else (where_so (is_line_of s t x) (invoked_by x.number x.entry id)) (invoked_in lines t s id)
 invoked_more lines x t s id =
-    latest_more (λ y. where_so (is_line_of s t y) (invocation_at id y)) lines x
+    given_more (λ y. where_so (is_line_of s t y) (invocation_at id y)) lines x
     ∙ ap (λ (o : Option (ℕ × ℕ)). or_else (where_so (is_line_of s t x) o) (invoked_in lines t s id)) (invocation_is id x)
 
 -- ---- answers, with one gap more
@@ -66,7 +66,7 @@ is_answering is_result t s id y = answers is_result t s id y.line.entry y.line.t
 -- the last answer that came in a gap below a limit
 abbrev pub answered_in : List Line → List Fated → ℕ → Bool → ℕ → Side → ℤ → Option Answer
 answered_in lines all limit is_result t s id =
-    latest (λ y. where_so (is_in_gap_below limit y.fate && is_answering is_result t s id y) (answer_with lines t s id y.fate)) all
+    last_given (λ y. where_so (is_in_gap_below limit y.fate && is_answering is_result t s id y) (answer_with lines t s id y.fate)) all
 
 -- What answers has components, so it is a message; and both entries that answer are of one end.
 any_message : (test : Component → Bool) (m : Option Message) → list_any test (message_components m) ≡ true → is_some m ≡ true
@@ -137,7 +137,7 @@ module _ (lines : List Line) (gap : ℕ) (is_result : Bool) (t : ℕ) (s : Side)
           rw late refl
 
   none_earlier : (x : Fated) (more : List Fated) → AllByRecursion (ComesNoEarlier x) more → x.fate ≡ Gap gap
-      → is_answering is_result t s id x ≡ true → latest (below gap) more ≡ None
+      → is_answering is_result t s id x ≡ true → last_given (below gap) more ≡ None
   none_earlier x [] order is answers_x = refl
   none_earlier x (y ∷ more) order is answers_x =
       rw (none_earlier x more order.1 is answers_x) (one_earlier x y order.0 is answers_x)
@@ -181,14 +181,14 @@ module _ (lines : List Line) (gap : ℕ) (is_result : Bool) (t : ℕ) (s : Side)
 
   -- The last answer below the next limit comes in this gap, where one does, or else below this limit.
   gap_more : (all : List Fated) → AreInOrder all
-      → latest (below (gap + 1)) all ≡ cond (list_any here all) (Some answer) (latest (below gap) all)
+      → last_given (below (gap + 1)) all ≡ cond (list_any here all) (Some answer) (last_given (below gap) all)
   gap_more [] order = refl
   gap_more (x ∷ more) order = by (list_any here more) (gap_more more order.1) (here x) refl
     where
-      by : (m : Bool) → latest (below (gap + 1)) more ≡ cond m (Some answer) (latest (below gap) more)
+      by : (m : Bool) → last_given (below (gap + 1)) more ≡ cond m (Some answer) (last_given (below gap) more)
           → (b : Bool) → here x ≡ b
-          → or_else (latest (below (gap + 1)) more) (below (gap + 1) x)
-          ≡ cond (b || m) (Some answer) (or_else (latest (below gap) more) (below gap x))
+          → or_else (last_given (below (gap + 1)) more) (below (gap + 1) x)
+          ≡ cond (b || m) (Some answer) (or_else (last_given (below gap) more) (below gap x))
       by true is true test = rw is refl
       by true is false test = rw is refl
       by false is false test = rw (is, not_here x test) refl

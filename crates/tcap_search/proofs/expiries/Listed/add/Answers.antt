@@ -1,6 +1,5 @@
 -- The invocation was not listed, or it was.
-use Rattle.std.proofs.Common.{◌≡◌, true, false, ap, sym, ◌∙◌}
-use Rattle.std.specs.Prelude.{not}
+use Rattle.std.proofs.Common.{◌≡◌, true, false, sym, ◌∙◌}
 use Rattle.std.proofs.lemmas.Bool.{not-false, not-true}
 use Rattle.std.specs.List.{list_any}
 use Rattle.tcap_search.specs.Proposed.{is_expiry_of}

@@ -1,5 +1,5 @@
 -- One component more.
-use Rattle.std.proofs.Common.{◌≡◌, ◌==◌, ◌&&◌, ◌+◌, drop, ap, ◌∙◌}
+use Rattle.std.proofs.Common.{◌==◌, ◌&&◌, ◌+◌, drop, ap, ◌∙◌}
 use Rattle.tcap_check.specs.World.{is_side}
 use Rattle.tcap_search.specs.Proposed.{last_invoke}
 use Rattle.tcap_search.specs.ByInvocation.{kept_at}
