@@ -32,20 +32,24 @@ invocation_is : (lines : List Line) (x : Line) (side : Side) (t : ℕ) (id : ℤ
     → x.entry.side ≡ Some side → x.transaction ≡ Some t
     → last_invocation lines x id gap ≡ invoked_in (take gap lines) t side id
 invocation_is lines x side t id gap are at_side at_t =
-    ap (λ (o : Option Line). then_so o (invocation_at id)) (last_same original (λ y. nat_lt y.number gap && passes y) same lines
+    ap (λ (o : Option Line). then_so o (invocation_at id))
+    (last_same original (λ y. nat_lt y.number gap && passes y) same lines
     ∙ last_earlier gap lines passes are)
     ∙ given_is passes (invocation_at id) gives (take gap lines)
-    ∙ given_same (λ y. where_so (passes y) (invocation_at id y)) (λ y. where_so (is_line_of side t y) (invocation_at id y))
+    ∙ given_same (λ y. where_so (passes y) (invocation_at id y))
+    (λ y. where_so (is_line_of side t y) (invocation_at id y))
     (λ y. once (is_line_of side t y) (invocation_at id y)) (take gap lines)
   where
     original : Line → Bool
-    original y = nat_lt y.number gap && are_of_one_end x.entry y.entry && share_transaction x y && is_some (invocation_at id y)
+    original y = nat_lt y.number gap && are_of_one_end x.entry y.entry && share_transaction x y
+        && is_some (invocation_at id y)
 
     passes : Line → Bool
     passes y = is_line_of side t y && is_some (invocation_at id y)
 
     both : (y : Line) → (are_of_one_end x.entry y.entry && share_transaction x y) ≡ is_line_of side t y
-    both y = ap (λ (b : Bool). b && share_transaction x y) (one_end x.entry y.entry side at_side) ∙ of_both side t x y at_t
+    both y = ap (λ (b : Bool). b && share_transaction x y) (one_end x.entry y.entry side at_side)
+        ∙ of_both side t x y at_t
 
     same : (y : Line) → original y ≡ (nat_lt y.number gap && passes y)
     same y =
@@ -77,9 +81,9 @@ delivered_is k (By reply) = refl
 delivered_is k Lost = refl
 
 module _ (lines : List Line) (all : List Fated) (x : Line) where
-
   abbrev rejects : Bool → ℤ → Fated → Bool
-  rejects is_result id y = is_of_peer x.entry y.line.entry && share_transaction x y.line && is_delivered_by x.number y.fate
+  rejects is_result id y = is_of_peer x.entry y.line.entry && share_transaction x y.line
+      && is_delivered_by x.number y.fate
       && list_any (is_answer_of is_result id) (components_at y.line)
 
   -- Where there is no end or no transaction, nothing adds anything.
@@ -90,7 +94,8 @@ module _ (lines : List Line) (all : List Fated) (x : Line) where
     where
       none : rejected_line all x (is_result, id) ≡ None
       none = last_never (rejects is_result id) all
-          (λ y. ap (λ (b : Bool). b && is_delivered_by x.number y.fate && list_any (is_answer_of is_result id) (components_at y.line))
+          (λ y. ap (λ (b : Bool). b && is_delivered_by x.number y.fate
+          && list_any (is_answer_of is_result id) (components_at y.line))
           (never y.line))
 
   all_nothing : ((y : Line) → (is_of_peer x.entry y.entry && share_transaction x y) ≡ false)
@@ -102,7 +107,6 @@ module _ (lines : List Line) (all : List Fated) (x : Line) where
 
 module _ (lines : List Line) (all : List Fated) (x : Line) (side : Side) (t : ℕ) (are : AreNumbered 0 lines)
     (at_side : x.entry.side ≡ Some side) (at_t : x.transaction ≡ Some t) where
-
   -- whether that is an answer that came, as a sweep tells it
   abbrev came : Bool → ℤ → Fated → Bool
   came is_result id y = is_in_gap_below (x.number + 1) y.fate && is_answering is_result t side id y
@@ -122,7 +126,8 @@ module _ (lines : List Line) (all : List Fated) (x : Line) (side : Side) (t : �
 
   gives : (is_result : Bool) (id : ℤ) (y : Fated) → came is_result id y ≡ true
       → is_some (answer_with lines t side id y.fate) ≡ true
-  gives is_result id y is = by y.fate ((and_parts (is_in_gap_below (x.number + 1) y.fate) (is_answering is_result t side id y) is).0)
+  gives is_result id y is = by y.fate
+      ((and_parts (is_in_gap_below (x.number + 1) y.fate) (is_answering is_result t side id y) is).0)
     where
       by : (f : Fate) → is_in_gap_below (x.number + 1) f ≡ true → is_some (answer_with lines t side id f) ≡ true
       by Lost in_gap = absurd (cc)
@@ -152,7 +157,8 @@ module _ (lines : List Line) (all : List Fated) (x : Line) (side : Side) (t : �
           ≡ with_answer side listed (answered_in lines all (x.number + 1) is_result t side id)
       by None at passes is =
           let none : answered_in lines all (x.number + 1) is_result t side id ≡ None =
-              sym is ∙ ap (λ (o : Option Fated). then_so o (λ y. answer_with lines t side id y.fate)) (sym same_line ∙ at) in
+          sym is ∙ ap (λ (o : Option Fated). then_so o (λ y. answer_with lines t side id y.fate))
+          (sym same_line ∙ at) in
           rw (at, none) refl
       by (Some y) at passes is = of_fate y.fate refl
           ((and_parts (is_in_gap_below (x.number + 1) y.fate) (is_answering is_result t side id y) (passes y here)).0)
@@ -192,9 +198,11 @@ line_adds lines all x listed are =
         → expiries_by all lines x listed (components_of x.entry)
         ≡ rejected_of (answered_by lines all (x.number + 1)) listed s o (components_of x.entry)
     by None at o is = all_nothing lines all x
-        (λ y. ap (λ (b : Bool). b && share_transaction x y) (of_peer_none x.entry y.entry at)) listed (components_of x.entry)
+        (λ y. ap (λ (b : Bool). b && share_transaction x y) (of_peer_none x.entry y.entry at)) listed
+        (components_of x.entry)
     by (Some side) at None is = all_nothing lines all x
-        (λ y. ap (λ (b : Bool). is_of_peer x.entry y.entry && b) (shares_none x y is) ∙ and_false (is_of_peer x.entry y.entry))
+        (λ y. ap (λ (b : Bool). is_of_peer x.entry y.entry && b) (shares_none x y is)
+        ∙ and_false (is_of_peer x.entry y.entry))
         listed (components_of x.entry)
     by (Some side) at (Some t) is = all_add lines all x side t are at is listed (components_of x.entry)
 

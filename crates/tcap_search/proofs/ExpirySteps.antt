@@ -31,8 +31,10 @@ use Rattle.tcap_search.proofs.SweepLaws.{answer_with, answered_in, answered_more
 -- They are of these lines,
 all_lines : (lines : List Line) → map (λ y. y.line) (all_fated lines) ≡ lines
 all_lines lines =
-    let same : length (first_fates lines (ties_of lines)) ≡ length lines = length-map lines (fate_of lines (ties_of lines)) in
-    lines_kept (fated lines (first_fates lines (ties_of lines))) ∙ lines_fated lines (first_fates lines (ties_of lines)) same
+    let same : length (first_fates lines (ties_of lines)) ≡ length lines =
+    length-map lines (fate_of lines (ties_of lines)) in
+    lines_kept (fated lines (first_fates lines (ties_of lines)))
+    ∙ lines_fated lines (first_fates lines (ties_of lines)) same
 
 map_twice : {A B C : Type 0} (f : A → B) (g : B → C) (xs : List A) → map g (map f xs) ≡ map (λ x. g (f x)) xs
 map_twice f g [] = refl
@@ -65,7 +67,8 @@ answered_none : (lines : List Line) (all : List Fated) (is_result : Bool) (t : �
 answered_none lines [] is_result t s id = refl
 answered_none lines (y ∷ all) is_result t s id = rw (answered_none lines all is_result t s id) (by y.fate)
   where
-    by : (f : Fate) → where_so (is_in_gap_below 0 f && is_answering is_result t s id y) (answer_with lines t s id f) ≡ None
+    by : (f : Fate) → where_so (is_in_gap_below 0 f && is_answering is_result t s id y) (answer_with lines t s id f)
+        ≡ None
     by (Gap g) = let none : nat_lt g 0 ≡ false = le-ltb g 0 (omega arith) in rw none refl
     by Lost = refl
     by (By reply) = refl
@@ -87,7 +90,6 @@ answers_stay a b results errors false t s id = rw errors refl
 
 module _ (entries : List Entry) (transactions : List (Option ℕ)) (fates : List Fate)
     (are : AreTransactions entries transactions) (are_fates : AreFates entries fates) (i : ℕ) where
-
   abbrev lines : List Line
   lines = lines_of entries
 
@@ -112,13 +114,13 @@ module _ (entries : List Entry) (transactions : List (Option ℕ)) (fates : List
       (Some (answer_at i (invoked_in (take i lines) t s id))) (answered_in lines all i is_result t s id))
       (sym (all_entries entries))
       ∙ ap (λ (ts : List (Option ℕ)).
-      cond (list_any (answers_at (map (λ y. y.line.entry) all) ts is_result t s id) (due_in i 0 (map (λ x. x.fate) all)))
+      cond (list_any (answers_at (map (λ y. y.line.entry) all) ts is_result t s id)
+      (due_in i 0 (map (λ x. x.fate) all)))
       (Some (answer_at i (invoked_in (take i lines) t s id))) (answered_in lines all i is_result t s id))
       (sym (all_transactions entries transactions are))
       ∙ answered_more lines all i is_result t s id (losses_order (fated lines (first_fates lines (ties_of lines)))))
 
   module _ (within : i < length entries) (e : Entry) (is_entry : e ≡ get_or entries i e) where
-
     abbrev here : Line
     here = line_at i e (get_or transactions i None)
 
@@ -144,8 +146,10 @@ module _ (entries : List Entry) (transactions : List (Option ℕ)) (fates : List
         ∙ sym (line_adds lines all here before (lines_numbered entries))
         ∙ ap (λ (l : List Expiry). expiries_by all lines here l (components_at here)) was
         ∙ sym (expiries_more all lines (take i lines) here [])
-        ∙ ap (λ (ls : List Line). expiries_from all lines ls []) (sym (lines_more entries transactions are i within e is_entry))
+        ∙ ap (λ (ls : List Line). expiries_from all lines ls [])
+        (sym (lines_more entries transactions are i within e is_entry))
       where
-        same : (t : ℕ) (side : Side) (o : Option (Bool × ℤ)) → answer_rejected sweep t side o ≡ answered_by lines all (i + 1) t side o
+        same : (t : ℕ) (side : Side) (o : Option (Bool × ℤ)) → answer_rejected sweep t side o
+            ≡ answered_by lines all (i + 1) t side o
         same t side None = refl
         same t side (Some (is_result, id)) = answers is_result t side id

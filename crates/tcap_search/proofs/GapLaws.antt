@@ -138,7 +138,8 @@ receiver_gap_is lines x are =
     by (Some side) at None is = none (λ y. ap (λ (b : Bool). is_of_peer x.entry y.entry && b) (shares_none x y is)
         ∙ and_false (is_of_peer x.entry y.entry))
     by (Some side) at (Some t) is = ap gap_behind_line (last_same passes (is_line_of (other side) t)
-        (λ y. ap (λ (b : Bool). b && share_transaction x y) (of_peer x.entry y.entry side at) ∙ of_both (other side) t x y is)
+        (λ y. ap (λ (b : Bool). b && share_transaction x y) (of_peer x.entry y.entry side at)
+        ∙ of_both (other side) t x y is)
         lines)
 
 -- ---- what is raised
@@ -161,7 +162,8 @@ raised_late n (y ∷ lines) ties x gap are after =
     rw not_before (raised_late (n + 1) lines ties x gap are.1 (omega arith))
 
 -- Before it each of its end does.
-raised_of : (side : Side) (n : ℕ) (lines : List Line) (ties : List Tie) (x : Line) (i gap : ℕ) → x.entry.side ≡ Some side
+raised_of : (side : Side) (n : ℕ) (lines : List Line) (ties : List Tie) (x : Line) (i gap : ℕ)
+    → x.entry.side ≡ Some side
     → AreNumbered n lines → x.number ≡ n + i → raised lines ties x gap ≡ max gap (highest side (take i lines) ties)
 raised_of side n [] ties x zero gap at are is = omega arith
 raised_of side n [] ties x (suc i) gap at are is = omega arith
@@ -252,7 +254,8 @@ highest_more side (y ∷ lines) x ties =
 
 -- The gap behind the last with one more.
 pub gap_more : (side : Side) (t : ℕ) (lines : List Line) (x : Line)
-    → gap_behind_last side t (lines ++ x ∷ []) ≡ cond (is_line_of side t x) (x.number + 1) (gap_behind_last side t lines)
+    → gap_behind_last side t (lines ++ x ∷ []) ≡ cond (is_line_of side t x) (x.number + 1)
+    (gap_behind_last side t lines)
 gap_more side t lines x = ap gap_behind_line (last_more (is_line_of side t) lines x) ∙ by (is_line_of side t x)
   where
     by : (b : Bool) → gap_behind_line (cond b (Some x) (last (is_line_of side t) lines))

@@ -39,4 +39,5 @@ pub same_key : (t u : ℕ) (s r : Side) (i j : ℤ)
     → is_at (key_cmp (key_of u r j)) (key_of t s i) ≡ ((t == u) && is_side s r && is_at (int_cmp i) j)
 same_key t u s r i j =
     then_equal (nat_cmp (half_number u r) (half_number t s)) (int_cmp j i)
-    ∙ ap₂ (λ (a b : Bool). a && b) (numbers_equal (half_number u r) (half_number t s) ∙ halves_equal t u s r) (ids_equal j i)
+    ∙ ap₂ (λ (a b : Bool). a && b) (numbers_equal (half_number u r) (half_number t s) ∙ halves_equal t u s r)
+    (ids_equal j i)

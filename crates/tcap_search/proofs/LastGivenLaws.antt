@@ -16,7 +16,8 @@ given_more f (y ∷ xs) x =
     ap (λ o. or_else o (f y)) (given_more f xs x) ∙ or_or (f x) (last_given f xs) (f y)
 
 -- Two that give the same of each give the same.
-pub given_same : {A B : Type 0} (f g : A → Option B) → ((x : A) → f x ≡ g x) → (xs : List A) → last_given f xs ≡ last_given g xs
+pub given_same : {A B : Type 0} (f g : A → Option B) → ((x : A) → f x ≡ g x)
+    → (xs : List A) → last_given f xs ≡ last_given g xs
 given_same f g same [] = refl
 given_same f g same (x ∷ xs) =
     ap (λ o. or_else o (f x)) (given_same f g same xs) ∙ ap (or_else (last_given g xs)) (same x)
@@ -26,7 +27,8 @@ or_some None p q some is = absurd (false≢true some)
 or_some (Some b) p q some is = rw (← is) refl
 
 -- What the last that passes gives, where each that passes gives something.
-pub given_is : {A B : Type 0} (passes : A → Bool) (f : A → Option B) → ((x : A) → passes x ≡ true → is_some (f x) ≡ true)
+pub given_is : {A B : Type 0} (passes : A → Bool) (f : A → Option B)
+    → ((x : A) → passes x ≡ true → is_some (f x) ≡ true)
     → (xs : List A) → then_so (last passes xs) f ≡ last_given (λ x. where_so (passes x) (f x)) xs
 given_is passes f gives [] = refl
 given_is {A = A} {B = B} passes f gives (x ∷ xs) =
@@ -42,7 +44,8 @@ given_is {A = A} {B = B} passes f gives (x ∷ xs) =
         ≡ or_else (last_given (λ x. where_so (passes x) (f x)) xs) (where_so (passes x) (f x))
     by None test is = rw (← is) (alone (passes x))
     by (Some y) test is =
-        or_some (f y) (last_given (λ x. where_so (passes x) (f x)) xs) (where_so (passes x) (f x)) (gives y (test y refl)) is
+        or_some (f y) (last_given (λ x. where_so (passes x) (f x)) xs) (where_so (passes x) (f x))
+        (gives y (test y refl)) is
 
 -- ---- earlier lines
 

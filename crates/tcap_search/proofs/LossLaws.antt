@@ -33,7 +33,8 @@ overtaken_by x side [] at = refl
 overtaken_by x side (y ∷ later) at =
     rw (one_end x.line.entry y.line.entry side at, overtaken_by x side later at) (by (is_end side y.line.entry.side))
   where
-    by : (b : Bool) → ((b && is_later (time_of y.fate) (time_of x.fate)) || is_later (least_time side later) (time_of x.fate))
+    by : (b : Bool) → ((b && is_later (time_of y.fate) (time_of x.fate))
+        || is_later (least_time side later) (time_of x.fate))
         ≡ is_later (cond b (sooner (time_of y.fate) (least_time side later)) (least_time side later)) (time_of x.fate)
     by true = sym (sooner_is (time_of y.fate) (least_time side later) (time_of x.fate))
     by false = refl
@@ -50,7 +51,8 @@ least_so_far later (Some side) = least_time side later
 pub fate_before_is : (later : List Fated) (x : Fated)
     → fate_before later x ≡ fate_behind_least x.line.entry x.fate (least_so_far later x.line.entry.side)
 fate_before_is later x =
-    ap (λ (b : Bool). cond (is_gap x.fate && is_some (message_of x.line.entry) && b) Lost x.fate) (by x.line.entry.side refl)
+    ap (λ (b : Bool). cond (is_gap x.fate && is_some (message_of x.line.entry) && b) Lost x.fate)
+    (by x.line.entry.side refl)
   where
     by : (s : Option Side) → x.line.entry.side ≡ s
         → list_any (is_overtaken x) later ≡ is_later (least_so_far later s) (time_of x.fate)
@@ -75,7 +77,8 @@ pub fates_fated : (lines : List Line) (fates : List Fate) → length fates ≡ l
 fates_fated [] [] same = refl
 fates_fated (line ∷ lines) [] same = absurd (omega arith)
 fates_fated [] (fate ∷ fates) same = absurd (omega arith)
-fates_fated (line ∷ lines) (fate ∷ fates) same = ap (λ (fs : List Fate). fate ∷ fs) (fates_fated lines fates (omega arith))
+fates_fated (line ∷ lines) (fate ∷ fates) same = ap (λ (fs : List Fate). fate ∷ fs)
+    (fates_fated lines fates (omega arith))
 
 -- What is there at a place.
 pub fated_there : (lines : List Line) (fates : List Fate) (i : ℕ) (line : Line) (fate : Fate) (d : Fated)
@@ -91,7 +94,8 @@ fated_there (x ∷ lines) (y ∷ fates) (suc i) line fate d within same is_line 
 -- ---- losses, from the last line to the first
 
 losses_step : (x : Fated) (more : List Fated)
-    → map (λ x. x.fate) (with_losses (x ∷ more)) ≡ fate_before (with_losses more) x ∷ map (λ x. x.fate) (with_losses more)
+    → map (λ x. x.fate) (with_losses (x ∷ more))
+    ≡ fate_before (with_losses more) x ∷ map (λ x. x.fate) (with_losses more)
 losses_step x more = refl
 
 -- Losses keep the lines.
@@ -104,7 +108,8 @@ pub lines_fated : (lines : List Line) (fates : List Fate) → length fates ≡ l
 lines_fated [] [] same = refl
 lines_fated (line ∷ lines) [] same = absurd (omega arith)
 lines_fated [] (fate ∷ fates) same = absurd (omega arith)
-lines_fated (line ∷ lines) (fate ∷ fates) same = ap (λ (ls : List Line). line ∷ ls) (lines_fated lines fates (omega arith))
+lines_fated (line ∷ lines) (fate ∷ fates) same = ap (λ (ls : List Line). line ∷ ls)
+    (lines_fated lines fates (omega arith))
 
 pub entries_fated : (lines : List Line) (fates : List Fate) → length fates ≡ length lines
     → map (λ x. x.line.entry) (fated lines fates) ≡ map (λ x. x.entry) lines

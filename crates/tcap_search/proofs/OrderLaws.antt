@@ -32,7 +32,8 @@ kept_gap b c (By reply) g is some = absurd (cc)
 not_overtaken : (x y : Fated) (g h : ℕ) → is_overtaken x y ≡ false → x.fate ≡ Gap g → y.fate ≡ Gap h
     → are_of_one_end x.line.entry y.line.entry ≡ true → g ≤ h
 not_overtaken x y g h never of_x of_y one =
-    let earlier : (are_of_one_end x.line.entry y.line.entry && is_later (time_of y.fate) (time_of x.fate)) ≡ false = never in
+    let earlier : (are_of_one_end x.line.entry y.line.entry && is_later (time_of y.fate) (time_of x.fate))
+    ≡ false = never in
     let lt : nat_lt (2 * h) (2 * g) ≡ false = rw (one, of_x, of_y) at earlier in
     omega (arith, ltb-false (2 * h) (2 * g) lt)
 
@@ -44,12 +45,14 @@ each_not_overtaken line fate kept [] never = tt
 each_not_overtaken line fate kept (y ∷ later) never = (
   λ g h of_x of_y some one.
       let parts = or_parts (is_overtaken (fated_at line fate) y) (list_any (is_overtaken (fated_at line fate)) later)
-          (never g of_x some).1 in
+      (never g of_x some).1 in
       not_overtaken (fated_at line fate) y g h parts.0 (never g of_x some).0 of_y one,
-  each_not_overtaken line fate kept later (λ g of_x some.
-      ((never g of_x some).0,
-      (or_parts (is_overtaken (fated_at line fate) y) (list_any (is_overtaken (fated_at line fate)) later)
-      (never g of_x some).1).1)))
+  each_not_overtaken line fate kept later (λ g of_x some. (
+    (never g of_x some).0,
+    (or_parts (is_overtaken (fated_at line fate) y) (list_any (is_overtaken (fated_at line fate)) later)
+        (never g of_x some).1).1,
+  )),
+)
 
 -- Behind the losses they are in order.
 pub losses_order : (all : List Fated) → AreInOrder (with_losses all)
@@ -57,4 +60,5 @@ losses_order [] = tt
 losses_order (x ∷ more) = (
   each_not_overtaken x.line x.fate (fate_before (with_losses more) x) (with_losses more) (λ g is some.
       kept_gap (is_some (message_of x.line.entry)) (list_any (is_overtaken x) (with_losses more)) x.fate g is some),
-  losses_order more)
+  losses_order more,
+)

@@ -43,7 +43,8 @@ pub invoked_more : (lines : List Line) (x : Line) (t : ℕ) (s : Side) (id : ℤ
     ≡ or_else (where_so (is_line_of s t x) (invoked_by x.number x.entry id)) (invoked_in lines t s id)
 invoked_more lines x t s id =
     given_more (λ y. where_so (is_line_of s t y) (invocation_at id y)) lines x
-    ∙ ap (λ (o : Option (ℕ × ℕ)). or_else (where_so (is_line_of s t x) o) (invoked_in lines t s id)) (invocation_is id x)
+    ∙ ap (λ (o : Option (ℕ × ℕ)). or_else (where_so (is_line_of s t x) o) (invoked_in lines t s id))
+    (invocation_is id x)
 
 -- ---- answers, with one gap more
 
@@ -66,10 +67,12 @@ is_answering is_result t s id y = answers is_result t s id y.line.entry y.line.t
 -- the last answer that came in a gap below a limit
 abbrev pub answered_in : List Line → List Fated → ℕ → Bool → ℕ → Side → ℤ → Option Answer
 answered_in lines all limit is_result t s id =
-    last_given (λ y. where_so (is_in_gap_below limit y.fate && is_answering is_result t s id y) (answer_with lines t s id y.fate)) all
+    last_given (λ y. where_so (is_in_gap_below limit y.fate && is_answering is_result t s id y)
+    (answer_with lines t s id y.fate)) all
 
 -- What answers has components, so it is a message; and both entries that answer are of one end.
-any_message : (test : Component → Bool) (m : Option Message) → list_any test (message_components m) ≡ true → is_some m ≡ true
+any_message : (test : Component → Bool) (m : Option Message) → list_any test (message_components m) ≡ true
+    → is_some m ≡ true
 any_message test None any = absurd (cc)
 any_message test (Some m) any = refl
 
@@ -94,10 +97,10 @@ is_of_end s t e None is = absurd (cc)
 is_of_end s t e (Some u) is = (and_parts (is_end s e.side) (t == u) is).0
 
 module _ (lines : List Line) (gap : ℕ) (is_result : Bool) (t : ℕ) (s : Side) (id : ℤ) where
-
   -- what comes in a gap below that limit
   below : ℕ → Fated → Option Answer
-  below limit y = where_so (is_in_gap_below limit y.fate && is_answering is_result t s id y) (answer_with lines t s id y.fate)
+  below limit y = where_so (is_in_gap_below limit y.fate && is_answering is_result t s id y)
+      (answer_with lines t s id y.fate)
 
   -- whether that answers and comes in this gap
   here : Fated → Bool
@@ -129,10 +132,11 @@ module _ (lines : List Line) (gap : ℕ) (is_result : Bool) (t : ℕ) (s : Side)
           → where_so (is_in_gap_below gap f && b) (answer_with lines t s id f) ≡ None
       by Lost at b answers_y = refl
       by (By reply) at b answers_y = refl
-      by (Gap h) at false answers_y = where_false (nat_lt h gap && false) (answer_with lines t s id (Gap h)) (and_false (nat_lt h gap))
+      by (Gap h) at false answers_y = where_false (nat_lt h gap && false) (answer_with lines t s id (Gap h))
+          (and_false (nat_lt h gap))
       by (Gap h) at true answers_y =
           let no_earlier : gap ≤ h = order gap h is at message
-              (of_one_end x.line.entry y.line.entry (other s) (end_of x answers_x) (end_of y answers_y)) in
+          (of_one_end x.line.entry y.line.entry (other s) (end_of x answers_x) (end_of y answers_y)) in
           let late : nat_lt h gap ≡ false = le-ltb h gap no_earlier in
           rw late refl
 
@@ -219,7 +223,8 @@ due_from F G gap k (y ∷ rest) agree = by y.fate (due_from F G gap (k + 1) rest
     by (Gap g) is = in_gap (g == gap)
       where
         in_gap : (b : Bool)
-            → list_any F (cond b (k ∷ due_in gap (k + 1) (map (λ y. y.fate) rest)) (due_in gap (k + 1) (map (λ y. y.fate) rest)))
+            → list_any F (cond b (k ∷ due_in gap (k + 1) (map (λ y. y.fate) rest))
+            (due_in gap (k + 1) (map (λ y. y.fate) rest)))
             ≡ ((b && G y) || list_any (λ y. is_in_gap gap y.fate && G y) rest)
         in_gap true = rw (first, is) refl
         in_gap false = is
@@ -238,7 +243,12 @@ due_is gap is_result t s id all =
         ≡ is_answering is_result t s id y
     agree j y at =
         let e : 0 + j ≡ j = omega arith in
-        rw (e, slice_get-map (λ (y : Fated). y.line.entry) all j, slice_get-map (λ (y : Fated). y.line.transaction) all j, at) refl
+        rw (
+          e,
+          slice_get-map (λ (y : Fated). y.line.entry) all j,
+          slice_get-map (λ (y : Fated). y.line.transaction) all j,
+          at,
+        ) refl
 
 -- So the answers that are kept behind a gap are those below the next limit.
 pub answered_more : (lines : List Line) (all : List Fated) (gap : ℕ) (is_result : Bool) (t : ℕ) (s : Side) (id : ℤ)

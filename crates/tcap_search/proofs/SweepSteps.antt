@@ -20,7 +20,8 @@ first_invoke : (id : ℤ) (place : ℕ) (c : Component) (more : List Component)
 first_invoke id place c more = by (last_invoke id (place + 1) more) refl
   where
     by : (o : Option ℕ) → last_invoke id (place + 1) more ≡ o
-        → last_invoke id place (c ∷ more) ≡ or_else o (where_so (is_invoke_of id c && nat_le place number_limit) (Some place))
+        → last_invoke id place (c ∷ more)
+        ≡ or_else o (where_so (is_invoke_of id c && nat_le place number_limit) (Some place))
     by None at = rw at refl
     by (Some later) at = rw at refl
 

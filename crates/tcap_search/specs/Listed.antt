@@ -30,13 +30,16 @@ with_answer side listed (Some answer) = with_expiry listed (Some side) answer.ga
 -- what components of an end add, where these are the answers that they reject
 abbrev pub all_rejected : (Option (Bool × ℤ) → Option Answer) → Side → List Expiry → List Component → List Expiry
 all_rejected found side listed [] = listed
-all_rejected found side listed (c ∷ more) = all_rejected found side (with_answer side listed (found (unrecognized c))) more
+all_rejected found side listed (c ∷ more) =
+    all_rejected found side (with_answer side listed (found (unrecognized c))) more
 
 abbrev pub rejected_of : (ℕ → Side → Option (Bool × ℤ) → Option Answer) → List Expiry → Option Side → Option ℕ
     → List Component → List Expiry
-rejected_of found listed (Some side) (Some transaction) components = all_rejected (found transaction side) side listed components
+rejected_of found listed (Some side) (Some transaction) components =
+    all_rejected (found transaction side) side listed components
 rejected_of found listed _ _ components = listed
 
 -- what an entry adds, where these are the answers that its end may reject in its transaction
-abbrev pub entry_rejected : (ℕ → Side → Option (Bool × ℤ) → Option Answer) → List Expiry → Entry → Option ℕ → List Expiry
+abbrev pub entry_rejected : (ℕ → Side → Option (Bool × ℤ) → Option Answer) → List Expiry → Entry → Option ℕ
+    → List Expiry
 entry_rejected found listed e transaction = rejected_of found listed e.side transaction (components_of e)

@@ -1,5 +1,5 @@
--- What is kept in a sweep over gaps and entries: for each transaction, end and invoke ID the last Invoke so far, and the
--- last answers that came.
+-- What is kept in a sweep over gaps and entries: for each transaction, end and invoke ID the last Invoke so far, and
+-- the last answers that came.
 use Rattle.std.specs.Prelude.{ℕ, ℤ, Bool, true, false, List, [], ◌∷◌, slice_get, Option, Some, None, ◌&&◌, cond, option_map}
 use Rattle.std.specs.List.{list_any}
 use Rattle.tcap_parts.specs.declared.component.Component.{Component}
@@ -38,7 +38,8 @@ invoked_by number e id = cond (may_invoke (message_of e))
 
 -- the last Invoke of the ID in these lines of that end in that transaction
 abbrev pub invoked_in : List Line → ℕ → Side → ℤ → Option (ℕ × ℕ)
-invoked_in lines transaction side id = last_given (λ y. where_so (is_line_of side transaction y) (invocation_at id y)) lines
+invoked_in lines transaction side id =
+    last_given (λ y. where_so (is_line_of side transaction y) (invocation_at id y)) lines
 
 -- ---- answers
 

@@ -15,7 +15,8 @@ use tcap_check::{Expiry, Fate};
 use tcap_parts::Component;
 use tcap_record::{End, Entry};
 
-/// Expiries as they are listed, and which invocations they name: the number of an entry, and the place of the Invoke there.
+/// Expiries as they are listed, and which invocations they name: the number of an entry, and the place of the Invoke
+/// there.
 #[derive(Debug, Drop)]
 pub(crate) struct Listed {
     expiries: Vec<Expiry>,

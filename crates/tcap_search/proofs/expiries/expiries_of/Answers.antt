@@ -38,28 +38,31 @@ loop-number-preserved c =
     let e = c.index-entries-number.result in
     let count : length fates ≡ length entries = count_fates entries fates c.requires.fates in
     let due : c.due_at.result.now ≡ due_in i 0 fates =
-        c.due_at.ensures ∙ ap (due_at i) c.deref.ensures.value ∙ c.in_ok-due.ensures i (omega arith) in
+    c.due_at.ensures ∙ ap (due_at i) c.deref.ensures.value ∙ c.in_ok-due.ensures i (omega arith) in
     let answers : (is_result : Bool) (t : ℕ) (s : Side) (id : ℤ) → answer_kept is_result t s id c.deliver_all.new.self
     ≡ answered_in (lines_of entries) (all_fated (lines_of entries)) (i + 1) is_result t s id =
-        answers_step entries transactions fates c.requires.transactions c.requires.fates i c.loop-number.sweep
-        c.deliver_all.new.self c.due_at.result.now due c.loop-number.invariant.invokes c.loop-number.invariant.answers
-        c.in_ok-deliver_all.ensures.noted in
+    answers_step entries transactions fates c.requires.transactions c.requires.fates i c.loop-number.sweep
+    c.deliver_all.new.self c.due_at.result.now due c.loop-number.invariant.invokes c.loop-number.invariant.answers
+    c.in_ok-deliver_all.ensures.noted in
     record {
       invokes = λ t s id.
           invokes_step entries transactions fates c.requires.transactions c.requires.fates i c.loop-number-test.true e
           c.index-entries-number.is (kept_at t s id c.deliver_all.new.self.invokes)
           (kept_at t s id c.note_entry.new.self.invokes) t s id
-          (rw c.deliver_all.ensures.invokes (c.loop-number.invariant.invokes t s id)) (c.in_ok-note_entry.ensures.noted t s id);
+          (rw c.deliver_all.ensures.invokes (c.loop-number.invariant.invokes t s id))
+          (c.in_ok-note_entry.ensures.noted t s id);
       answers = λ is_result t s id.
-          answers_stay c.deliver_all.new.self c.note_entry.new.self c.note_entry.ensures.results c.note_entry.ensures.errors
+          answers_stay c.deliver_all.new.self c.note_entry.new.self c.note_entry.ensures.results
+          c.note_entry.ensures.errors
           is_result t s id ∙ answers is_result t s id;
-      added = listed_step entries transactions fates c.requires.transactions c.requires.fates i c.loop-number-test.true e
-          c.index-entries-number.is c.deliver_all.new.self c.loop-number.listed.expiries.items
+      added = listed_step entries transactions fates c.requires.transactions c.requires.fates i
+          c.loop-number-test.true e c.index-entries-number.is c.deliver_all.new.self c.loop-number.listed.expiries.items
           c.add_entry.new.self.expiries.items answers c.loop-number.invariant.added c.in_ok-add_entry.ensures.added;
       listed = c.in_ok-add_entry.ensures.listed;
     }
 
 pub returns : goal.returns
 returns c = c.loop-number.invariant.added
-    ∙ ap (λ (ls : List Line). expiries_from (all_fated (lines_of c.args.entries.now)) (lines_of c.args.entries.now) ls [])
+    ∙ ap (λ (ls : List Line). expiries_from (all_fated (lines_of c.args.entries.now))
+    (lines_of c.args.entries.now) ls [])
     (all_lines c.args.entries.now c.loop-number.number c.loop-number-test.false)

@@ -11,7 +11,8 @@ use Rattle.tcap_search.proofs.expiries.expiries_of.Given as goal
 
 abbrev pub invariant-loop-number : goal.invariant-loop-number
 invariant-loop-number l = record {
-  invokes : (t : ℕ) (s : Side) (id : ℤ) → kept_at t s id l.sweep.invokes ≡ invoked_in (take l.number (lines_of l.entries)) t s id;
+  invokes : (t : ℕ) (s : Side) (id : ℤ) → kept_at t s id l.sweep.invokes
+      ≡ invoked_in (take l.number (lines_of l.entries)) t s id;
   answers : (is_result : Bool) (t : ℕ) (s : Side) (id : ℤ) → answer_kept is_result t s id l.sweep
       ≡ answered_in (lines_of l.entries) (all_fated (lines_of l.entries)) l.number is_result t s id;
   added : l.listed.expiries.items

@@ -22,6 +22,7 @@ loop-place-preserved c = record {
 
 pub returns-clause-noted : goal.returns-clause-noted
 returns-clause-noted c = λ t s id.
-    invoke_end (t == c.args.transaction && is_side s c.args.side) c.args.number id c.args.components.now c.loop-place.place
+    invoke_end (t == c.args.transaction && is_side s c.args.side) c.args.number id c.args.components.now
+    c.loop-place.place
     (kept_at t s id c.loop-place.self.invokes) c.loop-place-test.false
     ∙ c.loop-place.invariant.noted t s id
