@@ -41,7 +41,7 @@ from_below n [] ties numbers all = all
 from_below n (x ∷ lines) ties numbers all = from_below n lines (with_tie_by (reverse lines) ties x (message_of x.entry))
     numbers.1 (with_below n (reverse lines) ties x (message_of x.entry) numbers.0 all)
 
-numbers_below : (n k : ℕ) (lines : List Line) → AreNumbered k lines → k + length lines ≤ n
+pub numbers_below : (n k : ℕ) (lines : List Line) → AreNumbered k lines → k + length lines ≤ n
     → AllByRecursion (λ x. x.number < n) lines
 numbers_below n k [] are within = tt
 numbers_below n k (x ∷ lines) are within =

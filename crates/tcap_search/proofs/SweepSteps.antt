@@ -14,7 +14,7 @@ use Rattle.tcap_search.specs.Sweep.{components_of, invoked_by}
 use Rattle.tcap_search.proofs.TestLaws.{and_swap}
 
 -- The last Invoke of components is that of those behind the first, or else the first.
-first_invoke : (id : ℤ) (place : ℕ) (c : Component) (more : List Component)
+pub first_invoke : (id : ℤ) (place : ℕ) (c : Component) (more : List Component)
     → last_invoke id place (c ∷ more)
     ≡ or_else (last_invoke id (place + 1) more) (where_so (is_invoke_of id c && nat_le place number_limit) (Some place))
 first_invoke id place c more = by (last_invoke id (place + 1) more) refl

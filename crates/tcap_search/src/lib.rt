@@ -3,13 +3,16 @@
 #![tactic(auto)]
 
 mod by_invocation;
+mod candidates;
 mod closings;
 mod expiries;
 mod fates;
 mod found;
+mod leasts;
 mod lines;
 mod per_end;
 mod searching;
+mod stacks;
 mod sweep;
 mod tie;
 mod ties;
