@@ -1,7 +1,7 @@
 -- Steps of the loops that find fates: one entry more, or one tie.
-use Rattle.std.proofs.Common.{◌≡◌, ℕ, ◌+◌, ◌^◌, ◌<◌, ◌≤◌, max, ◌==◌, Bool, true, false, cond, List, [], ◌∷◌, ◌++◌, map, length, take, drop, set, get_or, Option, Some, None, refl, sym, ap, subst, ◌∙◌, arith, append_assoc}
+use Rattle.std.proofs.Common.{◌≡◌, ℕ, ◌+◌, ◌^◌, ◌<◌, ◌≤◌, max, ◌==◌, Bool, true, false, cond, List, [], ◌∷◌, ◌++◌, map, length, take, drop, set, get_or, Option, Some, None, refl, sym, ap, ◌∙◌, arith, append_assoc}
 use Rattle.std.specs.Prelude.{slice_get}
-use Rattle.std.proofs.lemmas.List.{drop_all, drop_more, get_or-map, get_or-take, get_or_append_left, get_or_default, length-append, length-take-le, map-append, set_at, take_all, take_more}
+use Rattle.std.proofs.lemmas.List.{drop_all, drop_more, get_or-map, get_or-take, get_or_append_left, get_or_default, length-take-le, map-append, set_at, take_all, take_more}
 use Rattle.std.proofs.lemmas.Option.{get_or_from_slice_get}
 use Rattle.tcap_record.specs.declared.entry.End.{End as Side}
 use Rattle.tcap_record.specs.declared.entry.Entry.{Entry}
@@ -25,7 +25,8 @@ use Rattle.tcap_search.proofs.ReplyLaws.{behind_reply, replies_below}
 
 pub reply_step : (ties : List Tie) (i number : ℕ) (d : Tie) (old : Option (Option ℕ)) → i < length ties
     → old ≡ Some (reply_of (take i ties) number)
-    → cond ((get_or ties i d).entry == number) (Some (Some (get_or ties i d).reply)) old ≡ Some (reply_of (take (i + 1) ties) number)
+    → cond ((get_or ties i d).entry == number) (Some (Some (get_or ties i d).reply)) old
+    ≡ Some (reply_of (take (i + 1) ties) number)
 reply_step ties i number d old within is = rw is
     (by ((get_or ties i d).entry == number)
     ∙ ap Some (sym (reply_more (take i ties) (get_or ties i d) number))
@@ -40,7 +41,6 @@ reply_step ties i number d old within is = rw is
 
 module _ (entries : List Entry) (transactions : List (Option ℕ)) (are : AreTransactions entries transactions)
     (i : ℕ) (within : i < length entries) (e : Entry) (is_entry : e ≡ get_or entries i e) where
-
   -- The lines are one more.
   pub lines_more : take (i + 1) (lines_of entries)
       ≡ take i (lines_of entries) ++ line_at i e (get_or transactions i None) ∷ []
@@ -77,7 +77,7 @@ module _ (entries : List Entry) (transactions : List (Option ℕ)) (are : AreTra
       by (Some side) (Some t) at =
           let count : length transactions ≡ length entries = count_transactions entries transactions are in
           let there : Some t ≡ get_or transactions i (Some t) =
-              sym at ∙ get_or_default transactions i None (Some t) (omega arith) in
+          sym at ∙ get_or_default transactions i None (Some t) (omega arith) in
           kept (other side) t (transaction_below entries transactions are i t within there)
 
   -- So the fate that is found is the first fate of the line.
@@ -85,13 +85,15 @@ module _ (entries : List Entry) (transactions : List (Option ℕ)) (are : AreTra
       → ((side : Side) (t : ℕ) → t < length entries → gap_kept side t gaps ≡ gap_behind_last side t (lines_of entries))
       → ((side : Side) → at_end side raised ≡ highest side (take i (lines_of entries)) ties)
       → (fates : List Fate) → fates ≡ map (fate_of (lines_of entries) ties) (take i (lines_of entries))
-      → fates ++ fate_from i e (reply_of ties i) (receiver_gap gaps e.side (get_or transactions i None)) (gap_raised raised e.side) ∷ []
+      → fates ++ fate_from i e (reply_of ties i) (receiver_gap gaps e.side (get_or transactions i None))
+      (gap_raised raised e.side) ∷ []
       ≡ map (fate_of (lines_of entries) ties) (take (i + 1) (lines_of entries))
   fate_step ties gaps raised kept high fates are_fates =
       rw (are_fates, receiver_is gaps kept, raised_is e.side)
       (ap (λ (fate : Fate). map (fate_of (lines_of entries) ties) (take i (lines_of entries)) ++ fate ∷ [])
       (sym (fate_is (lines_of entries) ties (line_at i e (get_or transactions i None)) (lines_numbered entries)))
-      ∙ sym (map-append (fate_of (lines_of entries) ties) (take i (lines_of entries)) (line_at i e (get_or transactions i None) ∷ []))
+      ∙ sym (map-append (fate_of (lines_of entries) ties) (take i (lines_of entries))
+      (line_at i e (get_or transactions i None) ∷ []))
       ∙ ap (map (fate_of (lines_of entries) ties)) (sym lines_more))
     where
       raised_is : (s : Option Side) → gap_raised raised s ≡ gap_so_far (take i (lines_of entries)) ties s
@@ -101,7 +103,8 @@ module _ (entries : List Entry) (transactions : List (Option ℕ)) (are : AreTra
 -- All of the lines, at the end.
 pub all_lines : (entries : List Entry) (i : ℕ) → length entries ≤ i → take i (lines_of entries) ≡ lines_of entries
 all_lines entries i past =
-    take_all i (lines_of entries) (let count : length (lines_of entries) ≡ length entries = count_lines entries in omega arith)
+    let count : length (lines_of entries) ≡ length entries = count_lines entries in
+    take_all i (lines_of entries) (omega arith)
 
 -- ---- a reply that is read
 
@@ -113,14 +116,13 @@ pub reply_fits : (entries : List Entry) (ties : List Tie) (i : ℕ) → AreTies 
     → gap_behind_reply (reply_of ties i) < 2 ^ 32
 reply_fits entries ties i are few =
     let below : gap_behind_reply (reply_of ties i) ≤ length entries =
-        behind_reply (length entries) ties i (replies_below entries ties are) in
+    behind_reply (length entries) ties i (replies_below entries ties are) in
     omega arith
 
 -- ---- losses, from the last entry on
 
 module _ (entries : List Entry) (old : List Fate) (same : length old ≡ length entries)
     (k n : ℕ) (next : n ≡ k + 1) (within : k < length entries) (e : Entry) (is_entry : e ≡ get_or entries k e) where
-
   -- what there is at that place
   abbrev d : Fated
   d = record { line = line_at k e None; fate = Gap 0 }
@@ -142,7 +144,8 @@ module _ (entries : List Entry) (old : List Fate) (same : length old ≡ length 
 
   entry_here : here.line.entry ≡ e
   entry_here = sym (get_or-map (λ (x : Fated). x.line.entry) all k d e within_all)
-      ∙ ap (λ (es : List Entry). get_or es k e) (entries_fated (lines_of entries) old same_lines ∙ entries_of_lines entries)
+      ∙ ap (λ (es : List Entry). get_or es k e) (entries_fated (lines_of entries) old same_lines
+      ∙ entries_of_lines entries)
       ∙ sym is_entry
 
   fate_here : here.fate ≡ get_or old k (Gap 0)
@@ -167,7 +170,6 @@ module _ (entries : List Entry) (old : List Fate) (same : length old ≡ length 
       (are : fates ≡ take n old ++ map (λ x. x.fate) later)
       (times : (side : Side) → at_end side least ≡ least_time side later)
       (is : made ≡ fate_behind_least e (get_or fates k (Gap 0)) (time_kept least e.side)) where
-
     kept : (s : Option Side) → time_kept least s ≡ least_so_far later s
     kept None = refl
     kept (Some side) = times side
@@ -184,8 +186,10 @@ module _ (entries : List Entry) (old : List Fate) (same : length old ≡ length 
     losses_step = rw are
         (ap (λ (fs : List Fate). set (fs ++ map (λ x. x.fate) later) k made)
         (ap (λ (m : ℕ). take m old) next ∙ take_more old k (Gap 0) (omega arith))
-        ∙ ap (λ (fs : List Fate). set fs k made) (append_assoc (take k old) (get_or old k (Gap 0) ∷ []) (map (λ x. x.fate) later))
-        ∙ set_at (take k old) (get_or old k (Gap 0)) (map (λ x. x.fate) later) made k (length-take-le k old (omega arith))
+        ∙ ap (λ (fs : List Fate). set fs k made)
+        (append_assoc (take k old) (get_or old k (Gap 0) ∷ []) (map (λ x. x.fate) later))
+        ∙ set_at (take k old) (get_or old k (Gap 0)) (map (λ x. x.fate) later) made k
+        (length-take-le k old (omega arith))
         ∙ ap (λ (f : Fate). take k old ++ f ∷ map (λ x. x.fate) later) loss_is
         ∙ ap (λ (xs : List Fated). take k old ++ map (λ x. x.fate) xs) (sym losses_here))
 
@@ -193,7 +197,8 @@ module _ (entries : List Entry) (old : List Fate) (same : length old ≡ length 
         → cond (is_end side e.side) (sooner (time_of made) (at_end side least)) (at_end side least)
         ≡ least_time side (with_losses (drop k all))
     least_step side = rw (times side, loss_is)
-        (ap (λ (x : Entry). cond (is_end side x.side) (sooner (time_of (fate_before later here)) (least_time side later))
+        (ap (λ (x : Entry). cond (is_end side x.side)
+        (sooner (time_of (fate_before later here)) (least_time side later))
         (least_time side later)) (sym entry_here)
         ∙ ap (least_time side) (sym losses_here))
 

@@ -1,25 +1,23 @@
 -- First fates, from what is kept: the gap behind the last entry of each end in each transaction, and the gap behind the
 -- last reply so far.
-use Rattle.std.proofs.Common.{◌≡◌, ◌≢◌, ℕ, zero, suc, ◌+◌, ◌<◌, ◌≤◌, max, ◌==◌, Bool, true, false, cond, List, [], ◌∷◌, ◌++◌, map, length, take, drop, get_or, Option, Some, None, refl, sym, ap, ap₂, subst, ◌∙◌, arith}
+use Rattle.std.proofs.Common.{◌≡◌, ℕ, zero, suc, ◌+◌, ◌<◌, ◌≤◌, max, ◌==◌, Bool, true, false, cond, List, [], ◌∷◌, ◌++◌, take, Option, Some, None, refl, sym, ap, subst, ◌∙◌, arith}
 use Rattle.std.specs.Prelude.{◌&&◌, nat_lt, option_map}
-use Rattle.std.specs.List.{AllByRecursion}
 use Rattle.std.proofs.lemmas.Bool.{le-ltb, lt-ltb, ltb-false, ltb-true}
 use Rattle.std.proofs.lemmas.Option.{none-some, same_Some}
 use Rattle.tcap_msg.specs.declared.message.Message.{Message}
 use Rattle.tcap_msg.specs.declared.message.Message.TheVariants.{Unidirectional, Begin, Continue, End, Abort}
 use Rattle.tcap_record.specs.declared.entry.End.{End as Side}
-use Rattle.tcap_record.specs.declared.entry.End.TheVariants as sides
 use Rattle.tcap_record.specs.declared.entry.Entry.{Entry}
-use Rattle.tcap_check.specs.World.{is_side, other}
+use Rattle.tcap_check.specs.World.{other}
 use Rattle.tcap_check.specs.Run.{where_so}
-use Rattle.tcap_check.specs.declared.certificate.Fate.{Fate}
-use Rattle.tcap_check.specs.declared.certificate.Fate.TheVariants.{Gap, Lost, By}
+use Rattle.tcap_check.specs.declared.certificate.Fate.TheVariants.{Gap}
 use Rattle.tcap_search.specs.declared.tie.Tie.{Tie}
 use Rattle.tcap_search.specs.Lines.{Line, are_of_one_end, is_end, is_of_peer, last, message_of, or_else, share_transaction}
 use Rattle.tcap_search.specs.Proposed.{fate_by, fate_of, first_gap, first_gap_by, gap_behind, gap_behind_reply, last_of_receiver, raised, reply_of}
 use Rattle.tcap_search.specs.Fates.{earliest, fate_from, gap_behind_last, gap_behind_line, highest, is_line_of, is_of, untied_fate}
-use Rattle.tcap_search.proofs.LastLaws.{last_among, last_more, last_same}
+use Rattle.tcap_search.proofs.LastLaws.{last_more, last_never, last_same}
 use Rattle.tcap_search.proofs.NumberedLaws.{AreNumbered}
+use Rattle.tcap_search.proofs.TestLaws.{and_and, and_false}
 
 -- ---- ends and transactions
 
@@ -36,14 +34,6 @@ of_peer e f side is = rw is refl
 
 pub of_peer_none : (e f : Entry) → e.side ≡ None → is_of_peer e f ≡ false
 of_peer_none e f is = rw is refl
-
-and_and : (a b c : Bool) → (a && b && c) ≡ (a && (b && c))
-and_and true b c = refl
-and_and false b c = refl
-
-and_false : (b : Bool) → (b && false) ≡ false
-and_false true = refl
-and_false false = refl
 
 -- A line of that end which shares that transaction is one of both.
 pub of_both : (side : Side) (t : ℕ) (x y : Line) → x.transaction ≡ Some t
@@ -119,10 +109,6 @@ gap_is x (Some y) = by (nat_lt x.number y.number) refl
     by true test = omega (arith, ltb-true x.number y.number test)
     by false test = omega (arith, ltb-false x.number y.number test)
 
-last_never : {A : Type 0} (passes : A → Bool) (xs : List A) → ((x : A) → passes x ≡ false) → last passes xs ≡ None
-last_never passes [] never = refl
-last_never passes (x ∷ xs) never = rw (last_never passes xs never, never x) refl
-
 abbrev pub gap_of_receiver : List Line → Option Side → Option ℕ → ℕ
 gap_of_receiver lines (Some side) (Some t) = gap_behind_last (other side) t lines
 gap_of_receiver lines _ _ = 0
@@ -152,7 +138,8 @@ receiver_gap_is lines x are =
     by (Some side) at None is = none (λ y. ap (λ (b : Bool). is_of_peer x.entry y.entry && b) (shares_none x y is)
         ∙ and_false (is_of_peer x.entry y.entry))
     by (Some side) at (Some t) is = ap gap_behind_line (last_same passes (is_line_of (other side) t)
-        (λ y. ap (λ (b : Bool). b && share_transaction x y) (of_peer x.entry y.entry side at) ∙ of_both (other side) t x y is)
+        (λ y. ap (λ (b : Bool). b && share_transaction x y) (of_peer x.entry y.entry side at)
+        ∙ of_both (other side) t x y is)
         lines)
 
 -- ---- what is raised
@@ -175,7 +162,8 @@ raised_late n (y ∷ lines) ties x gap are after =
     rw not_before (raised_late (n + 1) lines ties x gap are.1 (omega arith))
 
 -- Before it each of its end does.
-raised_of : (side : Side) (n : ℕ) (lines : List Line) (ties : List Tie) (x : Line) (i gap : ℕ) → x.entry.side ≡ Some side
+raised_of : (side : Side) (n : ℕ) (lines : List Line) (ties : List Tie) (x : Line) (i gap : ℕ)
+    → x.entry.side ≡ Some side
     → AreNumbered n lines → x.number ≡ n + i → raised lines ties x gap ≡ max gap (highest side (take i lines) ties)
 raised_of side n [] ties x zero gap at are is = omega arith
 raised_of side n [] ties x (suc i) gap at are is = omega arith
@@ -266,7 +254,8 @@ highest_more side (y ∷ lines) x ties =
 
 -- The gap behind the last with one more.
 pub gap_more : (side : Side) (t : ℕ) (lines : List Line) (x : Line)
-    → gap_behind_last side t (lines ++ x ∷ []) ≡ cond (is_line_of side t x) (x.number + 1) (gap_behind_last side t lines)
+    → gap_behind_last side t (lines ++ x ∷ []) ≡ cond (is_line_of side t x) (x.number + 1)
+    (gap_behind_last side t lines)
 gap_more side t lines x = ap gap_behind_line (last_more (is_line_of side t) lines x) ∙ by (is_line_of side t x)
   where
     by : (b : Bool) → gap_behind_line (cond b (Some x) (last (is_line_of side t) lines))

@@ -1,5 +1,5 @@
 -- Keys of a transaction, an end and an invoke ID.
-use Rattle.std.proofs.Common.{◌≡◌, ℕ, ℤ, ◌+◌, ◌*◌, ◌==◌, Bool, true, false, cond, refl, sym, ap, ap₂, ◌∙◌, arith}
+use Rattle.std.proofs.Common.{◌≡◌, ℕ, ℤ, ◌==◌, Bool, refl, ap, ap₂, ◌∙◌, arith}
 use Rattle.std.specs.Prelude.{◌&&◌}
 use Rattle.std.specs.BTreeMap.{is_at}
 use Rattle.std.specs.declared.cmp.Ordering.{Ordering}
@@ -12,7 +12,7 @@ use Rattle.tcap_record.specs.declared.entry.End.TheVariants as sides
 use Rattle.tcap_check.specs.World.{is_side}
 use Rattle.tcap_search.specs.ByInvocation.{half_number, key_cmp, key_of}
 
-then_equal : (o p : Ordering) → is_eq (ordering_then o p) ≡ (is_eq o && is_eq p)
+pub then_equal : (o p : Ordering) → is_eq (ordering_then o p) ≡ (is_eq o && is_eq p)
 then_equal Less p = refl
 then_equal Equal p = refl
 then_equal Greater p = refl
@@ -39,4 +39,5 @@ pub same_key : (t u : ℕ) (s r : Side) (i j : ℤ)
     → is_at (key_cmp (key_of u r j)) (key_of t s i) ≡ ((t == u) && is_side s r && is_at (int_cmp i) j)
 same_key t u s r i j =
     then_equal (nat_cmp (half_number u r) (half_number t s)) (int_cmp j i)
-    ∙ ap₂ (λ (a b : Bool). a && b) (numbers_equal (half_number u r) (half_number t s) ∙ halves_equal t u s r) (ids_equal j i)
+    ∙ ap₂ (λ (a b : Bool). a && b) (numbers_equal (half_number u r) (half_number t s) ∙ halves_equal t u s r)
+    (ids_equal j i)

@@ -62,3 +62,8 @@ last_passes {A = A} passes (a ∷ xs) x found =
     by None more false test is = absurd (none-some x is)
     by None more true test is = subst (λ (y : A). passes y ≡ true) (same_Some a x is) test
     by (Some y) more b test is = more is
+
+-- Where none passes there is none.
+pub last_never : {A : Type 0} (passes : A → Bool) (xs : List A) → ((x : A) → passes x ≡ false) → last passes xs ≡ None
+last_never passes [] never = refl
+last_never passes (x ∷ xs) never = rw (last_never passes xs never, never x) refl

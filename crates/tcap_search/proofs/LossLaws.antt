@@ -1,26 +1,23 @@
 -- Losses, from the least time of what each end sends later.
-use Rattle.std.proofs.Common.{◌≡◌, ℕ, zero, suc, ◌+◌, ◌<◌, ◌≤◌, min, Bool, true, false, cond, List, [], ◌∷◌, ◌++◌, map, length, take, drop, get_or, Option, Some, None, refl, sym, ap, ap₂, subst, ◌∙◌, arith}
+use Rattle.std.proofs.Common.{◌≡◌, ℕ, zero, suc, ◌<◌, min, Bool, true, false, cond, List, [], ◌∷◌, map, length, get_or, Option, Some, None, refl, sym, ap, arith}
 use Rattle.std.specs.Prelude.{◌&&◌, ◌||◌, is_some, nat_lt}
-use Rattle.std.specs.List.{AllByRecursion, list_any}
+use Rattle.std.specs.List.{list_any}
 use Rattle.std.proofs.lemmas.Bool.Decides.{nat_tests}
 use Rattle.tcap_record.specs.declared.entry.End.{End as Side}
 use Rattle.tcap_record.specs.declared.entry.Entry.{Entry}
 use Rattle.tcap_check.specs.declared.certificate.Fate.{Fate}
-use Rattle.tcap_check.specs.declared.certificate.Fate.TheVariants.{Gap, Lost, By}
+use Rattle.tcap_check.specs.declared.certificate.Fate.TheVariants.{Lost}
 use Rattle.tcap_check.specs.Replayed.{is_later, time_of}
-use Rattle.tcap_search.specs.Lines.{Line, are_of_one_end, is_end, message_of}
+use Rattle.tcap_search.specs.Lines.{Line, is_end, message_of}
 use Rattle.tcap_search.specs.Proposed.{Fated, fate_before, fated, is_gap, is_overtaken, with_losses}
 use Rattle.tcap_search.specs.Fates.{fate_behind_least, least_time, sooner}
 use Rattle.tcap_search.proofs.GapLaws.{one_end, one_end_none}
+use Rattle.tcap_search.proofs.TestLaws.{or_false}
 
 -- ---- the least time
 
 min_before : (a b c : ℕ) → nat_lt (min a b) c ≡ (nat_lt a c || nat_lt b c)
 min_before a b c = grind (arith, nat_tests)
-
-or_false : (b : Bool) → (b || false) ≡ b
-or_false true = refl
-or_false false = refl
 
 -- The sooner of two times is before another where one of them is.
 sooner_is : (o p q : Option ℕ) → is_later (sooner o p) q ≡ (is_later o q || is_later p q)
@@ -36,7 +33,8 @@ overtaken_by x side [] at = refl
 overtaken_by x side (y ∷ later) at =
     rw (one_end x.line.entry y.line.entry side at, overtaken_by x side later at) (by (is_end side y.line.entry.side))
   where
-    by : (b : Bool) → ((b && is_later (time_of y.fate) (time_of x.fate)) || is_later (least_time side later) (time_of x.fate))
+    by : (b : Bool) → ((b && is_later (time_of y.fate) (time_of x.fate))
+        || is_later (least_time side later) (time_of x.fate))
         ≡ is_later (cond b (sooner (time_of y.fate) (least_time side later)) (least_time side later)) (time_of x.fate)
     by true = sym (sooner_is (time_of y.fate) (least_time side later) (time_of x.fate))
     by false = refl
@@ -53,7 +51,8 @@ least_so_far later (Some side) = least_time side later
 pub fate_before_is : (later : List Fated) (x : Fated)
     → fate_before later x ≡ fate_behind_least x.line.entry x.fate (least_so_far later x.line.entry.side)
 fate_before_is later x =
-    ap (λ (b : Bool). cond (is_gap x.fate && is_some (message_of x.line.entry) && b) Lost x.fate) (by x.line.entry.side refl)
+    ap (λ (b : Bool). cond (is_gap x.fate && is_some (message_of x.line.entry) && b) Lost x.fate)
+    (by x.line.entry.side refl)
   where
     by : (s : Option Side) → x.line.entry.side ≡ s
         → list_any (is_overtaken x) later ≡ is_later (least_so_far later s) (time_of x.fate)
@@ -78,7 +77,8 @@ pub fates_fated : (lines : List Line) (fates : List Fate) → length fates ≡ l
 fates_fated [] [] same = refl
 fates_fated (line ∷ lines) [] same = absurd (omega arith)
 fates_fated [] (fate ∷ fates) same = absurd (omega arith)
-fates_fated (line ∷ lines) (fate ∷ fates) same = ap (λ (fs : List Fate). fate ∷ fs) (fates_fated lines fates (omega arith))
+fates_fated (line ∷ lines) (fate ∷ fates) same = ap (λ (fs : List Fate). fate ∷ fs)
+    (fates_fated lines fates (omega arith))
 
 -- What is there at a place.
 pub fated_there : (lines : List Line) (fates : List Fate) (i : ℕ) (line : Line) (fate : Fate) (d : Fated)
@@ -94,7 +94,8 @@ fated_there (x ∷ lines) (y ∷ fates) (suc i) line fate d within same is_line 
 -- ---- losses, from the last line to the first
 
 losses_step : (x : Fated) (more : List Fated)
-    → map (λ x. x.fate) (with_losses (x ∷ more)) ≡ fate_before (with_losses more) x ∷ map (λ x. x.fate) (with_losses more)
+    → map (λ x. x.fate) (with_losses (x ∷ more))
+    ≡ fate_before (with_losses more) x ∷ map (λ x. x.fate) (with_losses more)
 losses_step x more = refl
 
 -- Losses keep the lines.
@@ -107,7 +108,8 @@ pub lines_fated : (lines : List Line) (fates : List Fate) → length fates ≡ l
 lines_fated [] [] same = refl
 lines_fated (line ∷ lines) [] same = absurd (omega arith)
 lines_fated [] (fate ∷ fates) same = absurd (omega arith)
-lines_fated (line ∷ lines) (fate ∷ fates) same = ap (λ (ls : List Line). line ∷ ls) (lines_fated lines fates (omega arith))
+lines_fated (line ∷ lines) (fate ∷ fates) same = ap (λ (ls : List Line). line ∷ ls)
+    (lines_fated lines fates (omega arith))
 
 pub entries_fated : (lines : List Line) (fates : List Fate) → length fates ≡ length lines
     → map (λ x. x.line.entry) (fated lines fates) ≡ map (λ x. x.entry) lines

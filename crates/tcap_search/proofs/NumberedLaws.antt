@@ -1,5 +1,5 @@
 -- The lines of entries: one for each, numbered from 0, and their transactions.
-use Rattle.std.proofs.Common.{◌≡◌, ℕ, zero, suc, ◌+◌, ◌<◌, Bool, List, [], ◌∷◌, ◌++◌, map, length, take, get_or, Option, Some, None, refl, sym, ap, subst, ◌∙◌, arith, append_assoc}
+use Rattle.std.proofs.Common.{◌≡◌, ℕ, zero, suc, ◌+◌, ◌<◌, List, [], ◌∷◌, ◌++◌, map, length, take, get_or, Option, Some, None, refl, sym, ap, subst, ◌∙◌, arith, append_assoc}
 use Rattle.std.specs.List.{AllByRecursion}
 use Rattle.std.proofs.lemmas.List.{append-nil, get_or-map, length-append, length-map, map-append, take_more}
 use Rattle.tcap_msg.specs.declared.message.Message.{Message}
@@ -63,7 +63,8 @@ number_at : (n : ℕ) (lines : List Line) (i : ℕ) (d : Line) → AreNumbered n
 number_at n [] i d are within = absurd (omega arith)
 number_at n (x ∷ lines) zero d are within = omega (arith, are.0)
 number_at n (x ∷ lines) (suc i) d are within =
-    let next : (get_or lines i d).number ≡ (n + 1) + i = number_at (n + 1) lines i d are.1 (omega arith) in omega (arith, next)
+    let next : (get_or lines i d).number ≡ (n + 1) + i =
+    number_at (n + 1) lines i d are.1 (omega arith) in omega (arith, next)
 
 -- ---- the line at a place
 
@@ -77,7 +78,6 @@ line_is x n e t p q r = λ i. record { number = p i; entry = q i; transaction = 
 module _ (entries : List Entry) (transactions : List (Option ℕ)) (are : AreTransactions entries transactions)
     (i : ℕ) (within : i < length entries) (e : Entry) (t : Option ℕ)
     (is_entry : e ≡ get_or entries i e) (is_transaction : t ≡ get_or transactions i t) where
-
   there : Line
   there = get_or (lines_of entries) i (line_at i e t)
 
@@ -133,7 +133,8 @@ behind_below n earlier (e ∷ entries) count all =
     (all_more (λ x. IsBelow n x.transaction) earlier (line_behind earlier e) all
     (by_below n earlier e (message_of e) (omega arith) all))
 
-all_at : {A : Type 0} (P : A → Type 0) (xs : List A) (i : ℕ) (d : A) → AllByRecursion P xs → i < length xs → P (get_or xs i d)
+all_at : {A : Type 0} (P : A → Type 0) (xs : List A) (i : ℕ) (d : A) → AllByRecursion P xs → i < length xs
+    → P (get_or xs i d)
 all_at P [] i d all within = absurd (omega arith)
 all_at P (x ∷ xs) zero d all within = all.0
 all_at P (x ∷ xs) (suc i) d all within = all_at P xs i d all.1 (omega arith)
@@ -156,5 +157,6 @@ pub transaction_below : (entries : List Entry) (transactions : List (Option ℕ)
 transaction_below entries transactions are i t within is =
     let count : length transactions ≡ length entries = count_transactions entries transactions are in
     let below : IsBelow (length entries) (get_or transactions i (Some t)) =
-        all_at (IsBelow (length entries)) transactions i (Some t) (transactions_below entries transactions are) (omega arith) in
+    all_at (IsBelow (length entries)) transactions i (Some t) (transactions_below entries transactions are)
+    (omega arith) in
     rw (← is) at below

@@ -1,5 +1,5 @@
 -- The reply of a tie is the number of an entry.
-use Rattle.std.proofs.Common.{◌≡◌, ℕ, ◌+◌, ◌<◌, ◌≤◌, List, [], ◌∷◌, ◌++◌, reverse, length, Option, Some, None, refl, sym, ap, subst, ◌∙◌, arith}
+use Rattle.std.proofs.Common.{◌≡◌, ℕ, ◌+◌, ◌<◌, ◌≤◌, List, [], ◌∷◌, ◌++◌, reverse, length, Option, Some, None, refl, sym, subst, arith}
 use Rattle.std.specs.Prelude.{◌==◌, option_map}
 use Rattle.std.specs.List.{AllByRecursion}
 use Rattle.std.proofs.lemmas.List.{reverse-append}
@@ -10,7 +10,7 @@ use Rattle.tcap_record.specs.declared.entry.Entry.{Entry}
 use Rattle.tcap_check.proofs.ListLaws.{all_more}
 use Rattle.tcap_search.specs.declared.tie.Tie.{Tie}
 use Rattle.tcap_search.specs.Lines.{Line, last, lines_of, message_of}
-use Rattle.tcap_search.specs.Proposed.{answered_line, gap_behind_reply, reply_of, ties_from, ties_of, with_tie_by}
+use Rattle.tcap_search.specs.Proposed.{answered_line, gap_behind_reply, reply_of, ties_from, with_tie_by}
 use Rattle.tcap_search.specs.Traced.{AreTies}
 use Rattle.tcap_search.proofs.LastLaws.{last_among}
 use Rattle.tcap_search.proofs.NumberedLaws.{AreNumbered, lines_numbered, count_lines}

@@ -1,5 +1,5 @@
 -- Steps of a sweep: one component more.
-use Rattle.std.proofs.Common.{◌≡◌, ℕ, ℤ, ◌+◌, ◌<◌, ◌≤◌, ◌==◌, Bool, true, false, cond, List, [], ◌∷◌, length, drop, get_or, Option, Some, None, refl, sym, ap, ◌∙◌, arith}
+use Rattle.std.proofs.Common.{◌≡◌, ℕ, ℤ, ◌+◌, ◌<◌, ◌≤◌, ◌==◌, Bool, true, false, cond, List, ◌∷◌, length, drop, get_or, Option, Some, None, refl, sym, ap, ◌∙◌}
 use Rattle.std.specs.Prelude.{◌&&◌, nat_le, option_map}
 use Rattle.std.proofs.lemmas.List.{at_drop_more, drop_all}
 use Rattle.tcap_parts.specs.declared.component.Component.{Component}
@@ -11,6 +11,7 @@ use Rattle.tcap_search.specs.Lines.{message_of, or_else}
 use Rattle.tcap_search.specs.Proposed.{is_invoke_of, last_invoke, may_invoke, number_limit}
 use Rattle.tcap_search.specs.Fates.{is_of}
 use Rattle.tcap_search.specs.Sweep.{components_of, invoked_by}
+use Rattle.tcap_search.proofs.TestLaws.{and_swap}
 
 -- The last Invoke of components is that of those behind the first, or else the first.
 pub first_invoke : (id : ℤ) (place : ℕ) (c : Component) (more : List Component)
@@ -19,7 +20,8 @@ pub first_invoke : (id : ℤ) (place : ℕ) (c : Component) (more : List Compone
 first_invoke id place c more = by (last_invoke id (place + 1) more) refl
   where
     by : (o : Option ℕ) → last_invoke id (place + 1) more ≡ o
-        → last_invoke id place (c ∷ more) ≡ or_else o (where_so (is_invoke_of id c && nat_le place number_limit) (Some place))
+        → last_invoke id place (c ∷ more)
+        ≡ or_else o (where_so (is_invoke_of id c && nat_le place number_limit) (Some place))
     by None at = rw at refl
     by (Some later) at = rw at refl
 
@@ -61,12 +63,6 @@ invoke_end here number id components place kept past =
     by : (b : Bool) → kept ≡ kept_behind b number None kept
     by true = refl
     by false = refl
-
-and_swap : (a b : Bool) → (a && b) ≡ (b && a)
-and_swap true true = refl
-and_swap true false = refl
-and_swap false true = refl
-and_swap false false = refl
 
 -- What is kept behind the components of a Begin or a Continue.
 pub entry_step : (e : Entry) (number : ℕ) (side s : Side) (transaction t : ℕ) (id : ℤ) (kept : Option (ℕ × ℕ))

@@ -1,5 +1,5 @@
 -- Values by transaction, end and invoke ID.
-use Rattle.std.specs.Prelude.{ℕ, ℤ, ◌+◌, ◌*◌, Bool, true, false, Option}
+use Rattle.std.specs.Prelude.{ℕ, ℤ, ◌+◌, ◌*◌, Option}
 use Rattle.std.specs.Ordering.{int_cmp, nat_cmp, ordering_then}
 use Rattle.std.specs.declared.cmp.Ordering.{Ordering}
 use Rattle.std.specs.BTreeMap.{is_at}

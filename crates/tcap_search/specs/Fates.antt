@@ -1,5 +1,5 @@
--- What is kept to find fates: the gap behind the last entry of each end in each transaction, the gap behind the last reply
--- so far, and the least time of what comes.
+-- What is kept to find fates: the gap behind the last entry of each end in each transaction, the gap behind the last
+-- reply so far, and the least time of what comes.
 use Rattle.std.specs.Prelude.{ℕ, ◌+◌, max, min, Bool, false, List, [], ◌∷◌, slice_get, Option, Some, None, is_some, ◌==◌, ◌&&◌, cond}
 use Rattle.tcap_msg.specs.declared.message.Message.{Message}
 use Rattle.tcap_msg.specs.declared.message.Message.TheVariants.{End as EndMessage, Abort}

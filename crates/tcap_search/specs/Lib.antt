@@ -2,9 +2,11 @@ pub mod Candidates
 pub mod Latest
 pub mod Leasts
 pub mod ByInvocation
+pub mod Due
 pub mod Fates
 pub mod Found
 pub mod Lines
+pub mod Listed
 pub mod PerEnd
 pub mod Proposed
 pub mod Shown

@@ -1,6 +1,6 @@
--- What is kept in a sweep over gaps and entries: for each transaction, end and invoke ID the last Invoke so far, and the
--- last answers that came.
-use Rattle.std.specs.Prelude.{ℕ, ◌+◌, ℤ, Bool, true, false, List, [], ◌∷◌, take, slice_get, Option, Some, None, ◌&&◌, nat_lt, cond, option_map}
+-- What is kept in a sweep over gaps and entries: for each transaction, end and invoke ID the last Invoke so far, and
+-- the last answers that came.
+use Rattle.std.specs.Prelude.{ℕ, ℤ, Bool, true, false, List, [], ◌∷◌, slice_get, Option, Some, None, ◌&&◌, cond, option_map}
 use Rattle.std.specs.List.{list_any}
 use Rattle.tcap_parts.specs.declared.component.Component.{Component}
 use Rattle.tcap_msg.specs.declared.message.Message.{Message}
@@ -8,20 +8,18 @@ use Rattle.tcap_msg.specs.Parts.{components_in}
 use Rattle.tcap_record.specs.declared.entry.End.{End as Side}
 use Rattle.tcap_record.specs.declared.entry.Entry.{Entry}
 use Rattle.tcap_check.specs.World.{other}
-use Rattle.tcap_check.specs.Run.{then_so, where_so}
-use Rattle.tcap_check.specs.declared.certificate.Fate.{Fate}
-use Rattle.tcap_check.specs.declared.certificate.Fate.TheVariants.{Gap}
+use Rattle.tcap_check.specs.Run.{where_so}
 use Rattle.tcap_search.specs.declared.sweep.Answer.{Answer}
 use Rattle.tcap_search.specs.declared.sweep.Sweep.{Sweep}
 use Rattle.tcap_search.specs.Lines.{Line, message_of, or_else}
-use Rattle.tcap_search.specs.Proposed.{Fated, components_at, invocation_at, is_answer_of, last_invoke, may_invoke, unrecognized}
+use Rattle.tcap_search.specs.Proposed.{invocation_at, is_answer_of, last_invoke, may_invoke}
 use Rattle.tcap_search.specs.ByInvocation.{kept_at}
 use Rattle.tcap_search.specs.Fates.{is_line_of, is_of}
 
 -- what the last of a list gives that gives something
-abbrev pub latest : {A B : Type 0} → (A → Option B) → List A → Option B
-latest f [] = None
-latest f (x ∷ more) = or_else (latest f more) (f x)
+abbrev pub last_given : {A B : Type 0} → (A → Option B) → List A → Option B
+last_given f [] = None
+last_given f (x ∷ more) = or_else (last_given f more) (f x)
 
 abbrev pub message_components : Option Message → List Component
 message_components None = []
@@ -40,7 +38,8 @@ invoked_by number e id = cond (may_invoke (message_of e))
 
 -- the last Invoke of the ID in these lines of that end in that transaction
 abbrev pub invoked_in : List Line → ℕ → Side → ℤ → Option (ℕ × ℕ)
-invoked_in lines transaction side id = latest (λ y. where_so (is_line_of side transaction y) (invocation_at id y)) lines
+invoked_in lines transaction side id =
+    last_given (λ y. where_so (is_line_of side transaction y) (invocation_at id y)) lines
 
 -- ---- answers
 

@@ -21,16 +21,16 @@ use tcap_record::{Body, End, Entry};
 /// The greatest place of a component that a certificate names.
 const PLACE_LIMIT: usize = 100_000;
 
-/// An answer that came: in which gap, and the last Invoke of its ID before, by the number of its entry and its place among
-/// the entry's components.
+/// An answer that came: in which gap, and the last Invoke of its ID before, by the number of its entry and its place
+/// among the entry's components.
 #[derive(Clone, Copy, Debug)]
 pub(crate) struct Answer {
     pub(crate) gap: u32,
     pub(crate) invoked: Option<(u32, u32)>,
 }
 
-/// For each transaction, end and invoke ID of its own the last Invoke so far, and the last Return Result and the last Return
-/// Error that came to it.
+/// For each transaction, end and invoke ID of its own: the last Invoke so far, and the last Return Result and the last
+/// Return Error that came to it.
 #[derive(Debug, Drop)]
 pub(crate) struct Sweep {
     pub(crate) invokes: ByInvocation<(u32, u32)>,
@@ -123,7 +123,8 @@ impl Sweep {
         receiver: End,
         component: &Component,
     ) -> Result<(), AllocError>
-        ensures noted { OnOk result ((is_result : Bool) (t : ℕ) (s : Side) (id : ℤ) → answer_kept is_result t s id self.new
+        ensures noted { OnOk result ((is_result : Bool) (t : ℕ) (s : Side) (id : ℤ)
+            → answer_kept is_result t s id self.new
             ≡ cond (t == transaction && is_side s receiver && is_answer_of is_result id component.now)
             (Some (answer_at gap (kept_at t s id self.old.invokes))) (answer_kept is_result t s id self.old)) }
         ensures invokes { self.new.invokes ≡ self.old.invokes }
@@ -131,11 +132,13 @@ impl Sweep {
         match component {
             Component::ReturnResult { id, .. } => {
                 let invoked = self.invokes.get(transaction, receiver, *id);
-                self.results.put(transaction, receiver, *id, Answer { gap, invoked })
+                self.results
+                    .put(transaction, receiver, *id, Answer { gap, invoked })
             }
             Component::ReturnError { id, .. } => {
                 let invoked = self.invokes.get(transaction, receiver, *id);
-                self.errors.put(transaction, receiver, *id, Answer { gap, invoked })
+                self.errors
+                    .put(transaction, receiver, *id, Answer { gap, invoked })
             }
             _ => Ok(()),
         }
@@ -149,7 +152,8 @@ impl Sweep {
         receiver: End,
         components: &[Component],
     ) -> Result<(), AllocError>
-        ensures noted { OnOk result ((is_result : Bool) (t : ℕ) (s : Side) (id : ℤ) → answer_kept is_result t s id self.new
+        ensures noted { OnOk result ((is_result : Bool) (t : ℕ) (s : Side) (id : ℤ)
+            → answer_kept is_result t s id self.new
             ≡ cond (t == transaction && is_side s receiver && list_any (is_answer_of is_result id) components.now)
             (Some (answer_at gap (kept_at t s id self.old.invokes))) (answer_kept is_result t s id self.old)) }
         ensures invokes { self.new.invokes ≡ self.old.invokes }
@@ -167,7 +171,8 @@ impl Sweep {
         entry: &Entry,
         transaction: Option<u32>,
     ) -> Result<(), AllocError>
-        ensures noted { OnOk result ((is_result : Bool) (t : ℕ) (s : Side) (id : ℤ) → answer_kept is_result t s id self.new
+        ensures noted { OnOk result ((is_result : Bool) (t : ℕ) (s : Side) (id : ℤ)
+            → answer_kept is_result t s id self.new
             ≡ cond (answers is_result t s id entry.now transaction)
             (Some (answer_at gap (kept_at t s id self.old.invokes))) (answer_kept is_result t s id self.old)) }
         ensures invokes { self.new.invokes ≡ self.old.invokes }
@@ -188,7 +193,8 @@ impl Sweep {
         entries: &[Entry],
         transactions: &[Option<u32>],
     ) -> Result<(), AllocError>
-        ensures noted { OnOk result ((is_result : Bool) (t : ℕ) (s : Side) (id : ℤ) → answer_kept is_result t s id self.new
+        ensures noted { OnOk result ((is_result : Bool) (t : ℕ) (s : Side) (id : ℤ)
+            → answer_kept is_result t s id self.new
             ≡ cond (answers_at entries.now transactions.now is_result t s id number)
             (Some (answer_at gap (kept_at t s id self.old.invokes))) (answer_kept is_result t s id self.old)) }
         ensures invokes { self.new.invokes ≡ self.old.invokes }
@@ -208,7 +214,8 @@ impl Sweep {
         entries: &[Entry],
         transactions: &[Option<u32>],
     ) -> Result<(), AllocError>
-        ensures noted { OnOk result ((is_result : Bool) (t : ℕ) (s : Side) (id : ℤ) → answer_kept is_result t s id self.new
+        ensures noted { OnOk result ((is_result : Bool) (t : ℕ) (s : Side) (id : ℤ)
+            → answer_kept is_result t s id self.new
             ≡ cond (list_any (answers_at entries.now transactions.now is_result t s id) due.now)
             (Some (answer_at gap (kept_at t s id self.old.invokes))) (answer_kept is_result t s id self.old)) }
         ensures invokes { self.new.invokes ≡ self.old.invokes }
@@ -236,7 +243,8 @@ impl Sweep {
     {
         match component {
             Component::Invoke { id, .. } if place <= PLACE_LIMIT => {
-                self.invokes.put(transaction, side, *id, (number, place as u32))
+                self.invokes
+                    .put(transaction, side, *id, (number, place as u32))
             }
             _ => Ok(()),
         }
@@ -252,7 +260,8 @@ impl Sweep {
     ) -> Result<(), AllocError>
         ensures noted { OnOk result ((t : ℕ) (s : Side) (id : ℤ) → kept_at t s id self.new.invokes
             ≡ or_else (where_so (t == transaction && is_side s side)
-            (option_map (λ place. (number, place)) (last_invoke id 0 components.now))) (kept_at t s id self.old.invokes)) }
+            (option_map (λ place. (number, place)) (last_invoke id 0 components.now)))
+            (kept_at t s id self.old.invokes)) }
         ensures results { self.new.results ≡ self.old.results }
         ensures errors { self.new.errors ≡ self.old.errors }
     {

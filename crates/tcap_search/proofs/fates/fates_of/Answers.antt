@@ -1,5 +1,5 @@
 -- There are as many first fates as entries.
-use Rattle.std.proofs.Common.{◌≡◌, length, ap, ◌∙◌, arith}
+use Rattle.std.proofs.Common.{length, ap, ◌∙◌}
 use Rattle.std.proofs.lemmas.List.{length-map}
 use Rattle.tcap_search.specs.Lines.{lines_of}
 use Rattle.tcap_search.specs.Proposed.{fate_of}

@@ -13,18 +13,24 @@ bounds-transactions-number c =
 pub raise-requires : goal.raise-requires
 raise-requires c =
     let reply : c.index-reply.result.now ≡ reply_of c.args.ties.now c.loop-number.number =
-        reply_read c.in_ok-replies.replies.items c.loop-number.number c.index-reply.result.now c.args.ties.now
-        (c.in_ok-replies.ensures.replies c.loop-number.number c.loop-number-test.true) c.index-reply.ensures in
+    reply_read c.in_ok-replies.replies.items c.loop-number.number c.index-reply.result.now c.args.ties.now
+    (c.in_ok-replies.ensures.replies c.loop-number.number c.loop-number-test.true) c.index-reply.ensures in
     rw reply (reply_fits c.args.entries.now c.args.ties.now c.loop-number.number c.requires.ties c.requires.few)
 
 pub loop-number-preserved : goal.loop-number-preserved
 loop-number-preserved c =
     let reply : c.index-reply.result.now ≡ reply_of c.args.ties.now c.loop-number.number =
-        reply_read c.in_ok-replies.replies.items c.loop-number.number c.index-reply.result.now c.args.ties.now
-        (c.in_ok-replies.ensures.replies c.loop-number.number c.loop-number-test.true) c.index-reply.ensures in
+    reply_read c.in_ok-replies.replies.items c.loop-number.number c.index-reply.result.now c.args.ties.now
+    (c.in_ok-replies.ensures.replies c.loop-number.number c.loop-number-test.true) c.index-reply.ensures in
     record {
       fates = c.in_ok-push.ensures.items ∙
-          rw (c.first_fate.ensures, reply, c.receiver_gap-behind.ensures, c.deref.ensures.value, c.gap_raised-least.ensures)
+          rw (
+            c.first_fate.ensures,
+            reply,
+            c.receiver_gap-behind.ensures,
+            c.deref.ensures.value,
+            c.gap_raised-least.ensures,
+          )
           (fate_step c.args.entries.now c.args.transactions.now c.requires.transactions c.loop-number.number
           c.loop-number-test.true c.index-entries-number.result c.index-entries-number.is c.args.ties.now
           c.in_ok-gaps.gaps.items c.loop-number.raised c.in_ok-gaps.ensures c.loop-number.invariant.raised
@@ -37,4 +43,5 @@ loop-number-preserved c =
 
 pub returns : goal.returns
 returns c = c.loop-number.invariant.fates
-    ∙ ap (map (fate_of (lines_of c.args.entries.now) c.args.ties.now)) (all_lines c.args.entries.now c.loop-number.number c.loop-number-test.false)
+    ∙ ap (map (fate_of (lines_of c.args.entries.now) c.args.ties.now))
+    (all_lines c.args.entries.now c.loop-number.number c.loop-number-test.false)

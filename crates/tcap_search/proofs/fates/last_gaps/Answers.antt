@@ -1,5 +1,5 @@
 -- One entry more.
-use Rattle.std.proofs.Common.{◌≡◌, ap, ◌∙◌, arith}
+use Rattle.std.proofs.Common.{ap, ◌∙◌, arith}
 use Rattle.tcap_search.specs.Fates.{gap_behind_last}
 use Rattle.tcap_search.proofs.FateSteps.{all_lines, gap_step}
 use Rattle.tcap_search.proofs.NumberedLaws.{count_transactions}

@@ -1,8 +1,6 @@
 -- One entry more, from the last on.
-use Rattle.std.proofs.Common.{◌≡◌, ◌+◌, ◌-◌, ◌<◌, List, length, map, take, sym, ap, ◌∙◌, arith}
+use Rattle.std.proofs.Common.{◌≡◌, ◌+◌, ◌-◌, ◌<◌, length, take, sym, ◌∙◌, arith}
 use Rattle.std.proofs.lemmas.List.{append-nil, take_all}
-use Rattle.tcap_search.specs.Proposed.{Fated, with_losses}
-use Rattle.tcap_search.specs.Fates.{least_time}
 use Rattle.tcap_search.proofs.FateSteps.{least_step, losses_start, losses_step}
 use Rattle.tcap_search.proofs.fates.lose_overtaken.Goals as goal
 

@@ -1,5 +1,5 @@
 -- what is lost of the entries from there on, and the least times of the others
-use Rattle.std.proofs.Common.{◌≡◌, ◌++◌, length, map, take, drop}
+use Rattle.std.proofs.Common.{◌≡◌, ◌++◌, map, take, drop}
 use Rattle.tcap_record.specs.declared.entry.End.{End as Side}
 use Rattle.tcap_search.specs.Lines.{lines_of}
 use Rattle.tcap_search.specs.Proposed.{fated, with_losses}

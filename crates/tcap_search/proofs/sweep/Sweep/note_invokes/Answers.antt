@@ -1,5 +1,5 @@
 -- One component more.
-use Rattle.std.proofs.Common.{◌≡◌, ◌==◌, ◌&&◌, ◌+◌, drop, ap, ◌∙◌}
+use Rattle.std.proofs.Common.{◌==◌, ◌&&◌, ◌+◌, drop, ap, ◌∙◌}
 use Rattle.tcap_check.specs.World.{is_side}
 use Rattle.tcap_search.specs.Proposed.{last_invoke}
 use Rattle.tcap_search.specs.ByInvocation.{kept_at}
@@ -22,6 +22,7 @@ loop-place-preserved c = record {
 
 pub returns-clause-noted : goal.returns-clause-noted
 returns-clause-noted c = λ t s id.
-    invoke_end (t == c.args.transaction && is_side s c.args.side) c.args.number id c.args.components.now c.loop-place.place
+    invoke_end (t == c.args.transaction && is_side s c.args.side) c.args.number id c.args.components.now
+    c.loop-place.place
     (kept_at t s id c.loop-place.self.invokes) c.loop-place-test.false
     ∙ c.loop-place.invariant.noted t s id

@@ -12,7 +12,8 @@ use Rattle.tcap_search.proofs.sweep.Sweep.note_invokes.Given as goal
 abbrev pub invariant-loop-place : goal.invariant-loop-place
 invariant-loop-place l = record {
   noted : (t : ℕ) (s : Side) (id : ℤ) → or_else (where_so (t == l.transaction && is_side s l.side)
-      (option_map (λ place. (l.number, place)) (last_invoke id l.place (drop l.place l.components)))) (kept_at t s id l.self.invokes)
+      (option_map (λ place. (l.number, place)) (last_invoke id l.place (drop l.place l.components))))
+      (kept_at t s id l.self.invokes)
       ≡ or_else (where_so (t == l.transaction && is_side s l.side)
       (option_map (λ place. (l.number, place)) (last_invoke id 0 l.components))) (kept_at t s id l.fn.self.invokes);
   results : l.self.results ≡ l.fn.self.results;
