@@ -504,7 +504,8 @@ listed_all all lines ties count i listed kept past so_far =
     ap (λ (left : List Tie). closings_from all lines left listed) (sym (drop_all i ties past)) ∙ so_far.left
 
 module _ (all : List Fated) (lines : List Line) (ties : List Tie) (count i : ℕ) (listed : List Closing) (old : Leasts)
-    (t : Tie) (below : i < length ties) (is : t ≡ get_or ties i t) (so_far : Listed all lines ties count i listed old) where
+    (other_tie t : Tie) (below : i < length ties) (is : t ≡ get_or ties i other_tie)
+    (so_far : Listed all lines ties count i listed old) where
   abbrev shown : Option (Side × ℕ)
   shown = shown_by all lines t.reply (slice_get lines t.entry)
 
@@ -512,7 +513,7 @@ module _ (all : List Fated) (lines : List Line) (ties : List Tie) (count i : ℕ
       → closings_from all lines (drop (i + 1) ties) (with_shown listed t.reply o) ≡ closings_of all lines ties
   one_more o is_shown =
       sym (ap (λ (left : List Tie). closings_from all lines left listed)
-      (drop_more ties i t below ∙ ap (λ (first : Tie). first ∷ drop (i + 1) ties) (sym is))
+      (drop_more ties i other_tie below ∙ ap (λ (first : Tie). first ∷ drop (i + 1) ties) (sym is))
       ∙ (ap (closings_from all lines (drop (i + 1) ties)) (closing_is all lines listed t.reply (slice_get lines t.entry))
       ∙ ap (λ (s : Option (Side × ℕ)). closings_from all lines (drop (i + 1) ties) (with_shown listed t.reply s)) is_shown))
       ∙ so_far.left
