@@ -1,3 +1,7 @@
 pub mod Before
 pub mod Kind
+pub mod Facts
+pub mod Asking
+pub mod Kept
+pub mod Noting
 pub mod WorkedKinds

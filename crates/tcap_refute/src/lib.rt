@@ -2,8 +2,13 @@
 //! first entry of a record of which one holds.
 #![tactic(auto)]
 
+mod by_id;
+mod codes;
+mod dialogues;
+mod from_id;
 mod kind;
 pub mod laws;
+mod notes;
 pub mod worked;
 
 pub use kind::{Kind, Refutation};
