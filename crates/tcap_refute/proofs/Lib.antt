@@ -1,1 +1,3 @@
 pub mod SetLaws
+pub mod IdLaws
+pub mod FromLaws

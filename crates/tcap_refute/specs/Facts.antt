@@ -58,12 +58,17 @@ pub data FromFact : Type 0 where
   -- a message with a component of that invoke ID
   OfId : ℤ → IdFact → FromFact
 
+-- whether there is an ID, and it is another
+abbrev pub is_other : List ℕ → Option (List ℕ) → Bool
+is_other id None = false
+is_other id (Some other) = not (is_id id (Some other))
+
 abbrev pub shows_from : Table → FromFact → Message → Bool
 shows_from table Spoke message = is_a forms.Begin message || is_a forms.Continue message
 shows_from table Begun message = is_a forms.Begin message
 shows_from table Asked message = is_a forms.Begin message && is_request (dialogue_in message)
 shows_from table WentOn message = is_a forms.Continue message
-shows_from table (WentElsewhere dtid) message = is_a forms.Continue message && not (is_id dtid (dtid_in message))
+shows_from table (WentElsewhere dtid) message = is_a forms.Continue message && is_other dtid (dtid_in message)
 shows_from table (OfId id fact) message = list_any (shows table id fact) (components_in message)
 
 -- ---- of an end

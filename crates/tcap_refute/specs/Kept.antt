@@ -9,7 +9,6 @@ use Rattle.tcap_parts.specs.declared.code.Code.{Code}
 use Rattle.tcap_parts.specs.declared.code.Code.TheVariants.{Local, Global}
 use Rattle.tcap_record.specs.declared.entry.End.{End as Side}
 use Rattle.tcap_record.specs.declared.entry.End.TheVariants as sides
-use Rattle.tcap_end.specs.End.{is_id}
 use Rattle.tcap_end.specs.Table.{Table, octets_cmp}
 use Rattle.tcap_check.specs.World.{Item}
 use Rattle.tcap_refute.specs.declared.codes.Codes.{Codes}
@@ -19,7 +18,7 @@ use Rattle.tcap_refute.specs.declared.from_id.Toward.{Toward}
 use Rattle.tcap_refute.specs.declared.from_id.Toward.TheVariants.{Nowhere, One, Several}
 use Rattle.tcap_refute.specs.declared.notes.EndNotes.{EndNotes}
 use Rattle.tcap_refute.specs.declared.notes.Notes.{Notes}
-use Rattle.tcap_refute.specs.Facts.{IdFact, Invoked, Answered, Succeeds, Fails, FromFact, Spoke, Begun, Asked, WentOn, WentElsewhere, OfId, EndFact, From, Ended, told_by_list}
+use Rattle.tcap_refute.specs.Facts.{IdFact, Invoked, Answered, Succeeds, Fails, FromFact, Spoke, Begun, Asked, WentOn, WentElsewhere, OfId, EndFact, From, Ended, is_other, told_by_list}
 
 -- whether it holds of what is there
 abbrev pub holds : {A : Type 0} → (A → Bool) → Option A → Bool
@@ -42,7 +41,7 @@ tells Fails kept = kept.fails
 -- whether one of these destination IDs is another than this
 abbrev pub is_elsewhere : List ℕ → Toward → Bool
 is_elsewhere dtid Nowhere = false
-is_elsewhere dtid (One other) = not (is_id dtid (Some other))
+is_elsewhere dtid (One id) = is_other dtid (Some id)
 is_elsewhere dtid Several = true
 
 abbrev pub tells_from : FromFact → FromId → Bool

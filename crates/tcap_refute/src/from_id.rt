@@ -139,6 +139,25 @@ impl FromId {
         Ok(())
     }
 
+    /// A component.
+    fn note_component(
+        &mut self,
+        alloc: Global,
+        table: &Table,
+        component: ComponentView,
+    ) -> Result<(), AllocError>
+        ensures ids { OnOk result ((id : ℤ) (fact : IdFact)
+            → holds (tells fact) (lookup (is_at (int_cmp id)) self.new.ids.entries)
+            ≡ holds (tells fact) (lookup (is_at (int_cmp id)) self.old.ids.entries)
+            || shows table.now id fact (component_of component.entry)) }
+        ensures head { IsSameHead self.old self.new }
+    {
+        match noted_id(&component) {
+            Some(id) => self.note_of_id(alloc, table, id, component),
+            None => Ok(()),
+        }
+    }
+
     /// Components, one after the other.
     fn note_components(
         &mut self,
@@ -153,9 +172,7 @@ impl FromId {
         ensures head { IsSameHead self.old self.new }
     {
         for component in components {
-            if let Some(id) = noted_id(&component) {
-                self.note_of_id(alloc, table, id, component)?;
-            }
+            self.note_component(alloc, table, component)?;
         }
         Ok(())
     }
