@@ -1,3 +1,4 @@
 pub mod SetLaws
 pub mod IdLaws
 pub mod FromLaws
+pub mod EndLaws

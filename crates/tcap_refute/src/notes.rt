@@ -10,7 +10,7 @@ ghost use Rattle.tcap_end.specs.End.{is_id};
 ghost use Rattle.tcap_end.specs.Table.{octets_cmp};
 ghost use Rattle.tcap_check.specs.World.{is_side, other};
 ghost use Rattle.tcap_check.specs.Since.{ended_by};
-ghost use Rattle.tcap_refute.specs.Facts.{EndFact, FromFact, shows_end, shows_from};
+ghost use Rattle.tcap_refute.specs.Facts.{EndFact, Ended, From, FromFact, shows_end, shows_from};
 ghost use Rattle.tcap_refute.specs.Kept.{holds, notes_at, tells_end, tells_from, told_by_notes};
 
 use crate::from_id::FromId;
@@ -105,6 +105,35 @@ impl EndNotes {
         Ok(())
     }
 
+    /// The originating ID of a message, and what it tells of it.
+    fn note_otid<M: MessageParts>(
+        &mut self,
+        alloc: Global,
+        table: &Table,
+        message: &M,
+    ) -> Result<(), AllocError>
+        ensures from { OnOk result ((id : List ℕ) (fact : FromFact) → tells_end (From id fact) self.new
+            ≡ tells_end (From id fact) self.old || shows_end table.now (From id fact) (M.meaning message.now)) }
+        ensures ended { self.new.ended ≡ self.old.ended }
+    {
+        match message.otid() {
+            Some(id) => self.note_from(alloc, table, id, message),
+            None => Ok(()),
+        }
+    }
+
+    /// The destination ID of a message that ends a dialogue.
+    fn note_ended<M: MessageParts>(&mut self, message: &M) -> Result<(), AllocError>
+        ensures ended { OnOk result ((id : List ℕ) → tells_end (Ended id) self.new
+            ≡ tells_end (Ended id) self.old || is_id id (ended_by (M.meaning message.now))) }
+        ensures from { self.new.from ≡ self.old.from }
+    {
+        if let Some(id) = ended_by(message) {
+            self.ended.insert(id.to_transaction_id())?;
+        }
+        Ok(())
+    }
+
     /// A message.
     fn note<M: MessageParts>(
         &mut self,
@@ -115,13 +144,8 @@ impl EndNotes {
         ensures { OnOk result ((fact : EndFact) → tells_end fact self.new
             ≡ tells_end fact self.old || shows_end table.now fact (M.meaning message.now)) }
     {
-        if let Some(id) = message.otid() {
-            self.note_from(alloc, table, id, message)?;
-        }
-        if let Some(id) = ended_by(message) {
-            self.ended.insert(id.to_transaction_id())?;
-        }
-        Ok(())
+        self.note_otid(alloc, table, message)?;
+        self.note_ended(message)
     }
 }
 
