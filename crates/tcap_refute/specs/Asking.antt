@@ -4,6 +4,7 @@ use Rattle.std.specs.List.{list_any}
 use Rattle.tcap_parts.specs.declared.component.Component.{Component}
 use Rattle.tcap_parts.specs.declared.component.Component.TheVariants.{Invoke, ReturnResult, ReturnError, Reject}
 use Rattle.tcap_parts.specs.declared.dialogue.Dialogue.{Dialogue}
+use Rattle.tcap_parts.specs.declared.problem.Problem.{Problem}
 use Rattle.tcap_parts.specs.declared.problem.Problem.TheVariants as problems
 use Rattle.tcap_msg.specs.declared.kind.Kind.{Kind as Form}
 use Rattle.tcap_msg.specs.declared.kind.Kind.TheVariants as forms
@@ -13,6 +14,8 @@ use Rattle.tcap_record.specs.declared.entry.End.{End as Side}
 use Rattle.tcap_end.specs.Dialogue.{is_request, is_uni}
 use Rattle.tcap_end.specs.Table.{Table}
 use Rattle.tcap_check.specs.World.{other}
+use Rattle.tcap_refute.specs.declared.components.Test.{Test}
+use Rattle.tcap_refute.specs.declared.components.Test.TheVariants as tests
 use Rattle.tcap_refute.specs.declared.kind.Kind.{Kind}
 use Rattle.tcap_refute.specs.declared.kind.Kind.TheVariants as kinds
 use Rattle.tcap_refute.specs.Before.{is_answer, is_reject}
@@ -52,31 +55,45 @@ comes_after_end told _ _ = false
 
 -- ---- components: by what is told of the destination ID
 
+abbrev pub rejects_none : (FromFact → Bool) → Option ℤ → Problem → Bool
+rejects_none told None problem = true
+rejects_none told (Some id) (problems.General n) = true
+rejects_none told (Some id) (problems.Invoke n) = not (told (OfId id Invoked))
+rejects_none told (Some id) (problems.ReturnResult n) = not (told (OfId id (Answered true)))
+rejects_none told (Some id) (problems.ReturnError n) = not (told (OfId id (Answered false)))
+
 abbrev pub answers_none : (FromFact → Bool) → Component → Bool
 answers_none told (Invoke id linked code parameter) = false
 answers_none told (ReturnResult last id body) = not (told (OfId id Invoked))
 answers_none told (ReturnError id code parameter) = not (told (OfId id Invoked))
-answers_none told (Reject None problem) = true
-answers_none told (Reject (Some id) (problems.General n)) = true
-answers_none told (Reject (Some id) (problems.Invoke n)) = not (told (OfId id Invoked))
-answers_none told (Reject (Some id) (problems.ReturnResult n)) = not (told (OfId id (Answered true)))
-answers_none told (Reject (Some id) (problems.ReturnError n)) = not (told (OfId id (Answered false)))
+answers_none told (Reject id problem) = rejects_none told id problem
 
 abbrev pub is_not_allowed : (FromFact → Bool) → Component → Bool
 is_not_allowed told (ReturnResult last id body) = not (told (OfId id (Succeeds (option_map (λ b. b.code) body))))
 is_not_allowed told (ReturnError id code parameter) = not (told (OfId id Fails))
 is_not_allowed told _ = false
 
-abbrev pub one_answers_nothing : (FromFact → Bool) → Form → List Component → Bool
-one_answers_nothing told forms.Unidirectional components = list_any is_answer components
-one_answers_nothing told forms.Begin components = list_any (λ c. is_answer c || is_reject c) components
-one_answers_nothing told _ components = list_any (answers_none told) components
+-- whether a component passes a test
+abbrev pub passes : Table → (FromFact → Bool) → Test → Component → Bool
+passes table told tests.Answer component = is_answer component
+passes table told tests.AnswerOrReject component = is_answer component || is_reject component
+passes table told tests.AnswersNothing component = answers_none told component
+passes table told tests.UnknownOperation component = is_unknown_operation table component
+passes table told tests.NotOfClass4 component = is_not_of_class_4 table component
+passes table told tests.NotAllowed component = is_not_allowed told component
 
+-- whether a component of such a message answers or rejects nothing
+abbrev pub one_answers_nothing : Table → (FromFact → Bool) → Form → List Component → Bool
+one_answers_nothing table told forms.Unidirectional components = list_any (passes table told tests.Answer) components
+one_answers_nothing table told forms.Begin components = list_any (passes table told tests.AnswerOrReject) components
+one_answers_nothing table told _ components = list_any (passes table told tests.AnswersNothing) components
+
+-- whether one is of a wrong operation
 abbrev pub one_is_wrong : Table → (FromFact → Bool) → Form → List Component → Bool
-one_is_wrong table told forms.Unidirectional components = list_any (is_not_of_class_4 table) components
-one_is_wrong table told forms.Begin components = list_any (is_unknown_operation table) components
+one_is_wrong table told forms.Unidirectional components = list_any (passes table told tests.NotOfClass4) components
+one_is_wrong table told forms.Begin components = list_any (passes table told tests.UnknownOperation) components
 one_is_wrong table told _ components =
-    list_any (is_unknown_operation table) components || list_any (is_not_allowed told) components
+    list_any (passes table told tests.UnknownOperation) components || list_any (passes table told tests.NotAllowed) components
 
 -- ---- the dialogue portion
 
@@ -94,7 +111,7 @@ kind_by table told side message =
     cond (transaction_is_unknown from_there message) (Some kinds.UnknownTransaction)
     (cond (id_is_reused (told_from (told side) (otid_in message)) (dtid_in message) (kind_in message)) (Some kinds.ReusedId)
     (cond (comes_after_end (told side) (dtid_in message) (cause_in message)) (Some kinds.AfterEnd)
-    (cond (one_answers_nothing from_there (kind_in message) (components_in message)) (Some kinds.AnswersNothing)
+    (cond (one_answers_nothing table from_there (kind_in message) (components_in message)) (Some kinds.AnswersNothing)
     (cond (one_is_wrong table from_there (kind_in message) (components_in message)) (Some kinds.WrongOperation)
     (cond (dialogue_is_misplaced (from_there Asked) (kind_in message) (dialogue_in message)) (Some kinds.MisplacedDialogue)
     None)))))

@@ -67,3 +67,12 @@ told_by_notes notes side fact = tells_end fact (notes_at side notes)
 -- What is kept tells of the facts what these items since the last quiet mark do.
 pub record AreNotesOf (table : Table) (items : List Item) (notes : Notes) : Type 0 where
   pub told : (side : Side) (fact : EndFact) → told_by_notes notes side fact ≡ told_by_list table items side fact
+
+-- what is kept of an invoke ID, where that is of an originating ID, if anything
+abbrev pub id_in : Option FromId → ℤ → Option ById
+id_in None id = None
+id_in (Some kept) id = lookup (is_at (int_cmp id)) kept.ids.entries
+
+-- what is told of an originating ID of which that is kept, if anything
+abbrev pub told_by_from : Option FromId → FromFact → Bool
+told_by_from kept fact = holds (tells_from fact) kept

@@ -4,6 +4,7 @@
 
 mod by_id;
 mod codes;
+mod components;
 mod dialogues;
 mod from_id;
 mod kind;
