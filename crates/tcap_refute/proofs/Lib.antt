@@ -2,3 +2,4 @@ pub mod SetLaws
 pub mod IdLaws
 pub mod FromLaws
 pub mod EndLaws
+pub mod AskLaws

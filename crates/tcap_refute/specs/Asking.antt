@@ -19,7 +19,7 @@ use Rattle.tcap_refute.specs.declared.components.Test.TheVariants as tests
 use Rattle.tcap_refute.specs.declared.kind.Kind.{Kind}
 use Rattle.tcap_refute.specs.declared.kind.Kind.TheVariants as kinds
 use Rattle.tcap_refute.specs.Before.{is_answer, is_reject}
-use Rattle.tcap_refute.specs.Kind.{is_misplaced_aborting, is_misplaced_going_on, is_not_of_class_4, is_unknown_operation}
+use Rattle.tcap_refute.specs.Kind.{is_misplaced_aborting, is_misplaced_going_on, is_not_of_class_4, is_unknown_operation, or_else}
 use Rattle.tcap_refute.specs.Facts.{FromFact, EndFact, Spoke, Begun, Asked, WentOn, WentElsewhere, OfId, Invoked, Answered, Succeeds, Fails, From, Ended}
 
 -- what is told of an originating ID; nothing is of none
@@ -103,15 +103,24 @@ dialogue_is_misplaced is_asked forms.Begin dialogue = is_some dialogue && not (i
 dialogue_is_misplaced is_asked forms.Abort dialogue = is_misplaced_aborting is_asked dialogue
 dialogue_is_misplaced is_asked _ dialogue = is_misplaced_going_on is_asked dialogue
 
--- ---- the lowest kind of a message that an end sends, where this is told of each end
+-- ---- the lowest kind of a message that an end sends
 
+-- by its IDs: where that is told of its end, and of its destination ID
+abbrev pub kind_of_ids : (EndFact → Bool) → (FromFact → Bool) → Message → Option Kind
+kind_of_ids own there message =
+    cond (transaction_is_unknown there message) (Some kinds.UnknownTransaction)
+    (cond (id_is_reused (told_from own (otid_in message)) (dtid_in message) (kind_in message)) (Some kinds.ReusedId)
+    (cond (comes_after_end own (dtid_in message) (cause_in message)) (Some kinds.AfterEnd) None))
+
+-- by its components and its dialogue portion: where that is told of its destination ID
+abbrev pub kind_of_parts : Table → (FromFact → Bool) → Message → Option Kind
+kind_of_parts table there message =
+    cond (one_answers_nothing table there (kind_in message) (components_in message)) (Some kinds.AnswersNothing)
+    (cond (one_is_wrong table there (kind_in message) (components_in message)) (Some kinds.WrongOperation)
+    (cond (dialogue_is_misplaced (there Asked) (kind_in message) (dialogue_in message)) (Some kinds.MisplacedDialogue) None))
+
+-- where that is told of each end
 abbrev pub kind_by : Table → (Side → EndFact → Bool) → Side → Message → Option Kind
 kind_by table told side message =
-    let from_there = told_from (told (other side)) (dtid_in message) in
-    cond (transaction_is_unknown from_there message) (Some kinds.UnknownTransaction)
-    (cond (id_is_reused (told_from (told side) (otid_in message)) (dtid_in message) (kind_in message)) (Some kinds.ReusedId)
-    (cond (comes_after_end (told side) (dtid_in message) (cause_in message)) (Some kinds.AfterEnd)
-    (cond (one_answers_nothing table from_there (kind_in message) (components_in message)) (Some kinds.AnswersNothing)
-    (cond (one_is_wrong table from_there (kind_in message) (components_in message)) (Some kinds.WrongOperation)
-    (cond (dialogue_is_misplaced (from_there Asked) (kind_in message) (dialogue_in message)) (Some kinds.MisplacedDialogue)
-    None)))))
+    or_else (kind_of_ids (told side) (told_from (told (other side)) (dtid_in message)) message)
+    (kind_of_parts table (told_from (told (other side)) (dtid_in message)) message)

@@ -76,3 +76,8 @@ id_in (Some kept) id = lookup (is_at (int_cmp id)) kept.ids.entries
 -- what is told of an originating ID of which that is kept, if anything
 abbrev pub told_by_from : Option FromId → FromFact → Bool
 told_by_from kept fact = holds (tells_from fact) kept
+
+-- what is kept of that originating ID, where there is one
+abbrev pub kept_from : Option (List ℕ) → EndNotes → Option FromId
+kept_from None kept = None
+kept_from (Some id) kept = lookup (is_at (octets_cmp id)) kept.from.entries

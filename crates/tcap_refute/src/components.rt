@@ -3,6 +3,7 @@
 ghost use Rattle.std.specs.Prelude.{◌≡◌, option_copied, option_map};
 ghost use Rattle.std.specs.List.{list_any};
 ghost use Rattle.tcap_parts.specs.Meaning.{body_of, code_of, component_of, components_left, problem_of};
+ghost use Rattle.tcap_msg.specs.Parts.{components_in, kind_in};
 ghost use Rattle.tcap_end.specs.Class.{of_class, reports_neither};
 ghost use Rattle.tcap_end.specs.Table.{class_of};
 ghost use Rattle.tcap_refute.specs.Facts.{Answered, Fails, Invoked, OfId, Succeeds};
@@ -12,7 +13,7 @@ ghost use Rattle.tcap_refute.specs.Asking.{answers_none, is_not_allowed, one_ans
 use crate::by_id::ById;
 use crate::from_id::FromId;
 use tcap_end::Table;
-use tcap_msg::Kind as Form;
+use tcap_msg::{Kind as Form, MessageParts};
 use tcap_parts::{CodeView, ComponentView, Components, ProblemView, ResultBodyView};
 
 /// What is asked of a component.
@@ -154,4 +155,40 @@ fn any(table: &Table, from: Option<&FromId>, test: Test, components: Components)
         }
     }
     false
+}
+
+/// Whether a component of a message of that kind answers or rejects what was never sent from there.
+pub(crate) fn one_answers_nothing<M: MessageParts>(
+    table: &Table,
+    from: Option<&FromId>,
+    message: &M,
+) -> bool
+    ensures { result ≡ one_answers_nothing table.now (told_by_from (option_copied from.entry))
+        (kind_in (M.meaning message.now)) (components_in (M.meaning message.now)) }
+{
+    let test = match message.kind() {
+        Form::Unidirectional => Test::Answer,
+        Form::Begin => Test::AnswerOrReject,
+        _ => Test::AnswersNothing,
+    };
+    any(table, from, test, message.components())
+}
+
+/// Whether one is of a wrong operation.
+pub(crate) fn one_is_wrong<M: MessageParts>(
+    table: &Table,
+    from: Option<&FromId>,
+    message: &M,
+) -> bool
+    ensures { result ≡ one_is_wrong table.now (told_by_from (option_copied from.entry))
+        (kind_in (M.meaning message.now)) (components_in (M.meaning message.now)) }
+{
+    match message.kind() {
+        Form::Unidirectional => any(table, from, Test::NotOfClass4, message.components()),
+        Form::Begin => any(table, from, Test::UnknownOperation, message.components()),
+        _ => {
+            any(table, from, Test::UnknownOperation, message.components())
+                || any(table, from, Test::NotAllowed, message.components())
+        }
+    }
 }

@@ -2,6 +2,7 @@
 //! first entry of a record of which one holds.
 #![tactic(auto)]
 
+mod asking;
 mod by_id;
 mod codes;
 mod components;
