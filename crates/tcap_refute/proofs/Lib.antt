@@ -3,3 +3,4 @@ pub mod IdLaws
 pub mod FromLaws
 pub mod EndLaws
 pub mod AskLaws
+pub mod ItemLaws

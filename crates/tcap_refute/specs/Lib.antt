@@ -4,4 +4,5 @@ pub mod Facts
 pub mod Asking
 pub mod Kept
 pub mod Noting
+pub mod Judging
 pub mod WorkedKinds

@@ -8,9 +8,12 @@ mod codes;
 mod components;
 mod dialogues;
 mod from_id;
+mod judging;
 mod kind;
 pub mod laws;
 mod notes;
+mod refuting;
 pub mod worked;
 
 pub use kind::{Kind, Refutation};
+pub use refuting::{SearchFault, refute};
