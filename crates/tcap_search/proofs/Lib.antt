@@ -2,5 +2,9 @@ pub mod LineLaws
 pub mod IdLaws
 pub mod LatestLaws
 pub mod StackLaws
+pub mod UntiedLaws
 pub mod TieLaws
+pub mod NotedLaws
+pub mod EndedLaws
+pub mod ToldLaws
 pub mod ClosingLaws
