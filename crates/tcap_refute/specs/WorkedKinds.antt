@@ -1,5 +1,5 @@
 -- Worked records: the entry that is refuted, and its kind; or none.
-use Rattle.std.specs.Prelude.{◌≡◌, ℕ, pos, List, [], ◌∷◌, ◌++◌, map, Option, Some, None, Result, Ok, Err}
+use Rattle.std.specs.Prelude.{◌≡◌, ℕ, pos, List, [], ◌∷◌, ◌++◌, map, take, Option, Some, None, Result, Ok, Err}
 use Rattle.tcap_ber.specs.declared.fault.Fault.{Fault}
 use Rattle.tcap_ber.specs.declared.fault.Reason.{Reason as ReadingReason}
 use Rattle.tcap_ber.specs.declared.fault.Reason.TheVariants as reading
@@ -112,7 +112,7 @@ dialogue_portions =
 abbrev pub left_open : Type 0
 left_open =
     RefutesNone (from_a (Unidirectional None (Reject (Some (pos 1)) (problems.Invoke 1) ∷ [])) ∷ [])
-    × RefutesNone (map (λ item. Ok item) three_entries.items
+    × RefutesNone (map (λ item. Ok item) (take 2 three_entries.items)
     ++ from_a (Abort (id 2) (Some (aborts.Dialogue (dialogues.Abort 1 None)))) ∷ [])
 
 -- What stands before a quiet mark is not looked at.

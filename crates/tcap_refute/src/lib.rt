@@ -2,6 +2,7 @@
 //! first entry of a record of which one holds.
 #![tactic(auto)]
 
+pub mod blame_rows;
 mod kind;
 pub mod laws;
 pub mod worked;

@@ -2,6 +2,7 @@
 //! it is believed: `tcap_check` replays it.
 #![tactic(auto)]
 
+mod by_invocation;
 mod candidates;
 mod closings;
 mod expiries;
@@ -9,8 +10,10 @@ mod fates;
 mod found;
 mod leasts;
 mod lines;
+mod per_end;
 mod searching;
 mod stacks;
+mod sweep;
 mod tie;
 mod ties;
 pub mod worked;

@@ -1,0 +1,12 @@
+pub mod Members
+pub mod BeforeLaws
+pub mod MomentLaws
+pub mod OverLaws
+pub mod SentLaws
+pub mod TransactionKinds
+pub mod FoundedLaws
+pub mod ComponentKinds
+pub mod DialogueKinds
+pub mod KindLaws
+pub mod Lives
+pub mod RefutedLaws
