@@ -10,3 +10,9 @@ pub mod DialogueKinds
 pub mod KindLaws
 pub mod Lives
 pub mod RefutedLaws
+pub mod SetLaws
+pub mod IdLaws
+pub mod FromLaws
+pub mod EndLaws
+pub mod AskLaws
+pub mod ItemLaws

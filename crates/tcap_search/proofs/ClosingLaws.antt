@@ -6,7 +6,7 @@ use Rattle.std.proofs.lemmas.Bool.{eq-eqb, eqb-false, eqb-true, ne_eqb}
 use Rattle.std.proofs.lemmas.Bool.Decides.{nat_tests}
 use Rattle.std.proofs.lemmas.List.{drop_all, drop_more, length-map, length-take-le, take_all, take_more}
 use Rattle.std.proofs.lemmas.List.Folds.{list_any-append}
-use Rattle.std.proofs.lemmas.Option.{same_Some, slice_get-map, slice_get_within}
+use Rattle.std.proofs.lemmas.Option.{cond_some, get_or_from_slice_get, same_Some, slice_get-map, slice_get_within}
 use Rattle.tcap_record.specs.declared.entry.End.{End as Side}
 use Rattle.tcap_record.specs.declared.entry.Entry.{Entry}
 use Rattle.tcap_check.specs.World.{is_side, other}
@@ -18,7 +18,7 @@ use Rattle.tcap_search.specs.declared.tie.Tie.{Tie}
 use Rattle.tcap_search.specs.Leasts.{HasRoom, is_below, is_transaction, is_within, least_at, lesser}
 use Rattle.tcap_search.specs.Lines.{Line, are_of_one_end, is_end, is_of_peer, line_behind, lines_of, message_of, share_transaction}
 use Rattle.tcap_search.specs.Proposed.{Fated, all_fated, closing_by, closings_from, closings_of, ends, fate_of, fated, first_fates, is_closing_of, is_continue, is_delivered_by, is_end_or_abort, ties_of, was_ended, was_told, with_closing, with_losses}
-use Rattle.tcap_search.specs.Shown.{KeepsEnded, KeepsListed, KeepsTold, both_of, shown_by}
+use Rattle.tcap_search.specs.Shown.{KeepsEnded, KeepsListed, KeepsTold, both_of, gap_told, shown_by}
 use Rattle.tcap_search.specs.Traced.{AreFates, AreTransactions}
 use Rattle.tcap_search.proofs.LineLaws.{count_lines, count_taken, line_at, lines_more, transaction_below}
 
@@ -246,13 +246,20 @@ count_transactions entries transactions are =
     omega arith
 
 -- the transaction of an entry
-pub transaction_at : (entries : List Entry) (transactions : List (Option ℕ)) (i : ℕ) (e : Entry)
+transaction_at : (entries : List Entry) (transactions : List (Option ℕ)) (i : ℕ) (e : Entry)
     → AreTransactions entries transactions → slice_get entries i ≡ Some e
     → slice_get transactions i ≡ Some (line_behind (lines_of (take i entries)) e).transaction
 transaction_at entries transactions i e are is =
     ap (λ (ts : List (Option ℕ)). slice_get ts i) are
     ∙ (slice_get-map (λ (x : Line). x.transaction) (lines_of entries) i
     ∙ ap (option_map (λ (x : Line). x.transaction)) (line_at entries i e is))
+
+pub transaction_is : (entries : List Entry) (transactions : List (Option ℕ)) (i : ℕ) (e : Entry)
+    → AreTransactions entries transactions → slice_get entries i ≡ Some e
+    → get_or transactions i None ≡ (line_behind (lines_of (take i entries)) e).transaction
+transaction_is entries transactions i e are is =
+    get_or_from_slice_get transactions i (line_behind (lines_of (take i entries)) e).transaction None
+    (transaction_at entries transactions i e are is)
 
 -- ---- what tells of ends
 
@@ -276,9 +283,9 @@ told_all entries fates count told are all so_far =
     rw (all_is entries fates are)
     (rw (take_all count entries all, take_all count fates (omega arith)) at so_far.kept)
 
-module _ (entries : List Entry) (fates : List Fate) (i : ℕ) (old : Leasts) (e : Entry) (fate : Fate)
+module _ (entries : List Entry) (fates : List Fate) (i : ℕ) (old : Leasts) (e : Entry) (other_fate fate : Fate)
     (below : i < length entries) (counted : length fates ≡ length entries) (is : e ≡ get_or entries i e)
-    (is_fate : fate ≡ get_or fates i fate) (so_far : Told entries fates i old) where
+    (is_fate : fate ≡ get_or fates i other_fate) (so_far : Told entries fates i old) where
   abbrev next_line : Line
   next_line = line_behind (lines_of (take i entries)) e
 
@@ -295,7 +302,7 @@ module _ (entries : List Entry) (fates : List Fate) (i : ℕ) (old : Leasts) (e 
   told_next x limit =
       let within : i < length fates = omega arith in
       let fates_more : take (i + 1) fates ≡ take i fates ++ fate ∷ [] =
-      take_more fates i fate within ∙ ap (λ (f : Fate). take i fates ++ f ∷ []) (sym is_fate) in
+      take_more fates i other_fate within ∙ ap (λ (f : Fate). take i fates ++ f ∷ []) (sym is_fate) in
       let counts : length (take i fates) ≡ length (lines_of (take i entries)) =
       length-take-le i fates (omega arith) ∙ sym (count_taken entries i (omega arith)) in
       ap (λ (lines : List Line). was_told (fated lines (take (i + 1) fates)) x limit) (lines_more entries i e below is)
@@ -315,39 +322,47 @@ module _ (entries : List Entry) (fates : List Fate) (i : ℕ) (old : Leasts) (e 
         ∙ (ap (λ (b : Bool). was_told fated_so_far x limit || b) (fails x limit) ∙ or_none (was_told fated_so_far x limit)));
   }
 
-  pub told_other : is_end_or_abort (message_of e) ≡ false → Told entries fates (i + 1) old
-  told_other not_it =
-      told_same (λ x limit.
-      ap (λ (b : Bool). are_of_one_end x.entry e && share_transaction x next_line && b && is_delivered_by limit fate) not_it
-      ∙ ap (λ (b : Bool). b && is_delivered_by limit fate) (and_none (are_of_one_end x.entry e && share_transaction x next_line)))
-
-  pub told_undelivered : ((gap : ℕ) → fate ≡ Gap gap → ⊥) → Told entries fates (i + 1) old
-  told_undelivered not_gap = told_same (λ x limit. by x limit fate not_gap)
+  pub told_other : gap_told (message_of e) fate ≡ None → Told entries fates (i + 1) old
+  told_other none = told_same (λ x limit. by x limit fate none)
     where
-      by : (x : Line) (limit : ℕ) (f : Fate) → ((gap : ℕ) → f ≡ Gap gap → ⊥)
+      so : (b : Bool) (gap : ℕ) → cond b (Some gap) None ≡ None → b ≡ false
+      so true gap none = cc
+      so false gap none = refl
+
+      by : (x : Line) (limit : ℕ) (f : Fate) → gap_told (message_of e) f ≡ None
           → (are_of_one_end x.entry e && share_transaction x next_line && is_end_or_abort (message_of e) && is_delivered_by limit f)
           ≡ false
-      by x limit (Gap gap) not_gap = absurd (not_gap gap refl)
-      by x limit Lost not_gap = and_none (are_of_one_end x.entry e && share_transaction x next_line && is_end_or_abort (message_of e))
-      by x limit (By reply) not_gap =
+      by x limit (Gap gap) none =
+          ap (λ (b : Bool). are_of_one_end x.entry e && share_transaction x next_line && b && is_delivered_by limit (Gap gap))
+          (so (is_end_or_abort (message_of e)) gap none)
+          ∙ ap (λ (b : Bool). b && is_delivered_by limit (Gap gap)) (and_none (are_of_one_end x.entry e && share_transaction x next_line))
+      by x limit Lost none = and_none (are_of_one_end x.entry e && share_transaction x next_line && is_end_or_abort (message_of e))
+      by x limit (By reply) none =
           and_none (are_of_one_end x.entry e && share_transaction x next_line && is_end_or_abort (message_of e))
 
+  told_gap : (gap : ℕ) (f : Fate) → gap_told (message_of e) f ≡ Some gap
+      → (is_end_or_abort (message_of e) ≡ true) × (f ≡ Gap gap)
+  told_gap gap (Gap g) is = let parts = cond_some (is_end_or_abort (message_of e)) g gap is in (parts.0, ap Gap parts.1)
+  told_gap gap Lost is = cc
+  told_gap gap (By reply) is = cc
+
   pub told_more : (new : Leasts) (transaction : Option ℕ) (gap : ℕ) → transaction ≡ next_line.transaction
-      → is_end_or_abort (message_of e) ≡ true → fate ≡ Gap gap → HasRoom (length entries) new
+      → gap_told (message_of e) fate ≡ Some gap → HasRoom (length entries) new
       → ((side : Side) (t : ℕ) → t < length entries → least_at side t new
       ≡ cond (is_end side e.side && is_transaction t transaction) (lesser gap (least_at side t old)) (least_at side t old))
       → Told entries fates (i + 1) new
-  told_more new transaction gap has is_it is_gap room noted = record {
+  told_more new transaction gap has is_told room noted = record {
     room = room;
     kept = λ x side t limit sent belongs within.
         let first : are_of_one_end x.entry e ≡ is_end side e.side = of_one_end x.entry e side sent in
         let second : share_transaction x next_line ≡ is_transaction t transaction =
         shares x next_line t belongs ∙ ap (is_transaction t) (sym has) in
-        let delivered : is_delivered_by limit fate ≡ nat_le gap limit = ap (is_delivered_by limit) is_gap in
+        let parts = told_gap gap fate is_told in
+        let delivered : is_delivered_by limit fate ≡ nat_le gap limit = ap (is_delivered_by limit) parts.1 in
         let here : tells_it x limit ≡ (nat_le gap limit && is_end side e.side && is_transaction t transaction) =
         turned_tests (are_of_one_end x.entry e) (share_transaction x next_line) (is_end_or_abort (message_of e))
         (is_delivered_by limit fate) (is_end side e.side) (is_transaction t transaction) (nat_le gap limit)
-        first second is_it delivered in
+        first second parts.0 delivered in
         test_noted (is_within limit) (is_end side e.side) (is_transaction t transaction) (nat_le gap limit)
         (least_at side t new) (least_at side t old) (lesser gap (least_at side t old))
         (within_lesser limit gap (least_at side t old)) (noted side t within)
@@ -489,7 +504,8 @@ listed_all all lines ties count i listed kept past so_far =
     ap (λ (left : List Tie). closings_from all lines left listed) (sym (drop_all i ties past)) ∙ so_far.left
 
 module _ (all : List Fated) (lines : List Line) (ties : List Tie) (count i : ℕ) (listed : List Closing) (old : Leasts)
-    (t : Tie) (below : i < length ties) (is : t ≡ get_or ties i t) (so_far : Listed all lines ties count i listed old) where
+    (other_tie t : Tie) (below : i < length ties) (is : t ≡ get_or ties i other_tie)
+    (so_far : Listed all lines ties count i listed old) where
   abbrev shown : Option (Side × ℕ)
   shown = shown_by all lines t.reply (slice_get lines t.entry)
 
@@ -497,7 +513,7 @@ module _ (all : List Fated) (lines : List Line) (ties : List Tie) (count i : ℕ
       → closings_from all lines (drop (i + 1) ties) (with_shown listed t.reply o) ≡ closings_of all lines ties
   one_more o is_shown =
       sym (ap (λ (left : List Tie). closings_from all lines left listed)
-      (drop_more ties i t below ∙ ap (λ (first : Tie). first ∷ drop (i + 1) ties) (sym is))
+      (drop_more ties i other_tie below ∙ ap (λ (first : Tie). first ∷ drop (i + 1) ties) (sym is))
       ∙ (ap (closings_from all lines (drop (i + 1) ties)) (closing_is all lines listed t.reply (slice_get lines t.entry))
       ∙ ap (λ (s : Option (Side × ℕ)). closings_from all lines (drop (i + 1) ties) (with_shown listed t.reply s)) is_shown))
       ∙ so_far.left

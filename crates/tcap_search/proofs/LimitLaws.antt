@@ -15,11 +15,13 @@ use Rattle.tcap_check.specs.declared.certificate.Closing.{Closing}
 use Rattle.tcap_check.specs.declared.certificate.Expiry.{Expiry}
 use Rattle.tcap_check.specs.declared.certificate.Fate.{Fate}
 use Rattle.tcap_check.specs.declared.certificate.Fate.TheVariants.{Gap, Lost, By}
-use Rattle.tcap_check.proofs.ListLaws.{all_more}
+use Rattle.tcap_check.specs.CertificateText.{ClosingFits, ExpiryFits, FateFits}
+use Rattle.tcap_check.proofs.ListLaws.{all_more, all_weaker}
 use Rattle.tcap_check.proofs.RunLaws.{map_some, then_some, where_some}
 use Rattle.tcap_search.specs.declared.tie.Tie.{Tie}
 use Rattle.tcap_search.specs.Lines.{Line, are_of_one_end, last, or_else, lines_of, message_of, share_transaction}
-use Rattle.tcap_search.specs.Proposed.{Fated, all_fated, closing_by, closings_from, closings_of, expiries_by, expiries_from, expiries_of, expiry_by, expiry_in, fate_before, fate_by, fate_of, fated, first_fates, first_gap, first_gap_by, gap_behind, gap_behind_reply, gap_in, invocation_at, is_closing_of, is_continue, is_expiry_of, is_gap, is_invoke_of, is_overtaken, last_invocation, last_invoke, last_of_receiver, may_invoke, components_at, number_limit, of_stretch, raised, rejected_line, reply_of, ties_of, unrecognized, was_ended, was_told, with_closing, with_expiry, with_losses}
+use Rattle.tcap_search.specs.Proposed.{Fated, all_fated, closing_behind, closing_by, closings_from, closings_of, expiries_by, expiries_from, expiries_of, expiry_behind, expiry_by, expiry_in, fate_before, fate_behind, fate_by, fate_of, fated, first_fates, first_gap, first_gap_by, gap_behind, gap_behind_reply, gap_in, invocation_at, is_closing_of, is_continue, is_expiry_of, is_gap, is_invoke_of, is_overtaken, last_invocation, last_invoke, last_of_receiver, may_invoke, components_at, number_limit, of_stretch, raised, rejected_line, reply_of, ties_of, unrecognized, was_ended, was_told, with_closing, with_expiry, with_losses}
+use Rattle.tcap_search.specs.Traced.{AreFates}
 use Rattle.tcap_search.proofs.LastLaws.{last_among}
 use Rattle.tcap_search.proofs.NumberedLaws.{AreNumbered, count_lines, lines_numbered}
 use Rattle.tcap_search.proofs.ReplyLaws.{RepliesBelow, behind_reply, numbers_below, replies_below}
@@ -45,10 +47,6 @@ all_mapped : {A B : Type 0} (P : B → Type 0) (f : A → B) (xs : List A) → A
     → AllByRecursion P (map f xs)
 all_mapped P f [] all = tt
 all_mapped P f (x ∷ xs) all = (all.0, all_mapped P f xs all.1)
-
-all_so : {A : Type 0} (P Q : A → Type 0) → ((x : A) → P x → Q x) → (xs : List A) → AllByRecursion P xs → AllByRecursion Q xs
-all_so P Q so [] all = tt
-all_so P Q so (x ∷ xs) all = (so x all.0, all_so P Q so xs all.1)
 
 module _ (n : ℕ) (lines : List Line) (numbers : AllByRecursion (λ x. x.number < n) lines) (ties : List Tie)
     (replies : RepliesBelow n ties) where
@@ -304,3 +302,60 @@ module _ (entries : List Entry) where
 
   pub closings_of_stretch : AllByRecursion (ClosingWithin (length entries)) ((of_stretch entries).close)
   closings_of_stretch = closing_within (ties_of lines) [] replies tt
+
+-- ---- the limits of a certificate
+
+fate_fits : (first n : ℕ) (fate : Fate) → first + n ≤ number_limit → FateWithin n fate → FateFits (fate_behind first fate)
+fate_fits first n (Gap gap) few within = omega (arith, few, within)
+fate_fits first n (By reply) few within = omega (arith, few, within)
+fate_fits first n Lost few within = tt
+
+module _ (first : ℕ) (entries : List Entry) (few : first + length entries ≤ number_limit) where
+  -- What is added lies within, where the stretch begins behind so many entries.
+  pub fates_fit : (fates : List Fate) → AreFates entries fates → AllByRecursion FateFits (map (fate_behind first) fates)
+  fates_fit fates are =
+      all_mapped FateFits (fate_behind first) fates
+      (all_weaker (FateWithin (length entries)) (λ fate. FateFits (fate_behind first fate)) fates
+      (λ fate within. fate_fits first (length entries) fate few within)
+      (subst (λ (x : List Fate). AllByRecursion (FateWithin (length entries)) x) (sym are) (fates_of_stretch entries)))
+
+  pub expiries_fit : (listed : List Expiry) → listed ≡ (of_stretch entries).expire
+      → AllByRecursion ExpiryFits (map (expiry_behind first) listed)
+  expiries_fit listed are =
+      all_mapped ExpiryFits (expiry_behind first) listed
+      (all_weaker (ExpiryWithin (length entries)) (λ x. ExpiryFits (expiry_behind first x)) listed
+      (λ x within. (omega (arith, few, within.0), within.1, omega (arith, few, within.2)))
+      (subst (λ (xs : List Expiry). AllByRecursion (ExpiryWithin (length entries)) xs) (sym are) (expiries_of_stretch entries)))
+
+  pub closings_fit : (listed : List Closing) → listed ≡ (of_stretch entries).close
+      → AllByRecursion ClosingFits (map (closing_behind first) listed)
+  closings_fit listed are =
+      all_mapped ClosingFits (closing_behind first) listed
+      (all_weaker (ClosingWithin (length entries)) (λ x. ClosingFits (closing_behind first x)) listed
+      (λ x within. (omega (arith, few, within.0), omega (arith, few, within.1)))
+      (subst (λ (xs : List Closing). AllByRecursion (ClosingWithin (length entries)) xs) (sym are) (closings_of_stretch entries)))
+
+fate_small : (n : ℕ) (fate : Fate) → n ≤ number_limit → FateWithin n fate → FateFits fate
+fate_small n (Gap gap) few within = omega (arith, few, within)
+fate_small n (By reply) few within = omega (arith, few, within)
+fate_small n Lost few within = tt
+
+module _ (entries : List Entry) (few : length entries ≤ number_limit) where
+  -- So does what is found.
+  pub fates_small : (fates : List Fate) → AreFates entries fates → AllByRecursion FateFits fates
+  fates_small fates are =
+      all_weaker (FateWithin (length entries)) FateFits fates
+      (λ fate within. fate_small (length entries) fate few within)
+      (subst (λ (x : List Fate). AllByRecursion (FateWithin (length entries)) x) (sym are) (fates_of_stretch entries))
+
+  pub expiries_small : (listed : List Expiry) → listed ≡ (of_stretch entries).expire → AllByRecursion ExpiryFits listed
+  expiries_small listed are =
+      all_weaker (ExpiryWithin (length entries)) ExpiryFits listed
+      (λ x within. (omega (arith, few, within.0), within.1, omega (arith, few, within.2)))
+      (subst (λ (xs : List Expiry). AllByRecursion (ExpiryWithin (length entries)) xs) (sym are) (expiries_of_stretch entries))
+
+  pub closings_small : (listed : List Closing) → listed ≡ (of_stretch entries).close → AllByRecursion ClosingFits listed
+  closings_small listed are =
+      all_weaker (ClosingWithin (length entries)) ClosingFits listed
+      (λ x within. (omega (arith, few, within.0), omega (arith, few, within.1)))
+      (subst (λ (xs : List Closing). AllByRecursion (ClosingWithin (length entries)) xs) (sym are) (closings_of_stretch entries))

@@ -1,13 +1,15 @@
 -- Entries, stretch by stretch between quiet marks.
 use Rattle.std.proofs.Common.{◌≡◌, ◌≢◌, Bool, true, false, cond, ℕ, ◌+◌, ◌-◌, ◌≤◌, ◌<◌, arith, List, [], ◌∷◌, ◌++◌, length, take, drop, get_or, zero, suc, min, refl, sym, ap, subst, ◌∙◌, append_assoc}
-use Rattle.std.specs.Prelude.{◌||◌}
+use Rattle.std.specs.Prelude.{◌||◌, Result, Ok, Err, IfOk, map}
 use Rattle.std.specs.List.{list_any}
-use Rattle.std.proofs.lemmas.List.{append-nil, drop_more, get_or-drop, length-append, length-drop, length-take-le, take-append-drop}
+use Rattle.std.proofs.lemmas.List.{append-nil, drop_more, get_or-drop, length-append, length-drop, length-map, length-take-le, take-append-drop}
 use Rattle.std.proofs.lemmas.List.Folds.{list_any_more}
 use Rattle.std.proofs.Math.Seq.{drop-nil, take-length}
 use Rattle.tcap_record.specs.declared.entry.Entry.{Entry}
 use Rattle.tcap_check.specs.Certificate.{Certificate}
-use Rattle.tcap_search.specs.Proposed.{behind, is_mark, of_mark, of_stretch, of_stretches, stretches, then_certificate, with_entry}
+use Rattle.tcap_search.specs.Proposed.{behind, fate_behind, is_mark, of_mark, of_stretch, of_stretches, stretches, then_certificate, with_entry}
+
+use Rattle.tcap_search.proofs.LimitLaws.{count_of_stretch}
 
 abbrev pub has_mark : List Entry → Bool
 has_mark entries = list_any (λ e. is_mark e.body) entries
@@ -168,3 +170,43 @@ module _ (entries : List Entry) (first i : ℕ) (begun : first ≤ i) where
       ∙ ap (λ x. then_certificate found (behind first (of_stretch x)))
       (sym (subst (λ n. take n (drop first entries) ≡ drop first entries) (length-drop first entries)
       (take-length (drop first entries))))
+
+-- ---- how many fates there are
+
+with_count : (found : Certificate) (first : ℕ) (stretch : List Entry)
+    → length ((then_certificate found (behind first (of_stretch stretch))).fates) ≡ length found.fates + length stretch
+with_count found first stretch =
+    length-append found.fates (map (fate_behind first) ((of_stretch stretch).fates))
+    ∙ ap (λ n. length found.fates + n)
+    (length-map ((of_stretch stretch).fates) (fate_behind first) ∙ count_of_stretch stretch)
+
+pub count_ends : (entries : List Entry) (found : Certificate) (first : ℕ) → first ≤ length entries
+    → length found.fates ≡ first
+    → length ((then_certificate found (behind first (of_stretch (take (length entries - first) (drop first entries))))).fates)
+    ≡ length entries
+count_ends entries found first within count =
+    let some : length (take (length entries - first) (drop first entries)) ≡ length entries - first =
+    length-take-le (length entries - first) (drop first entries)
+    (let left : length (drop first entries) ≡ length entries - first = length-drop first entries in omega (arith, left)) in
+    with_count found first (take (length entries - first) (drop first entries)) ∙ omega (arith, some, count, within)
+
+pub count_begins : (entries : List Entry) (found : Certificate) (first i : ℕ) → first ≤ i → i < length entries
+    → length found.fates ≡ first
+    → length ((then_certificate (then_certificate found (behind first (of_stretch (take (i - first) (drop first entries)))))
+    (of_mark i)).fates)
+    ≡ i + 1
+count_begins entries found first i begun within count =
+    let some : length (take (i - first) (drop first entries)) ≡ i - first =
+    length-take-le (i - first) (drop first entries)
+    (let left : length (drop first entries) ≡ length entries - first = length-drop first entries in
+    omega (arith, left, within)) in
+    let front : length ((then_certificate found (behind first (of_stretch (take (i - first) (drop first entries))))).fates)
+    ≡ length found.fates + length (take (i - first) (drop first entries)) =
+    with_count found first (take (i - first) (drop first entries)) in
+    length-append ((then_certificate found (behind first (of_stretch (take (i - first) (drop first entries))))).fates) _
+    ∙ omega (arith, front, some, count, begun)
+
+-- What follows of what is answered.
+pub answers_so : {A E : Type 0} (P Q : A → Type 0) (r : Result A E) → ((x : A) → P x → Q x) → IfOk r P → IfOk r Q
+answers_so P Q (Ok x) so is = so x is
+answers_so P Q (Err e) so is = is

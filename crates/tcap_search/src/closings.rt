@@ -1,9 +1,11 @@
 //! The fifth rule: which halves closed unseen.
 
-ghost use Rattle.std.specs.Prelude.{◌≡◌, ◌≤◌, length, option_copied, slice_get, IfOk};
+ghost use Rattle.std.specs.Prelude.{◌≡◌, ◌≤◌, ◌&&◌, not, length, option_copied, slice_get, IfOk};
+ghost use Rattle.tcap_check.specs.World.{other};
+ghost use Rattle.tcap_search.specs.Leasts.{is_below, is_within, least_at};
 ghost use Rattle.tcap_search.specs.Lines.{lines_of, message_of};
-ghost use Rattle.tcap_search.specs.Proposed.{all_fated, closings_of, ends, is_continue, is_end_or_abort, ties_of};
-ghost use Rattle.tcap_search.specs.Shown.{KeepsEnded, KeepsTold, shown_by};
+ghost use Rattle.tcap_search.specs.Proposed.{all_fated, closings_of, ends, is_continue, ties_of};
+ghost use Rattle.tcap_search.specs.Shown.{KeepsEnded, KeepsTold, gap_told, shown_by};
 ghost use Rattle.tcap_search.specs.Traced.{AreFates, AreTies, AreTransactions};
 
 use crate::leasts::Leasts;
@@ -38,14 +40,14 @@ fn ends(entry: &Entry) -> bool
     }
 }
 
-/// Whether an entry is an End or an Abort.
-fn is_end_or_abort(entry: &Entry) -> bool
-    ensures { result ≡ is_end_or_abort (message_of entry.now) }
+/// The gap in which an entry tells its receiver of the end of a dialogue: that of an End or an Abort, where it is delivered.
+fn gap_told(entry: &Entry, fate: Fate) -> Option<u32>
+    ensures { result ≡ gap_told (message_of entry.now) fate }
 {
-    matches!(
-        message_of(entry),
-        Some(Message::End { .. } | Message::Abort { .. })
-    )
+    match (message_of(entry)?, fate) {
+        (Message::End { .. } | Message::Abort { .. }, Fate::Gap(gap)) => Some(gap),
+        _ => None,
+    }
 }
 
 /// Whether an entry is a Continue.
@@ -87,13 +89,30 @@ fn told_of(
 {
     let mut told = Leasts::new(alloc, entries.len())?;
     for (number, entry) in entries.iter().enumerate() {
-        if let Fate::Gap(gap) = fates[number] {
-            if is_end_or_abort(entry) {
-                told.note(entry.side, transactions[number], gap);
-            }
+        if let Some(gap) = gap_told(entry, fates[number]) {
+            told.note(entry.side, transactions[number], gap);
         }
     }
     Ok(told)
+}
+
+/// Whether the Abort that answers an entry shows that a half had closed unseen: the entry is a Continue, its receiver had
+/// not ended the transaction before the Abort, and nothing from its sender that ends it was delivered.
+fn is_unseen(
+    entry: &Entry,
+    side: End,
+    transaction: u32,
+    ended: &Leasts,
+    told: &Leasts,
+    reply: u32,
+) -> bool
+    ensures { result ≡ is_continue (message_of entry.now)
+        && not (is_below reply (least_at (other side) transaction ended.now))
+        && not (is_within reply (least_at side transaction told.now)) }
+{
+    is_continue(entry)
+        && !ended.has_below(other(side), transaction, reply)
+        && !told.has_within(side, transaction, reply)
 }
 
 /// The half that a tie shows to have closed: its end and its transaction.
@@ -113,11 +132,11 @@ fn shown_by(
     let entry = entries.get(tie.entry as usize)?;
     let side = entry.side?;
     let transaction = transactions[tie.entry as usize]?;
-    let receiver = other(side);
-    let closed = is_continue(entry)
-        && !ended.has_below(receiver, transaction, tie.reply)
-        && !told.has_within(side, transaction, tie.reply);
-    closed.then_some((receiver, transaction))
+    if is_unseen(entry, side, transaction, ended, told, tie.reply) {
+        Some((other(side), transaction))
+    } else {
+        None
+    }
 }
 
 /// The closings of a stretch, in the order of the Aborts that show them.

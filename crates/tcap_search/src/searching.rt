@@ -25,19 +25,19 @@ fn is_mark(entry: &Entry) -> bool
 /// What is proposed for these entries, stretch by stretch.
 fn found_in(alloc: Global, entries: &[Entry]) -> Result<Found, AllocError>
     requires few { length entries.now ≤ 100000 }
-    ensures { IfOk result (λ found. found ≡ proposed entries.now) }
+    ensures { IfOk result (λ found. (found ≡ proposed entries.now) × (length found.fates ≡ length entries.now)) }
 {
     let mut found = Found::new(alloc);
     let mut first = 0;
     for (number, entry) in entries.iter().enumerate() {
         if is_mark(entry) {
-            found.add_stretch(alloc, first, &entries[first..number])?;
-            found.add_mark(number)?;
+            found = found
+                .with_stretch(alloc, first, &entries[first..number])?
+                .with_mark(number)?;
             first = number + 1;
         }
     }
-    found.add_stretch(alloc, first, &entries[first..])?;
-    Ok(found)
+    found.with_stretch(alloc, first, &entries[first..])
 }
 
 /// Proposes a certificate for a record of at most 100,000 entries: the one that the five rules give. Nothing says that it

@@ -6,6 +6,7 @@ use Rattle.tcap_search.proofs.searching.found_in.Given as goal
 -- what was found, and then what is proposed from the stretch on that is under way, is what is proposed
 abbrev pub invariant-loop-number : goal.invariant-loop-number
 invariant-loop-number l = record {
+  count : length l.found.fates ≡ l.first;
   begun : l.first ≤ l.number;
   within : l.number ≤ length l.entries;
   none : has_mark (take (l.number - l.first) (drop l.first l.entries)) ≡ false;
