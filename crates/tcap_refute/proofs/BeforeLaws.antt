@@ -1,0 +1,125 @@
+-- What was sent since the last quiet mark stands behind it: what an end sent, and what it was asked from an ID.
+use Rattle.std.proofs.Common.{◌≡◌, Bool, true, false, cond, ℕ, List, [], ◌∷◌, ◌++◌, Option, Some, refl, ap, sym}
+use Rattle.std.specs.Prelude.{Contains, ◌||◌}
+use Rattle.std.specs.List.{cons_option, list_any}
+use Rattle.std.proofs.lemmas.List.Elements.{Contains-append_right}
+use Rattle.std.proofs.lemmas.Slice.Eq.{bytes_eq-Decides}
+use Rattle.tcap_parts.specs.declared.component.Component.{Component}
+use Rattle.tcap_msg.specs.declared.message.Message.{Message}
+use Rattle.tcap_msg.specs.declared.message.Message.TheVariants.{Unidirectional, Begin, Continue, End as EndMessage, Abort}
+use Rattle.tcap_msg.specs.Parts.{components_in, otid_in}
+use Rattle.tcap_record.specs.declared.entry.End.{End as Side}
+use Rattle.tcap_record.specs.declared.entry.End.TheVariants as sides
+use Rattle.tcap_end.specs.End.{is_id}
+use Rattle.tcap_check.specs.World.{Item, Sent, is_side, other}
+use Rattle.tcap_check.specs.Run.{where_so}
+use Rattle.tcap_check.specs.Follows.{has_quiet, originating}
+use Rattle.tcap_check.specs.Since.{SentSince}
+use Rattle.tcap_check.proofs.TakenLaws.{same_side}
+use Rattle.tcap_refute.specs.Before.{asked, components_of, message_of, sent_by, since_quiet}
+use Rattle.tcap_refute.proofs.Members.{filter_has, filter_map_has, flat_map_has, has_first, has_later}
+
+-- ---- tests
+
+-- A side is that side.
+pub is_itself : (side : Side) → is_side side side ≡ true
+is_itself sides.A = refl
+is_itself sides.B = refl
+
+-- An ID is that ID.
+pub is_that_id : (id : List ℕ) (o : Option (List ℕ)) → o ≡ Some id → is_id id o ≡ true
+is_that_id id o is = rw is ((bytes_eq-Decides id id).1 refl)
+
+-- The originating ID of a Begin or a Continue is the one that it carries; other messages carry none.
+pub originating_is : (m : Message) → originating m ≡ otid_in m
+originating_is (Unidirectional dialogue components) = refl
+originating_is (Begin otid dialogue components) = refl
+originating_is (Continue otid dtid dialogue components) = refl
+originating_is (EndMessage dtid dialogue components) = refl
+originating_is (Abort dtid reason) = refl
+
+-- ---- what stands there
+
+-- A message that was sent, with no mark behind it, stands behind the last mark.
+behind_mark : (side : Side) (m : Message) (front behind : List Item) → has_quiet behind ≡ false
+    → Contains (since_quiet (front ++ Sent side m ∷ behind)) (Sent side m)
+behind_mark side m [] behind none = rw none (has_first (Sent side m) behind)
+behind_mark side m (item ∷ front) behind none =
+    by (has_quiet (item ∷ front ++ Sent side m ∷ behind)) (behind_mark side m front behind none)
+  where
+    all : List Item
+    all = front ++ Sent side m ∷ behind
+
+    by : (b : Bool) → Contains (since_quiet all) (Sent side m)
+        → Contains (cond b (since_quiet all) (item ∷ all)) (Sent side m)
+    by true later = later
+    by false later = has_later item all (Sent side m)
+        (Contains-append_right front (Sent side m ∷ behind) (Sent side m) (has_first (Sent side m) behind))
+
+-- So it is among those that its end sent,
+pub sent_has : (side : Side) (m : Message) (items : List Item) → SentSince side m items
+    → Contains (sent_by side (since_quiet items)) m
+sent_has side m items (front, behind, is, none) =
+    rw is
+    (filter_map_has (message_of side) (since_quiet (front ++ Sent side m ∷ behind)) (Sent side m) m
+    (behind_mark side m front behind none) (ap (λ b. where_so b (Some m)) (is_itself side)))
+
+-- and among what the other end was asked from its originating ID;
+pub asked_has : (side : Side) (id : List ℕ) (m : Message) (items : List Item) → SentSince (other side) m items
+    → otid_in m ≡ Some id → Contains (asked side id (since_quiet items)) m
+asked_has side id m items since from =
+    filter_has (λ n. is_id id (otid_in n)) (sent_by (other side) (since_quiet items)) m
+    (sent_has (other side) m items since) (is_that_id id (otid_in m) from)
+
+-- and so its components are among those of what was asked.
+pub component_has : (side : Side) (id : List ℕ) (m : Message) (c : Component) (items : List Item)
+    → SentSince (other side) m items → otid_in m ≡ Some id → Contains (components_in m) c
+    → Contains (components_of (asked side id (since_quiet items))) c
+component_has side id m c items since from inside =
+    flat_map_has components_in (asked side id (since_quiet items)) m c (asked_has side id m items since from) inside
+
+-- ---- what a test finds among what was sent
+
+-- A message that an end sent since, and which passes.
+abbrev pub Found : Side → (Message → Bool) → List Item → Type 0
+Found side p items = (m : Message) × SentSince side m items × (p m ≡ true)
+
+-- It is found with one item more before the others.
+found_later : (side : Side) (p : Message → Bool) (item : Item) (items : List Item) → Found side p items
+    → Found side p (item ∷ items)
+found_later side p item items (m, (front, behind, is, clear), passes) =
+    (m, (item ∷ front, behind, ap (λ more. item ∷ more) is, clear), passes)
+
+-- Where there is no mark, what the test finds was sent since.
+found_all : (side : Side) (p : Message → Bool) (items : List Item) → has_quiet items ≡ false
+    → list_any p (sent_by side items) ≡ true → Found side p items
+found_all side p [] none found = cc
+found_all side p (Item.Quiet ∷ items) none found = cc
+found_all side p (Sent sender n ∷ items) none found =
+    by (is_side side sender) refl found
+    (λ rest. found_later side p (Sent sender n) items (found_all side p items none rest))
+  where
+    here : (b : Bool) → p n ≡ b → side ≡ sender → (b || list_any p (sent_by side items)) ≡ true
+        → (list_any p (sent_by side items) ≡ true → Found side p (Sent sender n ∷ items))
+        → Found side p (Sent sender n ∷ items)
+    here true passes same is rest = (n, ([], items, ap (λ s. Sent s n ∷ items) (sym same), none), passes)
+    here false passes same is rest = rest is
+
+    by : (b : Bool) → is_side side sender ≡ b
+        → list_any p (cons_option (where_so b (Some n)) (sent_by side items)) ≡ true
+        → (list_any p (sent_by side items) ≡ true → Found side p (Sent sender n ∷ items))
+        → Found side p (Sent sender n ∷ items)
+    by true own is rest = here (p n) refl (same_side side sender own) is rest
+    by false own is rest = rest is
+
+-- What it finds among what an end sent behind the last mark was sent since.
+pub found_since : (side : Side) (p : Message → Bool) (items : List Item)
+    → list_any p (sent_by side (since_quiet items)) ≡ true → Found side p items
+found_since side p [] found = cc
+found_since side p (item ∷ items) found = by (has_quiet (item ∷ items)) refl found (found_since side p items)
+  where
+    by : (b : Bool) → has_quiet (item ∷ items) ≡ b
+        → list_any p (sent_by side (cond b (since_quiet items) (item ∷ items))) ≡ true
+        → (list_any p (sent_by side (since_quiet items)) ≡ true → Found side p items) → Found side p (item ∷ items)
+    by true mark is rest = found_later side p item items (rest is)
+    by false none is rest = found_all side p (item ∷ items) none is

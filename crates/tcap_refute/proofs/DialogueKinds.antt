@@ -1,0 +1,161 @@
+-- No message that is sent has a dialogue portion that no message of its kind carries (Q.774 3.2).
+use Rattle.std.proofs.Common.{◌≡◌, ◌⊎◌, inl, inr, Bool, true, false, ℕ, List, Option, Some, None, is_none, is_some, not, refl, sym, ◌∙◌}
+use Rattle.std.specs.Prelude.{◌&&◌, ◌||◌}
+use Rattle.std.specs.List.{list_any}
+use Rattle.std.proofs.lemmas.Bool.{eqb-true, or_left}
+use Rattle.tcap_parts.specs.declared.dialogue.Dialogue.{Dialogue}
+use Rattle.tcap_parts.specs.declared.dialogue.Dialogue.TheVariants as dialogues
+use Rattle.tcap_msg.specs.declared.message.Message.{Message}
+use Rattle.tcap_msg.specs.declared.message.Message.TheVariants.{Unidirectional, Begin, Continue, End as EndMessage, Abort}
+use Rattle.tcap_msg.specs.Parts.{reason_dialogue}
+use Rattle.tcap_record.specs.declared.entry.End.{End as Side}
+use Rattle.tcap_end.specs.declared.fault.EndFault.TheVariants as faults
+use Rattle.tcap_end.specs.declared.half.Phase.{Phase}
+use Rattle.tcap_end.specs.declared.half.Phase.TheVariants as phases
+use Rattle.tcap_end.specs.declared.half.Standing.{Standing}
+use Rattle.tcap_end.specs.declared.half.Standing.TheVariants as standings
+use Rattle.tcap_end.specs.Table.{Table}
+use Rattle.tcap_end.specs.Dialogue.{accepts_dialogue, is_request, is_uni, is_user_abort, may_abort, may_be_uni, may_begin, may_go_on, refuses_dialogue}
+use Rattle.tcap_end.specs.End.{with_own}
+use Rattle.tcap_end.proofs.AnsweringLaws.{needs_ok}
+use Rattle.tcap_check.specs.World.{World, end_at}
+use Rattle.tcap_check.specs.Run.{Event}
+use Rattle.tcap_check.specs.Since.{asks}
+use Rattle.tcap_check.proofs.PeerLaws.{knows}
+use Rattle.tcap_refute.specs.Before.{asked, since_quiet}
+use Rattle.tcap_refute.specs.Kind.{is_begin_with_request, is_misplaced_aborting, is_misplaced_dialogue, is_misplaced_going_on}
+use Rattle.tcap_refute.proofs.BeforeLaws.{asked_has, originating_is}
+use Rattle.tcap_refute.proofs.Members.{any_has}
+use Rattle.tcap_refute.proofs.OverLaws.{IsOver}
+use Rattle.tcap_refute.proofs.SentLaws.{IsSent, half_over}
+
+-- ---- portions that a half may carry
+
+-- A half in Received that was asked for a dialogue.
+abbrev IsAsked : Phase → Standing → Type 0
+IsAsked phase standing = (phase ≡ phases.Received) × (standing ≡ standings.Asked)
+
+-- A half that goes on carries none, or was asked for a dialogue and accepts it.
+goes_on : (phase : Phase) (standing : Standing) (d : Option Dialogue) → may_go_on phase standing d ≡ true
+    → (is_none d ≡ true) ⊎ (IsAsked phase standing × (accepts_dialogue d ≡ true))
+goes_on phases.Received standings.Asked d may = inr ((refl, refl), may)
+goes_on phase standing d may = inl may
+
+-- One that aborts carries none, or an ABRT of the user, or was asked for a dialogue and refuses it.
+aborts : (phase : Phase) (standing : Standing) (d : Option Dialogue) → may_abort phase standing d ≡ true
+    → ((is_none d || is_user_abort d) ≡ true) ⊎ (IsAsked phase standing × (refuses_dialogue d ≡ true))
+aborts phases.Received standings.Asked d may = by (is_none d) (refuses_dialogue d) (is_user_abort d) refl may
+  where
+    by : (none refuses user : Bool) → refuses_dialogue d ≡ refuses → (none || refuses || user) ≡ true
+        → ((none || user) ≡ true) ⊎ (IsAsked phases.Received standings.Asked × (refuses_dialogue d ≡ true))
+    by true refuses user so is = inl refl
+    by false true user so is = inr ((refl, refl), so)
+    by false false user so is = inl is
+aborts phase standings.Confirmed d may = inl may
+aborts phase standing d may = inl (or_left (is_none d) (is_user_abort d) may)
+
+-- ---- tests
+
+-- None is not misplaced.
+none_misplaced : (is_asked : Bool) (d : Option Dialogue) → is_none d ≡ true → is_misplaced_going_on is_asked d ≡ true
+    → ⊥
+none_misplaced is_asked None none is = cc
+none_misplaced is_asked (Some d) none is = cc
+
+-- Nor is one that accepts a dialogue that was asked for,
+answer_misplaced : (is_asked : Bool) (d : Option Dialogue) → is_asked ≡ true → accepts_dialogue d ≡ true
+    → is_misplaced_going_on is_asked d ≡ true → ⊥
+answer_misplaced is_asked None asked accepts is = cc
+answer_misplaced is_asked (Some d) asked accepts is = let bad : false ≡ true = rw (asked, accepts) at is in cc
+
+-- nor, in an Abort, none or an ABRT of the user,
+user_misplaced : (is_asked : Bool) (d : Option Dialogue) → (is_none d || is_user_abort d) ≡ true
+    → is_misplaced_aborting is_asked d ≡ true → ⊥
+user_misplaced is_asked None so is = cc
+user_misplaced is_asked (Some (dialogues.Abort source info)) so is =
+    let zero : source ≡ 0 = eqb-true source 0 so in
+    let bad : false ≡ true = rw zero at is in cc
+user_misplaced is_asked (Some (dialogues.Request context info)) so is = cc
+user_misplaced is_asked (Some (dialogues.Response context result diagnostic info)) so is = cc
+user_misplaced is_asked (Some (dialogues.Uni context info)) so is = cc
+
+-- or one that refuses a dialogue that was asked for.
+refusal_misplaced : (is_asked : Bool) (d : Option Dialogue) → is_asked ≡ true → refuses_dialogue d ≡ true
+    → is_misplaced_aborting is_asked d ≡ true → ⊥
+refusal_misplaced is_asked None asked refuses is = cc
+refusal_misplaced is_asked (Some (dialogues.Abort source info)) asked refuses is = cc
+refusal_misplaced is_asked (Some (dialogues.Request context info)) asked refuses is = cc
+refusal_misplaced is_asked (Some (dialogues.Response context result diagnostic info)) asked refuses is =
+    let bad : false ≡ true = rw (asked, refuses) at is in cc
+refusal_misplaced is_asked (Some (dialogues.Uni context info)) asked refuses is = cc
+
+-- A portion that has to pass where it is there does not fail.
+only_such : {A : Type 0} (o : Option A) (passes : Bool) → (is_none o || passes) ≡ true
+    → (is_some o && not passes) ≡ true → ⊥
+only_such None passes may is = cc
+only_such (Some x) true may is = cc
+only_such (Some x) false may is = cc
+
+-- ---- messages
+
+-- A Begin asks for a dialogue where it carries a request.
+asks_is : (m : Message) → asks m ≡ is_begin_with_request m
+asks_is (Unidirectional dialogue components) = refl
+asks_is (Begin otid dialogue components) = refl
+asks_is (Continue otid dtid dialogue components) = refl
+asks_is (EndMessage dtid dialogue components) = refl
+asks_is (Abort dtid reason) = refl
+
+-- A message that an end sends over a half.
+module _ {table : Table} {events : List Event} {w : World} {side : Side} {message : Message} (id : List ℕ)
+    (d : Option Dialogue) (it : IsSent table events w side message)
+    (half : IsOver table (end_at side w) message id) where
+  abbrev phase : Phase
+  phase = half.kept.half.phase
+
+  abbrev standing : Standing
+  standing = half.kept.half.standing
+
+  abbrev is_asked : Bool
+  is_asked = list_any is_begin_with_request (asked side id (since_quiet w.sent))
+
+  -- A half that was asked for a dialogue was asked by a Begin from its peer.
+  was_asked : IsAsked phase standing → is_asked ≡ true
+  was_asked (received, asked_for) =
+      let (m, since, so, from) = (knows table events w side half.kept it.runs half.had).request received asked_for in
+      any_has is_begin_with_request (asked side id (since_quiet w.sent)) m
+      (asked_has side id m w.sent since (sym (originating_is m) ∙ from ∙ half.peer)) (sym (asks_is m) ∙ so)
+
+  -- A Continue or an End carries what its half may carry,
+  going_on : may_go_on phase standing d ≡ true → is_misplaced_going_on is_asked d ≡ true → ⊥
+  going_on may is = by (goes_on phase standing d may)
+    where
+      by : (is_none d ≡ true) ⊎ (IsAsked phase standing × (accepts_dialogue d ≡ true)) → ⊥
+      by (inl none) = none_misplaced is_asked d none is
+      by (inr (so, accepts)) = answer_misplaced is_asked d (was_asked so) accepts is
+
+  -- and so does an Abort.
+  aborting : may_abort phase standing d ≡ true → is_misplaced_aborting is_asked d ≡ true → ⊥
+  aborting may is = by (aborts phase standing d may)
+    where
+      by : ((is_none d || is_user_abort d) ≡ true) ⊎ (IsAsked phase standing × (refuses_dialogue d ≡ true)) → ⊥
+      by (inl user) = user_misplaced is_asked d user is
+      by (inr (so, refuses)) = refusal_misplaced is_asked d (was_asked so) refuses is
+
+module _ (table : Table) (events : List Event) (w : World) (side : Side) where
+  -- What is sent carries no portion that is misplaced.
+  pub misplaced_sent : (message : Message) → IsSent table events w side message
+      → is_misplaced_dialogue side (since_quiet w.sent) message ≡ true → ⊥
+  misplaced_sent (Unidirectional dialogue components) it is =
+      let may = needs_ok (may_be_uni dialogue) faults.WrongDialogue _ it.made it.step in
+      only_such dialogue (is_uni dialogue) may.0 is
+  misplaced_sent (Begin otid dialogue components) it is =
+      let free = needs_ok (is_none (with_own (end_at side w) otid)) faults.IdUsed _ it.made it.step in
+      let may = needs_ok (may_begin dialogue) faults.WrongDialogue _ it.made free.1 in
+      only_such dialogue (is_request dialogue) may.0 is
+  misplaced_sent (Continue otid dtid dialogue components) it is =
+      let half = half_over dtid it refl in going_on dtid dialogue it half half.carries is
+  misplaced_sent (EndMessage dtid dialogue components) it is =
+      let half = half_over dtid it refl in going_on dtid dialogue it half half.carries is
+  misplaced_sent (Abort dtid reason) it is =
+      let half = half_over dtid it refl in aborting dtid (reason_dialogue reason) it half half.carries is

@@ -1,0 +1,95 @@
+-- No message that an end sends which keeps the rules, or that its provider replies, is of a kind.
+use Rattle.std.proofs.Common.{◌≡◌, ◌⊎◌, inl, inr, true, ℕ, List, ◌∷◌, ◌++◌, Some, refl, sym}
+use Rattle.std.proofs.lemmas.Option.{cond_some}
+use Rattle.tcap_msg.specs.declared.message.AbortReason.TheVariants.{Cause}
+use Rattle.tcap_msg.specs.declared.message.Message.{Message}
+use Rattle.tcap_msg.specs.declared.message.Message.TheVariants.{Unidirectional, Begin, Continue, End as EndMessage, Abort}
+use Rattle.tcap_record.specs.declared.entry.End.{End as Side}
+use Rattle.tcap_end.specs.Table.{Table}
+use Rattle.tcap_end.specs.End.{End}
+use Rattle.tcap_check.specs.World.{Item, Sent, World, end_at}
+use Rattle.tcap_check.specs.Run.{Event, KeepsRules, Runs, provider_abort, reply_to}
+use Rattle.tcap_refute.specs.declared.kind.Kind.{Kind}
+use Rattle.tcap_refute.specs.declared.kind.Kind.TheVariants as kinds
+use Rattle.tcap_refute.specs.Before.{since_quiet}
+use Rattle.tcap_refute.specs.Kind.{is_of_kind}
+use Rattle.tcap_refute.proofs.ComponentKinds.{answers_nothing_sent, wrong_operation_sent}
+use Rattle.tcap_refute.proofs.DialogueKinds.{misplaced_sent}
+use Rattle.tcap_refute.proofs.MomentLaws.{IsMoment, RepliesIt, SendsIt, sent_at}
+use Rattle.tcap_refute.proofs.SentLaws.{IsSent}
+use Rattle.tcap_refute.proofs.TransactionKinds.{after_end_sent, reused_sent, unknown_replied, unknown_sent}
+
+-- None is of a kind that the end sends,
+module _ (table : Table) (events : List Event) (w : World) (side : Side) (message : Message)
+    (it : IsSent table events w side message) where
+  kind_sent : (kind : Kind) → is_of_kind table side (since_quiet w.sent) message kind ≡ true → ⊥
+  kind_sent kinds.BadMessage is = cc
+  kind_sent kinds.UnknownTransaction is = unknown_sent table events w side message it is
+  kind_sent kinds.ReusedId is = reused_sent table events w side message it is
+  kind_sent kinds.AfterEnd is = after_end_sent table events w side message it is
+  kind_sent kinds.AnswersNothing is = answers_nothing_sent table events w side message it is
+  kind_sent kinds.WrongOperation is = wrong_operation_sent table events w side message it is
+  kind_sent kinds.MisplacedDialogue is = misplaced_sent table events w side message it is
+  kind_sent kinds.WrongHalf is = cc
+  kind_sent kinds.WrongDialogue is = cc
+  kind_sent kinds.InvokeIdBusy is = cc
+  kind_sent kinds.BadLink is = cc
+  kind_sent kinds.AnsweredAlready is = cc
+  kind_sent kinds.RejectNotAllowed is = cc
+  kind_sent kinds.WrongReply is = cc
+  kind_sent kinds.OpenAtMark is = cc
+
+-- A provider's reply is an Abort with a cause,
+reply_aborts : (e : End) (m message : Message) → reply_to e m ≡ Some message
+    → (id : List ℕ) × (cause : ℕ) × (message ≡ provider_abort id cause)
+reply_aborts e (Unidirectional dialogue components) message is = cc
+reply_aborts e (Begin otid dialogue components) message is = (otid, 4, sym ((cond_some _ _ message is).1))
+reply_aborts e (Continue otid dtid dialogue components) message is = (otid, 1, sym ((cond_some _ _ message is).1))
+reply_aborts e (EndMessage dtid dialogue components) message is = cc
+reply_aborts e (Abort dtid reason) message is = cc
+
+-- and of that only one kind speaks, which it is not.
+abort_kind : (table : Table) (side : Side) (before : List Item) (id : List ℕ) (cause : ℕ) (kind : Kind)
+    → is_of_kind table side before (Abort id (Some (Cause cause))) kind ≡ true → kind ≡ kinds.UnknownTransaction
+abort_kind table side before id cause kinds.BadMessage is = cc
+abort_kind table side before id cause kinds.UnknownTransaction is = refl
+abort_kind table side before id cause kinds.ReusedId is = cc
+abort_kind table side before id cause kinds.AfterEnd is = cc
+abort_kind table side before id cause kinds.AnswersNothing is = cc
+abort_kind table side before id cause kinds.WrongOperation is = cc
+abort_kind table side before id cause kinds.MisplacedDialogue is = cc
+abort_kind table side before id cause kinds.WrongHalf is = cc
+abort_kind table side before id cause kinds.WrongDialogue is = cc
+abort_kind table side before id cause kinds.InvokeIdBusy is = cc
+abort_kind table side before id cause kinds.BadLink is = cc
+abort_kind table side before id cause kinds.AnsweredAlready is = cc
+abort_kind table side before id cause kinds.RejectNotAllowed is = cc
+abort_kind table side before id cause kinds.WrongReply is = cc
+abort_kind table side before id cause kinds.OpenAtMark is = cc
+
+kind_replied : (table : Table) (events : List Event) (w : World) (side : Side) (message : Message) (kind : Kind)
+    → Runs table events w → RepliesIt w side message
+    → is_of_kind table side (since_quiet w.sent) message kind ≡ true → ⊥
+kind_replied table events w side message kind runs it is =
+    let (id, cause, aborts) = reply_aborts (end_at side w) it.0.message message it.3 in
+    let only = abort_kind table side (since_quiet w.sent) id cause kind (rw aborts at is) in
+    unknown_replied table events w side message runs it (rw only at is)
+
+-- So none is that stands in a run, behind what was sent before it.
+pub none_of_kind : (table : Table) (events : List Event) (w : World) (before behind : List Item) (side : Side)
+    (message : Message) (kind : Kind) → Runs table events w → KeepsRules side events
+    → w.sent ≡ before ++ Sent side message ∷ behind → is_of_kind table side (since_quiet before) message kind ≡ true → ⊥
+none_of_kind table events w before behind side message kind runs keeps sent is = by at_it.how
+  where
+    at_it : IsMoment table side before message
+    at_it = sent_at table events w before behind side message runs keeps sent
+
+    there : is_of_kind table side (since_quiet at_it.world.sent) message kind ≡ true
+    there = rw (at_it.sent) is
+
+    by : SendsIt table at_it.world side message ⊎ RepliesIt at_it.world side message → ⊥
+    by (inl (made, step)) =
+        let it : IsSent table at_it.events at_it.world side message =
+        record { runs = at_it.runs; keeps = at_it.keeps; made = made; step = step } in
+        kind_sent table at_it.events at_it.world side message it kind there
+    by (inr replies) = kind_replied table at_it.events at_it.world side message kind at_it.runs replies there

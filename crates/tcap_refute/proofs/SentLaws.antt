@@ -1,0 +1,34 @@
+-- A message that an end sends behind a run in which it keeps the rules, and the half over which it goes.
+use Rattle.std.proofs.Common.{◌≡◌, ℕ, List, Some, Ok, sym, ◌∙◌}
+use Rattle.tcap_msg.specs.declared.message.Message.{Message}
+use Rattle.tcap_msg.specs.Parts.{dtid_in, otid_in}
+use Rattle.tcap_record.specs.declared.entry.End.{End as Side}
+use Rattle.tcap_end.specs.Table.{Table}
+use Rattle.tcap_end.specs.End.{End}
+use Rattle.tcap_end.specs.Message.{send}
+use Rattle.tcap_check.specs.World.{World, end_at, other}
+use Rattle.tcap_check.specs.Run.{Event, KeepsRules, Runs}
+use Rattle.tcap_check.specs.Since.{SentSince}
+use Rattle.tcap_check.proofs.PeerLaws.{knows}
+use Rattle.tcap_check.proofs.RunLaws.{sound}
+use Rattle.tcap_refute.proofs.BeforeLaws.{originating_is}
+use Rattle.tcap_refute.proofs.OverLaws.{IsOver, over}
+
+-- The end keeps the rules in a run to this world, and then sends the message.
+pub record IsSent (table : Table) (events : List Event) (w : World) (side : Side) (message : Message) : Type 0 where
+  pub runs : Runs table events w
+  pub keeps : KeepsRules side events
+  pub made : End
+  pub step : send table (end_at side w) message ≡ Ok made
+
+module _ {table : Table} {events : List Event} {w : World} {side : Side} {message : Message} (id : List ℕ)
+    (it : IsSent table events w side message) (to : dtid_in message ≡ Some id) where
+  -- It goes over an open half whose peer has its destination ID,
+  pub half_over : IsOver table (end_at side w) message id
+  half_over = over table (end_at side w) it.made (sound table events w it.runs side) message id it.step to
+
+  -- and the peer sent a message from there.
+  pub peer_spoke : (m : Message) × SentSince (other side) m w.sent × (otid_in m ≡ Some id)
+  peer_spoke =
+      let (m, since, from) = (knows table events w side half_over.kept it.runs half_over.had).peer id half_over.peer in
+      (m, since, sym (originating_is m) ∙ from)

@@ -1,0 +1,81 @@
+-- What stands before an entry of a list, since the last quiet mark: what its end was sent, and what it sent, by
+-- transaction IDs (Q.774 3.3).
+use Rattle.std.specs.Prelude.{ℕ, ℤ, Bool, true, false, List, [], ◌∷◌, filter, filter_map, Option, Some, None, ◌&&◌, cond}
+use Rattle.std.specs.Ordering.{int_cmp}
+use Rattle.std.specs.BTreeMap.{is_at}
+use Rattle.std.specs.List.{list_any, flat_map}
+use Rattle.tcap_parts.specs.declared.component.Component.{Component}
+use Rattle.tcap_parts.specs.declared.component.Component.TheVariants.{Invoke, ReturnResult, ReturnError, Reject}
+use Rattle.tcap_msg.specs.declared.kind.Kind.{Kind as Form}
+use Rattle.tcap_msg.specs.declared.kind.Kind.TheVariants as forms
+use Rattle.tcap_msg.specs.declared.message.Message.{Message}
+use Rattle.tcap_msg.specs.Parts.{components_in, kind_in, otid_in}
+use Rattle.tcap_record.specs.declared.entry.End.{End as Side}
+use Rattle.tcap_end.specs.End.{is_id}
+use Rattle.tcap_check.specs.World.{Item, Sent, is_side, other}
+use Rattle.tcap_check.specs.Run.{where_so}
+use Rattle.tcap_check.specs.Follows.{has_quiet}
+
+-- what stands behind the last quiet mark
+abbrev pub since_quiet : List Item → List Item
+since_quiet [] = []
+since_quiet (item ∷ items) = cond (has_quiet (item ∷ items)) (since_quiet items) (item ∷ items)
+
+abbrev pub message_of : Side → Item → Option Message
+message_of side (Sent sender message) = where_so (is_side side sender) (Some message)
+message_of side Item.Quiet = None
+
+-- the messages that an end sent
+abbrev pub sent_by : Side → List Item → List Message
+sent_by side items = filter_map (message_of side) items
+
+-- what was asked of an end from a transaction ID: the messages that its peer sent with it as originating ID
+abbrev pub asked : Side → List ℕ → List Item → List Message
+asked side id items = filter (λ m. is_id id (otid_in m)) (sent_by (other side) items)
+
+-- the components of these messages
+abbrev pub components_of : List Message → List Component
+components_of messages = flat_map components_in messages
+
+abbrev pub is_form : Form → Form → Bool
+is_form forms.Unidirectional forms.Unidirectional = true
+is_form forms.Begin forms.Begin = true
+is_form forms.Continue forms.Continue = true
+is_form forms.End forms.End = true
+is_form forms.Abort forms.Abort = true
+is_form _ _ = false
+
+-- whether a message is a Begin, a Continue ..
+abbrev pub is_a : Form → Message → Bool
+is_a form message = is_form form (kind_in message)
+
+-- whether one of these messages is
+abbrev pub has_a : Form → List Message → Bool
+has_a form messages = list_any (is_a form) messages
+
+-- ---- components
+
+-- whether it is that invoke ID
+abbrev pub is_invoke_id : ℤ → ℤ → Bool
+is_invoke_id id other = is_at (int_cmp id) other
+
+-- an Invoke with that ID
+abbrev pub invokes : ℤ → Component → Bool
+invokes id (Invoke other linked code parameter) = is_invoke_id id other
+invokes id _ = false
+
+-- a Return Result (true), or a Return Error, for that ID
+abbrev pub answers : Bool → ℤ → Component → Bool
+answers true id (ReturnResult last other body) = is_invoke_id id other
+answers false id (ReturnError other code parameter) = is_invoke_id id other
+answers is_result id _ = false
+
+-- a Return Result, or a Return Error
+abbrev pub is_answer : Component → Bool
+is_answer (ReturnResult last id body) = true
+is_answer (ReturnError id code parameter) = true
+is_answer _ = false
+
+abbrev pub is_reject : Component → Bool
+is_reject (Reject id problem) = true
+is_reject _ = false

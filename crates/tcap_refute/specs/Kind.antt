@@ -1,0 +1,252 @@
+-- Facts about an entry of a list, and what stands before it since the last quiet mark, that hold of no message which an
+-- end sends that keeps the rules (Q.771, Q.773, Q.774): each can be checked by hand, over the list alone.
+use Rattle.std.specs.Prelude.{ℕ, ℤ, Bool, true, false, List, [], ◌∷◌, Option, Some, None, Result, Ok, Err, ◌+◌, ◌++◌, ◌==◌, ◌&&◌, ◌||◌, not, nat_lt, cond, is_none, is_some, option_map}
+use Rattle.std.specs.List.{find, list_any}
+use Rattle.tcap_ber.specs.declared.fault.Reason.{Reason as ReadingReason}
+use Rattle.tcap_ber.specs.declared.fault.Reason.TheVariants as reading
+use Rattle.tcap_parts.specs.declared.code.Code.{Code}
+use Rattle.tcap_parts.specs.declared.component.Component.{Component}
+use Rattle.tcap_parts.specs.declared.component.Component.TheVariants.{Invoke, ReturnResult, ReturnError, Reject}
+use Rattle.tcap_parts.specs.declared.problem.Problem.{Problem}
+use Rattle.tcap_parts.specs.declared.problem.Problem.TheVariants as problems
+use Rattle.tcap_parts.specs.declared.dialogue.Dialogue.{Dialogue}
+use Rattle.tcap_parts.specs.declared.dialogue.Dialogue.TheVariants as dialogues
+use Rattle.tcap_msg.specs.declared.kind.Kind.TheVariants as forms
+use Rattle.tcap_msg.specs.declared.message.AbortReason.TheVariants.{Cause}
+use Rattle.tcap_msg.specs.declared.message.Message.{Message}
+use Rattle.tcap_msg.specs.declared.message.Message.TheVariants.{Unidirectional, Begin, Continue, End as EndMessage, Abort}
+use Rattle.tcap_msg.specs.Parts.{cause_in, components_in, dialogue_in, dtid_in, otid_in}
+use Rattle.tcap_record.specs.declared.entry.End.{End as Side}
+use Rattle.tcap_end.specs.Class.{of_class, reports_neither}
+use Rattle.tcap_end.specs.Component.{class_reports, names}
+use Rattle.tcap_end.specs.Dialogue.{accepts_dialogue, is_request, is_uni, refuses_dialogue}
+use Rattle.tcap_end.specs.End.{is_id}
+use Rattle.tcap_end.specs.Table.{Table, class_of, operation_of}
+use Rattle.tcap_check.specs.World.{Item, Sent}
+use Rattle.tcap_check.specs.Since.{ended_by}
+use Rattle.tcap_check.specs.declared.fault.Reason.{Reason}
+use Rattle.tcap_check.specs.declared.fault.Reason.TheVariants.{BadMessage}
+use Rattle.tcap_refute.specs.declared.kind.Kind.{Kind}
+use Rattle.tcap_refute.specs.declared.kind.Kind.TheVariants as kinds
+use Rattle.tcap_refute.specs.declared.kind.Refutation.{Refutation}
+use Rattle.tcap_refute.specs.Before.{answers, asked, components_of, has_a, invokes, is_answer, is_invoke_id, is_reject, sent_by, since_quiet}
+
+-- ---- F1: octets that are no message (Q.773, X.690)
+
+-- the reasons that are limits of this profile, and not of the standard
+abbrev pub is_limit : ReadingReason → Bool
+is_limit reading.LengthForm = true
+is_limit reading.TooLong = true
+is_limit reading.TagForm = true
+is_limit reading.BadVersion = true
+is_limit reading.DialogueSyntax = true
+is_limit reading.Indefinite = true
+is_limit reading.CodeTooWide = true
+is_limit reading.TooDeep = true
+is_limit _ = false
+
+-- ---- F2: a transaction that the peer did not speak of (Q.774 3.3)
+
+-- No provider answers by an Abort with this cause where these messages were asked: cause 1, unrecognized transaction
+-- ID, answers a Continue, cause 4, resource limitation, a Begin; no provider sends another cause.
+abbrev pub is_cause_unfounded : ℕ → List Message → Bool
+is_cause_unfounded cause messages =
+    cond (cause == 1) (not (has_a forms.Continue messages))
+    (cond (cause == 4) (not (has_a forms.Begin messages)) true)
+
+-- nothing was asked from there, or nothing that an Abort with this cause answers
+abbrev pub is_unasked : Option ℕ → List Message → Bool
+is_unasked cause [] = true
+is_unasked None messages = false
+is_unasked (Some cause) messages = is_cause_unfounded cause messages
+
+abbrev pub is_unknown_transaction : Side → List Item → Message → Bool
+is_unknown_transaction side before message = by (dtid_in message)
+  where
+    by : Option (List ℕ) → Bool
+    by None = false
+    by (Some id) = is_unasked (cause_in message) (asked side id before)
+
+-- ---- F3: an originating ID that its end has used (Q.774 3.3; that an ID is used once is this profile's choice)
+
+-- a Continue from that originating ID to another destination ID
+abbrev pub goes_elsewhere : List ℕ → List ℕ → Message → Bool
+goes_elsewhere otid dtid (Continue other to dialogue components) = is_id otid (Some other) && not (is_id dtid (Some to))
+goes_elsewhere otid dtid _ = false
+
+abbrev pub is_reused : Side → List Item → Message → Bool
+is_reused side before (Begin otid dialogue components) = list_any (λ m. is_id otid (otid_in m)) (sent_by side before)
+is_reused side before (Continue otid dtid dialogue components) =
+    list_any (goes_elsewhere otid dtid) (sent_by side before)
+is_reused side before _ = false
+
+-- ---- F4: a message behind the end of its dialogue (Q.774 3.3)
+
+-- A Continue, an End, or an Abort without cause, to an ID to which the same end sent an End, or an Abort without
+-- cause, before.
+abbrev pub is_after_end : Side → List Item → Message → Bool
+is_after_end side before message = cond (is_none (cause_in message)) (by (dtid_in message)) false
+  where
+    by : Option (List ℕ) → Bool
+    by None = false
+    by (Some id) = list_any (λ m. is_id id (ended_by m)) (sent_by side before)
+
+-- ---- F5: an answer, or a Reject, of what was never sent (Q.774 3.2)
+
+-- whether a component answers or rejects what none of these is
+abbrev pub answers_none_of : List Component → Component → Bool
+answers_none_of components (Invoke id linked code parameter) = false
+answers_none_of components (ReturnResult last id body) = not (list_any (invokes id) components)
+answers_none_of components (ReturnError id code parameter) = not (list_any (invokes id) components)
+answers_none_of components (Reject None problem) = true
+answers_none_of components (Reject (Some id) (problems.General n)) = true
+answers_none_of components (Reject (Some id) (problems.Invoke n)) = not (list_any (invokes id) components)
+answers_none_of components (Reject (Some id) (problems.ReturnResult n)) = not (list_any (answers true id) components)
+answers_none_of components (Reject (Some id) (problems.ReturnError n)) = not (list_any (answers false id) components)
+
+-- In a Unidirectional no answer can stand, in a Begin no Reject either, for nothing came before. A Reject in a
+-- Unidirectional is left open (Q.771 3.1.3).
+abbrev pub answers_nothing : Side → List Item → Message → Bool
+answers_nothing side before (Unidirectional dialogue components) = list_any is_answer components
+answers_nothing side before (Begin otid dialogue components) =
+    list_any (λ c. is_answer c || is_reject c) (components_in (Begin otid dialogue components))
+answers_nothing side before message = by (dtid_in message)
+  where
+    by : Option (List ℕ) → Bool
+    by None = false
+    by (Some id) = list_any (answers_none_of (components_of (asked side id before))) (components_in message)
+
+-- ---- F6: an operation of another kind (Q.771 3.1.2, operation classes)
+
+-- whether the table lacks the operation of an Invoke
+abbrev pub is_unknown_operation : Table → Component → Bool
+is_unknown_operation table (Invoke id linked code parameter) = is_none (operation_of table code)
+is_unknown_operation table _ = false
+
+-- whether it is an Invoke of another class than 4, the only one that a Unidirectional may carry
+abbrev pub is_not_of_class_4 : Table → Component → Bool
+is_not_of_class_4 table (Invoke id linked code parameter) = not (of_class reports_neither (class_of table code))
+is_not_of_class_4 table _ = false
+
+-- an Invoke of that ID whose class allows a Return Result (true), or a Return Error, and, where one is named, of that
+-- operation
+abbrev pub may_be_answered : Table → Bool → ℤ → Option Code → Component → Bool
+may_be_answered table is_result id named (Invoke other linked code parameter) =
+    is_invoke_id id other && class_reports table is_result code && names named code
+may_be_answered table is_result id named _ = false
+
+-- Whether an answer is one that no Invoke among these allows. The code of a Return Result names an operation, that of a
+-- Return Error an error.
+abbrev pub no_class_allows : Table → List Component → Component → Bool
+no_class_allows table components (ReturnResult last id body) =
+    not (list_any (may_be_answered table true id (option_map (λ b. b.code) body)) components)
+no_class_allows table components (ReturnError id code parameter) =
+    not (list_any (may_be_answered table false id None) components)
+no_class_allows table components _ = false
+
+abbrev pub is_wrong_operation : Table → Side → List Item → Message → Bool
+is_wrong_operation table side before (Unidirectional dialogue components) = list_any (is_not_of_class_4 table) components
+is_wrong_operation table side before message =
+    list_any (is_unknown_operation table) (components_in message) || by (dtid_in message)
+  where
+    by : Option (List ℕ) → Bool
+    by None = false
+    by (Some id) = list_any (no_class_allows table (components_of (asked side id before))) (components_in message)
+
+-- ---- F7: a dialogue portion that no message of its kind carries (Q.774 3.2, dialogues; Q.773 4.2.3)
+
+abbrev pub is_begin_with_request : Message → Bool
+is_begin_with_request (Begin otid dialogue components) = is_request dialogue
+is_begin_with_request _ = false
+
+-- Whether a PDU may not stand in a Continue or an End; whether a dialogue was asked for is given. An AARE there takes
+-- the dialogue.
+abbrev pub is_misplaced_going_on : Bool → Option Dialogue → Bool
+is_misplaced_going_on is_asked None = false
+is_misplaced_going_on is_asked dialogue = not (is_asked && accepts_dialogue dialogue)
+
+-- Whether it may not stand in an Abort: an AARE there refuses the dialogue, and an ABRT names the user (0) or the
+-- provider (1) as its source.
+abbrev pub is_misplaced_aborting : Bool → Option Dialogue → Bool
+is_misplaced_aborting is_asked None = false
+is_misplaced_aborting is_asked (Some (dialogues.Abort source info)) = nat_lt 1 source
+is_misplaced_aborting is_asked dialogue = not (is_asked && refuses_dialogue dialogue)
+
+abbrev pub is_misplaced_dialogue : Side → List Item → Message → Bool
+is_misplaced_dialogue side before (Unidirectional dialogue components) = is_some dialogue && not (is_uni dialogue)
+is_misplaced_dialogue side before (Begin otid dialogue components) = is_some dialogue && not (is_request dialogue)
+is_misplaced_dialogue side before (Continue otid dtid dialogue components) =
+    is_misplaced_going_on (list_any is_begin_with_request (asked side dtid before)) dialogue
+is_misplaced_dialogue side before (EndMessage dtid dialogue components) =
+    is_misplaced_going_on (list_any is_begin_with_request (asked side dtid before)) dialogue
+is_misplaced_dialogue side before (Abort dtid reason) =
+    is_misplaced_aborting (list_any is_begin_with_request (asked side dtid before)) (dialogue_in (Abort dtid reason))
+
+-- ---- these kinds
+
+-- whether a message that an end sends is of that kind of these, behind these items since the last quiet mark
+abbrev pub is_of_kind : Table → Side → List Item → Message → Kind → Bool
+is_of_kind table side before message kinds.BadMessage = false
+is_of_kind table side before message kinds.UnknownTransaction = is_unknown_transaction side before message
+is_of_kind table side before message kinds.ReusedId = is_reused side before message
+is_of_kind table side before message kinds.AfterEnd = is_after_end side before message
+is_of_kind table side before message kinds.AnswersNothing = answers_nothing side before message
+is_of_kind table side before message kinds.WrongOperation = is_wrong_operation table side before message
+is_of_kind table side before message kinds.MisplacedDialogue = is_misplaced_dialogue side before message
+is_of_kind table side before message _ = false
+
+-- the number behind the F
+abbrev pub kind_number : Kind → ℕ
+kind_number kinds.BadMessage = 1
+kind_number kinds.UnknownTransaction = 2
+kind_number kinds.ReusedId = 3
+kind_number kinds.AfterEnd = 4
+kind_number kinds.AnswersNothing = 5
+kind_number kinds.WrongOperation = 6
+kind_number kinds.MisplacedDialogue = 7
+kind_number kinds.WrongHalf = 8
+kind_number kinds.WrongDialogue = 9
+kind_number kinds.InvokeIdBusy = 10
+kind_number kinds.BadLink = 11
+kind_number kinds.AnsweredAlready = 12
+kind_number kinds.RejectNotAllowed = 13
+kind_number kinds.WrongReply = 14
+kind_number kinds.OpenAtMark = 15
+
+-- the kinds by which a record is refuted, the lowest first
+abbrev pub refuting_kinds : List Kind
+refuting_kinds = kinds.BadMessage ∷ kinds.UnknownTransaction ∷ kinds.ReusedId ∷ kinds.AfterEnd ∷ kinds.AnswersNothing
+    ∷ kinds.WrongOperation ∷ kinds.MisplacedDialogue ∷ []
+
+-- the lowest kind of an item behind these; a quiet mark has none
+abbrev pub lowest_kind : Table → List Item → Item → Option Kind
+lowest_kind table items (Sent side message) = find (is_of_kind table side (since_quiet items) message) refuting_kinds
+lowest_kind table items Item.Quiet = None
+
+-- that of an entry that is no item: octets that the standard makes no message
+abbrev pub kind_of_reason : Reason → Option Kind
+kind_of_reason (BadMessage fault) = cond (is_limit fault.reason) None (Some kinds.BadMessage)
+kind_of_reason _ = None
+
+-- ---- a record
+
+abbrev pub refutation_at : ℕ → Option Kind → Option Refutation
+refutation_at entry kind = option_map (λ k. record { entry = entry; kind = k }) kind
+
+-- this one, or the other where there is none
+abbrev pub or_else : {A : Type 0} → Option A → Option A → Option A
+or_else None other = other
+or_else (Some a) other = Some a
+
+-- The lowest of these entries that has a kind, with its lowest kind; that of the items before them is known, and they
+-- are so many. What stands behind the first entry that is no item is not looked at.
+abbrev pub refuted_behind : Table → List Item → ℕ → List (Result Item Reason) → Option Refutation
+refuted_behind table items entry [] = None
+refuted_behind table items entry (Err reason ∷ more) = refutation_at entry (kind_of_reason reason)
+refuted_behind table items entry (Ok item ∷ more) =
+    or_else (refutation_at entry (lowest_kind table items item))
+    (refuted_behind table (items ++ item ∷ []) (entry + 1) more)
+
+-- the lowest entry of a record that has a kind, with its lowest kind
+abbrev pub refuted : Table → List (Result Item Reason) → Option Refutation
+refuted table entries = refuted_behind table [] 0 entries

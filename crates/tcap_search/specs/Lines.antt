@@ -1,0 +1,110 @@
+-- The entries of a stretch between two quiet marks, as the search sees them: each with its number in the stretch and the
+-- transaction that it belongs to (Q.774 3.3).
+use Rattle.std.specs.Prelude.{ℕ, Bool, true, false, List, [], ◌∷◌, ◌++◌, length, filter, Option, Some, None, ◌==◌, ◌&&◌, cond}
+use Rattle.tcap_msg.specs.declared.kind.Kind.{Kind}
+use Rattle.tcap_msg.specs.declared.kind.Kind.TheVariants as kinds
+use Rattle.tcap_msg.specs.declared.message.Message.{Message}
+use Rattle.tcap_msg.specs.declared.message.Message.TheVariants.{Begin}
+use Rattle.tcap_msg.specs.Parts.{dtid_in, kind_in, otid_in}
+use Rattle.tcap_record.specs.declared.entry.Body.{Body}
+use Rattle.tcap_record.specs.declared.entry.Body.TheVariants.{Good}
+use Rattle.tcap_record.specs.declared.entry.End.{End as Side}
+use Rattle.tcap_record.specs.declared.entry.Entry.{Entry}
+use Rattle.tcap_end.specs.End.{is_id}
+use Rattle.tcap_check.specs.World.{is_side, other}
+use Rattle.tcap_check.specs.Run.{then_so, where_so}
+
+-- this one, or the other where there is none
+abbrev pub or_else : {A : Type 0} → Option A → Option A → Option A
+or_else None other = other
+or_else (Some a) other = Some a
+
+-- the last of these that passes a test
+abbrev pub last : {A : Type 0} → (A → Bool) → List A → Option A
+last passes [] = None
+last passes (a ∷ more) = or_else (last passes more) (where_so (passes a) (Some a))
+
+-- ---- entries
+
+abbrev pub is_end : Side → Option Side → Bool
+is_end side None = false
+is_end side (Some sender) = is_side side sender
+
+-- whether both entries are of one end
+abbrev pub are_of_one_end : Entry → Entry → Bool
+are_of_one_end e f = by e.side
+  where
+    by : Option Side → Bool
+    by None = false
+    by (Some side) = is_end side f.side
+
+-- whether the second is of the peer of the first one's end
+abbrev pub is_of_peer : Entry → Entry → Bool
+is_of_peer e f = by e.side
+  where
+    by : Option Side → Bool
+    by None = false
+    by (Some side) = is_end (other side) f.side
+
+-- the message of an entry; octets that are none have none
+abbrev pub message_in : Body → Option Message
+message_in (Good message) = Some message
+message_in _ = None
+
+abbrev pub message_of : Entry → Option Message
+message_of e = message_in e.body
+
+-- whether the entry is a message from that originating ID
+abbrev pub is_from : List ℕ → Entry → Bool
+is_from id e = by (message_of e)
+  where
+    by : Option Message → Bool
+    by None = false
+    by (Some message) = is_id id (otid_in message)
+
+-- whether it is a message of the peer of that entry's end from that ID
+abbrev pub is_asked_from : Entry → List ℕ → Entry → Bool
+is_asked_from e id f = is_of_peer e f && is_from id f
+
+-- ---- transactions
+
+-- an entry, with its number, and the transaction that it belongs to, by the number of the Begin that began it
+pub record Line : Type 0 where
+  pub number : ℕ
+  pub entry : Entry
+  pub transaction : Option ℕ
+
+-- the last earlier entry of the peer from that ID belongs to it
+abbrev pub transaction_from : List Line → Entry → Option (List ℕ) → Option ℕ
+transaction_from earlier e None = None
+transaction_from earlier e (Some id) = then_so (last (λ f. is_asked_from e id f.entry) earlier) (λ f. f.transaction)
+
+-- The transaction of a Begin is its number. That of a message with a destination ID is that of the last earlier entry of
+-- the peer from that ID. Another entry has none, which no two entries share.
+abbrev pub transaction_by : List Line → Entry → Option Message → Option ℕ
+transaction_by earlier e None = None
+transaction_by earlier e (Some (Begin otid dialogue components)) = Some (length earlier)
+transaction_by earlier e (Some message) = transaction_from earlier e (dtid_in message)
+
+abbrev pub line_behind : List Line → Entry → Line
+line_behind earlier e = record {
+  number = length earlier;
+  entry = e;
+  transaction = transaction_by earlier e (message_of e);
+}
+
+-- the lines of these entries, behind these lines
+abbrev pub lines_behind : List Line → List Entry → List Line
+lines_behind earlier [] = earlier
+lines_behind earlier (e ∷ entries) = lines_behind (earlier ++ line_behind earlier e ∷ []) entries
+
+abbrev pub lines_of : List Entry → List Line
+lines_of entries = lines_behind [] entries
+
+-- whether both belong to one transaction
+abbrev pub share_transaction : Line → Line → Bool
+share_transaction x y = by x.transaction y.transaction
+  where
+    by : Option ℕ → Option ℕ → Bool
+    by (Some t) (Some u) = t == u
+    by _ _ = false

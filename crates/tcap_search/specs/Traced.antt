@@ -1,0 +1,19 @@
+-- What the search keeps of a stretch, as lists beside its entries.
+use Rattle.std.specs.Prelude.{◌≡◌, ℕ, List, map, Option}
+use Rattle.tcap_record.specs.declared.entry.Entry.{Entry}
+use Rattle.tcap_check.specs.declared.certificate.Fate.{Fate}
+use Rattle.tcap_search.specs.declared.tie.Tie.{Tie}
+use Rattle.tcap_search.specs.Lines.{lines_of}
+use Rattle.tcap_search.specs.Proposed.{all_fated, ties_of}
+
+-- the transactions of the entries, one for each
+abbrev pub AreTransactions : List Entry → List (Option ℕ) → Type 0
+AreTransactions entries transactions = transactions ≡ map (λ x. x.transaction) (lines_of entries)
+
+-- the ties of the entries
+abbrev pub AreTies : List Entry → List Tie → Type 0
+AreTies entries ties = ties ≡ ties_of (lines_of entries)
+
+-- the fates of the entries behind all rules, one for each
+abbrev pub AreFates : List Entry → List Fate → Type 0
+AreFates entries fates = fates ≡ map (λ x. x.fate) (all_fated (lines_of entries))

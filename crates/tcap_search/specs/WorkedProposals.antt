@@ -1,0 +1,59 @@
+-- Worked proposals: the certificate that is proposed for a record.
+use Rattle.std.specs.Prelude.{◌≡◌, ℕ, pos, List, [], ◌∷◌, ◌++◌, map, Some, None}
+use Rattle.tcap_ber.specs.declared.fault.Fault.{Fault}
+use Rattle.tcap_ber.specs.declared.fault.Reason.TheVariants as reading
+use Rattle.tcap_msg.specs.declared.message.Message.{Message}
+use Rattle.tcap_msg.specs.declared.message.Message.TheVariants.{Begin}
+use Rattle.tcap_record.specs.declared.entry.Body.TheVariants.{Bad}
+use Rattle.tcap_record.specs.declared.entry.End.TheVariants.{A, B}
+use Rattle.tcap_record.specs.declared.entry.Entry.{Entry}
+use Rattle.tcap_check.specs.World.{Item, Sent}
+use Rattle.tcap_check.specs.Run.{provider_abort}
+use Rattle.tcap_check.specs.Certificate.{Certificate}
+use Rattle.tcap_check.specs.declared.certificate.Fate.{Fate}
+use Rattle.tcap_check.specs.declared.certificate.Fate.TheVariants.{Gap, Lost, By}
+use Rattle.tcap_check.specs.Entries.{entry_of}
+use Rattle.tcap_check.specs.Worked.{Worked, answer, begin, by_fates, both_again, closed_half, crossing, delayed, empty_record, end_implies, end_to, id, invoke, late_reject, over_a_mark, refused_begin, result, three_entries, two_entries}
+use Rattle.tcap_search.specs.Proposed.{proposed}
+
+-- The certificate that is proposed for the record of a worked run is the one that describes it.
+abbrev pub IsProposed : Worked → Type 0
+IsProposed w = proposed (map entry_of w.items) ≡ w.certificate
+
+-- the certificate that is proposed for these items
+abbrev pub Proposes : List Item → Certificate → Type 0
+Proposes items certificate = proposed (map entry_of items) ≡ certificate
+
+abbrev pub of_worked_runs : Type 0
+of_worked_runs =
+    IsProposed empty_record × IsProposed two_entries × IsProposed three_entries × IsProposed crossing
+    × IsProposed late_reject × IsProposed closed_half × IsProposed refused_begin × IsProposed over_a_mark
+    × IsProposed both_again × IsProposed end_implies
+
+-- B's last Continue crosses A's End, and A's provider answers it. So the End comes behind it, and would overtake A's
+-- second Begin, which comes at once.
+abbrev pub lost_end : Type 0
+lost_end = Proposes
+    (Sent A (begin None None) ∷ Sent B (answer None None) ∷ Sent A (end_to 2 None) ∷ Sent A (Begin (id 3) None None)
+    ∷ Sent B (answer None None) ∷ Sent A (provider_abort (id 2) 1) ∷ [])
+    (by_fates (Gap 1 ∷ Gap 2 ∷ Lost ∷ Gap 4 ∷ By 5 ∷ Gap 6 ∷ []))
+
+-- A result that comes late is proposed to come at once; so is a Continue that comes behind its dialogue's end.
+abbrev pub not_lawful : Type 0
+not_lawful =
+    Proposes delayed.items (by_fates (Gap 1 ∷ Gap 2 ∷ Gap 3 ∷ Gap 4 ∷ Gap 5 ∷ []))
+    × Proposes
+    (Sent A (begin None None) ∷ Sent B (answer None None) ∷ Sent A (end_to 2 None) ∷ Sent B (answer None None) ∷ [])
+    (by_fates (Gap 1 ∷ Gap 2 ∷ Gap 4 ∷ Gap 4 ∷ []))
+
+abbrev bad_of_b : Entry
+bad_of_b = record {
+  side = Some B;
+  place = 0;
+  body = Bad (record { reason = reading.Missing; place = 0 });
+}
+
+abbrev pub bad_entry : Type 0
+bad_entry =
+    proposed (entry_of (Sent A (begin None None)) ∷ bad_of_b ∷ entry_of (Sent B (end_to 1 None)) ∷ [])
+    ≡ by_fates (Gap 1 ∷ Gap 2 ∷ Gap 3 ∷ [])

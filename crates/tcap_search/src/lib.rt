@@ -1,0 +1,22 @@
+//! The search for a certificate of a record of TCAP messages: five rules, by which one certificate is proposed. Nothing of
+//! it is believed: `tcap_check` replays it.
+#![tactic(auto)]
+
+mod by_invocation;
+mod candidates;
+mod closings;
+mod expiries;
+mod fates;
+mod found;
+mod leasts;
+mod lines;
+mod per_end;
+mod searching;
+mod stacks;
+mod sweep;
+mod tie;
+mod ties;
+pub mod worked;
+
+pub use searching::search;
+pub use tcap_refute::{Kind, Refutation, SearchFault, refute};
