@@ -1,3 +1,4 @@
+pub mod TestLaws
 pub mod SetLaws
 pub mod IdLaws
 pub mod FromLaws

@@ -146,8 +146,8 @@ impl EndNotes {
     }
 }
 
-/// The lowest kind by the components and the dialogue portion of a message; there has what was sent from its destination
-/// ID.
+/// The lowest kind by the components and the dialogue portion of a message; there has what was sent from its
+/// destination ID.
 fn kind_of_parts<M: MessageParts>(
     table: &Table,
     there: Option<&FromId>,
