@@ -10,6 +10,7 @@ pub mod DialogueKinds
 pub mod KindLaws
 pub mod Lives
 pub mod RefutedLaws
+pub mod TestLaws
 pub mod SetLaws
 pub mod IdLaws
 pub mod FromLaws
