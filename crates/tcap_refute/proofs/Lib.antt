@@ -55,3 +55,11 @@ pub mod LedLawsFirst
 pub mod ReplyKinds
 pub mod MarkKinds
 pub mod BlameLaws
+pub mod RefutedLaws
+pub mod TestLaws
+pub mod SetLaws
+pub mod IdLaws
+pub mod FromLaws
+pub mod EndLaws
+pub mod AskLaws
+pub mod ItemLaws

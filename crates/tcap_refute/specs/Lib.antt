@@ -1,5 +1,10 @@
 pub mod Before
 pub mod Kind
+pub mod Facts
+pub mod Asking
+pub mod Kept
+pub mod Noting
+pub mod Judging
 pub mod WorkedKinds
 pub mod Speaker
 pub mod Counts
@@ -17,3 +22,4 @@ pub mod BlameRows6
 pub mod BlameRows7
 pub mod BlameRows8
 pub mod BlameRows9
+pub mod Unsendable
