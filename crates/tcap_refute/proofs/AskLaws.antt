@@ -1,17 +1,14 @@
 -- What is asked of what was noted is what a kind asks of the list.
-use Rattle.std.proofs.Common.{◌≡◌, ℕ, ℤ, Bool, true, false, cond, not, ◌&&◌, ◌||◌, ◌==◌, List, [], ◌∷◌, ◌++◌, filter, Option, Some, None, refl, sym, ap, ap₂, ◌∙◌}
+use Rattle.std.proofs.Common.{◌≡◌, ℕ, ℤ, Bool, true, false, cond, not, ◌&&◌, ◌||◌, List, [], ◌∷◌, filter, Option, Some, None, refl, sym, ap, ap₂, ◌∙◌}
 use Rattle.std.proofs.Math.Path.{fun_ext}
-use Rattle.std.specs.List.{find, flat_map, list_any}
+use Rattle.std.specs.List.{flat_map, list_any}
 use Rattle.std.proofs.lemmas.List.Folds.{list_any-append}
 use Rattle.tcap_parts.specs.declared.component.Component.{Component}
 use Rattle.tcap_parts.specs.declared.component.Component.TheVariants.{Invoke, ReturnResult, ReturnError, Reject}
-use Rattle.tcap_parts.specs.declared.dialogue.Dialogue.{Dialogue}
-use Rattle.tcap_parts.specs.declared.problem.Problem.{Problem}
 use Rattle.tcap_parts.specs.declared.problem.Problem.TheVariants as problems
 use Rattle.tcap_msg.specs.declared.kind.Kind.TheVariants as forms
 use Rattle.tcap_msg.specs.declared.message.Message.{Message}
 use Rattle.tcap_msg.specs.declared.message.Message.TheVariants.{Unidirectional, Begin, Continue, End as EndMessage, Abort}
-use Rattle.tcap_msg.specs.declared.message.AbortReason.{AbortReason}
 use Rattle.tcap_msg.specs.declared.message.AbortReason.TheVariants as reasons
 use Rattle.tcap_msg.specs.Parts.{cause_in, components_in, dialogue_in, dtid_in, kind_in, otid_in}
 use Rattle.tcap_record.specs.declared.entry.End.{End as Side}
@@ -23,11 +20,11 @@ use Rattle.tcap_refute.specs.declared.kind.Kind.TheVariants as kinds
 use Rattle.tcap_refute.specs.declared.from_id.FromId.{FromId}
 use Rattle.tcap_refute.specs.declared.notes.EndNotes.{EndNotes}
 use Rattle.tcap_refute.specs.declared.notes.Notes.{Notes}
-use Rattle.tcap_refute.specs.Before.{asked, components_of, has_a, is_a, sent_by, since_quiet}
-use Rattle.tcap_refute.specs.Kind.{answers_none_of, answers_nothing, goes_elsewhere, is_after_end, is_begin_with_request, is_misplaced_dialogue, is_of_kind, is_reused, is_unasked, is_unknown_operation, is_unknown_transaction, is_wrong_operation, lowest_kind, no_class_allows, or_else}
-use Rattle.tcap_refute.specs.Facts.{IdFact, Invoked, Answered, Succeeds, Fails, FromFact, Spoke, Begun, Asked, WentOn, WentElsewhere, OfId, EndFact, From, Ended, is_other, shows, shows_from, shows_end, told_by_list}
+use Rattle.tcap_refute.specs.Before.{asked, components_of, sent_by, since_quiet}
+use Rattle.tcap_refute.specs.Kind.{answers_none_of, answers_nothing, goes_elsewhere, is_after_end, is_begin_with_request, is_misplaced_dialogue, is_reused, is_unasked, is_unknown_operation, is_unknown_transaction, is_wrong_operation, lowest_kind, no_class_allows, or_else}
+use Rattle.tcap_refute.specs.Facts.{IdFact, Invoked, Answered, Succeeds, Fails, FromFact, Spoke, Asked, WentElsewhere, OfId, EndFact, shows, shows_from, told_by_list}
 use Rattle.tcap_refute.specs.Kept.{AreNotesOf, kept_from, notes_at, tells_end, told_by_from, told_by_notes}
-use Rattle.tcap_refute.specs.Asking.{answers_none, comes_after_end, dialogue_is_misplaced, id_is_reused, is_not_allowed, kind_by, kind_of_ids, kind_of_parts, one_answers_nothing, one_is_wrong, rejects_none, told_from, transaction_is_unknown, was_not_asked}
+use Rattle.tcap_refute.specs.Asking.{answers_none, comes_after_end, dialogue_is_misplaced, id_is_reused, is_not_allowed, kind_by, kind_of_ids, kind_of_parts, one_answers_nothing, one_is_wrong, told_from, transaction_is_unknown, was_not_asked}
 
 -- ---- what is kept, asked of
 
@@ -286,8 +283,14 @@ kind_by_list table items side m =
     (id_is_reused (told_from (told_by_list table items side) (otid_in m)) (dtid_in m) (kind_in m))
     (comes_after_end (told_by_list table items side) (dtid_in m) (cause_in m))
     kinds.UnknownTransaction kinds.ReusedId kinds.AfterEnd _
-    ∙ rw (transaction table items side m, reused table items side m, after_end table items side m, answering table items side m,
-    wrong table items side m, misplaced table items side m) refl
+    ∙ rw (
+      transaction table items side m,
+      reused table items side m,
+      after_end table items side m,
+      answering table items side m,
+      wrong table items side m,
+      misplaced table items side m,
+    ) refl
 
 -- What is noted of items gives the lowest kind behind them.
 pub kind_noted : (table : Table) (items : List Item) (notes : Notes) (side : Side) (m : Message) → AreNotesOf table items notes

@@ -5,9 +5,7 @@ use Rattle.std.proofs.lemmas.Map.Lookups.{exact_signed}
 use Rattle.std.proofs.lemmas.Slice.Eq.{bytes_eq-Decides}
 use Rattle.tcap_msg.specs.declared.kind.Kind.TheVariants as forms
 use Rattle.tcap_msg.specs.declared.message.Message.{Message}
-use Rattle.tcap_msg.specs.Parts.{components_in, dialogue_in, dtid_in}
-use Rattle.tcap_end.specs.Dialogue.{is_request}
-use Rattle.tcap_end.specs.End.{is_id}
+use Rattle.tcap_msg.specs.Parts.{components_in, dtid_in}
 use Rattle.tcap_end.specs.Table.{Table}
 use Rattle.tcap_refute.specs.declared.from_id.FromId.{FromId}
 use Rattle.tcap_refute.specs.declared.from_id.Toward.{Toward}

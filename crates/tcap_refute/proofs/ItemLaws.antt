@@ -1,5 +1,5 @@
 -- What is noted behind one item more.
-use Rattle.std.proofs.Common.{◌≡◌, ℕ, ◌+◌, Bool, true, false, cond, ◌&&◌, ◌||◌, List, [], ◌∷◌, ◌++◌, map, drop, Option, Some, None, Result, Ok, Err, refl, sym, ap, ◌∙◌}
+use Rattle.std.proofs.Common.{◌≡◌, ℕ, Bool, true, false, cond, ◌&&◌, ◌||◌, List, [], ◌∷◌, ◌++◌, map, drop, Option, Some, None, Ok, refl, sym, ap, ◌∙◌}
 use Rattle.std.specs.List.{cons_option, list_any}
 use Rattle.std.proofs.lemmas.List.Folds.{list_any-append}
 use Rattle.tcap_msg.specs.declared.message.Message.{Message}
@@ -10,17 +10,15 @@ use Rattle.tcap_check.specs.World.{Item, Sent, is_side}
 use Rattle.tcap_check.specs.Entries.{item_of}
 use Rattle.tcap_check.specs.Follows.{has_quiet, is_quiet}
 use Rattle.tcap_check.specs.Run.{where_so}
-use Rattle.tcap_refute.specs.declared.judging.Judged.TheVariants.{Passed, Refuted, Ended}
-use Rattle.tcap_check.specs.declared.fault.Reason.{Reason}
+use Rattle.tcap_refute.specs.declared.judging.Judged.TheVariants.{Passed}
 use Rattle.tcap_refute.specs.declared.kind.Kind.{Kind}
-use Rattle.tcap_refute.specs.declared.kind.Refutation.{Refutation}
 use Rattle.tcap_refute.specs.declared.notes.Notes.{Notes}
 use Rattle.tcap_refute.specs.Before.{message_of, sent_by, since_quiet}
 use Rattle.tcap_refute.specs.Facts.{EndFact, shows_end, told_by_list}
 use Rattle.tcap_refute.specs.Kept.{AreNotesOf, told_by_notes}
-use Rattle.tcap_refute.specs.Kind.{lowest_kind, or_else, refutation_at, refuted, refuted_behind}
+use Rattle.tcap_refute.specs.Kind.{lowest_kind, refuted, refuted_behind}
 use Rattle.tcap_refute.specs.Asking.{kind_by}
-use Rattle.tcap_refute.specs.Judging.{Judges, entry_kind}
+use Rattle.tcap_refute.specs.Judging.{Judges}
 use Rattle.tcap_refute.proofs.AskLaws.{kind_noted}
 
 -- ---- a message more
@@ -115,9 +113,12 @@ since_mark (item ∷ xs) =
 pub marked : (table : Table) (items : List Item) (new : Notes)
     → ((end : Side) (fact : EndFact) → told_by_notes new end fact ≡ false)
     → Judges table items (Ok Item.Quiet) Passed new
-marked table items new told = (refl, record {
-  told = λ end fact. told end fact ∙ sym (ap (λ xs. list_any (shows_end table fact) (sent_by end xs)) (since_mark items));
-})
+marked table items new told = (
+  refl,
+  record {
+    told = λ end fact. told end fact ∙ sym (ap (λ xs. list_any (shows_end table fact) (sent_by end xs)) (since_mark items));
+  },
+)
 
 -- ---- a record
 

@@ -1,5 +1,5 @@
 -- The kinds of a message (`Kind`), by what is told of the facts.
-use Rattle.std.specs.Prelude.{ℕ, ℤ, Bool, true, false, List, Option, Some, None, ◌==◌, ◌&&◌, ◌||◌, not, cond, is_none, is_some, option_map}
+use Rattle.std.specs.Prelude.{ℕ, ℤ, Bool, true, false, List, Option, Some, None, ◌==◌, ◌&&◌, ◌||◌, not, cond, is_some, option_map}
 use Rattle.std.specs.List.{list_any}
 use Rattle.tcap_parts.specs.declared.component.Component.{Component}
 use Rattle.tcap_parts.specs.declared.component.Component.TheVariants.{Invoke, ReturnResult, ReturnError, Reject}

@@ -1,4 +1,3 @@
-use Rattle.std.proofs.Common.{None, ◌≡◌}
 use Rattle.tcap_refute.proofs.ItemLaws.{is_refuted, passes}
 use Rattle.tcap_refute.proofs.notes.Notes.take_message.Goals as goal
 
