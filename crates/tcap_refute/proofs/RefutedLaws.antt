@@ -47,12 +47,14 @@ get_there (first ∷ before) entry more = get_there before entry more
 -- A reason that names a kind is that of octets that are no message.
 bad_reason : (reason : Reason) (kind : Kind) → kind_of_reason reason ≡ Some kind
     → (kind ≡ kinds.BadMessage) × (fault : Fault) × (reason ≡ reasons.BadMessage fault)
-bad_reason (reasons.BadMessage fault) kind is = by (is_limit fault.reason) is
+    × (is_limit fault.reason ≡ false)
+bad_reason (reasons.BadMessage fault) kind is = by (is_limit fault.reason) refl is
   where
-    by : (b : Bool) → cond b None (Some kinds.BadMessage) ≡ Some kind
+    by : (b : Bool) → is_limit fault.reason ≡ b → cond b None (Some kinds.BadMessage) ≡ Some kind
         → (kind ≡ kinds.BadMessage) × (f : Fault) × (reasons.BadMessage fault ≡ reasons.BadMessage f)
-    by true is = cc
-    by false is = (cc, fault, refl)
+        × (is_limit f.reason ≡ false)
+    by true so is = cc
+    by false so is = (cc, fault, refl, so)
 bad_reason reasons.CertificateShape kind is = cc
 bad_reason reasons.FateCount kind is = cc
 bad_reason reasons.FateRange kind is = cc
@@ -75,11 +77,12 @@ at_fault_behind table before (Err reason ∷ more) r is = by (kind_of_reason rea
     by None named is = cc
     by (Some kind) named is =
         let made : (let x : Refutation = record { entry = length before; kind = kind } in x) ≡ r = cc in
-        let (bad, fault, of) = bad_reason reason kind named in
+        let (bad, fault, of, no_limit) = bad_reason reason kind named in
         inl (
           sym (ap (λ (x : Refutation). x.kind) made) ∙ bad,
           record {
             fault = fault;
+            no_limit = no_limit;
             there = subst (λ (n : ℕ). slice_get (oks before ++ Err reason ∷ more) n ≡ Some (Err (reasons.BadMessage fault)))
                 (ap (λ (x : Refutation). x.entry) made)
                 (get_there before (Err reason) more ∙ ap (λ (x : Reason). let o : Option (Result Item Reason) = Some (Err x) in o) of);

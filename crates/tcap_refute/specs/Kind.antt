@@ -236,8 +236,8 @@ abbrev pub or_else : {A : Type 0} → Option A → Option A → Option A
 or_else None other = other
 or_else (Some a) other = Some a
 
--- The lowest of these entries that has a kind, with its lowest kind; that of the items before them is known, and they
--- are so many. What stands behind the first entry that is no item is not looked at.
+-- The lowest of these entries that has a kind, with its lowest kind. These items stand before them, and none has a kind;
+-- the number is their count. What stands behind the first entry that is no item is not looked at.
 abbrev pub refuted_behind : Table → List Item → ℕ → List (Result Item Reason) → Option Refutation
 refuted_behind table items entry [] = None
 refuted_behind table items entry (Err reason ∷ more) = refutation_at entry (kind_of_reason reason)

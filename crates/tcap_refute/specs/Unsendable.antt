@@ -1,5 +1,5 @@
 -- What a refutation says of all runs.
-use Rattle.std.specs.Prelude.{◌≡◌, ◌⊎◌, ℕ, List, ◌∷◌, ◌++◌, map, length, slice_get, Some, Result, Ok, Err}
+use Rattle.std.specs.Prelude.{◌≡◌, ◌⊎◌, ℕ, false, List, ◌∷◌, ◌++◌, map, length, slice_get, Some, Result, Ok, Err}
 use Rattle.tcap_ber.specs.declared.fault.Fault.{Fault}
 use Rattle.tcap_msg.specs.declared.message.Message.{Message}
 use Rattle.tcap_record.specs.declared.entry.End.{End as Side}
@@ -10,6 +10,7 @@ use Rattle.tcap_check.specs.World.{Item, Sent, World}
 use Rattle.tcap_check.specs.Run.{Event, KeepsRules, Runs}
 use Rattle.tcap_refute.specs.declared.kind.Kind.TheVariants as kinds
 use Rattle.tcap_refute.specs.declared.kind.Refutation.{Refutation}
+use Rattle.tcap_refute.specs.Kind.{is_limit}
 
 -- An end that keeps the rules sends the message in no run behind these items, whatever the other end does, and whatever
 -- follows.
@@ -18,10 +19,11 @@ IsUnsendable table before side message =
     (events : List Event) (w : World) (behind : List Item) → Runs table events w → KeepsRules side events
     → w.sent ≡ before ++ Sent side message ∷ behind → ⊥
 
--- an entry whose octets are no message
+-- an entry whose octets are no message, by a reason that is no limit of this profile
 pub record IsBadEntry (entries : List (Result Item Reason)) (entry : ℕ) : Type 0 where
   pub fault : Fault
   pub there : slice_get entries entry ≡ Some (Err (BadMessage fault))
+  pub no_limit : is_limit fault.reason ≡ false
 
 -- an entry that its end sends in no such run
 pub record IsUnsendableEntry (table : Table) (entries : List (Result Item Reason)) (entry : ℕ) : Type 0 where
