@@ -1,24 +1,23 @@
 -- What a refutation says of all runs.
-use Rattle.std.proofs.Common.{◌≡◌, ◌⊎◌, inl, inr, Bool, true, false, cond, ℕ, zero, suc, ◌+◌, arith, List, [], ◌∷◌, ◌++◌, map, length, slice_get, Option, Some, None, option_map, Result, Ok, Err, refl, sym, ap, subst, ◌∙◌, append_assoc}
+use Rattle.std.proofs.Common.{◌≡◌, inl, inr, Bool, true, false, cond, ℕ, zero, suc, ◌+◌, List, [], ◌∷◌, ◌++◌, map, length, slice_get, Option, Some, None, Result, Ok, Err, refl, sym, ap, subst, ◌∙◌}
 use Rattle.std.specs.List.{find}
-use Rattle.std.proofs.lemmas.List.{append-nil, length-append}
+use Rattle.std.proofs.lemmas.List.{length-append}
 use Rattle.tcap_ber.specs.declared.fault.Fault.{Fault}
-use Rattle.tcap_msg.specs.declared.message.Message.{Message}
 use Rattle.tcap_record.specs.declared.entry.End.{End as Side}
 use Rattle.tcap_record.specs.declared.entry.End.TheVariants as sides
 use Rattle.tcap_record.specs.declared.entry.Entry.{Entry}
 use Rattle.tcap_end.specs.Table.{Table}
 use Rattle.tcap_check.specs.declared.fault.Reason.{Reason}
 use Rattle.tcap_check.specs.declared.fault.Reason.TheVariants as reasons
-use Rattle.tcap_check.specs.World.{Item, Sent, World}
-use Rattle.tcap_check.specs.Run.{BothKeepRules, Event, IsLawful, KeepsRules, Runs}
+use Rattle.tcap_check.specs.World.{Item, Sent}
+use Rattle.tcap_check.specs.Run.{BothKeepRules, Event, IsLawful, KeepsRules}
 use Rattle.tcap_check.specs.Entries.{AreItems, item_of}
 use Rattle.tcap_refute.specs.declared.kind.Kind.{Kind}
 use Rattle.tcap_refute.specs.declared.kind.Kind.TheVariants as kinds
 use Rattle.tcap_refute.specs.declared.kind.Refutation.{Refutation}
 use Rattle.tcap_refute.specs.Before.{since_quiet}
-use Rattle.tcap_refute.specs.Kind.{is_limit, is_of_kind, kind_of_reason, lowest_kind, or_else, refutation_at, refuted, refuted_behind, refuting_kinds}
-use Rattle.tcap_refute.specs.Unsendable.{IsAtFault, IsBadEntry, IsUnsendable, IsUnsendableEntry}
+use Rattle.tcap_refute.specs.Kind.{is_limit, is_of_kind, kind_of_reason, or_else, refutation_at, refuted, refuted_behind, refuting_kinds}
+use Rattle.tcap_refute.specs.Unsendable.{IsAtFault}
 use Rattle.tcap_refute.proofs.KindLaws.{none_of_kind}
 
 -- What is found passes the test.
