@@ -1,12 +1,11 @@
 -- The certificate that is proposed for a record, by five rules: for the entries of each stretch between quiet marks alone,
 -- each by "last", "earlier" and "later" over their list. Nothing is tried twice, and nothing of it is believed.
-use Rattle.std.specs.Prelude.{ℕ, ℤ, ◌+◌, max, Bool, true, false, List, [], ◌∷◌, ◌++◌, map, length, reverse, slice_get, Option, Some, None, is_some, is_none, ◌==◌, ◌&&◌, ◌||◌, not, nat_lt, nat_le, cond, option_map}
+use Rattle.std.specs.Prelude.{ℕ, ℤ, ◌+◌, max, Bool, true, false, List, [], ◌∷◌, ◌++◌, map, length, reverse, slice_get, Option, Some, None, is_some, is_none, ◌==◌, ◌&&◌, not, nat_lt, nat_le, cond, option_map}
 use Rattle.std.specs.List.{list_any}
 use Rattle.std.specs.Ordering.{int_cmp}
 use Rattle.std.specs.BTreeMap.{is_at}
 use Rattle.tcap_parts.specs.declared.component.Component.{Component}
 use Rattle.tcap_parts.specs.declared.component.Component.TheVariants.{Invoke, ReturnResult, ReturnError, Reject}
-use Rattle.tcap_parts.specs.declared.problem.Problem.{Problem}
 use Rattle.tcap_parts.specs.declared.problem.Problem.TheVariants as problems
 use Rattle.tcap_msg.specs.declared.message.AbortReason.TheVariants.{Cause}
 use Rattle.tcap_msg.specs.declared.message.Message.{Message}
