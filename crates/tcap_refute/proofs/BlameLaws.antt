@@ -1,6 +1,6 @@
 -- No message that an end sends which keeps the rules, or that its provider replies, is a fault of any kind.
-use Rattle.std.proofs.Common.{◌≡◌, ◌⊎◌, inl, inr, ℕ, ◌<◌, Bool, true, false, cond, List, [], ◌∷◌, ◌++◌, Option, Some, None, refl, ap, subst}
-use Rattle.std.specs.Prelude.{◌||◌, nat_le}
+use Rattle.std.proofs.Common.{◌≡◌, ◌⊎◌, inl, inr, ℕ, ◌<◌, Bool, true, false, cond, List, ◌∷◌, ◌++◌, Option, Some, None, refl, ap, subst}
+use Rattle.std.specs.Prelude.{nat_le}
 use Rattle.std.proofs.lemmas.Bool.{leb-false, or_cases}
 use Rattle.tcap_msg.specs.declared.kind.Kind.TheVariants as forms
 use Rattle.tcap_msg.specs.declared.message.Message.{Message}
@@ -9,8 +9,8 @@ use Rattle.tcap_msg.specs.Parts.{cause_in, components_in, dtid_in, items_of}
 use Rattle.tcap_record.specs.declared.entry.End.{End as Side}
 use Rattle.tcap_end.specs.Table.{Table}
 use Rattle.tcap_end.specs.End.{End}
-use Rattle.tcap_check.specs.World.{Item, OnItsWay, Sent, World, channel_from, end_at, other}
-use Rattle.tcap_check.specs.Run.{Event, KeepsRules, Runs, provider_abort, reply_to}
+use Rattle.tcap_check.specs.World.{Item, Sent, World, end_at}
+use Rattle.tcap_check.specs.Run.{Event, KeepsRules, Runs, provider_abort}
 use Rattle.tcap_refute.specs.declared.kind.Kind.{Kind}
 use Rattle.tcap_refute.specs.declared.kind.Kind.TheVariants as kinds
 use Rattle.tcap_refute.specs.Before.{asked, is_a, since_quiet}
@@ -50,7 +50,8 @@ module _ {table : Table} {events : List Event} {w : World} {side : Side} {messag
   view = view_of table side events w it.runs it.keeps
 
   -- Over a half it is of no kind, where no two Begins were asked from its peer's ID.
-  module _ (id : List ℕ) (to : dtid_in message ≡ Some id) (few : count (is_a forms.Begin) (asked side id items) < 2) where
+  module _ (id : List ℕ) (to : dtid_in message ≡ Some id)
+      (few : count (is_a forms.Begin) (asked side id items) < 2) where
     half : IsOver table (end_at side w) message id
     half = half_over id it to
 

@@ -1,41 +1,39 @@
 -- The dialogue portion of a message that is sent fits how the dialogue of its half stands (Q.774 3.2).
-use Rattle.std.proofs.Common.{◌≡◌, ◌⊎◌, inl, inr, ℕ, ◌+◌, ◌<◌, ◌≤◌, arith, Bool, true, false, cond, List, [], ◌∷◌, Option, Some, None, not, is_none, is_some, refl, sym, ap, subst, ◌∙◌}
+use Rattle.std.proofs.Common.{◌≡◌, ◌⊎◌, inl, inr, ℕ, ◌+◌, ◌<◌, arith, Bool, true, false, List, [], ◌∷◌, Option, Some, None, not, is_none, is_some, refl, sym, ap, subst, ◌∙◌}
 use Rattle.std.specs.Prelude.{Contains, ◌&&◌, ◌||◌}
-use Rattle.std.specs.List.{list_any}
-use Rattle.std.proofs.lemmas.Bool.{and_from, and_parts, both_ways, not-true, or_cases}
+use Rattle.std.proofs.lemmas.Bool.{and_parts, both_ways, not-true, or_cases}
 use Rattle.tcap_parts.specs.declared.dialogue.Dialogue.{Dialogue}
 use Rattle.tcap_parts.specs.declared.dialogue.Dialogue.TheVariants as dialogues
-use Rattle.tcap_parts.specs.declared.dialogue.Source.TheVariants.{User, Provider}
 use Rattle.tcap_msg.specs.declared.kind.Kind.TheVariants as forms
 use Rattle.tcap_msg.specs.declared.message.Message.{Message}
 use Rattle.tcap_msg.specs.declared.message.Message.TheVariants.{Unidirectional, Begin, Continue, End as EndMessage, Abort}
-use Rattle.tcap_msg.specs.Parts.{dialogue_in, dtid_in, otid_in, reason_dialogue}
+use Rattle.tcap_msg.specs.Parts.{dialogue_in, reason_dialogue}
 use Rattle.tcap_record.specs.declared.entry.End.{End as Side}
 use Rattle.tcap_end.specs.declared.half.Phase.{Phase}
 use Rattle.tcap_end.specs.declared.half.Phase.TheVariants as phases
-use Rattle.tcap_end.specs.declared.half.Slot.{Slot}
 use Rattle.tcap_end.specs.declared.half.Slot.TheVariants.{Begun, Accepted}
 use Rattle.tcap_end.specs.declared.half.Standing.{Standing}
 use Rattle.tcap_end.specs.declared.half.Standing.TheVariants as standings
 use Rattle.tcap_end.specs.Table.{Table}
 use Rattle.tcap_end.specs.Half.{is_closed}
 use Rattle.tcap_end.specs.Dialogue.{accepts_dialogue, first_standing, is_request, is_response, is_user_abort, may_abort, may_go_on, refuses_dialogue}
-use Rattle.tcap_end.specs.End.{End, KeptHalf, is_id, with_own}
-use Rattle.tcap_end.specs.Sound.{FitsPhase, Has, IsEnd}
+use Rattle.tcap_end.specs.End.{End, KeptHalf, with_own}
+use Rattle.tcap_end.specs.Sound.{FitsPhase, IsEnd}
 use Rattle.tcap_check.specs.World.{Item}
 use Rattle.tcap_check.proofs.ExpiryLaws.{contains_first}
-use Rattle.tcap_refute.specs.Before.{asked, has_a, is_a, sent_by}
+use Rattle.tcap_refute.specs.Before.{asked, is_a, sent_by}
 use Rattle.tcap_refute.specs.Counts.{count}
 use Rattle.tcap_refute.specs.HalfKinds.{has_gone_on, has_requested, is_request_of, is_wrong_aborting, is_wrong_dialogue, is_wrong_going_on, was_requested}
 use Rattle.tcap_refute.specs.Kind.{is_begin_with_request}
 use Rattle.tcap_refute.specs.Speaker.{Speaker, back, begin_from, is_accepted, is_begun, own_id, speaker, told}
 use Rattle.tcap_refute.proofs.DialogueKinds.{IsAsked, aborts, goes_on}
 use Rattle.tcap_refute.proofs.LedLawsCounts.{any_counts, count_more, one}
+use Rattle.tcap_refute.proofs.LifeLawsItems.{begins_from}
 use Rattle.tcap_refute.proofs.Members.{any_has, has_not}
 use Rattle.tcap_refute.proofs.OverLaws.{IsOver, may_carry}
 use Rattle.tcap_refute.proofs.HalfLawsAccepted.{all_asked, all_told}
 use Rattle.tcap_refute.proofs.HalfLawsFinds.{any_is, find_has, request_begins, request_is}
-use Rattle.tcap_refute.proofs.HalfLawsIds.{all_back, all_begun, begins_from, standing_of}
+use Rattle.tcap_refute.proofs.HalfLawsIds.{all_back, all_begun, standing_of}
 use Rattle.tcap_refute.proofs.HalfLawsViews.{View, view_sound}
 use Rattle.tcap_refute.proofs.SpeakerFacts.{goes_from, keyed, told_own}
 use Rattle.tcap_refute.proofs.SpeakerLaws.{accepted_so, begun_so, kept_own, own_so, waits_so}
@@ -131,7 +129,8 @@ module _ {table : Table} {side : Side} {e : End} {coming : List Message} {items 
   not_gone_on received gone =
       let (n, has, goes) = any_is (is_a forms.Continue) (told side id items) gone in
       let (o, from) = goes_from n goes in
-      let bad = sym (waits_so view m id half few received) ∙ told_own view id f half.had half.peer n o has goes from in cc
+      let his = told_own view id f half.had half.peer n o has goes from in
+      let bad = sym (waits_so view m id half few received) ∙ his in cc
 
   -- and began by receiving.
   not_sent : f.half.phase ≡ phases.Received → is_begun side id items own ≡ true → ⊥
@@ -222,7 +221,8 @@ module _ {table : Table} {side : Side} {e : End} {coming : List Message} {items 
           ⊎ ((not (is_response d) && not (has_gone_on side id items) && is_accepted side id items own
           && was_requested side id items) ≡ true) → ⊥
       by (inl wrong) =
-          let (some, so) = and_parts (is_some d) _ wrong in some_wrong some so (goes_on f.half.phase f.half.standing d may)
+          let (some, so) = and_parts (is_some d) _ wrong in
+          some_wrong some so (goes_on f.half.phase f.half.standing d may)
       by (inr wrong) = none_wrong wrong
 
   -- ---- an Abort
@@ -279,8 +279,8 @@ module _ {table : Table} {side : Side} {e : End} {coming : List Message} {items 
       || (is_user_abort d && is_accepted side id items own && not (was_requested side id items))) _ is)
     where
       response_wrong : is_response d ≡ true → (has_gone_on side id items || is_begun side id items own) ≡ true
-          → ((is_none d || is_user_abort d) ≡ true) ⊎ (IsAsked f.half.phase f.half.standing × (refuses_dialogue d ≡ true))
-          → ⊥
+          → ((is_none d || is_user_abort d) ≡ true)
+          ⊎ (IsAsked f.half.phase f.half.standing × (refuses_dialogue d ≡ true)) → ⊥
       response_wrong response so (inl other) = no_response d other response
       response_wrong response so (inr (at, refuses)) = waits_alone at.0 so
 
@@ -306,7 +306,8 @@ module _ {table : Table} {side : Side} {e : End} {coming : List Message} {items 
       by : (((is_response d && (has_gone_on side id items || is_begun side id items own))
           || (is_user_abort d && is_accepted side id items own && not (was_requested side id items))) ≡ true)
           ⊎ ((is_user_abort d && is_begun side id items own && not (has_requested side id items own)) ≡ true) → ⊥
-      by (inl wrong) = first (or_cases (is_response d && (has_gone_on side id items || is_begun side id items own)) _ wrong)
+      by (inl wrong) =
+          first (or_cases (is_response d && (has_gone_on side id items || is_begun side id items own)) _ wrong)
       by (inr wrong) = own_wrong wrong
 
   -- ---- each message

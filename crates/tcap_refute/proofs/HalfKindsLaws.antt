@@ -1,47 +1,34 @@
 -- A message that is sent fits the half over which it goes: its IDs and its phase, and its dialogue (Q.774 3.2, 3.3).
-use Rattle.std.proofs.Common.{◌≡◌, ◌⊎◌, inl, inr, ℕ, ◌+◌, ◌<◌, ◌≤◌, arith, Bool, true, false, cond, List, [], ◌∷◌, Option, Some, None, not, is_none, is_some, refl, sym, ap, subst, ◌∙◌}
-use Rattle.std.specs.Prelude.{Contains, ◌&&◌, ◌||◌}
+use Rattle.std.proofs.Common.{◌≡◌, ◌⊎◌, inl, inr, ℕ, ◌<◌, Bool, true, false, cond, List, Option, Some, None, not, refl, sym, ap, ◌∙◌}
+use Rattle.std.specs.Prelude.{◌&&◌}
 use Rattle.std.specs.List.{list_any}
 use Rattle.std.proofs.lemmas.Bool.{and_from, and_parts, both_ways, not-true, or_cases}
-use Rattle.tcap_parts.specs.declared.dialogue.Dialogue.{Dialogue}
-use Rattle.tcap_parts.specs.declared.dialogue.Dialogue.TheVariants as dialogues
-use Rattle.tcap_parts.specs.declared.dialogue.Source.TheVariants.{User, Provider}
 use Rattle.tcap_msg.specs.declared.kind.Kind.TheVariants as forms
 use Rattle.tcap_msg.specs.declared.message.Message.{Message}
 use Rattle.tcap_msg.specs.declared.message.Message.TheVariants.{Unidirectional, Begin, Continue, End as EndMessage, Abort}
-use Rattle.tcap_msg.specs.Parts.{dialogue_in, dtid_in, otid_in}
+use Rattle.tcap_msg.specs.Parts.{dtid_in, otid_in}
 use Rattle.tcap_record.specs.declared.entry.End.{End as Side}
-use Rattle.tcap_end.specs.declared.half.Phase.{Phase}
-use Rattle.tcap_end.specs.declared.half.Phase.TheVariants as phases
-use Rattle.tcap_end.specs.declared.half.Slot.{Slot}
 use Rattle.tcap_end.specs.declared.half.Slot.TheVariants.{Begun, Accepted}
-use Rattle.tcap_end.specs.declared.half.Standing.{Standing}
-use Rattle.tcap_end.specs.declared.half.Standing.TheVariants as standings
 use Rattle.tcap_end.specs.Table.{Table}
 use Rattle.tcap_end.specs.Half.{is_closed}
-use Rattle.tcap_end.specs.Dialogue.{accepts_dialogue, is_request, is_response, is_user_abort, may_abort, may_go_on, refuses_dialogue}
 use Rattle.tcap_end.specs.End.{End, KeptHalf, is_id, with_own}
-use Rattle.tcap_end.specs.Sound.{FitsPhase, Has, IsEnd}
+use Rattle.tcap_end.specs.Sound.{Has, IsEnd}
 use Rattle.tcap_end.proofs.FoundLaws.{none_own}
 use Rattle.tcap_check.specs.World.{Item}
-use Rattle.tcap_refute.specs.Before.{asked, has_a, is_a}
+use Rattle.tcap_refute.specs.Before.{asked, is_a}
 use Rattle.tcap_refute.specs.Counts.{count}
-use Rattle.tcap_refute.specs.HalfKinds.{fits_no_half, has_gone_on, has_no_half, has_requested, is_left_open, is_request_of, is_wrong_aborting, is_wrong_dialogue, is_wrong_going_on, is_wrong_half, was_closed, was_closed_behind, was_requested}
-use Rattle.tcap_refute.specs.Kind.{is_begin_with_request}
-use Rattle.tcap_refute.specs.Speaker.{back, began, begin_from, goes_on_to, is_accepted, is_begun, is_nothing, may_stand, own_id, speaker, told}
+use Rattle.tcap_refute.specs.HalfKinds.{fits_no_half, has_no_half, is_wrong_half, was_closed}
+use Rattle.tcap_refute.specs.Speaker.{back, began, goes_on_to, is_accepted, is_begun, is_nothing, may_stand, own_id, speaker, told}
 use Rattle.tcap_refute.proofs.BeforeLaws.{is_that_id}
-use Rattle.tcap_refute.proofs.DialogueKinds.{IsAsked, aborts, goes_on}
-use Rattle.tcap_refute.proofs.LedLawsCounts.{any_counts, count_more, one}
 use Rattle.tcap_refute.proofs.LifeLawsSent.{one_half}
-use Rattle.tcap_refute.proofs.Members.{any_has, has_not}
-use Rattle.tcap_refute.proofs.OverLaws.{IsOver, may_carry}
-use Rattle.tcap_refute.proofs.HalfLawsAccepted.{all_asked, all_told}
+use Rattle.tcap_refute.proofs.Members.{any_has}
+use Rattle.tcap_refute.proofs.OverLaws.{IsOver}
 use Rattle.tcap_refute.proofs.HalfLawsClosed.{all_closed_at}
-use Rattle.tcap_refute.proofs.HalfLawsFinds.{any_is, request_begins, request_is}
-use Rattle.tcap_refute.proofs.HalfLawsIds.{all_back, all_begun, standing_of}
+use Rattle.tcap_refute.proofs.HalfLawsFinds.{any_is}
+use Rattle.tcap_refute.proofs.HalfLawsIds.{all_back}
 use Rattle.tcap_refute.proofs.HalfLawsViews.{View, view_sound}
-use Rattle.tcap_refute.proofs.SpeakerFacts.{IsOwn, back_so, either_slot, goes_from, keyed, stands_so, told_own}
-use Rattle.tcap_refute.proofs.SpeakerLaws.{accepted_so, begun_so, kept_own, own_so, waits_so}
+use Rattle.tcap_refute.proofs.SpeakerFacts.{back_so, either_slot, goes_from, stands_so, told_own}
+use Rattle.tcap_refute.proofs.SpeakerLaws.{accepted_so, begun_so, kept_own, own_so}
 
 -- A message that is sent over a half, and no two Begins were asked from its peer's ID.
 module _ {table : Table} {side : Side} {e : End} {coming : List Message} {items : List Item}
@@ -82,7 +69,8 @@ module _ {table : Table} {side : Side} {e : End} {coming : List Message} {items 
   not_elsewhere : (otid : List ℕ) → own ≡ Some otid
       → list_any (λ n. is_a forms.Continue n && not (is_id otid (otid_in n))) (told side id items) ≡ true → ⊥
   not_elsewhere otid is found =
-      let (n, has, passes) = any_is (λ n. is_a forms.Continue n && not (is_id otid (otid_in n))) (told side id items) found in
+      let (n, has, passes) =
+      any_is (λ n. is_a forms.Continue n && not (is_id otid (otid_in n))) (told side id items) found in
       let (goes, apart) = and_parts (is_a forms.Continue n) _ passes in
       let (o, from) = goes_from n goes in
       let his = told_own view id f half.had half.peer n o has goes from in
@@ -128,7 +116,8 @@ module _ {table : Table} {side : Side} {e : End} {coming : List Message} {items 
   -- So is one for what ends its dialogue.
   other_fits : (left : Bool) → (not (may_stand side id items) && is_nothing (back side id items) && left) ≡ true → ⊥
   other_fits left none =
-      let (neither, open_left) = and_parts (not (may_stand side id items) && is_nothing (back side id items)) left none in
+      let (neither, open_left) =
+      and_parts (not (may_stand side id items) && is_nothing (back side id items)) left none in
       let (never, nothing) = and_parts (not (may_stand side id items)) _ neither in
       by never nothing (either_slot f.slot)
     where

@@ -1,10 +1,8 @@
 -- What each step of one end makes of its halves, case by case; and a message that was sent has its half.
-use Rattle.std.proofs.Common.{◌≡◌, ◌≢◌, ◌⊎◌, inl, inr, Bool, true, false, cond, ℕ, ℤ, List, [], Option, Some, None, Result, Ok, Err, is_none, not, refl, sym, subst, ◌∙◌}
+use Rattle.std.proofs.Common.{◌≡◌, inl, inr, Bool, true, false, cond, ℕ, ℤ, List, [], Option, Some, None, Result, Ok, Err, is_none, not, refl, sym, subst, ◌∙◌}
 use Rattle.std.specs.Prelude.{ok_or}
-use Rattle.std.proofs.lemmas.Bool.{not-true}
 use Rattle.tcap_parts.specs.declared.component.Component.{Component}
 use Rattle.tcap_parts.specs.declared.dialogue.Dialogue.{Dialogue}
-use Rattle.tcap_msg.specs.declared.kind.Kind.TheVariants as forms
 use Rattle.tcap_msg.specs.declared.message.Message.{Message}
 use Rattle.tcap_msg.specs.declared.message.Message.TheVariants.{Unidirectional, Begin, Continue, End as EndMessage, Abort}
 use Rattle.tcap_msg.specs.Parts.{cause_in, dtid_in, items_of, reason_cause}
@@ -21,17 +19,16 @@ use Rattle.tcap_end.specs.Component.{own_invocation}
 use Rattle.tcap_end.specs.Dialogue.{answers_request, first_standing, may_be_uni, may_begin}
 use Rattle.tcap_end.specs.End.{End, KeptHalf, is_id, named, put, with_own, with_peer}
 use Rattle.tcap_end.specs.Hidden.{close, expire, may_close, may_expire}
-use Rattle.tcap_end.specs.Message.{active_half, receive, receive_begin, receive_components, receive_continue, receive_end, receive_over, send, send_begin, send_components, send_uni, send_uni_components}
+use Rattle.tcap_end.specs.Message.{active_half, receive, receive_components, receive_end, receive_over, send, send_components, send_uni_components}
 use Rattle.tcap_end.specs.Sound.{Has, IsEnd}
 use Rattle.tcap_end.proofs.AnsweringLaws.{needs_ok, ok_same, some_ok, then_ok}
 use Rattle.tcap_end.proofs.ComponentLaws.{all_receives, all_sends}
 use Rattle.tcap_end.proofs.FoundLaws.{named_has, none_own, none_peer, own_has}
 use Rattle.tcap_end.proofs.StepLaws.{none_is}
-use Rattle.tcap_check.proofs.TurnLaws.{id_is, put_there}
-use Rattle.tcap_refute.specs.Before.{is_a}
+use Rattle.tcap_check.proofs.TurnLaws.{put_there}
 use Rattle.tcap_refute.specs.Speaker.{ends_to}
 use Rattle.tcap_refute.proofs.BeforeLaws.{is_that_id}
-use Rattle.tcap_refute.proofs.HalfLawsTurns.{Accepts, Acts, Deed, Heard, Learns, Said, Starts, Turned, Unseen, acts_nowhere, answers, closes, learns, stays, new_acts, put_acts}
+use Rattle.tcap_refute.proofs.HalfLawsTurns.{Accepts, Acts, Deed, Heard, Said, Starts, Turned, Unseen, acts_nowhere, answers, closes, learns, stays, new_acts, put_acts}
 use Rattle.tcap_refute.proofs.OverLaws.{IsOver, follows_stays, over, own_is}
 
 -- The end acts so, where the step was Ok with it.
@@ -95,7 +92,8 @@ module _ (table : Table) (e next : End) (sound : IsEnd e) where
       let may = needs_ok (may_be_uni dialogue) faults.WrongDialogue _ next is in
       uni_acts (Unidirectional dialogue components) (send_uni_components table [] components) may.1
   said_acts (Begin otid dialogue components) is = begin_acts otid dialogue components is
-  said_acts (Continue otid dtid dialogue components) is = over_acts (Continue otid dtid dialogue components) dtid is refl
+  said_acts (Continue otid dtid dialogue components) is =
+      over_acts (Continue otid dtid dialogue components) dtid is refl
   said_acts (EndMessage dtid dialogue components) is = over_acts (EndMessage dtid dialogue components) dtid is refl
   said_acts (Abort dtid reason) is = over_acts (Abort dtid reason) dtid is refl
 
@@ -246,8 +244,8 @@ closed_acts table e next name sound is =
 
 -- ---- what a message needs
 
--- A message that was sent has its half: a Begin, what began by sending with its ID; a Continue, one that has both its IDs;
--- what ends a dialogue, one whose peer has its destination ID.
+-- A message that was sent has its half: a Begin, what began by sending with its ID; a Continue, one that has both its
+-- IDs; what ends a dialogue, one whose peer has its destination ID.
 abbrev pub Uses : End → Message → Type 0
 Uses e (Unidirectional dialogue components) = Unit {0}
 Uses e (Begin otid dialogue components) = (h : Half) × Has e (record { slot = Begun; key = otid; half = h })
@@ -298,7 +296,8 @@ module _ (table : Table) (e next : End) (sound : IsEnd e) where
   over_there : (m : Message) (id : List ℕ) → send table e m ≡ Ok next → (half : IsOver table e m id)
       → Has next (record half.kept { half = half.now })
   over_there m id is half =
-      let made : put e half.kept.slot half.kept.key half.now ≡ next = ok_same {F = EndFault} _ next (sym half.leads ∙ is) in
+      let made : put e half.kept.slot half.kept.key half.now ≡ next =
+      ok_same {F = EndFault} _ next (sym half.leads ∙ is) in
       subst (λ (y : End). Has y (record half.kept { half = half.now })) made
       (put_there e half.kept.slot half.kept.key half.now)
 

@@ -1,5 +1,5 @@
 -- One step of an end that keeps the rules, and of what the list tells: what became of the halves, and what was sent.
-use Rattle.std.proofs.Common.{◌≡◌, ◌⊎◌, inl, inr, Bool, true, false, List, [], ◌∷◌, ◌++◌, Option, Some, None, Result, Ok, Err, is_ok, is_none, not, refl, sym, ap, subst, ◌∙◌}
+use Rattle.std.proofs.Common.{◌≡◌, ◌⊎◌, inl, inr, Bool, true, false, List, [], ◌∷◌, ◌++◌, Some, None, Ok, is_ok, is_none, not, refl, sym, ap, subst}
 use Rattle.std.specs.Prelude.{Contains, ◌||◌}
 use Rattle.std.proofs.lemmas.Bool.{not-true}
 use Rattle.std.proofs.lemmas.Option.{cond_some}
@@ -24,11 +24,12 @@ use Rattle.tcap_refute.proofs.HalfLawsActs.{IsActiveFor, Uses, heard_acts, said_
 use Rattle.tcap_refute.proofs.HalfLawsKeep.{views_keep}
 use Rattle.tcap_refute.proofs.HalfLawsLists.{Grows, grows_not, grows_own, grows_theirs}
 use Rattle.tcap_refute.proofs.HalfLawsTurns.{Acts, Deed, Heard, Said, Unseen, acts_nowhere}
-use Rattle.tcap_refute.proofs.HalfLawsViews.{IsKeptBy, View, view_comes, view_sound}
+use Rattle.tcap_refute.proofs.HalfLawsViews.{View, view_comes, view_sound}
 
 -- ---- replies
 
--- What a provider's Abort refuses: a Begin, where no half has its peer; or a Continue, where no open half has its own ID.
+-- What a provider's Abort refuses: a Begin, where no half has its peer; or a Continue, where no open half has its own
+-- ID.
 abbrev pub Refuses : End → Message → Message → Type 0
 Refuses e (Begin otid dialogue components) abort = (abort ≡ provider_abort otid 4) × (with_peer e otid ≡ None)
 Refuses e (Continue otid dtid dialogue components) abort =
@@ -48,10 +49,14 @@ pub refuses : (e : End) (m abort : Message) → reply_to e m ≡ Some abort → 
 refuses e (Unidirectional dialogue components) abort is = cc
 refuses e (Begin otid dialogue components) abort is =
     let (may, same) = cond_some _ (provider_abort otid 4) abort is in
-    (sym same, none_is (with_peer e otid) (both_needed (aborts 4 otid (provider_abort otid 4)) (is_none (with_peer e otid)) faults.NoTransaction (first_only _ may)))
+    let none = both_needed (aborts 4 otid (provider_abort otid 4)) (is_none (with_peer e otid)) faults.NoTransaction
+    (first_only _ may) in
+    (sym same, none_is (with_peer e otid) none)
 refuses e (Continue otid dtid dialogue components) abort is =
     let (may, same) = cond_some _ (provider_abort otid 1) abort is in
-    (sym same, not-true _ (both_needed (aborts 1 otid (provider_abort otid 1)) (not (is_open (with_own e dtid))) faults.NoTransaction may))
+    let shut = both_needed (aborts 1 otid (provider_abort otid 1)) (not (is_open (with_own e dtid)))
+    faults.NoTransaction may in
+    (sym same, not-true _ shut)
 refuses e (EndMessage dtid dialogue components) abort is = cc
 refuses e (Abort dtid reason) abort is = cc
 
@@ -65,8 +70,8 @@ refused_uses e (Abort dtid reason) abort is = absurd is
 
 -- ---- steps
 
--- What the end did, and what became of its halves and of the list: what it said joined it, what it heard stood there, and what
--- is new of it has its half.
+-- What the end did, and what became of its halves and of the list: what it said joined it, what it heard stood there,
+-- and what is new of it has its half.
 pub record Advance (table : Table) (side : Side) (e next : End) (items after : List Item) : Type 0 where
   pub deed : Deed
   pub acts : Acts table deed e next
@@ -99,7 +104,8 @@ module _ {table : Table} {side : Side} where
         heard = λ n same. cc;
         said = λ n same. let one : m ≡ n = cc in ap (λ (x : Message). x ∷ []) one;
         uses = λ n has.
-            subst (λ (x : Message). Uses next x × IsActiveFor next x) (only_has m n has) (said_uses table e next is_end m is);
+            subst (λ (x : Message). Uses next x × IsActiveFor next x) (only_has m n has)
+            (said_uses table e next is_end m is);
       }
 
   heard_advance : (e next : End) (coming : List Message) (items : List Item) (m : Message)

@@ -1,5 +1,5 @@
 -- A half that was answered as closed is closed.
-use Rattle.std.proofs.Common.{◌≡◌, ◌⊎◌, inl, inr, Bool, true, false, ℕ, List, [], ◌∷◌, ◌++◌, Option, Some, None, not, refl, sym, ap, subst, ◌∙◌, append_assoc}
+use Rattle.std.proofs.Common.{◌≡◌, ◌⊎◌, inl, inr, Bool, true, false, ℕ, List, [], ◌∷◌, ◌++◌, Option, Some, None, not, refl, sym, ap, ◌∙◌, append_assoc}
 use Rattle.std.specs.Prelude.{Contains, ◌&&◌, ◌||◌}
 use Rattle.std.specs.List.{list_any}
 use Rattle.std.proofs.lemmas.Bool.{and_from, and_parts, both_ways, not-true, or_cases}
@@ -14,17 +14,15 @@ use Rattle.tcap_end.specs.declared.half.Phase.TheVariants as phases
 use Rattle.tcap_end.specs.declared.half.Slot.TheVariants.{Begun}
 use Rattle.tcap_end.specs.Table.{Table}
 use Rattle.tcap_end.specs.Half.{Half, is_closed}
-use Rattle.tcap_end.specs.End.{End, KeptHalf, is_id, nothing, with_own}
-use Rattle.tcap_end.specs.Message.{receive, send}
+use Rattle.tcap_end.specs.End.{End, KeptHalf, is_id, with_own}
 use Rattle.tcap_end.specs.Reply.{is_open}
 use Rattle.tcap_end.specs.Sound.{Has, IsEnd}
 use Rattle.tcap_end.proofs.FoundLaws.{none_own, own_has}
-use Rattle.tcap_check.specs.World.{Item, Sent, is_side, other}
-use Rattle.tcap_check.specs.Run.{provider_abort, reply_to}
+use Rattle.tcap_check.specs.World.{Item, Sent, other}
 use Rattle.tcap_check.proofs.TurnLaws.{id_is}
 use Rattle.tcap_refute.specs.Before.{asked, has_a, is_a, sent_by}
 use Rattle.tcap_refute.specs.HalfKinds.{all_go_on_to, shows_closed, was_closed_behind}
-use Rattle.tcap_refute.specs.Speaker.{goes_on_to, is_cause}
+use Rattle.tcap_refute.specs.Speaker.{goes_on_to}
 use Rattle.tcap_refute.proofs.BeforeLaws.{is_itself, is_that_id}
 use Rattle.tcap_refute.proofs.Members.{any_has, filter_has}
 use Rattle.tcap_refute.proofs.OverLaws.{own_is}
@@ -86,7 +84,8 @@ shows_by_own side own seen m is = let bad : false ≡ true = rw (other_is_not si
 still_closed : {table : Table} {deed : Deed} (e next : End) (own : List ℕ) → Acts table deed e next → IsClosedAt e own
     → IsClosedAt next own
 still_closed {table} {deed} e next own acts (f, had, of_own, closed) =
-    let (g, there, turned) = acts.forth f had in (record f { half = g }, there, keeps_own own turned of_own, by g turned)
+    let (g, there, turned) = acts.forth f had in
+    (record f { half = g }, there, keeps_own own turned of_own, by g turned)
   where
     by : (g : Half) → Turned table deed f.half g → g.phase ≡ phases.Closed
     by g (stays it) = it.phase ∙ closed
@@ -154,8 +153,8 @@ module _ {table : Table} {side : Side} (e : End) (coming : List Message) (items 
   refused_shows own (Begin otid dialogue components) abort view it is =
       let bad : false ≡ true = rw (is_itself side, it.0) at is in cc
   refused_shows own (Continue otid dtid dialogue components) abort view it is =
-      let shows : (all_go_on_to own (asked side otid items) && list_any (λ n. is_id own (otid_in n)) (sent_by side items))
-      ≡ true = rw (is_itself side, it.0) at is in
+      let shows : (all_go_on_to own (asked side otid items)
+      && list_any (λ n. is_id own (otid_in n)) (sent_by side items)) ≡ true = rw (is_itself side, it.0) at is in
       let (all, has_own) = and_parts (all_go_on_to own (asked side otid items)) _ shows in
       continue_shows own otid dtid (Continue otid dtid dialogue components) view refl refl refl it.1 all has_own
   refused_shows own (EndMessage dtid dialogue components) abort view it is = absurd it
@@ -191,6 +190,7 @@ all_closed_at {table} {side} {e} {coming} {items} view = views_keep table side (
         → was_closed_behind side own [] (items ++ item ∷ []) ≡ true → IsClosedAt next own
     old_or e next items item own acts held new shown = by (closed_more side own [] items item shown)
       where
-        by : (was_closed_behind side own [] items ≡ true) ⊎ (shows_closed side own items item ≡ true) → IsClosedAt next own
+        by : (was_closed_behind side own [] items ≡ true) ⊎ (shows_closed side own items item ≡ true)
+            → IsClosedAt next own
         by (inl was) = still_closed e next own acts (held was)
         by (inr now) = new now

@@ -1,7 +1,7 @@
--- What a half was begun or answered by, what a provider refused, and what is still on its way, was asked: counts of Begins and
--- of Continues from one ID of the peer.
-use Rattle.std.proofs.Common.{◌≡◌, ◌⊎◌, inl, inr, ℕ, ◌+◌, ◌≤◌, arith, Bool, true, false, cond, List, [], ◌∷◌, ◌++◌, Option, Some, None, refl, sym, ap, ◌∙◌}
-use Rattle.std.specs.Prelude.{Contains, filter, ◌&&◌}
+-- What a half was begun or answered by, what a provider refused, and what is still on its way, was asked: counts of
+-- Begins and of Continues from one ID of the peer.
+use Rattle.std.proofs.Common.{◌≡◌, ◌⊎◌, inl, inr, ℕ, ◌+◌, ◌≤◌, arith, Bool, true, false, cond, List, [], ◌∷◌, ◌++◌, Some, None, refl, sym, ap, ◌∙◌}
+use Rattle.std.specs.Prelude.{◌&&◌}
 use Rattle.std.proofs.lemmas.List.{append-nil}
 use Rattle.std.proofs.lemmas.List.Elements.{filter-append}
 use Rattle.tcap_msg.specs.declared.kind.Kind.{Kind as Form}
@@ -10,11 +10,10 @@ use Rattle.tcap_msg.specs.declared.message.Message.{Message}
 use Rattle.tcap_msg.specs.declared.message.Message.TheVariants.{Unidirectional, Begin, Continue, End as EndMessage, Abort}
 use Rattle.tcap_msg.specs.Parts.{cause_in, dtid_in, otid_in}
 use Rattle.tcap_record.specs.declared.entry.End.{End as Side}
-use Rattle.tcap_end.specs.declared.half.Slot.{Slot}
 use Rattle.tcap_end.specs.declared.half.Slot.TheVariants.{Begun, Accepted}
 use Rattle.tcap_end.specs.Table.{Table}
 use Rattle.tcap_end.specs.Half.{Half}
-use Rattle.tcap_end.specs.End.{End, KeptHalf, is_id, nothing}
+use Rattle.tcap_end.specs.End.{End, KeptHalf, is_id}
 use Rattle.tcap_end.specs.Sound.{Has, IsEnd}
 use Rattle.tcap_end.proofs.EndLaws.{no_half}
 use Rattle.tcap_check.specs.World.{Item, Sent, other}
@@ -26,14 +25,15 @@ use Rattle.tcap_refute.proofs.LedLawsCounts.{count_last, count_more, one}
 use Rattle.tcap_refute.proofs.HalfLawsActs.{heard_acts, said_acts, said_causeless}
 use Rattle.tcap_refute.proofs.HalfLawsAdvance.{Refuses, refuses}
 use Rattle.tcap_refute.proofs.HalfLawsKeep.{views_keep}
-use Rattle.tcap_refute.proofs.HalfLawsLists.{own_more, own_same, their_same}
-use Rattle.tcap_refute.proofs.HalfLawsTurns.{Accepts, Acts, Deed, Heard, Learns, Said, Starts, Turned, Unseen, answers, closes, learns, stays}
+use Rattle.tcap_refute.proofs.LifeLawsItems.{sent_own}
+use Rattle.tcap_refute.proofs.HalfLawsLists.{own_same, their_same}
+use Rattle.tcap_refute.proofs.HalfLawsTurns.{Accepts, Acts, Deed, Heard, Said, Starts, Turned, Unseen, answers, closes, learns, stays}
 use Rattle.tcap_refute.proofs.HalfLawsViews.{View, view_sound}
 
 -- ---- what is counted
 
--- Begins, each of which makes a half that began by receiving, or is refused with cause 4; or Continues, each of which may
--- tell a half that began by sending its peer's ID, or is refused with cause 1.
+-- Begins, each of which makes a half that began by receiving, or is refused with cause 4; or Continues, each of which
+-- may tell a half that began by sending its peer's ID, or is refused with cause 1.
 pub data Count : Type 0 where
   OfBegins : Count
   OfContinues : Count
@@ -57,7 +57,8 @@ comes_from c id m = is_a (form_of c) m && is_id id (otid_in m)
 
 -- what was refused, or is on its way
 abbrev pub taken : Side → Count → List ℕ → List Message → List Item → ℕ
-taken side c id coming items = count (is_abort_with (cause_of c) id) (sent_by side items) + count (comes_from c id) coming
+taken side c id coming items =
+    count (is_abort_with (cause_of c) id) (sent_by side items) + count (comes_from c id) coming
 
 -- what was asked
 abbrev pub given : Side → Count → List ℕ → List Item → ℕ
@@ -89,7 +90,7 @@ module _ (side : Side) (c : Count) (id : List ℕ) where
   taken_said coming items m none =
       let no : one (is_abort_with (cause_of c) id m) ≡ 0 = rw none (none_of (is_id id (dtid_in m))) in
       let more = count_last (is_abort_with (cause_of c) id) (sent_by side items) m in
-      rw (own_more side m items) (omega arith)
+      rw (sent_own side m items) (omega arith)
     where
       none_of : (b : Bool) → one (b && false) ≡ 0
       none_of true = refl
@@ -113,7 +114,7 @@ module _ (side : Side) (c : Count) (id : List ℕ) where
       let more = count_last (is_abort_with (cause_of c) id) (sent_by side items) abort in
       let head = count_more (comes_from c id) m coming in
       let ones = ap one same in
-      rw (own_more side abort items) (omega arith)
+      rw (sent_own side abort items) (omega arith)
 
   -- What the peer sends joins both.
   taken_asked : (coming : List Message) (items : List Item) (m : Message)
@@ -125,8 +126,10 @@ module _ (side : Side) (c : Count) (id : List ℕ) where
   given_asked : (items : List Item) (m : Message)
       → given side c id (items ++ Sent (other side) m ∷ []) ≡ given side c id items + one (comes_from c id m)
   given_asked items m =
-      rw (own_more (other side) m items, filter-append (λ n. is_id id (otid_in n)) (sent_by (other side) items) (m ∷ []))
-      (by (is_id id (otid_in m)) refl)
+      rw (
+        sent_own (other side) m items,
+        filter-append (λ n. is_id id (otid_in n)) (sent_by (other side) items) (m ∷ []),
+      ) (by (is_id id (otid_in m)) refl)
     where
       was : List Message
       was = asked side id items
@@ -175,8 +178,11 @@ module _ {table : Table} {deed : Deed} (e next : End) (acts : Acts table deed e 
           let kept : h.own ≡ Some g.key = rw slot at (is_end.kept (record g { half = h }) was) in
           let bad = sym kept ∙ it.own_was in cc
       turns h was (learns it) =
-          inl (Continue it.from it.id it.dialogue it.components, it.deed_is,
-          is_that_id id (Some it.from) (sym it.peer ∙ peer))
+          inl (
+            Continue it.from it.id it.dialogue it.components,
+            it.deed_is,
+            is_that_id id (Some it.from) (sym it.peer ∙ peer),
+          )
 
       by : (Starts deed e g ⊎ Accepts deed e g)
           ⊎ ((h : Half) × Has e (record g { half = h }) × Turned table deed h g.half)
@@ -224,7 +230,8 @@ module _ (table : Table) (side : Side) where
       by : WasHeard (Heard m) c id ⊎ WasThere e c id → taken side c id coming items + 1 ≤ given side c id items
       by (inl (n, heard, comes)) =
           let same : m ≡ n = cc in
-          let counted : one (comes_from c id m) ≡ 1 = ap (λ (x : Message). one (comes_from c id x)) same ∙ ap one comes in
+          let counted : one (comes_from c id m) ≡ 1 =
+          ap (λ (x : Message). one (comes_from c id x)) same ∙ ap one comes in
           let head = taken_head side c id coming items m in
           let old = (held c id).all in omega arith
       by (inr (f, there, is)) =
@@ -296,7 +303,8 @@ all_paid {table} {side} {e} {coming} {items} view = views_keep table side (AllPa
       said_paid table side e next coming items m (said_causeless table e next is_end m is) is_end
       (said_acts table e next is_end m is) held;
   hears = λ e next coming items m view is held.
-      heard_paid table side e next coming items m (view_sound view) (heard_acts table e next (view_sound view) m is) held;
+      let is_end = view_sound view in
+      heard_paid table side e next coming items m is_end (heard_acts table e next is_end m is) held;
   refuses = λ e coming items m abort view is held.
       refused_paid table side e coming items m abort (refuses e m abort is) held;
   unseen = λ e next coming items view is_next acts held.

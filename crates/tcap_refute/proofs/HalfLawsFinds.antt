@@ -1,11 +1,11 @@
 -- What is found in a list, or counted in it, and tests of messages.
-use Rattle.std.proofs.Common.{◌≡◌, ◌⊎◌, inl, inr, Bool, true, false, cond, ℕ, List, [], ◌∷◌, Option, Some, None, refl, sym, ap, ◌∙◌}
-use Rattle.std.specs.Prelude.{Contains, filter, ◌&&◌, ◌||◌}
+use Rattle.std.proofs.Common.{◌≡◌, ◌⊎◌, inl, inr, Bool, true, false, cond, List, [], ◌∷◌, Some, None, refl, sym, ap, ◌∙◌}
+use Rattle.std.specs.Prelude.{Contains, filter, ◌||◌}
 use Rattle.std.specs.List.{find, list_any}
 use Rattle.tcap_msg.specs.declared.kind.Kind.TheVariants as forms
 use Rattle.tcap_msg.specs.declared.message.Message.{Message}
 use Rattle.tcap_msg.specs.declared.message.Message.TheVariants.{Unidirectional, Begin, Continue, End as EndMessage, Abort}
-use Rattle.tcap_msg.specs.Parts.{dialogue_in, dtid_in, otid_in}
+use Rattle.tcap_msg.specs.Parts.{dialogue_in}
 use Rattle.tcap_end.specs.Dialogue.{is_request}
 use Rattle.tcap_check.proofs.ExpiryLaws.{contains_first}
 use Rattle.tcap_refute.specs.Before.{is_a}
@@ -19,8 +19,8 @@ pub find_has : {A : Type 0} (p : A → Bool) (xs : List A) (x : A) → find p xs
 find_has p [] x is = cc
 find_has {A} p (y ∷ ys) x is = by (p y) refl is (find_has p ys x)
   where
-    by : (b : Bool) → p y ≡ b → cond b (Some y) (find p ys) ≡ Some x → (find p ys ≡ Some x → Contains ys x × (p x ≡ true))
-        → Contains (y ∷ ys) x × (p x ≡ true)
+    by : (b : Bool) → p y ≡ b → cond b (Some y) (find p ys) ≡ Some x
+        → (find p ys ≡ Some x → Contains ys x × (p x ≡ true)) → Contains (y ∷ ys) x × (p x ≡ true)
     by true so is rest = let same : y ≡ x = cc in rw (← same) (has_first y ys, so)
     by false so is rest = let (has, passes) = rest is in (has_later y ys x has, passes)
 
@@ -48,7 +48,8 @@ any_is {A} p (y ∷ ys) is = by (p y) refl is (any_is p ys)
     by false so is rest = let (x, has, passes) = rest is in (x, has_later y ys x has, passes)
 
 -- What is kept was there, and passes.
-pub filter_is : {A : Type 0} (p : A → Bool) (xs : List A) (x : A) → Contains (filter p xs) x → Contains xs x × (p x ≡ true)
+pub filter_is : {A : Type 0} (p : A → Bool) (xs : List A) (x : A) → Contains (filter p xs) x
+    → Contains xs x × (p x ≡ true)
 filter_is p [] x has = has_not x has
 filter_is {A} p (y ∷ ys) x has = by (p y) refl has (filter_is p ys x)
   where

@@ -1,28 +1,26 @@
--- What an end that keeps the rules sent has its half; and how a half that began by sending stands to the list: its Begin, and
--- the Continue by which its peer answered.
-use Rattle.std.proofs.Common.{◌≡◌, ◌⊎◌, inl, inr, Bool, true, false, cond, ℕ, List, [], ◌∷◌, ◌++◌, Option, Some, None, refl, sym, ap, subst, ◌∙◌}
-use Rattle.std.specs.Prelude.{Contains, ◌&&◌}
-use Rattle.std.specs.List.{find}
+-- What an end that keeps the rules sent has its half; and how a half that began by sending stands to the list: its
+-- Begin, and the Continue by which its peer answered.
+use Rattle.std.proofs.Common.{◌≡◌, ◌⊎◌, inl, inr, Bool, true, false, cond, ℕ, List, [], ◌∷◌, Option, Some, None, refl, sym, ap, ◌∙◌}
+use Rattle.std.specs.Prelude.{Contains}
 use Rattle.std.specs.Option.{option_or}
 use Rattle.std.proofs.lemmas.Bool.{and_from, and_parts}
 use Rattle.std.proofs.lemmas.List.Elements.{Contains-append_cases}
 use Rattle.std.proofs.lemmas.List.Folds.{find-append}
-use Rattle.tcap_parts.specs.declared.component.Component.{Component}
 use Rattle.tcap_parts.specs.declared.dialogue.Dialogue.{Dialogue}
 use Rattle.tcap_msg.specs.declared.kind.Kind.TheVariants as forms
 use Rattle.tcap_msg.specs.declared.message.Message.{Message}
 use Rattle.tcap_msg.specs.declared.message.Message.TheVariants.{Unidirectional, Begin, Continue, End as EndMessage, Abort}
-use Rattle.tcap_msg.specs.Parts.{dialogue_in, dtid_in, otid_in}
+use Rattle.tcap_msg.specs.Parts.{dialogue_in, dtid_in}
 use Rattle.tcap_record.specs.declared.entry.End.{End as Side}
 use Rattle.tcap_end.specs.declared.half.Phase.{Phase}
 use Rattle.tcap_end.specs.declared.half.Phase.TheVariants as phases
-use Rattle.tcap_end.specs.declared.half.Slot.TheVariants.{Begun, Accepted}
+use Rattle.tcap_end.specs.declared.half.Slot.TheVariants.{Begun}
 use Rattle.tcap_end.specs.declared.half.Standing.{Standing}
 use Rattle.tcap_end.specs.declared.half.Standing.TheVariants as standings
 use Rattle.tcap_end.specs.Table.{Table}
 use Rattle.tcap_end.specs.Half.{Half}
-use Rattle.tcap_end.specs.Dialogue.{answers_request, confirm, first_standing, is_request, is_response}
-use Rattle.tcap_end.specs.End.{End, KeptHalf, is_id, nothing, with_own}
+use Rattle.tcap_end.specs.Dialogue.{answers_request, confirm, first_standing, is_response}
+use Rattle.tcap_end.specs.End.{End, KeptHalf, is_id, with_own}
 use Rattle.tcap_end.specs.Sound.{Has, IsEnd}
 use Rattle.tcap_end.proofs.EndLaws.{no_half}
 use Rattle.tcap_end.proofs.FoundLaws.{none_own}
@@ -33,11 +31,12 @@ use Rattle.tcap_refute.specs.Kind.{is_begin_with_request}
 use Rattle.tcap_refute.specs.Speaker.{accepts_to, back, begin_from, goes_on_to}
 use Rattle.tcap_refute.proofs.BeforeLaws.{is_that_id}
 use Rattle.tcap_refute.proofs.Members.{filter_has, has_not}
+use Rattle.tcap_refute.proofs.LifeLawsItems.{begins_from}
 use Rattle.tcap_refute.proofs.HalfLawsActs.{Uses, still_uses}
 use Rattle.tcap_refute.proofs.HalfLawsAdvance.{Advance, advances_keep}
 use Rattle.tcap_refute.proofs.HalfLawsFinds.{find_has, request_is}
-use Rattle.tcap_refute.proofs.HalfLawsLists.{asked_still, back_still, begin_still, comes_back}
-use Rattle.tcap_refute.proofs.HalfLawsTurns.{Accepts, Deed, Heard, Learns, Starts, Turned, answers, closes, learns, stays}
+use Rattle.tcap_refute.proofs.HalfLawsLists.{back_still, begin_still, comes_back}
+use Rattle.tcap_refute.proofs.HalfLawsTurns.{Accepts, Deed, Learns, Starts, Turned, answers, closes, learns, stays}
 use Rattle.tcap_refute.proofs.HalfLawsViews.{View}
 
 -- ---- what was sent
@@ -45,8 +44,8 @@ use Rattle.tcap_refute.proofs.HalfLawsViews.{View}
 abbrev AllUse : Side → End → List Item → Type 0
 AllUse side e items = (m : Message) → Contains (sent_by side items) m → Uses e m
 
-uses_then : {table : Table} {side : Side} (e next : End) (items after : List Item) → Advance table side e next items after
-    → AllUse side e items → AllUse side next after
+uses_then : {table : Table} {side : Side} (e next : End) (items after : List Item)
+    → Advance table side e next items after → AllUse side e items → AllUse side next after
 uses_then {side = side} e next items after step held m has =
     by (Contains-append_cases (sent_by side items) step.grows.mine m (rw (← step.grows.mine_is) has))
   where
@@ -91,13 +90,9 @@ pub record IsBegunBy (side : Side) (items : List Item) (f : KeptHalf) : Type 0 w
 abbrev AllBegun : Side → End → List Item → Type 0
 AllBegun side e items = (f : KeptHalf) → Has e f → f.slot ≡ Begun → IsBegunBy side items f
 
--- A Begin from that ID.
-abbrev pub begins_from : List ℕ → Message → Bool
-begins_from id m = is_a forms.Begin m && is_id id (otid_in m)
-
--- One that was sent has its half.
-pub begin_used : {P : Type 0} (e : End) (id : List ℕ) (m : Message) → IsEnd e → with_own e id ≡ None → begins_from id m ≡ true
-    → Uses e m → P
+-- A Begin that was sent has its half.
+pub begin_used : {P : Type 0} (e : End) (id : List ℕ) (m : Message) → IsEnd e → with_own e id ≡ None
+    → begins_from id m ≡ true → Uses e m → P
 begin_used e id (Unidirectional dialogue components) is_end none from uses = cc
 begin_used e id (Begin otid dialogue components) is_end none from (h, had) =
     let same : Some otid ≡ Some id = id_is id (Some otid) from in
@@ -113,8 +108,11 @@ module _ {table : Table} {side : Side} (e next : End) (coming : List Message) (i
   started : (g : KeptHalf) → Starts step.deed e g → IsBegunBy side after g
   started g it = record {
     begin = m;
-    is_begun = rw (step.grows.mine_is, step.said m it.deed_is, find-append (begins_from g.key) (sent_by side items) (m ∷ []))
-        (by (begin_from side g.key items) refl);
+    is_begun = rw (
+      step.grows.mine_is,
+      step.said m it.deed_is,
+      find-append (begins_from g.key) (sent_by side items) (m ∷ []),
+    ) (by (begin_from side g.key items) refl);
     stands = it.standing ∙ ap (λ (p : Phase). standing_of p it.dialogue) (sym it.phase);
   }
     where
@@ -183,8 +181,8 @@ module _ {table : Table} {side : Side} (e next : End) (coming : List Message) (i
   learnt g h id was slot it peer = record {
     message = m;
     is_back = back_still step.grows id m
-        (comes_back side items id it.id m begun.begin (filter_has _ (sent_by (other side) items) m (step.heard m it.deed_is) from)
-        refl refl (rw (← keyed) begun.is_begun) (answers_begin begun.begin m it.id h.standing it.dialogue begins stands it.answers
+        (comes_back side items id it.id m begun.begin there refl refl (rw (← keyed) begun.is_begun)
+        (answers_begin begun.begin m it.id h.standing it.dialogue begins stands it.answers
         (is_that_id it.id (Some it.id) refl) refl));
     goes_on = refl;
     to = sym it.own;
@@ -196,6 +194,9 @@ module _ {table : Table} {side : Side} (e next : End) (coming : List Message) (i
       from : is_id id (Some it.from) ≡ true
       from = is_that_id id (Some it.from) (sym it.peer ∙ peer)
 
+      there : Contains (asked side id items) m
+      there = filter_has _ (sent_by (other side) items) m (step.heard m it.deed_is) from
+
       begun : IsBegunBy side items (record g { half = h })
       begun = all_begun view (record g { half = h }) was slot
 
@@ -205,7 +206,8 @@ module _ {table : Table} {side : Side} (e next : End) (coming : List Message) (i
 
       begins : is_a forms.Begin begun.begin ≡ true
       begins =
-          (and_parts (is_a forms.Begin begun.begin) _ (find_has (begins_from g.key) (sent_by side items) begun.begin begun.is_begun).1).0
+          let (has, passes) = find_has (begins_from g.key) (sent_by side items) begun.begin begun.is_begun in
+          (and_parts (is_a forms.Begin begun.begin) _ passes).0
 
       stands : h.standing ≡ first_standing (dialogue_in begun.begin)
       stands = begun.stands ∙ ap (λ (p : Phase). standing_of p (dialogue_in begun.begin)) it.was
@@ -213,7 +215,8 @@ module _ {table : Table} {side : Side} (e next : End) (coming : List Message) (i
   back_then : AllBack side e items → AllBack side next after
   back_then held g id had slot peer = by (step.acts.back g had)
     where
-      still : (h : Half) → Has e (record g { half = h }) → g.half.own ≡ h.own → h.peer ≡ Some id → CameBack side after g id
+      still : (h : Half) → Has e (record g { half = h }) → g.half.own ≡ h.own → h.peer ≡ Some id
+          → CameBack side after g id
       still h was own peer =
           let old = held (record g { half = h }) id was slot peer in
           record {

@@ -1,31 +1,21 @@
 -- What the steps that one end sees keep holds in each run.
-use Rattle.std.proofs.Common.{◌≡◌, ◌⊎◌, inl, inr, Bool, true, false, ℕ, List, [], ◌∷◌, ◌++◌, Option, Some, None, Result, Ok, Err, is_ok, is_none, not, refl, sym, ap, subst, ◌∙◌}
-use Rattle.std.specs.Prelude.{Contains, ◌||◌}
-use Rattle.std.proofs.lemmas.Bool.{not-true}
-use Rattle.std.proofs.lemmas.Option.{cond_some}
+use Rattle.std.proofs.Common.{◌≡◌, ◌⊎◌, inl, inr, true, false, ℕ, List, [], ◌∷◌, ◌++◌, Some, Result, Ok, refl, sym, ap, subst, ◌∙◌}
 use Rattle.tcap_msg.specs.declared.message.Message.{Message}
-use Rattle.tcap_msg.specs.declared.message.Message.TheVariants.{Unidirectional, Begin, Continue, End as EndMessage, Abort}
 use Rattle.tcap_record.specs.declared.entry.End.{End as Side}
 use Rattle.tcap_record.specs.declared.entry.End.TheVariants as sides
 use Rattle.tcap_end.specs.declared.fault.EndFault.{EndFault}
-use Rattle.tcap_end.specs.declared.fault.EndFault.TheVariants as faults
-use Rattle.tcap_end.specs.Step.{needs, ◌>>◌}
 use Rattle.tcap_end.specs.Table.{Table}
-use Rattle.tcap_end.specs.End.{End, nothing, with_own, with_peer}
-use Rattle.tcap_end.specs.Message.{receive, send}
-use Rattle.tcap_end.specs.Reply.{aborts, is_open}
+use Rattle.tcap_end.specs.End.{End, nothing}
 use Rattle.tcap_end.specs.Sound.{IsEnd}
 use Rattle.tcap_end.proofs.StepLaws.{closes, expires}
-use Rattle.tcap_check.specs.World.{Item, OnItsWay, Sent, World, channel_from, empty, end_at, other, with_channel, with_end}
-use Rattle.tcap_check.specs.Run.{Event, Sends, Receives, Replies, Loses, Expires, Closes, Quiet, Tells, KeepsRules, Runs, after, is_told_by, joined, provider_abort, reply_to}
-use Rattle.tcap_check.proofs.RunLaws.{IsDelivery, IsHidden, IsLoss, IsReply, IsSending, closing, delivery, expiry, loss, quiet, reply, runs_keep, sending, sound, telling}
-use Rattle.tcap_refute.specs.Before.{sent_by, since_quiet}
+use Rattle.tcap_check.specs.World.{Item, OnItsWay, World, channel_from, empty, end_at, other, with_channel, with_end}
+use Rattle.tcap_check.specs.Run.{Event, Sends, Receives, Replies, Loses, Expires, Closes, Quiet, Tells, KeepsRules, Runs, after, is_told_by, joined}
+use Rattle.tcap_check.proofs.RunLaws.{IsDelivery, IsHidden, IsLoss, IsReply, IsSending, closing, delivery, expiry, loss, quiet, reply, runs_keep, sending, telling}
+use Rattle.tcap_refute.specs.Before.{since_quiet}
 use Rattle.tcap_refute.proofs.BeforeLaws.{is_itself}
-use Rattle.tcap_refute.proofs.Members.{has_not}
-use Rattle.tcap_refute.proofs.HalfLawsActs.{IsActiveFor, Uses, closed_acts, expired_acts, heard_acts, said_acts, said_uses}
-use Rattle.tcap_refute.proofs.HalfLawsLists.{Grows, grows_not, grows_own, grows_theirs}
-use Rattle.tcap_refute.proofs.HalfLawsTurns.{Acts, Deed, Heard, Said, Unseen, acts_nowhere}
-use Rattle.tcap_refute.proofs.HalfLawsViews.{IsKeptBy, IsSeen, View, coming_to, heard_here, heard_there, lost_here, lost_there, mark_seen, messages_of, refused_here, refused_there, said_here, said_there, told_there, unseen_here, unseen_there, view_comes, view_of, view_sound, which}
+use Rattle.tcap_refute.proofs.HalfLawsActs.{closed_acts, expired_acts}
+use Rattle.tcap_refute.proofs.HalfLawsTurns.{Acts, Unseen}
+use Rattle.tcap_refute.proofs.HalfLawsViews.{IsKeptBy, IsSeen, View, coming_to, heard_here, heard_there, lost_here, lost_there, mark_seen, messages_of, refused_here, refused_there, said_here, said_there, told_there, unseen_here, unseen_there, view_of, view_sound, which}
 use Rattle.tcap_refute.proofs.MomentLaws.{kept_before}
 
 -- ---- along a run
@@ -119,10 +109,12 @@ module _ (table : Table) (side : Side) (Holds : End → List Message → List It
       let channel : channel_from (other side) w ≡ l.head ∷ l.more = rw (← theirs) l.channel in
       then_holds _ (l.next_is ∙ ap (λ (p : Side). with_channel p l.more w) theirs)
       (of_seen side Holds _ e _ _ (lost_here side l.more w)
-      (kept.loses e (messages_of l.more) items l.head.message (view_head l.head l.more channel) (held_head l.head l.more channel)))
+      (kept.loses e (messages_of l.more) items l.head.message (view_head l.head l.more channel)
+      (held_head l.head l.more channel)))
 
   unseen_keeps : (place : Side) (step : End → Result End EndFault) → (place ≡ side) ⊎ (place ≡ other side)
-      → ((made : End) → step e ≡ Ok made → IsEnd made × Acts table Unseen e made) → IsHidden place step w next → HoldsThen next
+      → ((made : End) → step e ≡ Ok made → IsEnd made × Acts table Unseen e made) → IsHidden place step w next
+      → HoldsThen next
   unseen_keeps place step (inl mine) acts h =
       then_holds _ (h.next_is ∙ ap (λ (p : Side). with_end p h.made w) mine)
       (of_seen side Holds _ h.made _ _ (unseen_here side h.made w)
@@ -156,7 +148,8 @@ module _ (table : Table) (side : Side) (Holds : End → List Message → List It
           then_holds _ ((telling table teller m w next is).next_is ∙ ap (λ (p : Side). joined p m w) theirs)
           (of_seen side Holds _ e _ _ (told_there side m w) (kept.asks e (coming_to side w) items m view held))
   step_keeps Quiet is told =
-      then_holds _ (quiet table w next is).next_is (of_seen side Holds _ nothing [] [] (mark_seen side w.sent) kept.blank)
+      then_holds _ (quiet table w next is).next_is
+      (of_seen side Holds _ nothing [] [] (mark_seen side w.sent) kept.blank)
 
 module _ (table : Table) (side : Side) (Holds : End → List Message → List Item → Type 0)
     (kept : IsKeptBy table side Holds) where

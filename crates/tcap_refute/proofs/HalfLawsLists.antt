@@ -1,24 +1,22 @@
 -- What the list tells grows with it: what was sent, asked, told, begun, and came back.
-use Rattle.std.proofs.Common.{◌≡◌, ◌⊎◌, inl, inr, Bool, true, false, cond, ℕ, List, [], ◌∷◌, ◌++◌, Option, Some, None, refl, sym, ap, subst, ◌∙◌}
+use Rattle.std.proofs.Common.{◌≡◌, ◌⊎◌, inl, inr, Bool, true, false, cond, ℕ, List, [], ◌∷◌, ◌++◌, Option, Some, None, refl, sym, subst, ◌∙◌}
 use Rattle.std.specs.Prelude.{Contains, filter, ◌||◌, not}
-use Rattle.std.specs.List.{cons_option, find, list_any}
-use Rattle.std.proofs.lemmas.Bool.{or_cases, or_left, or_right}
+use Rattle.std.specs.List.{list_any}
+use Rattle.std.proofs.lemmas.Bool.{or_right}
 use Rattle.std.proofs.lemmas.List.{append-nil}
-use Rattle.std.proofs.lemmas.List.Elements.{Contains-append_left, Contains-append_right, Contains-append_cases, filter-append, filter_map-append}
-use Rattle.std.proofs.lemmas.List.Folds.{find-append, list_any-append}
+use Rattle.std.proofs.lemmas.List.Elements.{Contains-append_left, Contains-append_right, filter-append}
+use Rattle.std.proofs.lemmas.List.Folds.{find-append}
 use Rattle.tcap_msg.specs.declared.kind.Kind.TheVariants as forms
 use Rattle.tcap_msg.specs.declared.message.Message.{Message}
-use Rattle.tcap_msg.specs.Parts.{cause_in, dtid_in, otid_in}
+use Rattle.tcap_msg.specs.Parts.{dtid_in, otid_in}
 use Rattle.tcap_record.specs.declared.entry.End.{End as Side}
 use Rattle.tcap_record.specs.declared.entry.End.TheVariants as sides
 use Rattle.tcap_end.specs.End.{is_id}
 use Rattle.tcap_check.specs.World.{Item, Sent, is_side, other}
-use Rattle.tcap_check.specs.Run.{where_so}
-use Rattle.tcap_check.specs.Follows.{has_quiet, is_quiet}
-use Rattle.tcap_refute.specs.Before.{asked, is_a, message_of, sent_by, since_quiet}
+use Rattle.tcap_refute.specs.Before.{asked, is_a, sent_by}
 use Rattle.tcap_refute.specs.Kind.{is_begin_with_request}
-use Rattle.tcap_refute.specs.Speaker.{accepts_to, back, back_behind, begin_from, is_back, is_nothing, told}
-use Rattle.tcap_refute.proofs.BeforeLaws.{is_itself}
+use Rattle.tcap_refute.specs.Speaker.{accepts_to, back, back_behind, begin_from, is_back, told}
+use Rattle.tcap_refute.proofs.LifeLawsItems.{sent_other, sent_own}
 use Rattle.tcap_check.proofs.ExpiryLaws.{contains_first}
 use Rattle.tcap_refute.proofs.Members.{any_has, filter_has, has_first, has_later, has_not}
 
@@ -26,40 +24,6 @@ use Rattle.tcap_refute.proofs.Members.{any_has, filter_has, has_first, has_later
 has_more : {A : Type 0} (b : Bool) (x : A) (xs : List A) (y : A) → Contains xs y → Contains (cond b (x ∷ xs) xs) y
 has_more true x xs y has = has_later x xs y has
 has_more false x xs y has = has
-
--- ---- marks
-
--- A message more is no mark,
-sent_no_mark : (side : Side) (m : Message) (items : List Item)
-    → has_quiet (items ++ Sent side m ∷ []) ≡ has_quiet items
-sent_no_mark side m [] = refl
-sent_no_mark side m (item ∷ items) = ap (cond (is_quiet item) true) (sent_no_mark side m items)
-
--- and stands behind the last one;
-pub since_sent : (side : Side) (m : Message) (items : List Item)
-    → since_quiet (items ++ Sent side m ∷ []) ≡ since_quiet items ++ Sent side m ∷ []
-since_sent side m [] = refl
-since_sent side m (item ∷ items) =
-    by (has_quiet (item ∷ items)) (sent_no_mark side m (item ∷ items)) (since_sent side m items)
-  where
-    by : (b : Bool) → has_quiet (item ∷ items ++ Sent side m ∷ []) ≡ b
-        → since_quiet (items ++ Sent side m ∷ []) ≡ since_quiet items ++ Sent side m ∷ []
-        → since_quiet (item ∷ items ++ Sent side m ∷ []) ≡ cond b (since_quiet items) (item ∷ items) ++ Sent side m ∷ []
-    by true mark rest = rw mark rest
-    by false mark rest = rw mark refl
-
-mark_is_one : (items : List Item) → has_quiet (items ++ Item.Quiet ∷ []) ≡ true
-mark_is_one [] = refl
-mark_is_one (item ∷ items) = by (is_quiet item) (mark_is_one items)
-  where
-    by : (b : Bool) → has_quiet (items ++ Item.Quiet ∷ []) ≡ true → cond b true (has_quiet (items ++ Item.Quiet ∷ [])) ≡ true
-    by true rest = refl
-    by false rest = rest
-
--- behind a mark nothing does.
-pub since_mark : (items : List Item) → since_quiet (items ++ Item.Quiet ∷ []) ≡ []
-since_mark [] = refl
-since_mark (item ∷ items) = rw (mark_is_one (item ∷ items)) (since_mark items)
 
 -- ---- what was sent
 
@@ -71,25 +35,14 @@ not_other : (side : Side) → is_side (other side) side ≡ false
 not_other sides.A = refl
 not_other sides.B = refl
 
--- One item more,
-sent_more : (side sender : Side) (m : Message) (items : List Item)
-    → sent_by side (items ++ Sent sender m ∷ []) ≡ sent_by side items ++ cons_option (where_so (is_side side sender) (Some m)) []
-sent_more side sender m items = filter_map-append (message_of side) items (Sent sender m ∷ [])
-
--- of the end,
-pub own_more : (side : Side) (m : Message) (items : List Item)
-    → sent_by side (items ++ Sent side m ∷ []) ≡ sent_by side items ++ m ∷ []
-own_more side m items = rw (sent_more side side m items, is_itself side) refl
-
--- or of its peer.
+-- What the peer sends is not sent by the end, and the other way round.
 pub own_same : (side : Side) (m : Message) (items : List Item)
     → sent_by side (items ++ Sent (other side) m ∷ []) ≡ sent_by side items
-own_same side m items = rw (sent_more side (other side) m items, other_is_not side) (append-nil (sent_by side items))
+own_same side m items = sent_other side (other side) m items (other_is_not side)
 
 pub their_same : (side : Side) (m : Message) (items : List Item)
     → sent_by (other side) (items ++ Sent side m ∷ []) ≡ sent_by (other side) items
-their_same side m items =
-    rw (sent_more (other side) side m items, not_other side) (append-nil (sent_by (other side) items))
+their_same side m items = sent_other (other side) side m items (not_other side)
 
 -- ---- what grows
 
@@ -112,16 +65,17 @@ abbrev pub grows_own : (side : Side) (m : Message) (items : List Item) → Grows
 grows_own side m items = record {
   mine = m ∷ [];
   theirs = [];
-  mine_is = own_more side m items;
+  mine_is = sent_own side m items;
   theirs_is = their_same side m items ∙ sym (append-nil (sent_by (other side) items));
 }
 
-abbrev pub grows_theirs : (side : Side) (m : Message) (items : List Item) → Grows side items (items ++ Sent (other side) m ∷ [])
+abbrev pub grows_theirs : (side : Side) (m : Message) (items : List Item)
+    → Grows side items (items ++ Sent (other side) m ∷ [])
 grows_theirs side m items = record {
   mine = [];
   theirs = m ∷ [];
   mine_is = own_same side m items ∙ sym (append-nil (sent_by side items));
-  theirs_is = own_more (other side) m items;
+  theirs_is = sent_own (other side) m items;
 }
 
 module _ {side : Side} {items after : List Item} (grows : Grows side items after) where
@@ -135,7 +89,8 @@ module _ {side : Side} {items after : List Item} (grows : Grows side items after
   -- and what was asked, told, begun and came back too.
   pub asked_more : (id : List ℕ)
       → asked side id after ≡ asked side id items ++ filter (λ m. is_id id (otid_in m)) grows.theirs
-  asked_more id = rw (grows.theirs_is) (filter-append (λ m. is_id id (otid_in m)) (sent_by (other side) items) grows.theirs)
+  asked_more id =
+      rw (grows.theirs_is) (filter-append (λ m. is_id id (otid_in m)) (sent_by (other side) items) grows.theirs)
 
   pub asked_still : (id : List ℕ) (m : Message) → Contains (asked side id items) m → Contains (asked side id after) m
   asked_still id m has = rw (asked_more id) (Contains-append_left (asked side id items) _ m has)
@@ -150,14 +105,16 @@ module _ {side : Side} {items after : List Item} (grows : Grows side items after
   begin_still id begin is = rw (grows.mine_is, find-append _ (sent_by side items) grows.mine, is) refl
 
   -- A Continue that came back did so still,
-  is_back_still : (seen : List Message) (m : Message) → is_back side items seen m ≡ true → is_back side after seen m ≡ true
+  is_back_still : (seen : List Message) (m : Message) → is_back side items seen m ≡ true
+      → is_back side after seen m ≡ true
   is_back_still seen m is = by (dtid_in m) refl
     where
       of : (own : List ℕ) → dtid_in m ≡ Some own → (b : Option Message) → begin_from side own items ≡ b
           → is_back side after seen m ≡ true
       of own to None found = let bad : false ≡ true = rw (to, found) at is in cc
       of own to (Some begin) found =
-          let was : (not (is_begin_with_request begin) || list_any (accepts_to own) seen) ≡ true = rw (to, found) at is in
+          let was : (not (is_begin_with_request begin) || list_any (accepts_to own) seen) ≡ true =
+          rw (to, found) at is in
           rw (to, begin_still own begin found) was
 
       by : (o : Option (List ℕ)) → dtid_in m ≡ o → is_back side after seen m ≡ true
@@ -170,16 +127,18 @@ module _ {side : Side} {items after : List Item} (grows : Grows side items after
   back_behind_still seen (x ∷ ms) ns m has =
       by (is_back side items (seen ++ x ∷ []) x) refl has (back_behind_still (seen ++ x ∷ []) ms ns m)
     where
+      was : List Message
+      was = back_behind side items (seen ++ x ∷ []) ms
+
       rest : List Message
       rest = back_behind side after (seen ++ x ∷ []) (ms ++ ns)
 
       by : (b : Bool) → is_back side items (seen ++ x ∷ []) x ≡ b
-          → Contains (cond b (x ∷ back_behind side items (seen ++ x ∷ []) ms) (back_behind side items (seen ++ x ∷ []) ms)) m
-          → (Contains (back_behind side items (seen ++ x ∷ []) ms) m → Contains rest m)
+          → Contains (cond b (x ∷ was) was) m → (Contains was m → Contains rest m)
           → Contains (cond (is_back side after (seen ++ x ∷ []) x) (x ∷ rest) rest) m
       by true so has kept = here (contains_first x _ m has)
         where
-          here : (x ≡ m) ⊎ Contains (back_behind side items (seen ++ x ∷ []) ms) m
+          here : (x ≡ m) ⊎ Contains was m
               → Contains (cond (is_back side after (seen ++ x ∷ []) x) (x ∷ rest) rest) m
           here (inl same) =
               rw (is_back_still (seen ++ x ∷ []) x so)
@@ -211,9 +170,10 @@ back_among side items seen (x ∷ ms) m so has =
     by (inr more) kept = has_more (is_back side items (seen ++ x ∷ []) x) x rest m (kept more)
 
 -- and so is a Continue that was asked, to an ID that the end began: one that answers the request, if there was one.
-pub comes_back : (side : Side) (items : List Item) (id own : List ℕ) (m begin : Message) → Contains (asked side id items) m
-    → is_a forms.Continue m ≡ true → dtid_in m ≡ Some own → begin_from side own items ≡ Some begin
-    → (is_begin_with_request begin ≡ false) ⊎ (accepts_to own m ≡ true) → Contains (back side id items) m
+pub comes_back : (side : Side) (items : List Item) (id own : List ℕ) (m begin : Message)
+    → Contains (asked side id items) m → is_a forms.Continue m ≡ true → dtid_in m ≡ Some own
+    → begin_from side own items ≡ Some begin → (is_begin_with_request begin ≡ false) ⊎ (accepts_to own m ≡ true)
+    → Contains (back side id items) m
 comes_back side items id own m begin has goes_on to began answers =
     back_among side items [] (filter (is_a forms.Continue) (asked side id items)) m so
     (filter_has (is_a forms.Continue) (asked side id items) m has goes_on)

@@ -1,4 +1,5 @@
--- A half that sent a Continue is open until its dialogue is ended, by a message that the list tells, or by prearrangement.
+-- A half that sent a Continue is open until its dialogue is ended, by a message that the list tells, or by
+-- prearrangement.
 use Rattle.std.proofs.Common.{◌≡◌, ◌⊎◌, inl, inr, Bool, true, false, ℕ, List, [], ◌∷◌, Option, Some, None, not, refl, sym, ap, subst, ◌∙◌}
 use Rattle.std.specs.Prelude.{Contains, ◌&&◌}
 use Rattle.std.specs.List.{find, list_any}
@@ -9,15 +10,13 @@ use Rattle.tcap_msg.specs.declared.message.Message.{Message}
 use Rattle.tcap_msg.specs.declared.message.Message.TheVariants.{Unidirectional, Begin, Continue, End as EndMessage, Abort}
 use Rattle.tcap_msg.specs.Parts.{dtid_in, otid_in}
 use Rattle.tcap_record.specs.declared.entry.End.{End as Side}
-use Rattle.tcap_end.specs.declared.half.Phase.{Phase}
 use Rattle.tcap_end.specs.declared.half.Phase.TheVariants as phases
 use Rattle.tcap_end.specs.Table.{Table}
 use Rattle.tcap_end.specs.Half.{Half}
-use Rattle.tcap_end.specs.End.{End, KeptHalf, is_id, nothing}
+use Rattle.tcap_end.specs.End.{End, KeptHalf, is_id}
 use Rattle.tcap_end.specs.Hidden.{may_close}
 use Rattle.tcap_end.specs.Sound.{Has}
 use Rattle.tcap_check.specs.World.{Item, other}
-use Rattle.tcap_check.specs.Run.{then_so}
 use Rattle.tcap_check.specs.Since.{ended_by}
 use Rattle.tcap_check.proofs.TurnLaws.{id_is}
 use Rattle.tcap_refute.specs.Before.{is_a, sent_by}
@@ -78,7 +77,8 @@ module _ {table : Table} {side : Side} (e next : End) (items after : List Item)
           let has : Contains (sent_by side after) m =
           rw (step.grows.mine_is, step.said m is)
           (Contains-append_right (sent_by side items) (m ∷ []) m (has_first m [])) in
-          inr (inr (any_has (λ n. is_id to (ended_by n)) (sent_by side after) m has (is_that_id to (ended_by m) (ends ∙ same))))
+          inr (inr (any_has (λ n. is_id to (ended_by n)) (sent_by side after) m has
+          (is_that_id to (ended_by m) (ends ∙ same))))
       by (Heard m) is (id, ends, of_id) =
           let same : id ≡ own = let both : Some id ≡ Some own = sym of_id ∙ of_own in cc in
           let has = theirs_still step.grows m (step.heard m is) in
@@ -141,6 +141,10 @@ all_opened {table} {side} {e} {coming} {items} view =
 abbrev pub IsActiveAt : End → List ℕ → Type 0
 IsActiveAt e own = (f : KeptHalf) × Has e f × (f.half.own ≡ Some own) × (f.half.phase ≡ phases.Active)
 
+-- Nothing is so where one part is not.
+never : {P : Type 0} (a b : Bool) → (a && false && b) ≡ true → P
+never a b is = let no = and_parts a false (and_parts (a && false) b is).0 in cc
+
 module _ {table : Table} {side : Side} {e : End} {coming : List Message} {items : List Item}
     (view : View table side e coming items) (own : List ℕ) where
   -- A half is active where the list tells of no end of its dialogue.
@@ -156,7 +160,8 @@ module _ {table : Table} {side : Side} {e : End} {coming : List Message} {items 
       (subst (λ (i : List ℕ). IsOpenOrShut table side items i to f.half) same
       (subst (λ (i : List ℕ). IsOpenOrShut table side items id i f.half) same_to so))
     where
-      by : (f : KeptHalf) → Has e f → f.half.own ≡ Some own → IsOpenOrShut table side items own to f.half → IsActiveAt e own
+      by : (f : KeptHalf) → Has e f → f.half.own ≡ Some own → IsOpenOrShut table side items own to f.half
+          → IsActiveAt e own
       by f had of_own (inl active) = (f, had, of_own, active)
       by f had of_own (inr (closed, shut)) = absurd (none shut)
   is_active (EndMessage dtid dialogue components) to has goes_on from of_dtid none = cc
@@ -188,15 +193,12 @@ module _ {table : Table} {side : Side} {e : End} {coming : List Message} {items 
       to_some : (m : Message) → find is_from (sent_by side items) ≡ Some m → (o : Option (List ℕ)) → dtid_in m ≡ o
           → is_surely_open table side items own ≡ true → IsActiveAt e own
       to_some m found None dtid is =
-          let bad : (not table.prearranged && false && not (list_any (ends_to own) (sent_by (other side) items))) ≡ true =
-          rw (found, dtid) at is in
-          let never = and_parts (not table.prearranged) false (and_parts (not table.prearranged && false) _ bad).0 in cc
+          never (not table.prearranged) (not (list_any (ends_to own) (sent_by (other side) items)))
+          (rw (found, dtid) at is)
       to_some m found (Some to) dtid is = of m to found dtid (rw (found, dtid) at is)
 
       by : (o : Option Message) → find is_from (sent_by side items) ≡ o → is_surely_open table side items own ≡ true
           → IsActiveAt e own
       by None found is =
-          let bad : (not table.prearranged && false && not (list_any (ends_to own) (sent_by (other side) items))) ≡ true =
-          rw found at is in
-          let never = and_parts (not table.prearranged) false (and_parts (not table.prearranged && false) _ bad).0 in cc
+          never (not table.prearranged) (not (list_any (ends_to own) (sent_by (other side) items))) (rw found at is)
       by (Some m) found is = to_some m found (dtid_in m) refl is

@@ -5,14 +5,12 @@ use Rattle.tcap_parts.specs.declared.component.Component.{Component}
 use Rattle.tcap_parts.specs.declared.dialogue.Dialogue.{Dialogue}
 use Rattle.tcap_msg.specs.declared.message.Message.{Message}
 use Rattle.tcap_msg.specs.declared.message.Message.TheVariants.{Begin, Continue}
-use Rattle.tcap_end.specs.declared.half.Phase.{Phase}
 use Rattle.tcap_end.specs.declared.half.Phase.TheVariants as phases
 use Rattle.tcap_end.specs.declared.half.Slot.{Slot}
 use Rattle.tcap_end.specs.declared.half.Slot.TheVariants.{Begun, Accepted}
-use Rattle.tcap_end.specs.declared.half.Standing.{Standing}
 use Rattle.tcap_end.specs.declared.half.Standing.TheVariants as standings
 use Rattle.tcap_end.specs.Table.{Table}
-use Rattle.tcap_end.specs.Half.{Half, closed_half, is_closed}
+use Rattle.tcap_end.specs.Half.{Half, is_closed}
 use Rattle.tcap_end.specs.Dialogue.{answers_request, confirm, first_standing}
 use Rattle.tcap_end.specs.End.{End, KeptHalf, put, with_own, with_peer}
 use Rattle.tcap_end.specs.Hidden.{may_close}
@@ -33,8 +31,8 @@ pub data Deed : Type 0 where
   Heard : Message → Deed
   Unseen : Deed
 
--- Why a half closes: what was said ends the dialogue with its peer; what was heard ends it at its own ID; or it may close
--- unseen.
+-- Why a half closes: what was said ends the dialogue with its peer; what was heard ends it at its own ID; or it may
+-- close unseen.
 abbrev pub IsEnded : Table → Deed → Half → Type 0
 IsEnded table (Said m) h = (id : List ℕ) × (ended_by m ≡ Some id) × (h.peer ≡ Some id)
 IsEnded table (Heard m) h = (id : List ℕ) × (ends_to id m ≡ true) × (h.own ≡ Some id)

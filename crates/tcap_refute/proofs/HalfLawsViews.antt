@@ -1,35 +1,26 @@
--- What one end and the list see of a run: the halves of the end, what is on its way to it, and the items since the last quiet
--- mark. What the steps of that keep holds in each run.
-use Rattle.std.proofs.Common.{◌≡◌, ◌⊎◌, inl, inr, Bool, true, false, ℕ, List, [], ◌∷◌, ◌++◌, map, Option, Some, None, Result, Ok, Err, is_ok, is_none, not, refl, sym, ap, subst, ◌∙◌}
-use Rattle.std.specs.Prelude.{Contains, ◌||◌}
+-- What one end and the list see of a run: the halves of the end, what is on its way to it, and the items since the last
+-- quiet mark.
+use Rattle.std.proofs.Common.{◌≡◌, ◌⊎◌, inl, inr, List, [], ◌∷◌, ◌++◌, map, Some, Ok, refl, subst}
+use Rattle.std.specs.Prelude.{Contains}
 use Rattle.std.specs.List.{AllByRecursion}
-use Rattle.std.proofs.lemmas.Bool.{not-true}
 use Rattle.std.proofs.lemmas.List.{map-append}
-use Rattle.std.proofs.lemmas.Option.{cond_some}
 use Rattle.tcap_msg.specs.declared.message.Message.{Message}
-use Rattle.tcap_msg.specs.declared.message.Message.TheVariants.{Unidirectional, Begin, Continue, End as EndMessage, Abort}
 use Rattle.tcap_record.specs.declared.entry.End.{End as Side}
 use Rattle.tcap_record.specs.declared.entry.End.TheVariants as sides
-use Rattle.tcap_end.specs.declared.fault.EndFault.{EndFault}
-use Rattle.tcap_end.specs.Step.{needs, ◌>>◌}
 use Rattle.tcap_end.specs.Table.{Table}
-use Rattle.tcap_end.specs.End.{End, nothing, with_own, with_peer}
+use Rattle.tcap_end.specs.End.{End, nothing}
 use Rattle.tcap_end.specs.Message.{receive, send}
-use Rattle.tcap_end.specs.Reply.{is_open}
 use Rattle.tcap_end.specs.Sound.{IsEnd}
-use Rattle.tcap_end.proofs.StepLaws.{none_is}
-use Rattle.tcap_check.specs.World.{Item, OnItsWay, Sent, World, channel_from, empty, end_at, other, with_channel, with_end}
-use Rattle.tcap_check.specs.Run.{Event, Sends, Receives, Replies, Loses, Expires, Closes, Quiet, Tells, KeepsRules, Runs, after, is_told_by, joined, provider_abort, reply_to}
+use Rattle.tcap_check.specs.World.{Item, OnItsWay, Sent, World, channel_from, end_at, other, with_channel, with_end}
+use Rattle.tcap_check.specs.Run.{Event, KeepsRules, Runs, joined, reply_to}
 use Rattle.tcap_check.specs.Since.{WasSent}
 use Rattle.tcap_check.proofs.ChannelLaws.{were_sent}
-use Rattle.tcap_check.proofs.RunLaws.{closing, delivery, expiry, loss, quiet, reply, runs_keep, sending, sound, telling}
+use Rattle.tcap_check.proofs.RunLaws.{sound}
 use Rattle.tcap_check.proofs.SinceLaws.{since_at}
 use Rattle.tcap_refute.specs.Before.{sent_by, since_quiet}
-use Rattle.tcap_refute.proofs.BeforeLaws.{is_itself, sent_has}
-use Rattle.tcap_refute.proofs.HalfLawsActs.{closed_acts, expired_acts}
-use Rattle.tcap_refute.proofs.HalfLawsLists.{since_mark, since_sent}
+use Rattle.tcap_refute.proofs.BeforeLaws.{sent_has}
+use Rattle.tcap_refute.proofs.LifeLawsItems.{since_mark, since_more}
 use Rattle.tcap_refute.proofs.HalfLawsTurns.{Acts, Unseen}
-use Rattle.tcap_refute.proofs.MomentLaws.{kept_before}
 
 -- ---- views
 
@@ -86,8 +77,8 @@ module _ {table : Table} {side : Side} {e : End} {items : List Item} where
 
 -- ---- what the steps keep
 
--- It holds of nothing, and behind a message that the end says, hears or refuses, behind what happens unseen, where a message
--- to it is lost, and where its peer sends one.
+-- It holds of nothing, and behind a message that the end says, hears or refuses, behind what happens unseen, where a
+-- message to it is lost, and where its peer sends one.
 pub record IsKeptBy (table : Table) (side : Side) (Holds : End → List Message → List Item → Type 0) : Type 0 where
   pub blank : Holds nothing [] []
   pub says : (e next : End) (coming : List Message) (items : List Item) (m : Message) → View table side e coming items
@@ -117,25 +108,25 @@ which sides.B sides.B = inl refl
 -- A message is said by the end,
 pub said_here : (side : Side) (m : Message) (e : End) (w : World)
     → IsSeen side (joined side m (with_end side e w)) e (coming_to side w) (since_quiet w.sent ++ Sent side m ∷ [])
-said_here sides.A m e w = record { end_is = refl; coming_is = refl; items_is = since_sent sides.A m w.sent }
-said_here sides.B m e w = record { end_is = refl; coming_is = refl; items_is = since_sent sides.B m w.sent }
+said_here sides.A m e w = record { end_is = refl; coming_is = refl; items_is = since_more sides.A m w.sent }
+said_here sides.B m e w = record { end_is = refl; coming_is = refl; items_is = since_more sides.B m w.sent }
 
 -- or by its peer;
 pub said_there : (side : Side) (m : Message) (e : End) (w : World)
     → IsSeen side (joined (other side) m (with_end (other side) e w)) (end_at side w) (coming_to side w ++ m ∷ [])
     (since_quiet w.sent ++ Sent (other side) m ∷ [])
 said_there sides.A m e w =
-    record { end_is = refl; coming_is = map-append _ w.from_b _; items_is = since_sent sides.B m w.sent }
+    record { end_is = refl; coming_is = map-append _ w.from_b _; items_is = since_more sides.B m w.sent }
 said_there sides.B m e w =
-    record { end_is = refl; coming_is = map-append _ w.from_a _; items_is = since_sent sides.A m w.sent }
+    record { end_is = refl; coming_is = map-append _ w.from_a _; items_is = since_more sides.A m w.sent }
 
 pub told_there : (side : Side) (m : Message) (w : World)
     → IsSeen side (joined (other side) m w) (end_at side w) (coming_to side w ++ m ∷ [])
     (since_quiet w.sent ++ Sent (other side) m ∷ [])
 told_there sides.A m w =
-    record { end_is = refl; coming_is = map-append _ w.from_b _; items_is = since_sent sides.B m w.sent }
+    record { end_is = refl; coming_is = map-append _ w.from_b _; items_is = since_more sides.B m w.sent }
 told_there sides.B m w =
-    record { end_is = refl; coming_is = map-append _ w.from_a _; items_is = since_sent sides.A m w.sent }
+    record { end_is = refl; coming_is = map-append _ w.from_a _; items_is = since_more sides.A m w.sent }
 
 -- one is heard;
 pub heard_here : (side : Side) (more : List OnItsWay) (e : End) (w : World)
@@ -144,8 +135,8 @@ heard_here sides.A more e w = record { end_is = refl; coming_is = refl; items_is
 heard_here sides.B more e w = record { end_is = refl; coming_is = refl; items_is = refl }
 
 pub heard_there : (side : Side) (more : List OnItsWay) (e : End) (w : World)
-    → IsSeen side (with_end (other side) e (with_channel (other (other side)) more w)) (end_at side w) (coming_to side w)
-    (since_quiet w.sent)
+    → IsSeen side (with_end (other side) e (with_channel (other (other side)) more w)) (end_at side w)
+    (coming_to side w) (since_quiet w.sent)
 heard_there sides.A more e w = record { end_is = refl; coming_is = refl; items_is = refl }
 heard_there sides.B more e w = record { end_is = refl; coming_is = refl; items_is = refl }
 
@@ -153,16 +144,16 @@ heard_there sides.B more e w = record { end_is = refl; coming_is = refl; items_i
 pub refused_here : (side : Side) (m : Message) (more : List OnItsWay) (w : World)
     → IsSeen side (joined side m (with_channel (other side) more w)) (end_at side w) (messages_of more)
     (since_quiet w.sent ++ Sent side m ∷ [])
-refused_here sides.A m more w = record { end_is = refl; coming_is = refl; items_is = since_sent sides.A m w.sent }
-refused_here sides.B m more w = record { end_is = refl; coming_is = refl; items_is = since_sent sides.B m w.sent }
+refused_here sides.A m more w = record { end_is = refl; coming_is = refl; items_is = since_more sides.A m w.sent }
+refused_here sides.B m more w = record { end_is = refl; coming_is = refl; items_is = since_more sides.B m w.sent }
 
 pub refused_there : (side : Side) (m : Message) (more : List OnItsWay) (w : World)
     → IsSeen side (joined (other side) m (with_channel (other (other side)) more w)) (end_at side w)
     (coming_to side w ++ m ∷ []) (since_quiet w.sent ++ Sent (other side) m ∷ [])
 refused_there sides.A m more w =
-    record { end_is = refl; coming_is = map-append _ w.from_b _; items_is = since_sent sides.B m w.sent }
+    record { end_is = refl; coming_is = map-append _ w.from_b _; items_is = since_more sides.B m w.sent }
 refused_there sides.B m more w =
-    record { end_is = refl; coming_is = map-append _ w.from_a _; items_is = since_sent sides.A m w.sent }
+    record { end_is = refl; coming_is = map-append _ w.from_a _; items_is = since_more sides.A m w.sent }
 
 -- one is lost;
 pub lost_here : (side : Side) (more : List OnItsWay) (w : World)
@@ -187,7 +178,7 @@ unseen_there sides.A e w = record { end_is = refl; coming_is = refl; items_is = 
 unseen_there sides.B e w = record { end_is = refl; coming_is = refl; items_is = refl }
 
 pub mark_seen : (side : Side) (items : List Item)
-    → IsSeen side (record { a = nothing; b = nothing; from_a = []; from_b = []; sent = items ++ Item.Quiet ∷ [] }) nothing
-    [] []
+    → IsSeen side (record { a = nothing; b = nothing; from_a = []; from_b = []; sent = items ++ Item.Quiet ∷ [] })
+    nothing [] []
 mark_seen sides.A items = record { end_is = refl; coming_is = refl; items_is = since_mark items }
 mark_seen sides.B items = record { end_is = refl; coming_is = refl; items_is = since_mark items }

@@ -31,7 +31,8 @@ use Rattle.tcap_check.proofs.TurnLaws.{id_is}
 use Rattle.tcap_refute.specs.Speaker.{told}
 use Rattle.tcap_refute.proofs.LifeLawsGets.{story_answered, story_goes_on, story_received}
 use Rattle.tcap_refute.proofs.LifeLawsHalves.{Story, story_ends, story_still}
-use Rattle.tcap_refute.proofs.LifeLawsSent.{HaveStories, own_is}
+use Rattle.tcap_refute.proofs.LifeLawsSent.{HaveStories}
+use Rattle.tcap_refute.proofs.OverLaws.{own_is}
 
 -- To an ID that no half has as its peer's the end told nothing.
 abbrev pub ToldNone : Side → List Item → End → Type 0

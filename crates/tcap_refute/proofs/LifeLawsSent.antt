@@ -36,7 +36,7 @@ use Rattle.tcap_refute.proofs.LifeLawsGets.{story_begins}
 use Rattle.tcap_refute.proofs.LifeLawsHalves.{HasBegun, KeepsOwn, Story, begun_kept, story_later, story_sends}
 use Rattle.tcap_refute.proofs.LifeLawsItems.{begins_kept, sent_own, told_not, told_now}
 use Rattle.tcap_refute.proofs.Lives.{SameLists, told_to}
-use Rattle.tcap_refute.proofs.OverLaws.{found_passes, peer_is}
+use Rattle.tcap_refute.proofs.OverLaws.{peer_is}
 
 -- Each open half of an end has its story.
 abbrev pub HaveStories : Table → Side → List Item → List Message → End → Type 0
@@ -53,10 +53,6 @@ BeganNone side items e = (id : List ℕ) → with_own e id ≡ None → begin_fr
 pub one_half : (e : End) (f g : KeptHalf) → Has e f → Has e g → IsSame f g → g.half ≡ f.half
 one_half e f g in_f in_g same =
     let here : Some g.half ≡ Some f.half = sym in_g ∙ (rw (← same.0, ← same.1) in_f) in cc
-
--- A half that is found by its own ID has it.
-pub own_is : (e : End) (id : List ℕ) (f : KeptHalf) → with_own e id ≡ Some f → f.half.own ≡ Some id
-own_is e id f is = id_is id f.half.own (found_passes (λ h. is_id id h.own) e f is)
 
 -- ---- one half becomes another
 

@@ -33,8 +33,8 @@ abbrev pub may_carry : Message → Phase → Standing → Bool
 may_carry (Abort dtid reason) phase standing = may_abort phase standing (reason_dialogue reason)
 may_carry m phase standing = may_go_on phase standing (dialogue_in m)
 
--- A Continue goes over an active half with its originating ID, or over one whose Begin it answers, where no half has that
--- ID.
+-- A Continue goes over an active half with its originating ID, or over one whose Begin it answers, where no half has
+-- that ID.
 abbrev pub Speaks : End → Message → Half → Type 0
 Speaks e (Continue otid dtid dialogue components) h =
     ((h.phase ≡ phases.Active) × (h.own ≡ Some otid)) ⊎ ((h.phase ≡ phases.Received) × (with_own e otid ≡ None))

@@ -1,37 +1,34 @@
 -- An Abort by which a provider replies answers something that is left (Q.774 3.3).
-use Rattle.std.proofs.Common.{◌≡◌, ◌⊎◌, inl, inr, ℕ, ◌+◌, ◌<◌, ◌≤◌, arith, Bool, true, false, cond, List, [], ◌∷◌, Option, Some, None, not, is_none, refl, sym, ap, ◌∙◌}
-use Rattle.std.specs.Prelude.{Contains, ◌&&◌, ◌||◌, nat_lt}
+use Rattle.std.proofs.Common.{◌≡◌, ◌⊎◌, inl, inr, ℕ, ◌+◌, ◌<◌, ◌≤◌, arith, Bool, true, false, cond, List, [], ◌∷◌, Option, Some, None, not, refl, ap, ◌∙◌}
+use Rattle.std.specs.Prelude.{Contains, ◌||◌, nat_lt}
 use Rattle.std.specs.List.{list_any}
 use Rattle.std.proofs.lemmas.Bool.{and_from, and_parts, both_ways, ltb-true, not-true, or_cases}
 use Rattle.tcap_msg.specs.declared.kind.Kind.TheVariants as forms
 use Rattle.tcap_msg.specs.declared.message.Message.{Message}
 use Rattle.tcap_msg.specs.declared.message.Message.TheVariants.{Unidirectional, Begin, Continue, End as EndMessage, Abort}
-use Rattle.tcap_msg.specs.Parts.{cause_in, dtid_in, otid_in, reason_cause}
+use Rattle.tcap_msg.specs.Parts.{cause_in, dtid_in, otid_in}
 use Rattle.tcap_record.specs.declared.entry.End.{End as Side}
 use Rattle.tcap_end.specs.declared.half.Phase.TheVariants as phases
-use Rattle.tcap_end.specs.declared.half.Slot.{Slot}
 use Rattle.tcap_end.specs.declared.half.Slot.TheVariants.{Begun, Accepted}
 use Rattle.tcap_end.specs.Table.{Table}
-use Rattle.tcap_end.specs.Half.{Half, is_closed}
+use Rattle.tcap_end.specs.Half.{is_closed}
 use Rattle.tcap_end.specs.End.{End, KeptHalf, is_id, with_own, with_peer}
 use Rattle.tcap_end.specs.Reply.{is_open}
 use Rattle.tcap_end.specs.Sound.{Has, IsEnd}
 use Rattle.tcap_end.proofs.FoundLaws.{none_own, none_peer, own_has}
 use Rattle.tcap_end.proofs.StepLaws.{none_is}
 use Rattle.tcap_check.specs.World.{Item, other}
-use Rattle.tcap_check.specs.Run.{reply_to}
 use Rattle.tcap_check.proofs.TurnLaws.{id_is}
 use Rattle.tcap_refute.specs.Before.{asked, has_a, is_a, sent_by}
 use Rattle.tcap_refute.specs.Blame.{all_go_to_open, count_received, is_abort_with, is_wrong_reply}
 use Rattle.tcap_refute.specs.Counts.{count}
 use Rattle.tcap_refute.specs.Speaker.{is_nothing, is_surely_open, may_stand, told}
 use Rattle.tcap_refute.proofs.BeforeLaws.{is_that_id}
-use Rattle.tcap_refute.proofs.LedLawsCounts.{any_counts, count_more, one}
+use Rattle.tcap_refute.proofs.LedLawsCounts.{any_counts, one}
 use Rattle.tcap_refute.proofs.LifeLawsSent.{one_half}
 use Rattle.tcap_refute.proofs.Members.{any_has, filter_has, has_first}
 use Rattle.tcap_refute.proofs.OverLaws.{own_is}
 use Rattle.tcap_refute.proofs.HalfLawsActs.{Uses}
-use Rattle.tcap_refute.proofs.HalfLawsAdvance.{Refuses}
 use Rattle.tcap_refute.proofs.HalfLawsCounts.{OfBegins, OfContinues, all_paid, comes_from, taken_head}
 use Rattle.tcap_refute.proofs.HalfLawsFinds.{filter_is}
 use Rattle.tcap_refute.proofs.HalfLawsIds.{all_use}
@@ -90,7 +87,8 @@ module _ {table : Table} {side : Side} {e : End} {coming : List Message} {items 
   pub begin_left : (id : List ℕ) → is_a forms.Begin m ≡ true → otid_in m ≡ Some id → with_peer e id ≡ None
       → count (is_a forms.Begin) (asked side id items) < 2 → is_wrong_reply table side id items 4 ≡ true → ⊥
   begin_left id begins from none few is =
-      by (or_cases (not (has_a forms.Begin (asked side id items)) || list_any (is_abort_with 4 id) (sent_by side items)) _ is)
+      by (or_cases (not (has_a forms.Begin (asked side id items))
+      || list_any (is_abort_with 4 id) (sent_by side items)) _ is)
     where
       first : (not (has_a forms.Begin (asked side id items)) ≡ true)
           ⊎ (list_any (is_abort_with 4 id) (sent_by side items) ≡ true) → ⊥
@@ -103,7 +101,8 @@ module _ {table : Table} {side : Side} {e : End} {coming : List Message} {items 
           ap one (and_from (is_a forms.Begin m) _ begins (is_that_id id (otid_in m) from)) in
           let before = any_counts (is_abort_with 4 id) (sent_by side items) refused in absurd (omega arith)
 
-      by : ((not (has_a forms.Begin (asked side id items)) || list_any (is_abort_with 4 id) (sent_by side items)) ≡ true)
+      by : ((not (has_a forms.Begin (asked side id items))
+          || list_any (is_abort_with 4 id) (sent_by side items)) ≡ true)
           ⊎ (not (is_nothing (told side id items)) ≡ true) → ⊥
       by (inl wrong) = first (or_cases (not (has_a forms.Begin (asked side id items))) _ wrong)
       by (inr some) = let (f, had, peer) = told_half id some in none_peer e id f none had peer
@@ -129,7 +128,8 @@ module _ {table : Table} {side : Side} {e : End} {coming : List Message} {items 
               let paid = (all_paid view OfContinues id).half f had (slot, peer) in
               let head = taken_head side OfContinues id coming items m in
               let counted = here in
-              let most = received_most (is_nothing (told side id items)) (may_stand side id items) in absurd (omega arith)
+              let most = received_most (is_nothing (told side id items)) (may_stand side id items) in
+              absurd (omega arith)
           of f had peer (inr slot) = both_ways (may_stand side id items) never (stands_so view id f had peer few slot)
 
       by : (count_received side id items ≡ 0)
@@ -164,7 +164,8 @@ module _ {table : Table} {side : Side} {e : End} {coming : List Message} {items 
       by false sure =
           let (some, none) = and_parts (has_a forms.Continue (asked side id items)) _ all in
           both_ways _ (not-true _ none)
-          (any_has _ (asked side id items) m (was_asked id from) (and_from (is_a forms.Continue m) _ goes (rw (dtid, sure) refl)))
+          (any_has _ (asked side id items) m (was_asked id from)
+          (and_from (is_a forms.Continue m) _ goes (rw (dtid, sure) refl)))
 
   pub continue_left : (id to : List ℕ) → is_a forms.Continue m ≡ true → otid_in m ≡ Some id → dtid_in m ≡ Some to
       → is_open (with_own e to) ≡ false → count (is_a forms.Begin) (asked side id items) < 2

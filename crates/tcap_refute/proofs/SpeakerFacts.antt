@@ -1,6 +1,6 @@
 -- The half over which a message is sent, and what the list tells of it: its own ID, and how it began.
-use Rattle.std.proofs.Common.{◌≡◌, ◌⊎◌, inl, inr, ℕ, ◌+◌, ◌<◌, ◌≤◌, arith, Bool, true, false, cond, List, [], ◌∷◌, Option, Some, None, not, is_some, refl, sym, ap, subst, ◌∙◌}
-use Rattle.std.specs.Prelude.{Contains, filter, filter_map, ◌&&◌, ◌||◌}
+use Rattle.std.proofs.Common.{◌≡◌, ◌⊎◌, inl, inr, ℕ, ◌<◌, arith, Bool, true, false, cond, List, [], ◌∷◌, Option, Some, None, not, is_some, refl, sym, ap, subst, ◌∙◌}
+use Rattle.std.specs.Prelude.{Contains, filter_map}
 use Rattle.std.specs.List.{find, list_any}
 use Rattle.std.specs.Str.{bytes_eq}
 use Rattle.std.proofs.lemmas.Bool.{and_from, and_parts, both_ways, not-true}
@@ -8,18 +8,15 @@ use Rattle.std.proofs.lemmas.Slice.Eq.{bytes_eq-Decides}
 use Rattle.tcap_msg.specs.declared.kind.Kind.TheVariants as forms
 use Rattle.tcap_msg.specs.declared.message.Message.{Message}
 use Rattle.tcap_msg.specs.declared.message.Message.TheVariants.{Unidirectional, Begin, Continue, End as EndMessage, Abort}
-use Rattle.tcap_msg.specs.Parts.{cause_in, dtid_in, otid_in}
+use Rattle.tcap_msg.specs.Parts.{dtid_in, otid_in}
 use Rattle.tcap_record.specs.declared.entry.End.{End as Side}
-use Rattle.tcap_end.specs.declared.half.Phase.{Phase}
-use Rattle.tcap_end.specs.declared.half.Phase.TheVariants as phases
 use Rattle.tcap_end.specs.declared.half.Slot.{Slot}
 use Rattle.tcap_end.specs.declared.half.Slot.TheVariants.{Begun, Accepted}
 use Rattle.tcap_end.specs.Table.{Table}
-use Rattle.tcap_end.specs.Half.{Half, is_closed}
+use Rattle.tcap_end.specs.Half.{Half}
 use Rattle.tcap_end.specs.End.{End, KeptHalf, is_id, with_own}
-use Rattle.tcap_end.specs.Sound.{FitsPhase, Has, IsEnd}
-use Rattle.tcap_end.proofs.FoundLaws.{none_own}
-use Rattle.tcap_check.specs.World.{Item, other}
+use Rattle.tcap_end.specs.Sound.{Has, IsEnd}
+use Rattle.tcap_check.specs.World.{Item}
 use Rattle.tcap_check.specs.Run.{then_so}
 use Rattle.tcap_check.proofs.ExpiryLaws.{contains_first}
 use Rattle.tcap_check.proofs.TurnLaws.{id_is}
@@ -27,16 +24,16 @@ use Rattle.tcap_refute.specs.Before.{asked, has_a, is_a, sent_by}
 use Rattle.tcap_refute.specs.Blame.{is_abort_with}
 use Rattle.tcap_refute.specs.Counts.{count}
 use Rattle.tcap_refute.specs.Kind.{or_else}
-use Rattle.tcap_refute.specs.Speaker.{back, began, begin_from, is_accepted, is_begun, is_nothing, known_own, may_stand, one_id, own_id, told, was_refused}
+use Rattle.tcap_refute.specs.Speaker.{back, begin_from, is_accepted, is_begun, is_nothing, known_own, may_stand, one_id, told, was_refused}
 use Rattle.tcap_refute.proofs.Members.{any_has, filter_map_has, has_not}
 use Rattle.tcap_refute.proofs.LedLawsCounts.{any_counts}
+use Rattle.tcap_refute.proofs.LifeLawsItems.{begins_from}
 use Rattle.tcap_refute.proofs.LifeLawsSent.{one_half}
-use Rattle.tcap_refute.proofs.OverLaws.{IsOver}
 use Rattle.tcap_refute.proofs.HalfLawsAccepted.{all_asked}
 use Rattle.tcap_refute.proofs.HalfLawsActs.{Uses}
-use Rattle.tcap_refute.proofs.HalfLawsCounts.{IsPaid, OfBegins, all_paid}
+use Rattle.tcap_refute.proofs.HalfLawsCounts.{OfBegins, all_paid}
 use Rattle.tcap_refute.proofs.HalfLawsFinds.{filter_is, find_has, find_none}
-use Rattle.tcap_refute.proofs.HalfLawsIds.{CameBack, all_back, all_begun, all_use, begin_used, begins_from}
+use Rattle.tcap_refute.proofs.HalfLawsIds.{all_back, all_begun, all_use, begin_used}
 use Rattle.tcap_refute.proofs.HalfLawsViews.{View, view_sound}
 
 -- ---- tests
@@ -91,7 +88,8 @@ module _ {table : Table} {side : Side} {e : End} {coming : List Message} {items 
       let both : Some f.key ≡ Some id = sym kept ∙ peer in cc
 
   -- and its Begin may stand, where no two were asked.
-  pub stands_so : count (is_a forms.Begin) (asked side id items) < 2 → f.slot ≡ Accepted → may_stand side id items ≡ true
+  pub stands_so : count (is_a forms.Begin) (asked side id items) < 2 → f.slot ≡ Accepted
+      → may_stand side id items ≡ true
   stands_so few slot =
       let of = all_asked view f had slot in
       let there : Contains (asked side id items) of.begin =

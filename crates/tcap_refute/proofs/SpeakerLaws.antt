@@ -1,12 +1,12 @@
 -- What is known of the half over which a message is sent bounds what was sent and received over it.
-use Rattle.std.proofs.Common.{◌≡◌, ◌⊎◌, inl, inr, ℕ, ◌+◌, ◌<◌, ◌≤◌, arith, Bool, true, false, cond, List, [], ◌∷◌, ◌++◌, Option, Some, None, not, is_some, refl, sym, ap, subst, ◌∙◌}
+use Rattle.std.proofs.Common.{◌≡◌, ◌⊎◌, inl, inr, ℕ, ◌<◌, ◌≤◌, arith, Bool, true, false, cond, List, [], ◌∷◌, ◌++◌, Option, Some, None, is_some, refl, sym, ap, subst, ◌∙◌}
 use Rattle.std.specs.Prelude.{Contains, filter, ◌||◌}
-use Rattle.std.proofs.lemmas.Bool.{and_parts, not-true, or_cases}
+use Rattle.std.proofs.lemmas.Bool.{and_parts}
 use Rattle.tcap_parts.specs.declared.component.Component.{Component}
 use Rattle.tcap_msg.specs.declared.kind.Kind.TheVariants as forms
 use Rattle.tcap_msg.specs.declared.message.Message.{Message}
 use Rattle.tcap_msg.specs.declared.message.Message.TheVariants.{Unidirectional, Begin, Continue, End as EndMessage, Abort}
-use Rattle.tcap_msg.specs.Parts.{components_in, dtid_in, otid_in}
+use Rattle.tcap_msg.specs.Parts.{dtid_in}
 use Rattle.tcap_record.specs.declared.entry.End.{End as Side}
 use Rattle.tcap_end.specs.declared.half.Phase.{Phase}
 use Rattle.tcap_end.specs.declared.half.Phase.TheVariants as phases
@@ -17,11 +17,10 @@ use Rattle.tcap_end.specs.Half.{is_closed}
 use Rattle.tcap_end.specs.End.{End, KeptHalf, is_id, with_own}
 use Rattle.tcap_end.specs.Sound.{FitsPhase, Has, IsEnd}
 use Rattle.tcap_check.specs.World.{Item}
-use Rattle.tcap_refute.specs.Before.{asked, components_of, has_a, is_a}
+use Rattle.tcap_refute.specs.Before.{asked, has_a, is_a}
 use Rattle.tcap_refute.specs.Counts.{count}
-use Rattle.tcap_refute.specs.Speaker.{Speaker, back, began, begin_from, goes_on_to, goes_to, heard_begin, heard_by, heard_later, is_accepted, is_begun, known_own, own_begin, own_id, speaker, told}
-use Rattle.tcap_refute.proofs.BeforeLaws.{is_that_id}
-use Rattle.tcap_refute.proofs.Lives.{AreWithin, Bounds, IsToldOver, Life, got_in, later_to, may_have_come, sent_in, told_to}
+use Rattle.tcap_refute.specs.Speaker.{back, began, begin_from, goes_on_to, goes_to, heard_begin, heard_by, heard_later, is_accepted, is_begun, known_own, own_begin, own_id, speaker, told}
+use Rattle.tcap_refute.proofs.Lives.{Bounds, IsToldOver, Life, got_in, later_to, may_have_come, sent_in, told_to}
 use Rattle.tcap_refute.proofs.Members.{any_has}
 use Rattle.tcap_refute.proofs.LifeLawsCome.{count_in, count_in_append, count_in_first}
 use Rattle.tcap_refute.proofs.OverLaws.{IsOver, Speaks}
@@ -208,7 +207,8 @@ module _ {table : Table} {side : Side} {e : End} {coming : List Message} {items 
   heard_so p = by (either_slot f.slot)
     where
       by : (f.slot ≡ Begun) ⊎ (f.slot ≡ Accepted)
-          → count_in p (may_have_come side items f.slot f.half.own f.half.peer) ≤ count_in p (heard_by side id items own)
+          → count_in p (may_have_come side items f.slot f.half.own f.half.peer)
+          ≤ count_in p (heard_by side id items own)
       by (inl slot) =
           let kept = kept_own e f is_end half.had slot in
           let come = come_begun side items f.slot f.half.own f.half.peer f.key id slot kept half.peer in
