@@ -1,7 +1,10 @@
 pub mod Help
+pub mod Valued
 pub mod Tool
 pub mod Paths
 pub mod Requests
 pub mod Cases
 pub mod PrintLaws
 pub mod ShowLaws
+pub mod JudgeLaws
+pub mod LawfulLaws

@@ -2,3 +2,8 @@ pub mod Words
 pub mod Shown
 pub mod Showing
 pub mod Packed
+pub mod Text
+pub mod Outcome
+pub mod Checked
+pub mod Judging
+pub mod LawfulRecord

@@ -7,4 +7,6 @@ pub enum Request<'a> {
     Show(Option<&'a str>),
     /// Make a record of the lines of hex digits in the file of this path, or on standard input.
     Pack(Option<&'a str>),
+    /// Replay a certificate for a record: the paths of the record, of the operation table and of the certificate.
+    Check(&'a str, &'a str, &'a str),
 }

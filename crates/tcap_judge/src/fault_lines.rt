@@ -14,7 +14,7 @@ use tcap_record::{FeedFault, push_fault};
 pub const MEMORY_LINE: &str = "FAULT 99 0\n";
 
 /// Writes a line.
-fn write_line<W: Write>(writer: &mut W, line: &[u8]) -> Result<(), WriteFailed>
+pub(crate) fn write_line<W: Write>(writer: &mut W, line: &[u8]) -> Result<(), WriteFailed>
     ensures line { OnOk result (Appends (W.taken writer.old) (W.taken writer.new) line.now) }
     ensures counts { OnOk result (W.failures writer.new ≡ W.failures writer.old) }
     ensures failed { OnErr result (W.failures writer.new ≡ one_more (W.failures writer.old)) }

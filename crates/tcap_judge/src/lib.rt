@@ -2,13 +2,17 @@
 #![tactic(auto)]
 
 mod asked;
+mod checking;
 mod fault_lines;
+mod outcome;
 mod packing;
 mod showing;
 mod status;
+mod text_reading;
 mod words;
 
 pub use asked::Request;
+pub use checking::run_check;
 pub use fault_lines::MEMORY_LINE;
 pub use packing::run_pack;
 pub use showing::run_show;

@@ -1,43 +1,50 @@
 //! What the words of the command line ask for.
 
-ghost use Rattle.std.specs.Prelude.{◌≡◌, ◌∷◌, [], IfErr, IfOk, MatchResult, None, Some, codes, false, true};
-ghost use Rattle.clap.specs.Words.{app_of, fault_of, takes};
+ghost use Rattle.std.specs.Prelude.{◌≡◌, ◌∷◌, [], IfErr, IfOk, IsErrAnd, MatchResult, None, Some, codes, false, is_some, true};
+ghost use Rattle.clap.specs.Words.{app_of, fault_of, first_value, found_of, rule_of, shape_of, takes};
 ghost use Rattle.clap.specs.Walk.{Text, texts};
-ghost use Rattle.tcap_judge.specs.Words.{Asks, Becomes, IsFaultOf, IsMemory, IsPack, IsShow, begins_with_hyphen, is_help, tool, words_status};
+ghost use Rattle.clap.specs.declared.builder.command.Command.TheViews.{out-Command};
+ghost use Rattle.clap.specs.declared.error.kind.ErrorKind.TheVariants.{DisplayVersion, MissingRequiredArgument};
+ghost use Rattle.tcap_judge.specs.Words.{Asks, Becomes, IsCheck, IsFaultOf, IsMemory, IsPack, IsShow, begins_with_hyphen, check_shape, is_printed, needed_rule, tool, words_status};
 
 use crate::asked::Request;
 use clap::error::ErrorKind;
-use clap::{Arg, ArgAction, Command, Error};
+use clap::{Arg, ArgAction, ArgMatches, Command, Error};
 use std::alloc::{AllocError, Global};
 use std::{error, fmt};
 
 /// Why words are not a request. Its `Display` is the text for the user.
 #[derive(Debug, Drop)]
 pub enum WordsFault {
-    /// What clap makes of them: wrong words, or a request for help.
+    /// What clap makes of them: wrong words, or a request for help or the version.
     Words(Error),
     /// Memory ran out.
     Memory,
 }
 
 impl WordsFault {
-    /// Whether the words ask for help, of which the text goes to the standard output.
-    pub fn is_help(&self) -> bool
-        ensures { result ≡ is_help self.now }
+    /// Whether the words ask for help or the version, of which the text goes to the standard output.
+    pub fn is_printed(&self) -> bool
+        ensures { result ≡ is_printed self.now }
     {
         match self {
-            WordsFault::Words(error) => matches!(error.kind(), ErrorKind::DisplayHelp),
+            WordsFault::Words(error) => {
+                matches!(
+                    error.kind(),
+                    ErrorKind::DisplayHelp | ErrorKind::DisplayVersion
+                )
+            }
             WordsFault::Memory => false,
         }
     }
 
-    /// The exit status of the program: 0 where the words ask for help, 4 where they are wrong, 3 where
-    /// memory ran out.
+    /// The exit status of the program: 0 where the words ask for help or the version, 4 where they are
+    /// wrong, 3 where memory ran out.
     pub fn status(&self) -> u8
         ensures { result ≡ words_status self.now }
     {
         match self {
-            WordsFault::Words(_) if self.is_help() => 0,
+            WordsFault::Words(_) if self.is_printed() => 0,
             WordsFault::Words(_) => 4,
             WordsFault::Memory => 3,
         }
@@ -75,6 +82,31 @@ impl fmt::Display for WordsFault {
 
 impl error::Error for WordsFault {}
 
+/// A positional argument that may not be left out.
+fn needed_arg<'a>(alloc: Global, id: &'a str, text: &'a str) -> Arg<'a>
+    ensures rule { rule_of result ≡ needed_rule id.entry.now }
+    ensures local { result.global ≡ false }
+{
+    Arg::new(alloc, id)
+        .required(true)
+        .action(ArgAction::Set)
+        .help(text)
+}
+
+/// The subcommand `check`.
+fn check_command<'a>(alloc: Global) -> Result<Command<'a>, AllocError>
+    ensures { IfOk result (λ c. (shape_of c ≡ check_shape) × ((out-Command c).has_globals ≡ false)) }
+{
+    let record = needed_arg(alloc, "RECORD", "The file of the record");
+    let table = needed_arg(alloc, "TABLE", "The file of the operation table");
+    let cert = needed_arg(alloc, "CERT", "The file of the certificate");
+    Command::new(alloc, "check")
+        .about("Replays a certificate for a record")
+        .arg(record)?
+        .arg(table)?
+        .arg(cert)
+}
+
 /// The command line that the program takes.
 fn command<'a>(alloc: Global) -> Result<Command<'a>, AllocError>
     ensures { IfOk result (λ c. app_of c ≡ tool) }
@@ -91,11 +123,25 @@ fn command<'a>(alloc: Global) -> Result<Command<'a>, AllocError>
     let pack = Command::new(alloc, "pack")
         .about("Makes a record of lines of hex digits")
         .arg(lines)?;
+    let check = check_command(alloc)?;
     Command::new(alloc, "tcapjudge")
-        .about("Reads records of TCAP messages")
+        .about("Judges records of TCAP messages")
+        .version("0.1.0")
         .subcommand_required(true)
         .subcommand(show)?
-        .subcommand(pack)
+        .subcommand(pack)?
+        .subcommand(check)
+}
+
+/// The value of the argument `id`, which has one.
+fn needed<'a>(found: &ArgMatches<'a>, id: &str) -> &'a str
+    requires { is_some (first_value (found_of found.now) id.now) ≡ true }
+    ensures { Some result.now ≡ first_value (found_of found.now) id.now }
+{
+    let Some(value) = found.get_str(id) else {
+        unreachable!()
+    };
+    value
 }
 
 /// What `words` ask for, as clap reads them.
@@ -113,6 +159,12 @@ fn parsed_request<'a>(alloc: Global, words: &'a [&'a str]) -> Result<Request<'a>
     match name {
         "show" => Ok(Request::Show(found.get_str("RECORD"))),
         "pack" => Ok(Request::Pack(found.get_str("LINES"))),
+        "check" => {
+            let record = needed(found, "RECORD");
+            let table = needed(found, "TABLE");
+            let cert = needed(found, "CERT");
+            Ok(Request::Check(record, table, cert))
+        }
         _ => unreachable!(),
     }
 }
@@ -131,6 +183,21 @@ pub fn request<'a>(alloc: Global, words: &'a [&'a str]) -> Result<Request<'a>, W
     ensures pack_path { (program path : Text)
         → texts words.entry.now ≡ program ∷ codes "pack" ∷ path ∷ []
         → begins_with_hyphen path ≡ false → MatchResult result (IsPack (Some path)) IsMemory }
+    ensures check_paths { (program x y z : Text)
+        → texts words.entry.now ≡ program ∷ codes "check" ∷ x ∷ y ∷ z ∷ []
+        → begins_with_hyphen x ≡ false → begins_with_hyphen y ≡ false → begins_with_hyphen z ≡ false
+        → MatchResult result (IsCheck x y z) IsMemory }
+    ensures check_alone { (program : Text) → texts words.entry.now ≡ program ∷ codes "check" ∷ []
+        → IsErrAnd result (IsFaultOf (MissingRequiredArgument ∷ [])) }
+    ensures check_one { (program x : Text)
+        → texts words.entry.now ≡ program ∷ codes "check" ∷ x ∷ []
+        → begins_with_hyphen x ≡ false → IsErrAnd result (IsFaultOf (MissingRequiredArgument ∷ [])) }
+    ensures check_two { (program x y : Text)
+        → texts words.entry.now ≡ program ∷ codes "check" ∷ x ∷ y ∷ []
+        → begins_with_hyphen x ≡ false → begins_with_hyphen y ≡ false
+        → IsErrAnd result (IsFaultOf (MissingRequiredArgument ∷ [])) }
+    ensures version { (program : Text) → texts words.entry.now ≡ program ∷ codes "--version" ∷ []
+        → IsErrAnd result (IsFaultOf (DisplayVersion ∷ [])) }
     ensures faults { MatchResult result (λ _. fault_of tool (texts words.entry.now) ≡ [])
         (IsFaultOf (fault_of tool (texts words.entry.now))) }
 {

@@ -5,8 +5,8 @@ use std::test::Fail;
 use tcap_judge::{Request, request};
 use tcap_msg_rows::{Row, each_row};
 
-/// The columns: what the words ask for, or `wrong` or `help`; the file that is named, an equals sign in front of it, a dash for none,
-/// or what the text has to contain; and the words, each behind a comma.
+/// The columns: what the words ask for, or `wrong` or `printed`; the file that is named, or the files with blanks between them, an
+/// equals sign in front, a dash for none, or what the text has to contain; and the words, each behind a comma.
 const WORDS: &str = "
 show;-;,tcapjudge,show
 show;=x;,tcapjudge,show,x
@@ -18,21 +18,31 @@ pack;-;,tcapjudge,pack
 pack;=x;,tcapjudge,pack,x
 pack;=show;,tcapjudge,pack,show
 pack;=-x;,tcapjudge,pack,--,-x
+check;=x y z;,tcapjudge,check,x,y,z
+check;=show pack check;,tcapjudge,check,show,pack,check
+check;=x -y z;,tcapjudge,check,x,--,-y,z
 wrong;requires a subcommand;
 wrong;requires a subcommand;,tcapjudge
 wrong;unrecognized subcommand 'shew';,tcapjudge,shew
 wrong;unexpected argument 'y';,tcapjudge,show,x,y
 wrong;unexpected argument 'y';,tcapjudge,pack,x,y
+wrong;<RECORD> <TABLE> <CERT>;,tcapjudge,check
+wrong;<CERT>;,tcapjudge,check,x,y
+wrong;unexpected argument 'w';,tcapjudge,check,x,y,z,w
+wrong;unexpected argument '--version';,tcapjudge,show,--version
 wrong;unexpected argument '-x';,tcapjudge,show,-x
 wrong;unrecognized subcommand 'x';,tcapjudge,x
-help;Usage: tcapjudge;,tcapjudge,--help
-help;Usage: tcapjudge;,tcapjudge,-h
-help;Usage: tcapjudge;,tcapjudge,help
-help;Usage: tcapjudge;,tcapjudge,show,--help
-help;Usage: tcapjudge;,tcapjudge,show,x,-h
-help;Usage: tcapjudge;,tcapjudge,pack,--help
-help;Usage: tcapjudge;,tcapjudge,help,show
-help;Usage: tcapjudge;,tcapjudge,help,pack
+printed;Usage: tcapjudge;,tcapjudge,--help
+printed;Usage: tcapjudge;,tcapjudge,-h
+printed;Usage: tcapjudge;,tcapjudge,help
+printed;Usage: tcapjudge;,tcapjudge,show,--help
+printed;Usage: tcapjudge;,tcapjudge,show,x,-h
+printed;Usage: tcapjudge;,tcapjudge,pack,--help
+printed;Usage: tcapjudge check <RECORD> <TABLE> <CERT>;,tcapjudge,check,--help
+printed;tcapjudge 0.1.0;,tcapjudge,--version
+printed;tcapjudge 0.1.0;,tcapjudge,-V
+printed;Usage: tcapjudge;,tcapjudge,help,show
+printed;Usage: tcapjudge;,tcapjudge,help,pack
 ";
 
 /// Whether the request, or the fault, is the wanted one.
@@ -45,9 +55,18 @@ fn is_answered<'a>(
     match request(alloc, words) {
         Ok(Request::Show(file)) => Ok(kind == "show" && file == wanted.strip_prefix("=")),
         Ok(Request::Pack(file)) => Ok(kind == "pack" && file == wanted.strip_prefix("=")),
+        Ok(Request::Check(record, table, cert)) => {
+            let files = format!(in alloc; "{record} {table} {cert}")?;
+            Ok(kind == "check" && Some(files.as_str()) == wanted.strip_prefix("="))
+        }
         Err(fault) => {
             let said = format!(in alloc; "{fault}")?;
-            let is_kind = kind == if fault.is_help() { "help" } else { "wrong" };
+            let is_kind = kind
+                == if fault.is_printed() {
+                    "printed"
+                } else {
+                    "wrong"
+                };
             Ok(is_kind && said.as_str().contains(wanted))
         }
     }
@@ -70,6 +89,6 @@ impl Row for WordsRow {
 
 #[test]
 fn words(rt: HostRuntime) -> Result<(), Fail> {
-    assert_eq!(rt; each_row::<WordsRow>(rt.alloc(), WORDS)?, 25);
+    assert_eq!(rt; each_row::<WordsRow>(rt.alloc(), WORDS)?, 35);
     Ok(())
 }

@@ -6,10 +6,28 @@ use std::io::BufWriter;
 use std::process::ExitCode;
 use std::{env, fs, io};
 use tcap_ber::{Counted, Read, Unopened};
-use tcap_judge::{MEMORY_LINE, Request, Status, WordsFault, request, run_pack, run_show};
+use tcap_judge::{
+    MEMORY_LINE,
+    Request,
+    Status,
+    WordsFault,
+    request,
+    run_check,
+    run_pack,
+    run_show,
+};
 
 /// The exit status where a word of the command is not text, so that it is not for `clap` to say.
 const NO_TEXT: u8 = 4;
+
+/// What is done with the octets of one file.
+#[derive(Clone, Copy)]
+enum Task {
+    /// They are a record, of which the entries are printed.
+    Show,
+    /// They are lines of hex digits, of which a record is made.
+    Pack,
+}
 
 /// Asks what the words behind the program's name ask for, and does it.
 fn run(rt: &HostRuntime) -> io::Result<u8> {
@@ -27,7 +45,7 @@ fn run(rt: &HostRuntime) -> io::Result<u8> {
     match request(alloc, &words) {
         Ok(request) => answer(rt, request),
         Err(WordsFault::Memory) => Err(io::Error::from(io::ErrorKind::OutOfMemory)),
-        Err(fault) if fault.is_help() => {
+        Err(fault) if fault.is_printed() => {
             print!(rt; "{fault}")?;
             Ok(fault.status())
         }
@@ -38,36 +56,44 @@ fn run(rt: &HostRuntime) -> io::Result<u8> {
     }
 }
 
-/// Does what is asked for, over the file of that path, or the standard input.
+/// Does what is asked for.
 fn answer(rt: &HostRuntime, request: Request) -> io::Result<u8> {
-    let (Request::Show(path) | Request::Pack(path)) = request;
-    let Some(path) = path else {
-        return over(rt, request, &mut Counted::new(rt.reader()));
-    };
-    match fs::open(rt, path) {
-        Ok(file) => over(rt, request, &mut Counted::new(file)),
-        Err(_) => over(rt, request, &mut Unopened::new()),
+    match request {
+        Request::Show(path) => over_path(rt, Task::Show, path),
+        Request::Pack(path) => over_path(rt, Task::Pack, path),
+        Request::Check(entries, table, cert) => Ok(check(rt, entries, table, cert)),
     }
 }
 
-/// Says that there is no memory, where faults of what is asked for go.
-fn no_memory(rt: &HostRuntime, request: Request) -> io::Result<u8> {
-    match request {
-        Request::Show(_) => print!(rt; "{MEMORY_LINE}")?,
-        Request::Pack(_) => eprint!(rt; "{MEMORY_LINE}")?,
+/// Does the task over the file of that path, or the standard input.
+fn over_path(rt: &HostRuntime, task: Task, path: Option<&str>) -> io::Result<u8> {
+    let Some(path) = path else {
+        return over(rt, task, &mut Counted::new(rt.reader()));
+    };
+    match fs::open(rt, path) {
+        Ok(file) => over(rt, task, &mut Counted::new(file)),
+        Err(_) => over(rt, task, &mut Unopened::new()),
+    }
+}
+
+/// Says that there is no memory, where faults of the task go.
+fn no_memory(rt: &HostRuntime, task: Task) -> io::Result<u8> {
+    match task {
+        Task::Show => print!(rt; "{MEMORY_LINE}")?,
+        Task::Pack => eprint!(rt; "{MEMORY_LINE}")?,
     }
     Ok(Status::Fault.number())
 }
 
-/// Does what is asked for with what `reader` tells.
-fn over<R: Read>(rt: &HostRuntime, request: Request, reader: &mut R) -> io::Result<u8> {
+/// Does the task with what `reader` tells.
+fn over<R: Read>(rt: &HostRuntime, task: Task, reader: &mut R) -> io::Result<u8> {
     let Ok(buffer) = BufWriter::new(rt.alloc(), io::writer(rt)) else {
-        return no_memory(rt, request);
+        return no_memory(rt, task);
     };
     let mut writer = Counted::new(buffer);
-    let ended = match request {
-        Request::Show(_) => run_show(rt.alloc(), reader, &mut writer),
-        Request::Pack(_) => run_pack(
+    let ended = match task {
+        Task::Show => run_show(rt.alloc(), reader, &mut writer),
+        Task::Pack => run_pack(
             rt.alloc(),
             reader,
             &mut writer,
@@ -83,6 +109,50 @@ fn over<R: Read>(rt: &HostRuntime, request: Request, reader: &mut R) -> io::Resu
     // Behind a failure nothing more is written: what the buffer still holds is dropped.
     let _ = writer.into_inner().into_parts();
     Ok(status.number())
+}
+
+/// Replays the certificate of that path over the record of that path. The files are opened in the order in which they are
+/// read: the table, the certificate, the record.
+fn check(rt: &HostRuntime, entries: &str, table: &str, cert: &str) -> u8 {
+    match fs::open(rt, table) {
+        Ok(file) => check_by(rt, entries, &mut Counted::new(file), cert),
+        Err(_) => check_by(rt, entries, &mut Unopened::new(), cert),
+    }
+}
+
+/// The same, by the operation table that `table` tells.
+fn check_by<T: Read>(rt: &HostRuntime, entries: &str, table: &mut T, cert: &str) -> u8 {
+    match fs::open(rt, cert) {
+        Ok(file) => check_over(rt, entries, table, &mut Counted::new(file)),
+        Err(_) => check_over(rt, entries, table, &mut Unopened::new()),
+    }
+}
+
+/// The same, with the certificate that `certificate` tells.
+fn check_over<T: Read, C: Read>(
+    rt: &HostRuntime,
+    entries: &str,
+    table: &mut T,
+    certificate: &mut C,
+) -> u8 {
+    match fs::open(rt, entries) {
+        Ok(file) => checked(rt, &mut Counted::new(file), table, certificate),
+        Err(_) => checked(rt, &mut Unopened::new(), table, certificate),
+    }
+}
+
+/// The same, where the readers are all there. The line goes out at once.
+fn checked<R: Read, T: Read, C: Read>(
+    rt: &HostRuntime,
+    entries: &mut R,
+    table: &mut T,
+    certificate: &mut C,
+) -> u8 {
+    let mut writer = Counted::new(io::writer(rt));
+    match run_check(rt.alloc(), entries, table, certificate, &mut writer) {
+        Ok(status) => status.number(),
+        Err(_) => Status::Fault.number(),
+    }
 }
 
 fn main(rt: HostRuntime) -> ExitCode {

@@ -46,7 +46,8 @@ returns c =
     ap (λ (a : App). a.top) (c.in_ok-pack.ensures.shape lines_local ∙ ap₂ with_rule about_pack lines_is) in
     let bare_is : app_of c.subcommand_required.result ≡ bare_tool =
     ap app_of_fields c.subcommand_required.ensures
-    ∙ ap (λ (a : App). record a { top = record a.top { subcommand_required = true } })
+    ∙ ap (λ (a : App). record a { top = record a.top { subcommand_required = true } }) (ap app_of_fields c.version.ensures)
+    ∙ ap (λ (a : App). record a { top = record a.top { has_version = true; subcommand_required = true } })
     (ap app_of_fields c.about-3.ensures ∙ c.new-5.ensures.app) in
     let show_local : (out-Command c.in_ok-show.show).has_globals ≡ false =
     c.in_ok-show.ensures.globals ∙ ap₂ (λ a b. a || b)
@@ -54,5 +55,8 @@ returns c =
     let pack_local : (out-Command c.in_ok-pack.pack).has_globals ≡ false =
     c.in_ok-pack.ensures.globals ∙ ap₂ (λ a b. a || b)
     (ap (λ (f : Command-F Command). f.has_globals) c.about-2.ensures ∙ c.new-4.ensures.local) lines_local in
+    let check_is = c.in_ok-check.ensures in
     let with_show = c.in_ok-subcommand.ensures.shape show_local ∙ ap₂ with_subcommand bare_is show_is in
-    IfOk-weaker c.subcommand-2.result _ _ (λ r h. h.shape pack_local ∙ ap₂ with_subcommand with_show pack_is) c.subcommand-2.ensures
+    let with_pack = c.in_ok-subcommand-2.ensures.shape pack_local ∙ ap₂ with_subcommand with_show pack_is in
+    IfOk-weaker c.subcommand-3.result _ _ (λ r h. h.shape check_is.1 ∙ ap₂ with_subcommand with_pack check_is.0)
+    c.subcommand-3.ensures

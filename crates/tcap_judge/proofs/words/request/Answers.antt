@@ -1,7 +1,8 @@
 use Rattle.std.proofs.Common.{Some, None}
 use Rattle.clap.specs.Walk.{texts}
-use Rattle.tcap_judge.proofs.Requests.{pack_asked, show_asked}
-use Rattle.tcap_judge.proofs.Cases.{pack_named, pack_path_named, pack_path_taken, pack_taken, show_named, show_path_named, show_path_taken, show_taken}
+use Rattle.tcap_judge.proofs.Requests.{check_asked, pack_asked, refused_by, show_asked}
+use Rattle.tcap_judge.proofs.Cases.{check_alone_missing, check_named, check_one_missing, check_taken, check_two_missing, long_version, pack_named, pack_path_named, pack_path_taken, pack_taken, show_named, show_path_named, show_path_taken, show_taken}
+use Rattle.clap.specs.declared.error.kind.ErrorKind.TheVariants.{DisplayVersion, MissingRequiredArgument}
 use Rattle.tcap_judge.proofs.words.request.Goals as goal
 
 pub returns-clause-show : goal.returns-clause-show
@@ -23,3 +24,29 @@ pub returns-clause-pack_path : goal.returns-clause-pack_path
 returns-clause-pack_path c program path is plain =
     pack_asked (texts c.args.words.now) _ (Some path) c.parsed_request.result is (pack_path_taken program path plain)
     (pack_path_named program path plain) c.parsed_request.ensures.asks c.parsed_request.ensures.taken
+
+pub returns-clause-check_paths : goal.returns-clause-check_paths
+returns-clause-check_paths c program x y z is plain_x plain_y plain_z =
+    check_asked (texts c.args.words.now) _ x y z c.parsed_request.result is (check_taken program x y z plain_x plain_y plain_z)
+    (check_named program x y z plain_x plain_y plain_z) c.parsed_request.ensures.asks c.parsed_request.ensures.taken
+
+pub returns-clause-check_alone : goal.returns-clause-check_alone
+returns-clause-check_alone c program is =
+    refused_by (texts c.args.words.now) _ MissingRequiredArgument c.parsed_request.result is (check_alone_missing program)
+    c.parsed_request.ensures.faults
+
+pub returns-clause-check_one : goal.returns-clause-check_one
+returns-clause-check_one c program x is plain_x =
+    refused_by (texts c.args.words.now) _ MissingRequiredArgument c.parsed_request.result is (check_one_missing program x plain_x)
+    c.parsed_request.ensures.faults
+
+pub returns-clause-check_two : goal.returns-clause-check_two
+returns-clause-check_two c program x y is plain_x plain_y =
+    refused_by (texts c.args.words.now) _ MissingRequiredArgument c.parsed_request.result is
+    (check_two_missing program x y plain_x plain_y)
+    c.parsed_request.ensures.faults
+
+pub returns-clause-version : goal.returns-clause-version
+returns-clause-version c program is =
+    refused_by (texts c.args.words.now) _ DisplayVersion c.parsed_request.result is (long_version program)
+    c.parsed_request.ensures.faults

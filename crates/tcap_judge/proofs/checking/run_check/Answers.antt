@@ -1,0 +1,7 @@
+use Rattle.tcap_judge.proofs.LawfulLaws.{fine_run}
+use Rattle.tcap_judge.proofs.checking.run_check.Goals as goal
+
+pub returns-clause-lawful : goal.returns-clause-lawful
+returns-clause-lawful g c =
+    fine_run _ _ _ c.judge-outcome.result _ _ c.write_outcome.result c.judge-outcome.ensures
+    c.write_outcome.ensures.line

@@ -1,0 +1,24 @@
+-- what the reader told was taken, the checker took its entries, and nothing is wrong with it
+use Rattle.std.proofs.Common.{◌≡◌, ℕ, ◌+◌, ◌-◌, ◌^◌, None, List, [], length}
+use Rattle.std.specs.Io.KnownBytes.{Consumes}
+use Rattle.tcap_record.specs.declared.entry.Entry.{Entry}
+use Rattle.tcap_record.specs.Held.{IsHeld, IsPart}
+use Rattle.tcap_end.specs.Table.{Table}
+use Rattle.tcap_check.specs.Certificate.{Certificate}
+use Rattle.tcap_judge.specs.Judging.{StandsFor, TakenSoFar}
+use Rattle.tcap_judge.proofs.checking.take_all.Given as goal
+
+abbrev pub invariant-loop-frames : goal.invariant-loop-frames
+invariant-loop-frames g l = record {
+  told : List ℕ;
+  consumed : Consumes (g.R.Read.untold l.fn.reader) (g.R.Read.untold l.reader) told;
+  taken : (table : Table) (c : Certificate) → StandsFor table c l.initial.checker []
+      → (entries : List Entry) × TakenSoFar table c told entries l.frames l.checker;
+  held : IsHeld l.frames;
+  sound : l.frames.fault ≡ None;
+  is_part : IsPart l.frames.octets;
+  none_failed : g.R.Read.failures l.reader ≡ g.R.Read.failures l.fn.reader;
+}
+
+abbrev pub decreases-loop-frames : goal.decreases-loop-frames
+decreases-loop-frames g l = 2 ^ 64 - (l.frames.place + length l.frames.octets)

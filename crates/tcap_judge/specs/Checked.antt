@@ -1,0 +1,132 @@
+-- What a run says of a certificate, replayed over a record.
+use Rattle.std.specs.Prelude.{◌≡◌, ℕ, ◌⊎◌, List, length, Option, Result, Ok, Err}
+use Rattle.std.specs.Io.KnownBytes.{Appends, Consumes}
+use Rattle.tcap_record.specs.declared.entry.Entry.{Entry}
+use Rattle.tcap_record.specs.declared.fault.FeedFault.{FeedFault}
+use Rattle.tcap_record.specs.declared.fault.FeedReason.TheVariants as feed
+use Rattle.tcap_record.specs.FeedFault.{feed_number_of}
+use Rattle.tcap_record.specs.Reading.{IsReadAs, EndsOnlyAtEnd, FailsOnlyByReader}
+use Rattle.tcap_end.specs.declared.table.TableFault.{TableFault}
+use Rattle.tcap_end.specs.Fault.{table_number_of}
+use Rattle.tcap_end.specs.Table.{Table}
+use Rattle.tcap_end.specs.TableText.{IsTableOf}
+use Rattle.tcap_check.specs.declared.fault.CheckFault.{CheckFault}
+use Rattle.tcap_check.specs.Run.{Event}
+use Rattle.tcap_check.specs.Certificate.{Certificate}
+use Rattle.tcap_check.specs.CertificateText.{IsCertificateText}
+use Rattle.tcap_check.specs.Replayed.{replayed}
+use Rattle.tcap_judge.specs.declared.text_reading.TextFault.{TextFault}
+use Rattle.tcap_judge.specs.declared.text_reading.TextFault.TheVariants as faults
+use Rattle.tcap_judge.specs.declared.outcome.Outcome.{Outcome}
+use Rattle.tcap_judge.specs.declared.outcome.Outcome.TheVariants.{Lawful, NotShown, Faulty}
+use Rattle.tcap_judge.specs.declared.status.Status.{Status}
+use Rattle.tcap_judge.specs.Outcome.{Says}
+use Rattle.tcap_judge.specs.Text.{ReadsText}
+
+-- What a reader has still to tell, where that is known, and how often it failed, before and after.
+pub record Device : Type 0 where
+  pub before : Option (List ℕ)
+  pub after : Option (List ℕ)
+  pub failed_before : ℕ
+  pub failed_after : ℕ
+
+-- nothing was asked of it
+abbrev pub IsUntouched : Device → Type 0
+IsUntouched d = (d.after ≡ d.before) × (d.failed_after ≡ d.failed_before)
+
+abbrev pub out_of_memory : Outcome
+out_of_memory = Faulty 99 0
+
+-- ---- texts
+
+-- the greatest length of a text, in octets
+abbrev pub text_limit : ℕ
+text_limit = 67108864
+
+-- what is said where there is no text; that number where it is too long
+abbrev pub said_of_text : ℕ → TextFault → Outcome
+said_of_text too_long faults.TooLong = Faulty too_long 0
+said_of_text too_long (faults.Read place) = Faulty (feed_number_of feed.Read) place
+said_of_text too_long faults.Memory = out_of_memory
+
+abbrev pub said_of_table : Result Table TableFault → Result Table Outcome
+said_of_table (Ok table) = Ok table
+said_of_table (Err fault) = Err (Faulty (table_number_of fault.reason) fault.place)
+
+-- the table that a text is, or what is said in its place
+abbrev pub IsTableGiven : Result (List ℕ) TextFault → Result Table Outcome → Type 0
+IsTableGiven (Ok octets) given =
+    (result : Result Table TableFault) × IsTableOf octets result × (given ≡ said_of_table result)
+IsTableGiven (Err fault) given = given ≡ Err (said_of_text 30 fault)
+
+-- the certificate that a text is, or what is said in its place
+abbrev pub IsCertificateGiven : Result (List ℕ) TextFault → Result Certificate Outcome → Type 0
+IsCertificateGiven (Ok octets) (Ok c) = IsCertificateText octets c
+IsCertificateGiven (Ok octets) (Err said) = (said ≡ Faulty 60 0) × ((c : Certificate) → IsCertificateText octets c → ⊥)
+IsCertificateGiven (Err fault) given = given ≡ Err (said_of_text 60 fault)
+
+-- What a reader told is that table, or why there is none; or memory ran out.
+pub record ReadsTable (d : Device) (given : Result Table Outcome) : Type 0 where
+  pub text : Result (List ℕ) TextFault
+  pub reads : ReadsText text_limit d.before d.after d.failed_before d.failed_after text
+  pub is : (given ≡ Err out_of_memory) ⊎ IsTableGiven text given
+
+-- What a reader told is that certificate, or why there is none; or memory ran out.
+pub record ReadsCertificate (d : Device) (given : Result Certificate Outcome) : Type 0 where
+  pub text : Result (List ℕ) TextFault
+  pub reads : ReadsText text_limit d.before d.after d.failed_before d.failed_after text
+  pub is : (given ≡ Err out_of_memory) ⊎ IsCertificateGiven text given
+
+-- ---- the record
+
+-- what a replay over so many entries says
+abbrev pub judged : ℕ → Result (List Event) CheckFault → Outcome
+judged count (Ok events) = Lawful count
+judged count (Err fault) = NotShown fault
+
+-- what is said of entries and the end behind them: the fault of the end, else what the replay says
+abbrev pub record_says : Table → Certificate → List Entry → Result (Unit {0}) FeedFault → Outcome
+record_says table c entries (Ok end) = judged (length entries) (replayed table c entries)
+record_says table c entries (Err fault) = Faulty (feed_number_of fault.reason) fault.place
+
+-- What the reader told is these entries and the end behind them, which is the reader's own end, or its failure, where
+-- it says so; and what is said is what is said of them.
+pub record SaysOfRecord (table : Table) (c : Certificate) (d : Device) (outcome : Outcome) : Type 0 where
+  pub told : List ℕ
+  pub entries : List Entry
+  pub end : Result (Unit {0}) FeedFault
+  pub tells : Consumes d.before d.after told
+  pub is_read : IsReadAs entries end told
+  pub ended : EndsOnlyAtEnd d.after end
+  pub failed : FailsOnlyByReader d.failed_before d.failed_after end
+  pub says : outcome ≡ record_says table c entries end
+
+-- That is so, or memory ran out.
+abbrev pub JudgesRecord : Table → Certificate → Device → Outcome → Type 0
+JudgesRecord table c d outcome = (outcome ≡ out_of_memory) ⊎ SaysOfRecord table c d outcome
+
+-- ---- all three
+
+-- Where there is no certificate, nothing of the record is read.
+abbrev pub JudgesBy : Table → Result Certificate Outcome → Device → Outcome → Type 0
+JudgesBy table (Ok c) entries outcome = JudgesRecord table c entries outcome
+JudgesBy table (Err said) entries outcome = (outcome ≡ said) × IsUntouched entries
+
+-- Where there is no table, nothing of the certificate and the record is read.
+abbrev pub JudgesWith : Result Table Outcome → Device → Device → Outcome → Type 0
+JudgesWith (Ok table) certificate entries outcome =
+    (given : Result Certificate Outcome) × ReadsCertificate certificate given × JudgesBy table given entries outcome
+JudgesWith (Err said) certificate entries outcome = (outcome ≡ said) × IsUntouched certificate × IsUntouched entries
+
+-- what the three readers told gives this outcome
+abbrev pub Judges : Device → Device → Device → Outcome → Type 0
+Judges entries table certificate outcome =
+    (given : Result Table Outcome) × ReadsTable table given × JudgesWith given certificate entries outcome
+
+-- What the three readers told gives an outcome, and what the writer took is its line, or that memory ran out.
+pub record Checks (entries table certificate : Device) (taken taken' : Option (List ℕ)) (status : Status) : Type 0 where
+  pub outcome : Outcome
+  pub line : List ℕ
+  pub judges : Judges entries table certificate outcome
+  pub says : Says outcome line status
+  pub takes : Appends taken taken' line

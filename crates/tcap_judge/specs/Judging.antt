@@ -1,0 +1,77 @@
+-- How a certificate is replayed over a record as its octets come.
+use Rattle.std.specs.Prelude.{◌≡◌, ◌⊎◌, ℕ, List, [], ◌∷◌, ◌++◌, length, map, Result, Ok, Err}
+use Rattle.std.specs.Io.KnownBytes.{Consumes}
+use Rattle.tcap_record.specs.declared.entry.Entry.{Entry}
+use Rattle.tcap_record.specs.declared.fault.FeedFault.{FeedFault}
+use Rattle.tcap_record.specs.Held.{Held, Fed}
+use Rattle.tcap_record.specs.Reading.{IsReadAs, EndsOnlyAtEnd, FailsOnlyByReader}
+use Rattle.tcap_end.specs.Table.{Table}
+use Rattle.tcap_check.specs.declared.fault.CheckFault.{CheckFault}
+use Rattle.tcap_check.specs.Certificate.{Certificate}
+use Rattle.tcap_check.specs.Checking.{Checking, Took}
+use Rattle.tcap_check.specs.Entries.{item_of}
+use Rattle.tcap_check.specs.Replayed.{certificate_fits, replayed}
+use Rattle.tcap_judge.specs.declared.outcome.Outcome.{Outcome}
+use Rattle.tcap_judge.specs.Checked.{Device, judged, out_of_memory}
+
+-- A checker took these entries; or the certificate's numbers are out of their ranges, and there is none.
+abbrev pub StandsFor : Table → Certificate → Result Checking CheckFault → List Entry → Type 0
+StandsFor table c (Ok checker) entries =
+    Took checker (map item_of entries) × (checker.table ≡ table) × (checker.certificate ≡ c)
+StandsFor table c (Err fault) entries = certificate_fits c ≡ Err fault
+
+-- one entry more
+abbrev pub Takes : Result Checking CheckFault → Entry → Result Checking CheckFault → Type 0
+Takes old entry new =
+    (table : Table) (c : Certificate) (entries : List Entry) → StandsFor table c old entries
+    → StandsFor table c new (entries ++ entry ∷ [])
+
+-- The octets that were taken are these entries and what is held, and the checker took the entries.
+pub record TakenSoFar (table : Table) (c : Certificate) (told : List ℕ) (entries : List Entry) (held : Held)
+    (checker : Result Checking CheckFault) : Type 0 where
+  pub fed : Fed told entries held
+  pub stands : StandsFor table c checker entries
+
+-- Wherever it was so before some octets were taken, it is so behind them, of those entries and more.
+abbrev pub Leads : Held → Result Checking CheckFault → List ℕ → Held → Result Checking CheckFault → Type 0
+Leads old_held old octets held new =
+    (table : Table) (c : Certificate) (told : List ℕ) (entries : List Entry)
+    → TakenSoFar table c told entries old_held old
+    → (all : List Entry) × TakenSoFar table c (told ++ octets) all held new
+
+-- The same of the octets alone.
+abbrev pub LeadsFed : Held → Result Checking CheckFault → List ℕ → Held → Type 0
+LeadsFed old_held old octets held =
+    (table : Table) (c : Certificate) (told : List ℕ) (entries : List Entry)
+    → TakenSoFar table c told entries old_held old
+    → (all : List Entry) × Fed (told ++ octets) all held
+
+-- what the checker stands for, and how many entries were dropped, where the record ended
+abbrev pub EndsWith : Table → Certificate → List Entry → Held → Result Checking CheckFault
+    → Result (Unit {0}) FeedFault → Type 0
+EndsWith table c entries held checker (Ok end) = (held.count ≡ length entries) × StandsFor table c checker entries
+EndsWith table c entries held checker (Err fault) = Unit {0}
+
+-- What the reader told is these entries, which the checker took, and this end behind them.
+pub record ReadsAll (table : Table) (c : Certificate) (d : Device) (held : Held) (checker : Result Checking CheckFault)
+    (end : Result (Unit {0}) FeedFault) : Type 0 where
+  pub told : List ℕ
+  pub entries : List Entry
+  pub tells : Consumes d.before d.after told
+  pub is_read : IsReadAs entries end told
+  pub ended : EndsOnlyAtEnd d.after end
+  pub failed : FailsOnlyByReader d.failed_before d.failed_after end
+  pub stands : EndsWith table c entries held checker end
+
+-- That is so wherever the checker took nothing before.
+abbrev pub LeadsToEnd : Result Checking CheckFault → Device → Held → Result Checking CheckFault
+    → Result (Unit {0}) FeedFault → Type 0
+LeadsToEnd old d held checker end =
+    (table : Table) (c : Certificate) → StandsFor table c old [] → ReadsAll table c d held checker end
+
+-- what is said of entries, which are all of a record
+abbrev pub Finishes : Result Checking CheckFault → ℕ → Outcome → Type 0
+Finishes checker count outcome =
+    (table : Table) (c : Certificate) (entries : List Entry) → StandsFor table c checker entries
+    → count ≡ length entries
+    → (outcome ≡ out_of_memory) ⊎ (outcome ≡ judged (length entries) (replayed table c entries))

@@ -1,0 +1,60 @@
+-- What a check says, and its line.
+use Rattle.std.specs.Prelude.{◌≡◌, ◌⊎◌, ℕ, List, [], ◌++◌, Option, Some, None, codes}
+use Rattle.std.specs.Fmt.{decimal}
+use Rattle.tcap_ber.specs.Fault.{number_of}
+use Rattle.tcap_end.specs.Fault.{fault_number}
+use Rattle.tcap_record.specs.Lines.{fault_line, line_end}
+use Rattle.tcap_check.specs.declared.fault.CheckFault.{CheckFault}
+use Rattle.tcap_check.specs.declared.fault.Reason.{Reason}
+use Rattle.tcap_check.specs.declared.fault.Reason.TheVariants as reasons
+use Rattle.tcap_check.specs.Fault.{reason_number}
+use Rattle.tcap_judge.specs.Shown.{memory_line}
+use Rattle.tcap_judge.specs.declared.outcome.Outcome.{Outcome}
+use Rattle.tcap_judge.specs.declared.outcome.Outcome.TheVariants.{Lawful, NotShown, Faulty}
+use Rattle.tcap_judge.specs.declared.status.Status.{Status}
+use Rattle.tcap_judge.specs.declared.status.Status.TheVariants as statuses
+
+-- the number of the fault that a reason holds, where it holds one
+abbrev pub inner_number : Reason → Option ℕ
+inner_number reasons.CertificateShape = None
+inner_number reasons.FateCount = None
+inner_number reasons.FateRange = None
+inner_number reasons.OutOfOrder = None
+inner_number reasons.BadReply = None
+inner_number (reasons.SendRefused fault) = Some (fault_number fault)
+inner_number (reasons.HiddenRefused fault) = Some (fault_number fault)
+inner_number reasons.NotQuiet = None
+inner_number (reasons.BadMessage fault) = Some (number_of fault.reason)
+inner_number reasons.NoItem = None
+inner_number reasons.Memory = None
+
+-- the number of the inner fault behind a slash
+abbrev pub inner_text : Option ℕ → List ℕ
+inner_text None = []
+inner_text (Some number) = codes "/" ++ decimal number
+
+-- the number of a reason, and that of the fault in it, where there is one
+abbrev pub reason_text : Reason → List ℕ
+reason_text reason = decimal (reason_number reason) ++ inner_text (inner_number reason)
+
+-- the line where a certificate does not show that a record is lawful: the entry's number, and the reason
+abbrev pub not_shown_line : CheckFault → List ℕ
+not_shown_line fault = codes "NOT SHOWN " ++ decimal fault.entry ++ codes " " ++ reason_text fault.reason ++ line_end
+
+-- the line of an outcome
+abbrev pub outcome_line : Outcome → List ℕ
+outcome_line (Lawful count) = codes "LAWFUL " ++ decimal count ++ line_end
+outcome_line (NotShown fault) = not_shown_line fault
+outcome_line (Faulty number place) = fault_line number place
+
+-- how a run ends that says this
+abbrev pub outcome_status : Outcome → Status
+outcome_status (Lawful count) = statuses.Fine
+outcome_status (NotShown fault) = statuses.NotShown
+outcome_status (Faulty number place) = statuses.Fault
+
+-- The line and the status are those of the outcome; or the line says that memory ran out, and that is a fault.
+abbrev pub Says : Outcome → List ℕ → Status → Type 0
+Says outcome line status =
+    ((line ≡ outcome_line outcome) × (status ≡ outcome_status outcome))
+    ⊎ ((line ≡ memory_line) × (status ≡ statuses.Fault))

@@ -1,0 +1,316 @@
+//! Replaying a certificate over a record.
+
+ghost use Rattle.std.specs.Prelude.{◌≡◌, ◌≢◌, ◌⊎◌, ◌++◌, ◌∷◌, ◌+◌, ◌≤◌, [], ℕ, List, Bool, true, false, length, take, Result, Some, None, Ok, Err, IfOk, IfSome, OnOk, OnErr};
+ghost use Rattle.std.specs.Io.KnownBytes.{Appends};
+ghost use Rattle.tcap_ber.specs.Device.{one_more};
+ghost use Rattle.tcap_record.specs.declared.entry.Entry.{Entry};
+ghost use Rattle.tcap_record.specs.declared.fault.FeedFault.{FeedFault};
+ghost use Rattle.tcap_record.specs.declared.fault.FeedReason.{FeedReason};
+ghost use Rattle.tcap_record.specs.Framing.{feed_fault};
+ghost use Rattle.tcap_record.specs.Held.{IsFront, IsHeld, IsPart, IsWhole, nothing_held};
+ghost use Rattle.tcap_record.specs.Viewed.{entry_read};
+ghost use Rattle.tcap_judge.specs.Checked.{Checks, Judges, JudgesRecord, ReadsCertificate, ReadsTable, said_of_text};
+ghost use Rattle.tcap_judge.specs.LawfulRecord.{FindsLawful};
+ghost use Rattle.tcap_judge.specs.Judging.{Finishes, Leads, LeadsFed, LeadsToEnd, StandsFor, Takes};
+ghost use Rattle.tcap_judge.specs.Outcome.{Says};
+
+use crate::outcome::{Outcome, write_outcome};
+use crate::status::{Status, WriteFailed};
+use crate::text_reading::{TextFault, read_text};
+use std::alloc::{AllocError, Global};
+use tcap_ber::{Failed, Read, Write};
+use tcap_check::{Certificate, CheckFault, Checker, Reason};
+use tcap_end::{Table, TableReason};
+use tcap_record::{EntryView, FeedFault, FeedReason, Frames, PIECE_LEN};
+
+/// The greatest length of the text of a table, and of that of a certificate, in octets.
+const TEXT_LIMIT: usize = 67_108_864;
+
+/// The number of the fault of a table's text that is too long.
+const NOT_JSON: u8 = 30;
+
+/// The number of the fault of a text that is no certificate.
+const CERTIFICATE_SHAPE: u8 = 60;
+
+/// Memory ran out.
+const OUT_OF_MEMORY: Outcome = Outcome::Faulty(99, 0);
+
+/// What is said where there is no text; that number where it is too long.
+fn without_text(too_long: u8, fault: TextFault) -> Outcome
+    ensures { result ≡ said_of_text too_long fault }
+{
+    match fault {
+        TextFault::TooLong => Outcome::Faulty(too_long, 0),
+        TextFault::Read(place) => Outcome::Faulty(FeedReason::Read.number(), place),
+        TextFault::Memory => OUT_OF_MEMORY,
+    }
+}
+
+/// The operation table that a reader tells; else what is said in its place.
+fn read_table<R: Read>(alloc: Global, reader: &mut R) -> Result<Table, Outcome>
+    ensures { ReadsTable (record {
+      before = R.untold reader.old;
+      after = R.untold reader.new;
+      failed_before = R.failures reader.old;
+      failed_after = R.failures reader.new;
+    }) result }
+{
+    match read_text(alloc, reader, TEXT_LIMIT) {
+        Ok(text) => match Table::from_json(alloc, &text) {
+            Ok(table) => Ok(table),
+            Err(fault) if matches!(fault.reason, TableReason::Memory) => Err(OUT_OF_MEMORY),
+            Err(fault) => Err(Outcome::Faulty(fault.reason.number(), fault.place)),
+        },
+        Err(fault) => Err(without_text(NOT_JSON, fault)),
+    }
+}
+
+/// The certificate that a reader tells; else what is said in its place.
+fn read_certificate<R: Read>(alloc: Global, reader: &mut R) -> Result<Certificate, Outcome>
+    ensures { ReadsCertificate (record {
+      before = R.untold reader.old;
+      after = R.untold reader.new;
+      failed_before = R.failures reader.old;
+      failed_after = R.failures reader.new;
+    }) result }
+{
+    match read_text(alloc, reader, TEXT_LIMIT) {
+        Ok(text) => match Certificate::from_json(alloc, &text) {
+            Ok(certificate) => Ok(certificate),
+            Err(fault) if matches!(fault.reason, Reason::Memory) => Err(OUT_OF_MEMORY),
+            Err(_) => Err(Outcome::Faulty(CERTIFICATE_SHAPE, 0)),
+        },
+        Err(fault) => Err(without_text(CERTIFICATE_SHAPE, fault)),
+    }
+}
+
+/// Takes the next entry; fails where memory ran out. A refusal is kept.
+fn take_entry(checker: &mut Result<Checker, CheckFault>, entry: &EntryView) -> Result<(), FeedFault>
+    ensures takes { OnOk result (Takes checker.old (entry_read entry.now) checker.new) }
+    ensures memory { (f : FeedFault) → result ≡ Err f → f ≡ feed_fault FeedReason.Memory 0 }
+{
+    let Ok(checker) = checker else {
+        return Ok(());
+    };
+    match checker.take(entry) {
+        Err(fault) if matches!(fault.reason, Reason::Memory) => Err(FeedFault::from(AllocError)),
+        _ => Ok(()),
+    }
+}
+
+/// Takes the entry at the front, where a whole one stands there, and answers whether one did; fails where memory ran
+/// out.
+fn take_front(frames: &Frames, checker: &mut Result<Checker, CheckFault>) -> Result<bool, FeedFault>
+    ensures taken { result ≡ Ok true → (entry : Entry) × IsFront entry frames.now × (frames.now.fault ≡ None)
+        × IsWhole frames.now.octets × Takes checker.old entry checker.new }
+    ensures none { result ≡ Ok false → ((frames.now.fault ≡ None) × IsWhole frames.now.octets → ⊥)
+        × (checker.new ≡ checker.old) }
+    ensures memory { (f : FeedFault) → result ≡ Err f → f ≡ feed_fault FeedReason.Memory 0 }
+{
+    let Some(entry) = frames.front() else {
+        return Ok(false);
+    };
+    take_entry(checker, &entry)?;
+    Ok(true)
+}
+
+/// Takes all octets of a piece, up to a fault, and the entries that are whole then.
+fn take_piece(
+    frames: &mut Frames,
+    checker: &mut Result<Checker, CheckFault>,
+    piece: &[u8],
+) -> Result<(), FeedFault>
+    ensures leads { OnOk result (Leads frames.old checker.old piece.now frames.new checker.new) }
+    ensures sound { OnOk result ((frames.new.fault ≡ None) × IsPart frames.new.octets) }
+    ensures why { (f : FeedFault) → result ≡ Err f → (f ≡ feed_fault FeedReason.Memory 0)
+        ⊎ (frames.new.fault ≡ Some f) }
+    ensures fed { OnErr result ((n : ℕ) × (n ≤ length piece.now)
+        × LeadsFed frames.old checker.old (take n piece.now) frames.new) }
+    ensures grows { OnOk result (frames.new.place + length frames.new.octets
+        ≡ frames.old.place + length frames.old.octets + length piece.now) }
+    ensures held { IsHeld frames.old → IsHeld frames.new }
+{
+    let mut rest = piece;
+    loop {
+        let taken = frames.feed_some(rest)?;
+        rest = &rest[taken..];
+        if !take_front(frames, checker)? {
+            return Ok(());
+        }
+        frames.drop_front();
+    }
+}
+
+/// Takes the record that `reader` tells up to its end, or to the first fault.
+fn take_all<R: Read>(
+    frames: &mut Frames,
+    checker: &mut Result<Checker, CheckFault>,
+    reader: &mut R,
+) -> Result<(), FeedFault>
+    requires fresh { frames.old ≡ nothing_held }
+    ensures { LeadsToEnd checker.old (record {
+      before = R.untold reader.old;
+      after = R.untold reader.new;
+      failed_before = R.failures reader.old;
+      failed_after = R.failures reader.new;
+    })
+        frames.new checker.new result }
+{
+    let mut piece = [0; PIECE_LEN];
+    loop {
+        let taken = frames.taken();
+        let told = match reader.read(&mut piece) {
+            Ok(0) => return frames.finish(),
+            Ok(told) => told,
+            Err(Failed) => {
+                return Err(FeedFault {
+                    reason: FeedReason::Read,
+                    place: taken,
+                });
+            }
+        };
+        take_piece(frames, checker, &piece[..told])?;
+    }
+}
+
+/// What is said of so many entries, which are all of a record.
+fn finish(checker: Result<Checker, CheckFault>, count: usize) -> Outcome
+    ensures { Finishes checker.entry count result }
+{
+    match checker {
+        Ok(checker) => match checker.finish() {
+            Ok(_) => Outcome::Lawful(count),
+            Err(fault) if matches!(fault.reason, Reason::Memory) => OUT_OF_MEMORY,
+            Err(fault) => Outcome::NotShown(fault),
+        },
+        Err(fault) => Outcome::NotShown(fault),
+    }
+}
+
+/// A checker that took nothing, or why the certificate's numbers are out of their ranges; `None` where memory ran out.
+fn start<'a>(
+    alloc: Global,
+    table: &'a Table,
+    certificate: &'a Certificate,
+) -> Option<Result<Checker<'a>, CheckFault>>
+    ensures { IfSome result (λ checker. StandsFor table.entry.now certificate.entry.now checker []) }
+{
+    match Checker::new(alloc, table, certificate) {
+        Err(fault) if matches!(fault.reason, Reason::Memory) => None,
+        made => Some(made),
+    }
+}
+
+/// What is said of the record that `reader` tells.
+fn judge_record<R: Read>(
+    alloc: Global,
+    reader: &mut R,
+    table: &Table,
+    certificate: &Certificate,
+) -> Outcome
+    ensures { JudgesRecord table.now certificate.now (record {
+      before = R.untold reader.old;
+      after = R.untold reader.new;
+      failed_before = R.failures reader.old;
+      failed_after = R.failures reader.new;
+    }) result }
+{
+    let mut frames = Frames::new(alloc);
+    let Some(mut checker) = start(alloc, table, certificate) else {
+        return OUT_OF_MEMORY;
+    };
+    match take_all(&mut frames, &mut checker, reader) {
+        Ok(()) => finish(checker, frames.dropped()),
+        Err(fault) => Outcome::Faulty(fault.reason.number(), fault.place),
+    }
+}
+
+/// What is said of a record, a table and a certificate, each of which a reader tells. Nothing of the record is read
+/// before the other two are there.
+fn judge<R: Read, T: Read, C: Read>(
+    alloc: Global,
+    entries: &mut R,
+    table: &mut T,
+    certificate: &mut C,
+) -> Outcome
+    ensures { Judges (record {
+      before = R.untold entries.old;
+      after = R.untold entries.new;
+      failed_before = R.failures entries.old;
+      failed_after = R.failures entries.new;
+    })
+        (record {
+          before = T.untold table.old;
+          after = T.untold table.new;
+          failed_before = T.failures table.old;
+          failed_after = T.failures table.new;
+        })
+        (record {
+          before = C.untold certificate.old;
+          after = C.untold certificate.new;
+          failed_before = C.failures certificate.old;
+          failed_after = C.failures certificate.new;
+        }) result }
+{
+    let table = match read_table(alloc, table) {
+        Ok(table) => table,
+        Err(outcome) => return outcome,
+    };
+    let certificate = match read_certificate(alloc, certificate) {
+        Ok(certificate) => certificate,
+        Err(outcome) => return outcome,
+    };
+    judge_record(alloc, entries, &table, &certificate)
+}
+
+/// Replays the certificate that `certificate` tells over the record that `entries` tells, by the operation table that
+/// `table` tells, and writes one line: that the record is lawful, or why the certificate does not show it, or what is
+/// wrong with one of the three, the table first, then the certificate, then the record. Each text has at most
+/// 67,108,864 octets; of the record one entry is held at a time, and nothing is read before the other two are there.
+/// `WriteFailed` where the writer failed.
+pub fn run_check<R: Read, T: Read, C: Read, W: Write>(
+    alloc: Global,
+    entries: &mut R,
+    table: &mut T,
+    certificate: &mut C,
+    writer: &mut W,
+) -> Result<Status, WriteFailed>
+    ensures checks { IfOk result (Checks (record {
+      before = R.untold entries.old;
+      after = R.untold entries.new;
+      failed_before = R.failures entries.old;
+      failed_after = R.failures entries.new;
+    })
+        (record {
+          before = T.untold table.old;
+          after = T.untold table.new;
+          failed_before = T.failures table.old;
+          failed_after = T.failures table.new;
+        })
+        (record {
+          before = C.untold certificate.old;
+          after = C.untold certificate.new;
+          failed_before = C.failures certificate.old;
+          failed_after = C.failures certificate.new;
+        })
+        (W.taken writer.old) (W.taken writer.new)) }
+    ensures lawful { result ≡ Ok Status.Fine
+        → FindsLawful (record {
+          before = R.untold entries.old;
+          after = R.untold entries.new;
+          failed_before = R.failures entries.old;
+          failed_after = R.failures entries.new;
+        })
+        (record {
+          before = T.untold table.old;
+          after = T.untold table.new;
+          failed_before = T.failures table.old;
+          failed_after = T.failures table.new;
+        })
+        (W.taken writer.old) (W.taken writer.new) }
+    ensures counts { OnOk result (W.failures writer.new ≡ W.failures writer.old) }
+    ensures failed { OnErr result (W.failures writer.new ≡ one_more (W.failures writer.old)) }
+{
+    let outcome = judge(alloc, entries, table, certificate);
+    write_outcome(alloc, outcome, writer)
+}

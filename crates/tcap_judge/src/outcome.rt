@@ -1,0 +1,107 @@
+//! What a check says, and its line.
+
+ghost use Rattle.std.specs.Prelude.{◌≡◌, ◌++◌, ℕ, List, IfOk, OnOk, OnErr};
+ghost use Rattle.std.specs.Io.KnownBytes.{Appends};
+ghost use Rattle.std.specs.String.{string_bytes};
+ghost use Rattle.tcap_ber.specs.Device.{one_more};
+ghost use Rattle.tcap_judge.specs.Outcome.{Says, inner_number, not_shown_line, reason_text};
+ghost use Rattle.tcap_judge.specs.Outcome.{outcome_line, outcome_status};
+
+use crate::fault_lines::{MEMORY_LINE, write_line};
+use crate::status::{Status, WriteFailed};
+use std::alloc::{AllocError, Global};
+use tcap_ber::Write;
+use tcap_check::{CheckFault, Reason};
+use tcap_record::push_fault;
+
+/// What a check says of a record.
+#[derive(Clone, Copy, Debug, PartialEq, Eq)]
+pub(crate) enum Outcome {
+    /// The record, of so many entries, is lawful.
+    Lawful(usize),
+    /// The certificate does not show that it is.
+    NotShown(CheckFault),
+    /// What was given has a fault: the number of its reason, and its place.
+    Faulty(u8, u64),
+}
+
+impl Outcome {
+    /// How a run ends that says this.
+    pub(crate) fn status(self) -> Status
+        ensures { result ≡ outcome_status self }
+    {
+        match self {
+            Outcome::Lawful(_) => Status::Fine,
+            Outcome::NotShown(_) => Status::NotShown,
+            Outcome::Faulty(_, _) => Status::Fault,
+        }
+    }
+}
+
+/// The number of the fault that a reason holds, where it holds one.
+fn inner_number(reason: Reason) -> Option<u8>
+    ensures { result ≡ inner_number reason }
+{
+    match reason {
+        Reason::SendRefused(fault) | Reason::HiddenRefused(fault) => Some(fault.number()),
+        Reason::BadMessage(fault) => Some(fault.reason.number()),
+        _ => None,
+    }
+}
+
+/// Appends the number of a reason, and behind `/` that of the fault in it, where there is one.
+fn push_reason(text: &mut String, reason: Reason) -> Result<(), AllocError>
+    ensures { OnOk result (string_bytes text.new ≡ string_bytes text.old ++ reason_text reason) }
+{
+    let number = reason.number();
+    match inner_number(reason) {
+        Some(inner) => write!(text, "{number}/{inner}"),
+        None => write!(text, "{number}"),
+    }
+}
+
+/// Appends the line where a certificate does not show that a record is lawful.
+fn push_not_shown(text: &mut String, fault: CheckFault) -> Result<(), AllocError>
+    ensures { OnOk result (string_bytes text.new ≡ string_bytes text.old ++ not_shown_line fault) }
+{
+    let entry = fault.entry;
+    write!(text, "NOT SHOWN {entry} ")?;
+    push_reason(text, fault.reason)?;
+    text.push_str("\n")
+}
+
+/// Appends the line of an outcome.
+fn push_outcome(text: &mut String, outcome: Outcome) -> Result<(), AllocError>
+    ensures { OnOk result (string_bytes text.new ≡ string_bytes text.old ++ outcome_line outcome) }
+{
+    match outcome {
+        Outcome::Lawful(count) => writeln!(text, "LAWFUL {count}"),
+        Outcome::NotShown(fault) => push_not_shown(text, fault),
+        Outcome::Faulty(number, place) => push_fault(text, number, place),
+    }
+}
+
+/// Writes the line of an outcome, or that memory ran out where there is none for it, and answers how the run ends. The
+/// line is whole before its first octet is written.
+pub(crate) fn write_outcome<W: Write>(
+    alloc: Global,
+    outcome: Outcome,
+    writer: &mut W,
+) -> Result<Status, WriteFailed>
+    ensures line { IfOk result (λ status. (line : List ℕ) × Says outcome line status
+        × Appends (W.taken writer.old) (W.taken writer.new) line) }
+    ensures counts { OnOk result (W.failures writer.new ≡ W.failures writer.old) }
+    ensures failed { OnErr result (W.failures writer.new ≡ one_more (W.failures writer.old)) }
+{
+    let mut line = String::new(alloc);
+    match push_outcome(&mut line, outcome) {
+        Ok(()) => {
+            write_line(writer, line.as_bytes())?;
+            Ok(outcome.status())
+        }
+        Err(AllocError) => {
+            write_line(writer, MEMORY_LINE.as_bytes())?;
+            Ok(Status::Fault)
+        }
+    }
+}

@@ -1,0 +1,52 @@
+//! Reading a whole text.
+
+ghost use Rattle.std.specs.Prelude.{◌≡◌};
+ghost use Rattle.tcap_judge.specs.declared.text_reading.TextFault.{TextFault};
+ghost use Rattle.tcap_judge.specs.Text.{ReadsText, octets_of};
+
+use std::alloc::{AllocError, Global};
+use tcap_ber::{Failed, Read};
+use tcap_record::PIECE_LEN;
+
+/// Why a text was not read.
+#[derive(Clone, Copy, Debug, PartialEq, Eq)]
+pub(crate) enum TextFault {
+    /// It is longer than the limit.
+    TooLong,
+    /// The reader failed behind so many octets.
+    Read(u64),
+    /// Memory ran out.
+    Memory,
+}
+
+impl From<AllocError> for TextFault {
+    ghost from_gives = { λ _ fault. fault ≡ TextFault.Memory };
+
+    fn from(_: AllocError) -> TextFault {
+        TextFault::Memory
+    }
+}
+
+/// The octets that `reader` tells up to its end, where there are at most `limit`. No more is read once there are more.
+pub(crate) fn read_text<R: Read>(
+    alloc: Global,
+    reader: &mut R,
+    limit: usize,
+) -> Result<Vec<u8>, TextFault>
+    ensures reads { ReadsText limit (R.untold reader.old) (R.untold reader.new) (R.failures reader.old)
+        (R.failures reader.new) (octets_of result) }
+{
+    let mut piece = [0; PIECE_LEN];
+    let mut text = Vec::new(alloc);
+    loop {
+        let told = match reader.read(&mut piece) {
+            Ok(0) => return Ok(text),
+            Ok(told) => told,
+            Err(Failed) => return Err(TextFault::Read(text.len() as u64)),
+        };
+        if told > limit - text.len() {
+            return Err(TextFault::TooLong);
+        }
+        text.extend_from_slice(&piece[..told])?;
+    }
+}
