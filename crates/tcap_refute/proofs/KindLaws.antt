@@ -30,6 +30,14 @@ module _ (table : Table) (events : List Event) (w : World) (side : Side) (messag
   kind_sent kinds.AnswersNothing is = answers_nothing_sent table events w side message it is
   kind_sent kinds.WrongOperation is = wrong_operation_sent table events w side message it is
   kind_sent kinds.MisplacedDialogue is = misplaced_sent table events w side message it is
+  kind_sent kinds.WrongHalf is = cc
+  kind_sent kinds.WrongDialogue is = cc
+  kind_sent kinds.InvokeIdBusy is = cc
+  kind_sent kinds.BadLink is = cc
+  kind_sent kinds.AnsweredAlready is = cc
+  kind_sent kinds.RejectNotAllowed is = cc
+  kind_sent kinds.WrongReply is = cc
+  kind_sent kinds.OpenAtMark is = cc
 
 -- A provider's reply is an Abort with a cause,
 reply_aborts : (e : End) (m message : Message) → reply_to e m ≡ Some message
@@ -50,6 +58,14 @@ abort_kind table side before id cause kinds.AfterEnd is = cc
 abort_kind table side before id cause kinds.AnswersNothing is = cc
 abort_kind table side before id cause kinds.WrongOperation is = cc
 abort_kind table side before id cause kinds.MisplacedDialogue is = cc
+abort_kind table side before id cause kinds.WrongHalf is = cc
+abort_kind table side before id cause kinds.WrongDialogue is = cc
+abort_kind table side before id cause kinds.InvokeIdBusy is = cc
+abort_kind table side before id cause kinds.BadLink is = cc
+abort_kind table side before id cause kinds.AnsweredAlready is = cc
+abort_kind table side before id cause kinds.RejectNotAllowed is = cc
+abort_kind table side before id cause kinds.WrongReply is = cc
+abort_kind table side before id cause kinds.OpenAtMark is = cc
 
 kind_replied : (table : Table) (events : List Event) (w : World) (side : Side) (message : Message) (kind : Kind)
     → Runs table events w → RepliesIt w side message

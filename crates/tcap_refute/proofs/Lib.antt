@@ -8,3 +8,11 @@ pub mod FoundedLaws
 pub mod ComponentKinds
 pub mod DialogueKinds
 pub mod KindLaws
+pub mod Lives
+pub mod RefutedLaws
+pub mod SetLaws
+pub mod IdLaws
+pub mod FromLaws
+pub mod EndLaws
+pub mod AskLaws
+pub mod ItemLaws

@@ -182,9 +182,9 @@ is_misplaced_dialogue side before (EndMessage dtid dialogue components) =
 is_misplaced_dialogue side before (Abort dtid reason) =
     is_misplaced_aborting (list_any is_begin_with_request (asked side dtid before)) (dialogue_in (Abort dtid reason))
 
--- ---- all kinds
+-- ---- these kinds
 
--- whether a message that an end sends is of that kind, behind these items since the last quiet mark
+-- whether a message that an end sends is of that kind of these, behind these items since the last quiet mark
 abbrev pub is_of_kind : Table → Side → List Item → Message → Kind → Bool
 is_of_kind table side before message kinds.BadMessage = false
 is_of_kind table side before message kinds.UnknownTransaction = is_unknown_transaction side before message
@@ -193,6 +193,7 @@ is_of_kind table side before message kinds.AfterEnd = is_after_end side before m
 is_of_kind table side before message kinds.AnswersNothing = answers_nothing side before message
 is_of_kind table side before message kinds.WrongOperation = is_wrong_operation table side before message
 is_of_kind table side before message kinds.MisplacedDialogue = is_misplaced_dialogue side before message
+is_of_kind table side before message _ = false
 
 -- the number behind the F
 abbrev pub kind_number : Kind → ℕ
@@ -203,15 +204,23 @@ kind_number kinds.AfterEnd = 4
 kind_number kinds.AnswersNothing = 5
 kind_number kinds.WrongOperation = 6
 kind_number kinds.MisplacedDialogue = 7
+kind_number kinds.WrongHalf = 8
+kind_number kinds.WrongDialogue = 9
+kind_number kinds.InvokeIdBusy = 10
+kind_number kinds.BadLink = 11
+kind_number kinds.AnsweredAlready = 12
+kind_number kinds.RejectNotAllowed = 13
+kind_number kinds.WrongReply = 14
+kind_number kinds.OpenAtMark = 15
 
--- all kinds, the lowest first
-abbrev pub all_kinds : List Kind
-all_kinds = kinds.BadMessage ∷ kinds.UnknownTransaction ∷ kinds.ReusedId ∷ kinds.AfterEnd ∷ kinds.AnswersNothing
+-- the kinds by which a record is refuted, the lowest first
+abbrev pub refuting_kinds : List Kind
+refuting_kinds = kinds.BadMessage ∷ kinds.UnknownTransaction ∷ kinds.ReusedId ∷ kinds.AfterEnd ∷ kinds.AnswersNothing
     ∷ kinds.WrongOperation ∷ kinds.MisplacedDialogue ∷ []
 
 -- the lowest kind of an item behind these; a quiet mark has none
 abbrev pub lowest_kind : Table → List Item → Item → Option Kind
-lowest_kind table items (Sent side message) = find (is_of_kind table side (since_quiet items) message) all_kinds
+lowest_kind table items (Sent side message) = find (is_of_kind table side (since_quiet items) message) refuting_kinds
 lowest_kind table items Item.Quiet = None
 
 -- that of an entry that is no item: octets that the standard makes no message

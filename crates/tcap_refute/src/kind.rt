@@ -23,6 +23,22 @@ pub enum Kind {
     WrongOperation,
     /// A dialogue portion that no message of its kind carries (Q.774 3.2).
     MisplacedDialogue,
+    /// No half has the IDs for it, or the half was answered as closed (Q.774 3.3).
+    WrongHalf,
+    /// The dialogue portion does not fit how the dialogue stands (Q.774 3.2).
+    WrongDialogue,
+    /// An Invoke of an ID that is in use (Q.774 3.2).
+    InvokeIdBusy,
+    /// A linked ID of no invocation that is there, or of one to which the operation may not be linked (Q.771 3.1.2).
+    BadLink,
+    /// More answers to an ID than invocations that allow them (Q.774 3.2).
+    AnsweredAlready,
+    /// A Reject with a problem that nothing which was received has (Q.774 3.2).
+    RejectNotAllowed,
+    /// An Abort of the provider that answers nothing that is left (Q.774 3.3).
+    WrongReply,
+    /// A half is open at a quiet mark.
+    OpenAtMark,
 }
 
 impl Kind {
@@ -38,6 +54,14 @@ impl Kind {
             Kind::AnswersNothing => 5,
             Kind::WrongOperation => 6,
             Kind::MisplacedDialogue => 7,
+            Kind::WrongHalf => 8,
+            Kind::WrongDialogue => 9,
+            Kind::InvokeIdBusy => 10,
+            Kind::BadLink => 11,
+            Kind::AnsweredAlready => 12,
+            Kind::RejectNotAllowed => 13,
+            Kind::WrongReply => 14,
+            Kind::OpenAtMark => 15,
         }
     }
 }

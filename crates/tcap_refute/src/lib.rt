@@ -2,8 +2,19 @@
 //! first entry of a record of which one holds.
 #![tactic(auto)]
 
+pub mod blame_rows;
+mod asking;
+mod by_id;
+mod codes;
+mod components;
+mod dialogues;
+mod from_id;
+mod judging;
 mod kind;
 pub mod laws;
+mod notes;
+mod refuting;
 pub mod worked;
 
 pub use kind::{Kind, Refutation};
+pub use refuting::{SearchFault, refute};

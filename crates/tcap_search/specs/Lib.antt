@@ -1,5 +1,15 @@
+pub mod Candidates
+pub mod Latest
+pub mod Leasts
+pub mod ByInvocation
+pub mod Due
+pub mod Fates
+pub mod Found
 pub mod Lines
+pub mod Listed
+pub mod PerEnd
 pub mod Proposed
+pub mod Shown
+pub mod Sweep
 pub mod Traced
 pub mod WorkedProposals
-pub mod Found

@@ -230,16 +230,17 @@ with_expiry listed (Some side) gap (Some (entry, component)) =
     (listed ++ record { gap = gap; component = component; side = side; entry = entry } ∷ [])
 with_expiry listed _ gap _ = listed
 
+-- with the expiry of the last invocation of the ID in that gap
+abbrev pub expiry_in : List Line → Line → List Expiry → ℤ → Option ℕ → List Expiry
+expiry_in lines x listed id None = listed
+expiry_in lines x listed id (Some gap) = with_expiry listed x.entry.side gap (last_invocation lines x id gap)
+
 -- what one component of a line adds: where it rejects an answer that came as unrecognized, the invocation ended in the
 -- gap in which the answer came
 abbrev pub expiry_by : List Fated → List Line → Line → List Expiry → Option (Bool × ℤ) → List Expiry
 expiry_by all lines x listed None = listed
 expiry_by all lines x listed (Some (is_result, id)) =
-    by (then_so (rejected_line all x (is_result, id)) (λ y. gap_in y.fate))
-  where
-    by : Option ℕ → List Expiry
-    by None = listed
-    by (Some gap) = with_expiry listed x.entry.side gap (last_invocation lines x id gap)
+    expiry_in lines x listed id (then_so (rejected_line all x (is_result, id)) (λ y. gap_in y.fate))
 
 abbrev pub expiries_by : List Fated → List Line → Line → List Expiry → List Component → List Expiry
 expiries_by all lines x listed [] = listed

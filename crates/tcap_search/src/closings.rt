@@ -1,14 +1,143 @@
 //! The fifth rule: which halves closed unseen.
 
-ghost use Rattle.std.specs.Prelude.{◌≡◌, ◌≤◌, length, IfOk};
-ghost use Rattle.tcap_search.specs.Lines.{lines_of};
-ghost use Rattle.tcap_search.specs.Proposed.{all_fated, closings_of, ties_of};
+ghost use Rattle.std.specs.Prelude.{◌≡◌, ◌≤◌, ◌&&◌, not, length, option_copied, slice_get, IfOk};
+ghost use Rattle.tcap_check.specs.World.{other};
+ghost use Rattle.tcap_search.specs.Leasts.{is_below, is_within, least_at};
+ghost use Rattle.tcap_search.specs.Lines.{lines_of, message_of};
+ghost use Rattle.tcap_search.specs.Proposed.{all_fated, closings_of, ends, is_continue, ties_of};
+ghost use Rattle.tcap_search.specs.Shown.{KeepsEnded, KeepsTold, gap_told, shown_by};
 ghost use Rattle.tcap_search.specs.Traced.{AreFates, AreTies, AreTransactions};
 
+use crate::leasts::Leasts;
+use crate::lines::other;
 use crate::tie::Tie;
 use std::alloc::{AllocError, Global};
 use tcap_check::{Closing, Fate};
-use tcap_record::Entry;
+use tcap_msg::{Kind, Message, MessageParts};
+use tcap_record::{Body, End, Entry};
+
+/// The message of an entry; octets that are none have none.
+fn message_of(entry: &Entry) -> Option<&Message>
+    ensures { option_copied result ≡ message_of entry.now }
+{
+    match &entry.body {
+        Body::Good(message) => Some(message),
+        _ => None,
+    }
+}
+
+/// Whether an entry ends a dialogue: an End, or an Abort without cause.
+fn ends(entry: &Entry) -> bool
+    ensures { result ≡ ends (message_of entry.now) }
+{
+    match message_of(entry) {
+        Some(message) => match message.kind() {
+            Kind::End => true,
+            Kind::Abort => message.cause().is_none(),
+            _ => false,
+        },
+        None => false,
+    }
+}
+
+/// The gap in which an entry tells its receiver of the end of a dialogue: that of an End or an Abort, where it is delivered.
+fn gap_told(entry: &Entry, fate: Fate) -> Option<u32>
+    ensures { result ≡ gap_told (message_of entry.now) fate }
+{
+    match (message_of(entry)?, fate) {
+        (Message::End { .. } | Message::Abort { .. }, Fate::Gap(gap)) => Some(gap),
+        _ => None,
+    }
+}
+
+/// Whether an entry is a Continue.
+fn is_continue(entry: &Entry) -> bool
+    ensures { result ≡ is_continue (message_of entry.now) }
+{
+    matches!(message_of(entry), Some(Message::Continue { .. }))
+}
+
+/// By end and transaction, the first entry that ends it.
+fn ends_of(
+    alloc: Global,
+    entries: &[Entry],
+    transactions: &[Option<u32>],
+) -> Result<Leasts, AllocError>
+    requires few { length entries.now ≤ 100000 }
+    requires transactions { AreTransactions entries.now transactions.now }
+    ensures { IfOk result (λ ended. KeepsEnded (length entries.now) (lines_of entries.now) ended) }
+{
+    let mut ended = Leasts::new(alloc, entries.len())?;
+    for (number, entry) in entries.iter().enumerate() {
+        if ends(entry) {
+            ended.note(entry.side, transactions[number], number as u32);
+        }
+    }
+    Ok(ended)
+}
+
+/// By end and transaction, the first gap in which an End or an Abort is delivered.
+fn told_of(
+    alloc: Global,
+    entries: &[Entry],
+    transactions: &[Option<u32>],
+    fates: &[Fate],
+) -> Result<Leasts, AllocError>
+    requires transactions { AreTransactions entries.now transactions.now }
+    requires fates { AreFates entries.now fates.now }
+    ensures { IfOk result (λ told. KeepsTold (length entries.now) (all_fated (lines_of entries.now)) told) }
+{
+    let mut told = Leasts::new(alloc, entries.len())?;
+    for (number, entry) in entries.iter().enumerate() {
+        if let Some(gap) = gap_told(entry, fates[number]) {
+            told.note(entry.side, transactions[number], gap);
+        }
+    }
+    Ok(told)
+}
+
+/// Whether the Abort that answers an entry shows that a half had closed unseen: the entry is a Continue, its receiver had
+/// not ended the transaction before the Abort, and nothing from its sender that ends it was delivered.
+fn is_unseen(
+    entry: &Entry,
+    side: End,
+    transaction: u32,
+    ended: &Leasts,
+    told: &Leasts,
+    reply: u32,
+) -> bool
+    ensures { result ≡ is_continue (message_of entry.now)
+        && not (is_below reply (least_at (other side) transaction ended.now))
+        && not (is_within reply (least_at side transaction told.now)) }
+{
+    is_continue(entry)
+        && !ended.has_below(other(side), transaction, reply)
+        && !told.has_within(side, transaction, reply)
+}
+
+/// The half that a tie shows to have closed: its end and its transaction.
+fn shown_by(
+    entries: &[Entry],
+    transactions: &[Option<u32>],
+    ended: &Leasts,
+    told: &Leasts,
+    tie: &Tie,
+) -> Option<(End, u32)>
+    requires transactions { AreTransactions entries.now transactions.now }
+    requires ended { KeepsEnded (length entries.now) (lines_of entries.now) ended.now }
+    requires told { KeepsTold (length entries.now) (all_fated (lines_of entries.now)) told.now }
+    ensures { result ≡ shown_by (all_fated (lines_of entries.now)) (lines_of entries.now) tie.now.reply
+        (slice_get (lines_of entries.now) tie.now.entry) }
+{
+    let entry = entries.get(tie.entry as usize)?;
+    let side = entry.side?;
+    let transaction = transactions[tie.entry as usize]?;
+    if is_unseen(entry, side, transaction, ended, told, tie.reply) {
+        Some((other(side), transaction))
+    } else {
+        None
+    }
+}
 
 /// The closings of a stretch, in the order of the Aborts that show them.
 pub(crate) fn closings_of(
@@ -25,5 +154,22 @@ pub(crate) fn closings_of(
     ensures { IfOk result (λ listed. listed.items
         ≡ closings_of (all_fated (lines_of entries.now)) (lines_of entries.now) (ties_of (lines_of entries.now))) }
 {
-    Err(AllocError)
+    let ended = ends_of(alloc, entries, transactions)?;
+    let told = told_of(alloc, entries, transactions, fates)?;
+    let mut kept = Leasts::new(alloc, entries.len())?;
+    let mut listed = Vec::new(alloc);
+    for tie in ties {
+        let Some((side, transaction)) = shown_by(entries, transactions, &ended, &told, tie) else {
+            continue;
+        };
+        if kept.get(side, transaction).is_none() {
+            kept.note(Some(side), Some(transaction), tie.reply);
+            listed.push(Closing {
+                gap: tie.reply,
+                side,
+                entry: transaction,
+            })?;
+        }
+    }
+    Ok(listed)
 }

@@ -1,13 +1,152 @@
 //! The fourth rule: which invocations ended unseen.
 
-ghost use Rattle.std.specs.Prelude.{◌≡◌, ◌≤◌, length, IfOk};
+ghost use Rattle.std.specs.Prelude.{◌≡◌, ◌≤◌, ◌<◌, ◌++◌, ◌∷◌, [], ◌==◌, ℕ, Some, cond, length, IfOk, OnOk};
 ghost use Rattle.tcap_search.specs.Lines.{lines_of};
-ghost use Rattle.tcap_search.specs.Proposed.{all_fated, expiries_of};
+ghost use Rattle.tcap_search.specs.Proposed.{all_fated, expiries_of, with_expiry};
 ghost use Rattle.tcap_search.specs.Traced.{AreFates, AreTransactions};
+ghost use Rattle.tcap_search.specs.Due.{due_at, due_in};
+ghost use Rattle.tcap_search.specs.Listed.{IsListed, all_rejected, entry_rejected};
+ghost use Rattle.tcap_search.specs.Sweep.{answer_rejected};
 
+use crate::sweep::{Answer, Sweep, components_of};
 use std::alloc::{AllocError, Global};
+use std::collections::BTreeSet;
 use tcap_check::{Expiry, Fate};
-use tcap_record::Entry;
+use tcap_parts::Component;
+use tcap_record::{End, Entry};
+
+/// Expiries as they are listed, and which invocations they name: the number of an entry, and the place of the Invoke
+/// there.
+#[derive(Debug, Drop)]
+pub(crate) struct Listed {
+    expiries: Vec<Expiry>,
+    named: BTreeSet<(u32, u32)>,
+}
+
+impl Listed {
+    /// None.
+    fn new(alloc: Global) -> Listed
+        ensures none { result.expiries.items ≡ [] }
+        ensures listed { IsListed result }
+    {
+        Listed {
+            expiries: Vec::new(alloc),
+            named: BTreeSet::new(alloc),
+        }
+    }
+
+    /// Lists what an end's rejection of an answer shows: the last invocation of the ID, which ended as the answer came.
+    /// Nothing where it is listed.
+    fn add(&mut self, side: End, answer: Answer) -> Result<(), AllocError>
+        requires listed { IsListed self.old }
+        ensures added { OnOk result (self.new.expiries.items
+            ≡ with_expiry self.old.expiries.items (Some side) answer.gap answer.invoked) }
+        ensures listed { OnOk result (IsListed self.new) }
+    {
+        let Some((entry, component)) = answer.invoked else {
+            return Ok(());
+        };
+        if self.named.insert((entry, component))? {
+            self.expiries.push(Expiry {
+                gap: answer.gap,
+                component,
+                side,
+                entry,
+            })?;
+        }
+        Ok(())
+    }
+
+    /// Lists what components of an end in a transaction show.
+    fn add_all(
+        &mut self,
+        sweep: &Sweep,
+        transaction: u32,
+        side: End,
+        components: &[Component],
+    ) -> Result<(), AllocError>
+        requires listed { IsListed self.old }
+        ensures added { OnOk result (self.new.expiries.items
+            ≡ all_rejected (answer_rejected sweep.now transaction side) side self.old.expiries.items components.now) }
+        ensures listed { OnOk result (IsListed self.new) }
+    {
+        for component in components {
+            if let Some(answer) = sweep.rejected(transaction, side, component) {
+                self.add(side, answer)?;
+            }
+        }
+        Ok(())
+    }
+
+    /// Lists what an entry shows.
+    fn add_entry(
+        &mut self,
+        sweep: &Sweep,
+        entry: &Entry,
+        transaction: Option<u32>,
+    ) -> Result<(), AllocError>
+        requires listed { IsListed self.old }
+        ensures added { OnOk result (self.new.expiries.items
+            ≡ entry_rejected (answer_rejected sweep.now) self.old.expiries.items entry.now transaction) }
+        ensures listed { OnOk result (IsListed self.new) }
+    {
+        match (entry.side, transaction) {
+            (Some(side), Some(transaction)) => {
+                self.add_all(sweep, transaction, side, components_of(entry))
+            }
+            _ => Ok(()),
+        }
+    }
+}
+
+/// So many empty lists.
+fn empty_lists(alloc: Global, count: usize) -> Result<Vec<Vec<u32>>, AllocError>
+    ensures empty { IfOk result (λ lists. (gap : ℕ) → due_at gap lists.items ≡ []) }
+    ensures count { IfOk result (λ lists. length lists.items ≡ count) }
+{
+    let mut lists = Vec::new(alloc);
+    for _ in 0..count {
+        lists.push(Vec::new(alloc))?;
+    }
+    Ok(lists)
+}
+
+/// Puts a number behind the others of a gap; nowhere where there is no list of it.
+fn push_due(lists: &mut Vec<Vec<u32>>, gap: u32, number: u32) -> Result<(), AllocError>
+    ensures pushed { OnOk result ((g : ℕ) → g < length lists.old.items → due_at g lists.new.items
+        ≡ cond (g == gap) (due_at g lists.old.items ++ number ∷ []) (due_at g lists.old.items)) }
+    ensures count { length lists.new.items ≡ length lists.old.items }
+{
+    if let Some(numbers) = lists.get_mut(gap as usize) {
+        numbers.push(number)?;
+    }
+    Ok(())
+}
+
+/// The numbers of the entries that are delivered in each gap, but for the gap behind the last entry.
+fn due_by_gap(alloc: Global, fates: &[Fate]) -> Result<Vec<Vec<u32>>, AllocError>
+    requires few { length fates.now ≤ 100000 }
+    ensures { IfOk result (λ lists. (gap : ℕ) → gap < length fates.now
+        → due_at gap lists.items ≡ due_in gap 0 fates.now) }
+{
+    let mut lists = empty_lists(alloc, fates.len())?;
+    for (number, fate) in fates.iter().enumerate() {
+        if let Fate::Gap(gap) = *fate {
+            push_due(&mut lists, gap, number as u32)?;
+        }
+    }
+    Ok(lists)
+}
+
+/// The numbers of a gap.
+fn due_at(lists: &[Vec<u32>], gap: usize) -> &[u32]
+    ensures { result.now ≡ due_at gap lists.now }
+{
+    match lists.get(gap) {
+        Some(numbers) => numbers,
+        None => &[],
+    }
+}
 
 /// The expiries of a stretch, in the order in which what was unrecognized is rejected.
 pub(crate) fn expiries_of(
@@ -22,5 +161,15 @@ pub(crate) fn expiries_of(
     ensures { IfOk result (λ listed. listed.items
         ≡ expiries_of (all_fated (lines_of entries.now)) (lines_of entries.now)) }
 {
-    Err(AllocError)
+    let due = due_by_gap(alloc, fates)?;
+    let mut sweep = Sweep::new(alloc);
+    let mut listed = Listed::new(alloc);
+    for (number, entry) in entries.iter().enumerate() {
+        let transaction = transactions[number];
+        sweep.deliver_all(number as u32, due_at(&due, number), entries, transactions)?;
+        listed.add_entry(&sweep, entry, transaction)?;
+        sweep.note_entry(number as u32, entry, transaction)?;
+    }
+    let Listed { expiries, .. } = listed;
+    Ok(expiries)
 }

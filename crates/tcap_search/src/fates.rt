@@ -1,12 +1,216 @@
 //! The second and the third rule: in which gap each message is delivered, and what is lost.
 
-ghost use Rattle.std.specs.Prelude.{◌≤◌, length, IfOk};
+ghost use Rattle.std.specs.Prelude.{◌≡◌, ◌≤◌, ◌<◌, ◌+◌, ◌^◌, ◌==◌, ℕ, max, cond, length, map, slice_get, Some, None, IfOk};
+ghost use Rattle.tcap_record.specs.declared.entry.End.{End as Side};
+ghost use Rattle.tcap_check.specs.Replayed.{time_of};
+ghost use Rattle.tcap_search.specs.Lines.{is_end, lines_of};
+ghost use Rattle.tcap_search.specs.Proposed.{fated, first_fates, gap_behind_reply, reply_of, with_losses};
 ghost use Rattle.tcap_search.specs.Traced.{AreFates, AreTies, AreTransactions};
+ghost use Rattle.tcap_search.specs.PerEnd.{at_end};
+ghost use Rattle.tcap_search.specs.Fates.{fate_behind_least, fate_from, gap_behind_last, gap_kept, gap_raised, is_of};
+ghost use Rattle.tcap_search.specs.Fates.{receiver_gap, sooner, time_kept};
 
+use crate::per_end::PerEnd;
 use crate::tie::Tie;
 use std::alloc::{AllocError, Global};
 use tcap_check::Fate;
-use tcap_record::Entry;
+use tcap_msg::Message;
+use tcap_record::{Body, End, Entry};
+
+/// Notes the reply to an entry, in place of one that was noted.
+fn note_reply(replies: &mut Vec<Option<u32>>, tie: &Tie)
+    ensures noted { (number : ℕ) → number < length replies.old.items → slice_get replies.new.items number
+        ≡ cond (tie.now.entry == number) (Some (Some tie.now.reply)) (slice_get replies.old.items number) }
+    ensures count { length replies.new.items ≡ length replies.old.items }
+{
+    if let Some(reply) = replies.get_mut(tie.entry as usize) {
+        *reply = Some(tie.reply);
+    }
+}
+
+/// The reply to each entry, where it has one.
+fn replies_of(alloc: Global, count: usize, ties: &[Tie]) -> Result<Vec<Option<u32>>, AllocError>
+    ensures replies { IfOk result (λ replies. (number : ℕ) → number < count
+        → slice_get replies.items number ≡ Some (reply_of ties.now number)) }
+    ensures count { IfOk result (λ replies. length replies.items ≡ count) }
+{
+    let mut replies = Vec::new(alloc);
+    replies.resize(count, None)?;
+    for tie in ties {
+        note_reply(&mut replies, tie);
+    }
+    Ok(replies)
+}
+
+/// Notes the gap behind an entry as that behind the last of its end in its transaction.
+fn note_last(gaps: &mut Vec<PerEnd<u32>>, entry: &Entry, transaction: Option<u32>, gap: u32)
+    ensures noted { (side : Side) (t : ℕ) → t < length gaps.old.items → gap_kept side t gaps.new.items
+        ≡ cond (is_of side t entry.now transaction) gap (gap_kept side t gaps.old.items) }
+    ensures count { length gaps.new.items ≡ length gaps.old.items }
+{
+    if let (Some(side), Some(transaction)) = (entry.side, transaction) {
+        if let Some(of_ends) = gaps.get_mut(transaction as usize) {
+            of_ends.set(side, gap);
+        }
+    }
+}
+
+/// The gap behind the last entry of each end in each transaction; 0 where there is none.
+fn last_gaps(
+    alloc: Global,
+    entries: &[Entry],
+    transactions: &[Option<u32>],
+) -> Result<Vec<PerEnd<u32>>, AllocError>
+    requires few { length entries.now ≤ 100000 }
+    requires transactions { AreTransactions entries.now transactions.now }
+    ensures { IfOk result (λ gaps. (side : Side) (t : ℕ) → t < length entries.now
+        → gap_kept side t gaps.items ≡ gap_behind_last side t (lines_of entries.now)) }
+{
+    let mut gaps = Vec::new(alloc);
+    gaps.resize(entries.len(), PerEnd::both(0))?;
+    for (number, entry) in entries.iter().enumerate() {
+        note_last(&mut gaps, entry, transactions[number], number as u32 + 1);
+    }
+    Ok(gaps)
+}
+
+/// The gap that is kept for the receiver of an entry; 0 where there is none.
+fn receiver_gap(gaps: &[PerEnd<u32>], side: Option<End>, transaction: Option<u32>) -> u32
+    ensures { result ≡ receiver_gap gaps.now side transaction }
+{
+    let (Some(side), Some(transaction)) = (side, transaction) else {
+        return 0;
+    };
+    let Some(of_ends) = gaps.get(transaction as usize) else {
+        return 0;
+    };
+    match side {
+        End::A => of_ends.get(End::B),
+        End::B => of_ends.get(End::A),
+    }
+}
+
+/// The gap to which an entry is raised; 0 where there is none.
+fn gap_raised(raised: &PerEnd<u32>, side: Option<End>) -> u32
+    ensures { result ≡ gap_raised raised.now side }
+{
+    match side {
+        Some(side) => raised.get(side),
+        None => 0,
+    }
+}
+
+/// Raises what an end sends later to the gap behind a reply.
+fn raise(raised: &mut PerEnd<u32>, side: Option<End>, reply: Option<u32>)
+    requires { gap_behind_reply reply < 2 ^ 32 }
+    ensures { (s : Side) → at_end s raised.new
+        ≡ cond (is_end s side) (max (at_end s raised.old) (gap_behind_reply reply)) (at_end s raised.old) }
+{
+    if let (Some(side), Some(reply)) = (side, reply) {
+        let gap = raised.get(side).max(reply + 1);
+        raised.set(side, gap);
+    }
+}
+
+/// The first fate of an entry.
+fn first_fate(number: u32, entry: &Entry, reply: Option<u32>, behind: u32, raised: u32) -> Fate
+    requires { number + 1 < 2 ^ 32 }
+    ensures { result ≡ fate_from number entry.now reply behind raised }
+{
+    if let Some(reply) = reply {
+        return Fate::By(reply);
+    }
+    let at_once = number + 1;
+    match &entry.body {
+        Body::Good(Message::End { .. } | Message::Abort { .. }) => {
+            Fate::Gap(at_once.max(behind).max(raised))
+        }
+        Body::Good(_) => Fate::Gap(at_once.max(raised)),
+        _ => Fate::Gap(at_once),
+    }
+}
+
+/// The fates of entries before any are lost.
+fn first_fates(
+    alloc: Global,
+    entries: &[Entry],
+    transactions: &[Option<u32>],
+    ties: &[Tie],
+) -> Result<Vec<Fate>, AllocError>
+    requires few { length entries.now ≤ 100000 }
+    requires transactions { AreTransactions entries.now transactions.now }
+    requires ties { AreTies entries.now ties.now }
+    ensures { IfOk result (λ fates. fates.items ≡ first_fates (lines_of entries.now) ties.now) }
+{
+    let replies = replies_of(alloc, entries.len(), ties)?;
+    let gaps = last_gaps(alloc, entries, transactions)?;
+    let mut raised = PerEnd::both(0);
+    let mut fates = Vec::new(alloc);
+    for (number, entry) in entries.iter().enumerate() {
+        let reply = replies[number];
+        let behind = receiver_gap(&gaps, entry.side, transactions[number]);
+        let least = gap_raised(&raised, entry.side);
+        fates.push(first_fate(number as u32, entry, reply, behind, least))?;
+        raise(&mut raised, entry.side, reply);
+    }
+    Ok(fates)
+}
+
+/// Where a fate stands in the order of what happens.
+fn time_of(fate: Fate) -> Option<u64>
+    ensures { result ≡ time_of fate }
+{
+    match fate {
+        Fate::Gap(gap) => Some(2 * u64::from(gap)),
+        Fate::By(reply) => Some(2 * u64::from(reply) + 1),
+        Fate::Lost => None,
+    }
+}
+
+/// The least time of what an end sends later, where there is one.
+fn time_kept(least: &PerEnd<Option<u64>>, side: Option<End>) -> Option<u64>
+    ensures { result ≡ time_kept least.now side }
+{
+    least.get(side?)
+}
+
+/// Notes the time of what an end sends.
+fn note_time(least: &mut PerEnd<Option<u64>>, side: Option<End>, fate: Fate)
+    ensures { (s : Side) → at_end s least.new
+        ≡ cond (is_end s side) (sooner (time_of fate) (at_end s least.old)) (at_end s least.old) }
+{
+    if let (Some(side), Some(time)) = (side, time_of(fate)) {
+        let sooner = match least.get(side) {
+            Some(other) => time.min(other),
+            None => time,
+        };
+        least.set(side, Some(sooner));
+    }
+}
+
+/// The fate of an entry, where that is the least time of what its end sends later.
+fn fate_behind_least(entry: &Entry, fate: Fate, least: Option<u64>) -> Fate
+    ensures { result ≡ fate_behind_least entry.now fate least }
+{
+    match (fate, &entry.body, least) {
+        (Fate::Gap(gap), Body::Good(_), Some(time)) if time < 2 * u64::from(gap) => Fate::Lost,
+        _ => fate,
+    }
+}
+
+/// Loses each message that would come behind a later one of its end.
+fn lose_overtaken(entries: &[Entry], fates: &mut [Fate])
+    requires { length fates.old ≡ length entries.now }
+    ensures { fates.new ≡ map (λ x. x.fate) (with_losses (fated (lines_of entries.now) fates.old)) }
+{
+    let mut least = PerEnd::both(None);
+    for number in (0..entries.len()).rev() {
+        let entry = &entries[number];
+        let fate = fate_behind_least(entry, fates[number], time_kept(&least, entry.side));
+        fates[number] = fate;
+        note_time(&mut least, entry.side, fate);
+    }
+}
 
 /// The fates of the entries of a stretch, one for each.
 pub(crate) fn fates_of(
@@ -20,5 +224,7 @@ pub(crate) fn fates_of(
     requires ties { AreTies entries.now ties.now }
     ensures { IfOk result (λ fates. AreFates entries.now fates.items) }
 {
-    Err(AllocError)
+    let mut fates = first_fates(alloc, entries, transactions, ties)?;
+    lose_overtaken(entries, &mut fates);
+    Ok(fates)
 }

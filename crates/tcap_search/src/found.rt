@@ -1,9 +1,10 @@
 //! A certificate under way.
 
-ghost use Rattle.std.specs.Prelude.{◌≡◌, ◌≤◌, ◌+◌, length, Some, OnOk};
-ghost use Rattle.tcap_search.specs.Proposed.{behind, of_mark, of_stretch, then_certificate};
+ghost use Rattle.std.specs.Prelude.{◌≡◌, ◌≤◌, ◌+◌, ◌++◌, length, map, Some, IfOk, OnOk};
+ghost use Rattle.std.specs.List.{AllByRecursion};
+ghost use Rattle.tcap_check.specs.CertificateText.{ClosingFits, ExpiryFits, FateFits};
+ghost use Rattle.tcap_search.specs.Proposed.{behind, closing_behind, expiry_behind, fate_behind, of_mark, of_stretch, then_certificate};
 ghost use Rattle.tcap_search.specs.Found.{nothing_found};
-ghost use Rattle.tcap_check.specs.CertificateText.{IsInLimits};
 
 use crate::closings::closings_of;
 use crate::expiries::expiries_of;
@@ -15,7 +16,7 @@ use std::marker::Model;
 use tcap_check::{Certificate, Closing, Expiry, Fate};
 use tcap_record::Entry;
 
-/// What is proposed for the stretches so far.
+/// What is proposed for the stretches so far; its numbers are in the limits of a certificate.
 #[derive(Debug, Drop)]
 pub(crate) struct Found {
     fates: Vec<Fate>,
@@ -24,11 +25,92 @@ pub(crate) struct Found {
 }
 
 impl Model for Found {
+    ghost use Rattle.std.specs.List.{AllByRecursion};
     ghost use Rattle.tcap_check.specs.Certificate.{Certificate as Meant};
+    ghost use Rattle.tcap_check.specs.CertificateText.{ClosingFits, ExpiryFits, FateFits};
 
     ghost Value = { Meant };
 
     ghost view = { λ c. record { fates = c.fates.items; expire = c.expire.items; close = c.close.items } };
+
+    ghost invariant = { λ c. AllByRecursion FateFits c.fates.items × AllByRecursion ExpiryFits c.expire.items
+        × AllByRecursion ClosingFits c.close.items };
+}
+
+/// A fate, where its stretch begins behind so many entries.
+fn fate_behind(first: u32, fate: Fate) -> Fate
+    requires few { first ≤ 100000 }
+    requires fits { FateFits fate }
+    ensures { result ≡ fate_behind first fate }
+{
+    match fate {
+        Fate::Gap(gap) => Fate::Gap(first + gap),
+        Fate::By(reply) => Fate::By(first + reply),
+        Fate::Lost => Fate::Lost,
+    }
+}
+
+/// An expiry, where its stretch begins behind so many entries.
+fn expiry_behind(first: u32, x: Expiry) -> Expiry
+    requires few { first ≤ 100000 }
+    requires fits { ExpiryFits x }
+    ensures { result ≡ expiry_behind first x }
+{
+    Expiry {
+        gap: first + x.gap,
+        component: x.component,
+        side: x.side,
+        entry: first + x.entry,
+    }
+}
+
+/// A closing, where its stretch begins behind so many entries.
+fn closing_behind(first: u32, x: Closing) -> Closing
+    requires few { first ≤ 100000 }
+    requires fits { ClosingFits x }
+    ensures { result ≡ closing_behind first x }
+{
+    Closing {
+        gap: first + x.gap,
+        side: x.side,
+        entry: first + x.entry,
+    }
+}
+
+/// Adds the fates of a stretch that begins behind so many entries.
+fn add_fates(fates: &mut Vec<Fate>, first: u32, more: &[Fate]) -> Result<(), AllocError>
+    requires few { first ≤ 100000 }
+    requires fit { AllByRecursion FateFits more.now }
+    ensures { OnOk result (fates.new.items ≡ fates.old.items ++ map (fate_behind first) more.now) }
+{
+    for fate in more {
+        fates.push(fate_behind(first, *fate))?;
+    }
+    Ok(())
+}
+
+/// Adds its expiries.
+fn add_expiries(expire: &mut Vec<Expiry>, first: u32, more: &[Expiry]) -> Result<(), AllocError>
+    requires few { first ≤ 100000 }
+    requires fit { AllByRecursion ExpiryFits more.now }
+    ensures { OnOk result (expire.new.items ≡ expire.old.items ++ map (expiry_behind first) more.now) }
+{
+    for x in more {
+        expire.push(expiry_behind(first, *x))?;
+    }
+    Ok(())
+}
+
+/// Adds its closings.
+fn add_closings(close: &mut Vec<Closing>, first: u32, more: &[Closing]) -> Result<(), AllocError>
+    requires few { first ≤ 100000 }
+    requires fit { AllByRecursion ClosingFits more.now }
+    ensures { OnOk result (close.new.items ≡ close.old.items ++ map (closing_behind first) more.now) }
+{
+    for x in more {
+        close.push(closing_behind(first, *x))?;
+    }
+    Ok(())
 }
 
 impl Found {
@@ -43,31 +125,41 @@ impl Found {
         }
     }
 
-    /// Adds what is proposed for a stretch that begins behind so many entries.
-    pub(crate) fn add_stretch(
-        &mut self,
+    /// The same, and what is proposed for a stretch that begins behind so many entries.
+    pub(crate) fn with_stretch(
+        self,
         alloc: Global,
         first: usize,
         entries: &[Entry],
-    ) -> Result<(), AllocError>
+    ) -> Result<Found, AllocError>
         requires few { first + length entries.now ≤ 100000 }
-        ensures { OnOk result (self.new ≡ then_certificate self.old (behind first (of_stretch entries.now))) }
+        ensures { IfOk result (λ found. found ≡ then_certificate self (behind first (of_stretch entries.now))) }
     {
-        Err(AllocError)
+        let transactions = transactions_of(alloc, entries)?;
+        let ties = ties_of(alloc, entries)?;
+        let fates = fates_of(alloc, entries, &transactions, &ties)?;
+        let expire = expiries_of(alloc, entries, &transactions, &fates)?;
+        let close = closings_of(alloc, entries, &transactions, &ties, &fates)?;
+        let mut found = self;
+        add_fates(&mut found.fates, first as u32, &fates)?;
+        add_expiries(&mut found.expire, first as u32, &expire)?;
+        add_closings(&mut found.close, first as u32, &close)?;
+        Ok(found)
     }
 
-    /// Adds the fate of a quiet mark of that number.
-    pub(crate) fn add_mark(&mut self, number: usize) -> Result<(), AllocError>
+    /// The same, and the fate of a quiet mark of that number.
+    pub(crate) fn with_mark(self, number: usize) -> Result<Found, AllocError>
         requires few { number + 1 ≤ 100000 }
-        ensures { OnOk result (self.new ≡ then_certificate self.old (of_mark number)) }
+        ensures { IfOk result (λ found. found ≡ then_certificate self (of_mark number)) }
     {
-        self.fates.push(Fate::Gap(number as u32 + 1))?;
-        Ok(())
+        let mut found = self;
+        found.fates.push(Fate::Gap(number as u32 + 1))?;
+        Ok(found)
     }
 
-    /// The certificate. `None` where a number of it is out of its range.
+    /// The certificate; `None` where it has too many fates.
     pub(crate) fn into_certificate(self) -> Option<Certificate>
-        ensures { IsInLimits self → result ≡ Some self }
+        ensures { length self.fates ≤ 100000 → result ≡ Some self }
     {
         Certificate::new(self.fates, self.expire, self.close)
     }

@@ -2,12 +2,18 @@
 //! it is believed: `tcap_check` replays it.
 #![tactic(auto)]
 
+mod by_invocation;
+mod candidates;
 mod closings;
 mod expiries;
 mod fates;
 mod found;
+mod leasts;
 mod lines;
+mod per_end;
 mod searching;
+mod stacks;
+mod sweep;
 mod tie;
 mod ties;
 pub mod worked;

@@ -1,10 +1,103 @@
 //! The transactions that the entries of a stretch between quiet marks belong to.
 
-ghost use Rattle.std.specs.Prelude.{◌≤◌, length, IfOk};
+ghost use Rattle.std.specs.Prelude.{◌≡◌, ◌≤◌, ◌&&◌, ℕ, List, None, cond, length, IfOk, OnOk};
+ghost use Rattle.std.specs.Str.{bytes_eq};
+ghost use Rattle.tcap_record.specs.declared.entry.End.{End as Side};
+ghost use Rattle.tcap_check.specs.World.{is_side, other};
+ghost use Rattle.tcap_search.specs.Latest.{belongs, latest_at};
+ghost use Rattle.tcap_search.specs.Lines.{is_end, is_from};
 ghost use Rattle.tcap_search.specs.Traced.{AreTransactions};
 
 use std::alloc::{AllocError, Global};
-use tcap_record::Entry;
+use std::collections::BTreeMap;
+use tcap_msg::{Message, MessageParts, TransactionId, TransactionIdView};
+use tcap_record::{Body, End, Entry};
+
+/// The peer of an end.
+pub(crate) fn other(side: End) -> End
+    ensures { result ≡ other side }
+{
+    match side {
+        End::A => End::B,
+        End::B => End::A,
+    }
+}
+
+/// The transactions of the last entries of each end, by their originating IDs.
+#[derive(Debug, Drop)]
+struct Latest {
+    a: BTreeMap<TransactionId, Option<u32>>,
+    b: BTreeMap<TransactionId, Option<u32>>,
+}
+
+impl Latest {
+    /// Those of no entries.
+    fn new(alloc: Global) -> Latest
+        ensures { (side : Side) (id : List ℕ) → latest_at side id result ≡ None }
+    {
+        Latest {
+            a: BTreeMap::new(alloc),
+            b: BTreeMap::new(alloc),
+        }
+    }
+
+    /// The transaction of the last entry of that end from that ID.
+    fn get(&self, side: End, id: TransactionIdView) -> Option<u32>
+        ensures { result ≡ latest_at side id.entry.octets.now self.now }
+    {
+        let key = id.to_transaction_id();
+        let found = match side {
+            End::A => self.a.get(&key),
+            End::B => self.b.get(&key),
+        };
+        *found?
+    }
+
+    /// One entry more of that end from that ID.
+    fn set(
+        &mut self,
+        side: End,
+        id: TransactionIdView,
+        transaction: Option<u32>,
+    ) -> Result<(), AllocError>
+        ensures { OnOk result ((at : Side) (key : List ℕ) → latest_at at key self.new
+            ≡ cond (is_side at side && bytes_eq key id.entry.octets.now) transaction (latest_at at key self.old)) }
+    {
+        let key = id.to_transaction_id();
+        match side {
+            End::A => self.a.insert(key, transaction)?,
+            End::B => self.b.insert(key, transaction)?,
+        };
+        Ok(())
+    }
+
+    /// The transaction of an entry of that number.
+    fn transaction_of(&self, number: u32, entry: &Entry) -> Option<u32>
+        ensures { result ≡ belongs number entry.now self.now }
+    {
+        let Body::Good(message) = &entry.body else {
+            return None;
+        };
+        if let Message::Begin { .. } = message {
+            return Some(number);
+        }
+        self.get(other(entry.side?), message.dtid()?)
+    }
+
+    /// One entry more, with its transaction.
+    fn note(&mut self, entry: &Entry, transaction: Option<u32>) -> Result<(), AllocError>
+        ensures { OnOk result ((at : Side) (key : List ℕ) → latest_at at key self.new
+            ≡ cond (is_end at entry.now.side && is_from key entry.now) transaction (latest_at at key self.old)) }
+    {
+        let Body::Good(message) = &entry.body else {
+            return Ok(());
+        };
+        if let (Some(side), Some(id)) = (entry.side, message.otid()) {
+            self.set(side, id, transaction)?;
+        }
+        Ok(())
+    }
+}
 
 /// The transaction of each entry, by the number of the Begin that began it.
 pub(crate) fn transactions_of(
@@ -14,5 +107,12 @@ pub(crate) fn transactions_of(
     requires few { length entries.now ≤ 100000 }
     ensures { IfOk result (λ transactions. AreTransactions entries.now transactions.items) }
 {
-    Err(AllocError)
+    let mut latest = Latest::new(alloc);
+    let mut transactions = Vec::new(alloc);
+    for (number, entry) in entries.iter().enumerate() {
+        let transaction = latest.transaction_of(number as u32, entry);
+        latest.note(entry, transaction)?;
+        transactions.push(transaction)?;
+    }
+    Ok(transactions)
 }

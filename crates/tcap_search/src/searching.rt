@@ -1,7 +1,7 @@
 //! The certificate that is proposed for a record.
 
 ghost use Rattle.std.specs.Prelude.{◌≡◌, ◌≤◌, ◌+◌, length, IfOk};
-ghost use Rattle.tcap_search.specs.Proposed.{proposed};
+ghost use Rattle.tcap_search.specs.Proposed.{is_mark, proposed};
 
 use crate::found::Found;
 use std::alloc::{AllocError, Global};
@@ -15,22 +15,29 @@ pub enum SearchFault {
     Memory,
 }
 
+/// Whether the entry is a quiet mark.
+fn is_mark(entry: &Entry) -> bool
+    ensures { result ≡ is_mark entry.now.body }
+{
+    matches!(entry.body, Body::Quiet)
+}
+
 /// What is proposed for these entries, stretch by stretch.
 fn found_in(alloc: Global, entries: &[Entry]) -> Result<Found, AllocError>
     requires few { length entries.now ≤ 100000 }
-    ensures { IfOk result (λ found. found ≡ proposed entries.now) }
+    ensures { IfOk result (λ found. (found ≡ proposed entries.now) × (length found.fates ≡ length entries.now)) }
 {
     let mut found = Found::new(alloc);
     let mut first = 0;
     for (number, entry) in entries.iter().enumerate() {
-        if matches!(entry.body, Body::Quiet) {
-            found.add_stretch(alloc, first, &entries[first..number])?;
-            found.add_mark(number)?;
+        if is_mark(entry) {
+            found = found
+                .with_stretch(alloc, first, &entries[first..number])?
+                .with_mark(number)?;
             first = number + 1;
         }
     }
-    found.add_stretch(alloc, first, &entries[first..])?;
-    Ok(found)
+    found.with_stretch(alloc, first, &entries[first..])
 }
 
 /// Proposes a certificate for a record of at most 100,000 entries: the one that the five rules give. Nothing says that it

@@ -1,16 +1,46 @@
 //! The first rule: what the Aborts of providers answer.
 
-ghost use Rattle.std.specs.Prelude.{◌≤◌, length, IfOk};
+ghost use Rattle.std.specs.Prelude.{◌≤◌, [], length, reverse, IfOk};
+ghost use Rattle.tcap_search.specs.Candidates.{AreUntied};
+ghost use Rattle.tcap_search.specs.Lines.{lines_of};
 ghost use Rattle.tcap_search.specs.Traced.{AreTies};
 
+use crate::candidates::Candidates;
 use crate::tie::Tie;
 use std::alloc::{AllocError, Global};
 use tcap_record::Entry;
+
+/// All entries that an Abort may answer.
+fn candidates_of(alloc: Global, entries: &[Entry]) -> Result<Candidates, AllocError>
+    requires few { length entries.now ≤ 100000 }
+    ensures { IfOk result (λ c. AreUntied [] (reverse (lines_of entries.now)) c) }
+{
+    let mut candidates = Candidates::new(alloc);
+    for (number, entry) in entries.iter().enumerate() {
+        candidates.push(alloc, number as u32, entry)?;
+    }
+    Ok(candidates)
+}
 
 /// The ties of a stretch, in the order of the Aborts.
 pub(crate) fn ties_of(alloc: Global, entries: &[Entry]) -> Result<Vec<Tie>, AllocError>
     requires few { length entries.now ≤ 100000 }
     ensures { IfOk result (λ ties. AreTies entries.now ties.items) }
 {
-    Err(AllocError)
+    let mut candidates = candidates_of(alloc, entries)?;
+    let mut ties = Vec::new(alloc);
+    let mut number = entries.len();
+    while number > 0 {
+        number -= 1;
+        let entry = &entries[number];
+        candidates.drop_top(number as u32, entry);
+        if let Some(answered) = candidates.answered(entry) {
+            ties.push(Tie {
+                entry: answered,
+                reply: number as u32,
+            })?;
+        }
+    }
+    ties.reverse();
+    Ok(ties)
 }

@@ -9,6 +9,7 @@ mod judge;
 mod msg;
 mod parts;
 mod record;
+mod refute;
 
 pub use ber::integer_content;
 pub use check::all_taken;
@@ -17,3 +18,4 @@ pub use judge::shown;
 pub use msg::read_again;
 pub use parts::first_component;
 pub use record::entries_of;
+pub use refute::no_certificate_helps;

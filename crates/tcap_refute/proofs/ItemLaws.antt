@@ -1,0 +1,128 @@
+-- What is noted behind one item more.
+use Rattle.std.proofs.Common.{◌≡◌, ℕ, ◌+◌, Bool, true, false, cond, ◌&&◌, ◌||◌, List, [], ◌∷◌, ◌++◌, map, drop, Option, Some, None, Result, Ok, Err, refl, sym, ap, ◌∙◌}
+use Rattle.std.specs.List.{cons_option, list_any}
+use Rattle.std.proofs.lemmas.List.Folds.{list_any-append}
+use Rattle.tcap_msg.specs.declared.message.Message.{Message}
+use Rattle.tcap_record.specs.declared.entry.End.{End as Side}
+use Rattle.tcap_record.specs.declared.entry.Entry.{Entry}
+use Rattle.tcap_end.specs.Table.{Table}
+use Rattle.tcap_check.specs.World.{Item, Sent, is_side}
+use Rattle.tcap_check.specs.Entries.{item_of}
+use Rattle.tcap_check.specs.Follows.{has_quiet, is_quiet}
+use Rattle.tcap_check.specs.Run.{where_so}
+use Rattle.tcap_refute.specs.declared.judging.Judged.TheVariants.{Passed, Refuted, Ended}
+use Rattle.tcap_check.specs.declared.fault.Reason.{Reason}
+use Rattle.tcap_refute.specs.declared.kind.Kind.{Kind}
+use Rattle.tcap_refute.specs.declared.kind.Refutation.{Refutation}
+use Rattle.tcap_refute.specs.declared.notes.Notes.{Notes}
+use Rattle.tcap_refute.specs.Before.{message_of, sent_by, since_quiet}
+use Rattle.tcap_refute.specs.Facts.{EndFact, shows_end, told_by_list}
+use Rattle.tcap_refute.specs.Kept.{AreNotesOf, told_by_notes}
+use Rattle.tcap_refute.specs.Kind.{lowest_kind, or_else, refutation_at, refuted, refuted_behind}
+use Rattle.tcap_refute.specs.Asking.{kind_by}
+use Rattle.tcap_refute.specs.Judging.{Judges, entry_kind}
+use Rattle.tcap_refute.proofs.AskLaws.{kind_noted}
+
+-- ---- a message more
+
+module _ (side : Side) (m : Message) where
+  quiet_kept : (xs : List Item) → has_quiet (xs ++ Sent side m ∷ []) ≡ has_quiet xs
+  quiet_kept [] = refl
+  quiet_kept (item ∷ xs) = ap (cond (is_quiet item) true) (quiet_kept xs)
+
+  since_more : (xs : List Item) → since_quiet (xs ++ Sent side m ∷ []) ≡ since_quiet xs ++ Sent side m ∷ []
+  since_more [] = refl
+  since_more (item ∷ xs) =
+      ap (λ b. cond b (since_quiet (xs ++ Sent side m ∷ [])) (item ∷ xs ++ Sent side m ∷ [])) (quiet_kept (item ∷ xs))
+      ∙ by (has_quiet (item ∷ xs)) (since_more xs)
+    where
+      by : (b : Bool) → since_quiet (xs ++ Sent side m ∷ []) ≡ since_quiet xs ++ Sent side m ∷ []
+          → cond b (since_quiet (xs ++ Sent side m ∷ [])) (item ∷ xs ++ Sent side m ∷ [])
+          ≡ cond b (since_quiet xs) (item ∷ xs) ++ Sent side m ∷ []
+      by true rest = rest
+      by false rest = refl
+
+  sent_last : (test : Message → Bool) (end : Side)
+      → list_any test (sent_by end (Sent side m ∷ [])) ≡ (is_side end side && test m)
+  sent_last test end = by (is_side end side)
+    where
+      last : (b : Bool) → (b || false) ≡ b
+      last true = refl
+      last false = refl
+
+      by : (b : Bool) → list_any test (cons_option (where_so b (Some m)) []) ≡ (b && test m)
+      by true = last (test m)
+      by false = refl
+
+  sent_more : (end : Side) (xs : List Item) → sent_by end (xs ++ Sent side m ∷ []) ≡ sent_by end xs ++ sent_by end (Sent side m ∷ [])
+  sent_more end [] = refl
+  sent_more end (x ∷ xs) = by (message_of end x) (sent_more end xs)
+    where
+      by : (o : Option Message) → sent_by end (xs ++ Sent side m ∷ []) ≡ sent_by end xs ++ sent_by end (Sent side m ∷ [])
+          → cons_option o (sent_by end (xs ++ Sent side m ∷ [])) ≡ cons_option o (sent_by end xs) ++ sent_by end (Sent side m ∷ [])
+      by None rest = rest
+      by (Some message) rest = ap (λ ms. message ∷ ms) rest
+
+  -- What the list tells, behind the message.
+  told_more : (table : Table) (items : List Item) (end : Side) (fact : EndFact)
+      → told_by_list table (items ++ Sent side m ∷ []) end fact
+      ≡ (told_by_list table items end fact || (is_side end side && shows_end table fact m))
+  told_more table items end fact =
+      ap (λ xs. list_any (shows_end table fact) (sent_by end xs)) (since_more items)
+      ∙ ap (list_any (shows_end table fact)) (sent_more end (since_quiet items))
+      ∙ list_any-append (shows_end table fact) (sent_by end (since_quiet items)) (sent_by end (Sent side m ∷ []))
+      ∙ ap (λ b. told_by_list table items end fact || b) (sent_last (shows_end table fact) end)
+
+  noted : (table : Table) (items : List Item) (old new : Notes) → AreNotesOf table items old
+      → ((end : Side) (fact : EndFact) → told_by_notes new end fact
+      ≡ (told_by_notes old end fact || (is_side end side && shows_end table fact m)))
+      → AreNotesOf table (items ++ Sent side m ∷ []) new
+  noted table items old new are told = record {
+    told = λ end fact. told end fact
+        ∙ ap (λ b. b || (is_side end side && shows_end table fact m)) (are.told end fact)
+        ∙ sym (told_more table items end fact);
+  }
+
+  -- A message that was asked for its kind and has none, and was noted.
+  pub passes : (table : Table) (items : List Item) (old new : Notes) → AreNotesOf table items old
+      → (asked : Option Kind) → asked ≡ kind_by table (told_by_notes old) side m → (asked ≡ None)
+      → ((end : Side) (fact : EndFact) → told_by_notes new end fact
+      ≡ (told_by_notes old end fact || (is_side end side && shows_end table fact m)))
+      → Judges table items (Ok (Sent side m)) Passed new
+  passes table items old new are asked is none told =
+      (sym (kind_noted table items old side m are) ∙ sym is ∙ none, noted table items old new are told)
+
+  -- One that has a kind.
+  pub is_refuted : (table : Table) (items : List Item) (old : Notes) → AreNotesOf table items old → (kind : Kind)
+      → Some kind ≡ kind_by table (told_by_notes old) side m → lowest_kind table items (Sent side m) ≡ Some kind
+  is_refuted table items old are kind is = sym (is ∙ kind_noted table items old side m are)
+
+-- ---- a quiet mark more
+
+quiet_last : (xs : List Item) → has_quiet (xs ++ Item.Quiet ∷ []) ≡ true
+quiet_last [] = refl
+quiet_last (item ∷ xs) = by (is_quiet item) (quiet_last xs)
+  where
+    by : (b : Bool) → has_quiet (xs ++ Item.Quiet ∷ []) ≡ true → cond b true (has_quiet (xs ++ Item.Quiet ∷ [])) ≡ true
+    by true rest = refl
+    by false rest = rest
+
+since_mark : (xs : List Item) → since_quiet (xs ++ Item.Quiet ∷ []) ≡ []
+since_mark [] = refl
+since_mark (item ∷ xs) =
+    ap (λ b. cond b (since_quiet (xs ++ Item.Quiet ∷ [])) (item ∷ xs ++ Item.Quiet ∷ [])) (quiet_last (item ∷ xs)) ∙ since_mark xs
+
+pub marked : (table : Table) (items : List Item) (new : Notes)
+    → ((end : Side) (fact : EndFact) → told_by_notes new end fact ≡ false)
+    → Judges table items (Ok Item.Quiet) Passed new
+marked table items new told = (refl, record {
+  told = λ end fact. told end fact ∙ sym (ap (λ xs. list_any (shows_end table fact) (sent_by end xs)) (since_mark items));
+})
+
+-- ---- a record
+
+-- What is left of the entries decides, behind these items, which are noted.
+pub record Searches (table : Table) (entries : List Entry) (number : ℕ) (notes : Notes) : Type 0 where
+  pub items : List Item
+  pub noted : AreNotesOf table items notes
+  pub left : refuted_behind table items number (map item_of (drop number entries)) ≡ refuted table (map item_of entries)

@@ -1,0 +1,126 @@
+-- The kinds of a message (`Kind`), by what is told of the facts.
+use Rattle.std.specs.Prelude.{ℕ, ℤ, Bool, true, false, List, Option, Some, None, ◌==◌, ◌&&◌, ◌||◌, not, cond, is_none, is_some, option_map}
+use Rattle.std.specs.List.{list_any}
+use Rattle.tcap_parts.specs.declared.component.Component.{Component}
+use Rattle.tcap_parts.specs.declared.component.Component.TheVariants.{Invoke, ReturnResult, ReturnError, Reject}
+use Rattle.tcap_parts.specs.declared.dialogue.Dialogue.{Dialogue}
+use Rattle.tcap_parts.specs.declared.problem.Problem.{Problem}
+use Rattle.tcap_parts.specs.declared.problem.Problem.TheVariants as problems
+use Rattle.tcap_msg.specs.declared.kind.Kind.{Kind as Form}
+use Rattle.tcap_msg.specs.declared.kind.Kind.TheVariants as forms
+use Rattle.tcap_msg.specs.declared.message.Message.{Message}
+use Rattle.tcap_msg.specs.Parts.{cause_in, components_in, dialogue_in, dtid_in, kind_in, otid_in}
+use Rattle.tcap_record.specs.declared.entry.End.{End as Side}
+use Rattle.tcap_end.specs.Dialogue.{is_request, is_uni}
+use Rattle.tcap_end.specs.Table.{Table}
+use Rattle.tcap_check.specs.World.{other}
+use Rattle.tcap_refute.specs.declared.components.Test.{Test}
+use Rattle.tcap_refute.specs.declared.components.Test.TheVariants as tests
+use Rattle.tcap_refute.specs.declared.kind.Kind.{Kind}
+use Rattle.tcap_refute.specs.declared.kind.Kind.TheVariants as kinds
+use Rattle.tcap_refute.specs.Before.{is_answer, is_reject}
+use Rattle.tcap_refute.specs.Kind.{is_misplaced_aborting, is_misplaced_going_on, is_not_of_class_4, is_unknown_operation, or_else}
+use Rattle.tcap_refute.specs.Facts.{FromFact, EndFact, Spoke, Begun, Asked, WentOn, WentElsewhere, OfId, Invoked, Answered, Succeeds, Fails, From, Ended}
+
+-- what is told of an originating ID; nothing is of none
+abbrev pub told_from : (EndFact → Bool) → Option (List ℕ) → FromFact → Bool
+told_from told None fact = false
+told_from told (Some id) fact = told (From id fact)
+
+-- ---- a transaction that the peer did not speak of: by what is told of the destination ID
+
+abbrev pub cause_is_unfounded : (FromFact → Bool) → ℕ → Bool
+cause_is_unfounded told cause = cond (cause == 1) (not (told WentOn)) (cond (cause == 4) (not (told Begun)) true)
+
+abbrev pub was_not_asked : (FromFact → Bool) → Option ℕ → Bool
+was_not_asked told None = not (told Spoke)
+was_not_asked told (Some cause) = not (told Spoke) || cause_is_unfounded told cause
+
+abbrev pub transaction_is_unknown : (FromFact → Bool) → Message → Bool
+transaction_is_unknown told message = is_some (dtid_in message) && was_not_asked told (cause_in message)
+
+-- ---- an ID that was used: by what is told of the originating ID
+
+abbrev pub id_is_reused : (FromFact → Bool) → Option (List ℕ) → Form → Bool
+id_is_reused told dtid forms.Begin = told Spoke
+id_is_reused told None forms.Continue = false
+id_is_reused told (Some dtid) forms.Continue = told (WentElsewhere dtid)
+id_is_reused told dtid _ = false
+
+-- ---- behind the end
+
+abbrev pub comes_after_end : (EndFact → Bool) → Option (List ℕ) → Option ℕ → Bool
+comes_after_end told (Some dtid) None = told (Ended dtid)
+comes_after_end told _ _ = false
+
+-- ---- components: by what is told of the destination ID
+
+abbrev pub rejects_none : (FromFact → Bool) → Option ℤ → Problem → Bool
+rejects_none told None problem = true
+rejects_none told (Some id) (problems.General n) = true
+rejects_none told (Some id) (problems.Invoke n) = not (told (OfId id Invoked))
+rejects_none told (Some id) (problems.ReturnResult n) = not (told (OfId id (Answered true)))
+rejects_none told (Some id) (problems.ReturnError n) = not (told (OfId id (Answered false)))
+
+abbrev pub answers_none : (FromFact → Bool) → Component → Bool
+answers_none told (Invoke id linked code parameter) = false
+answers_none told (ReturnResult last id body) = not (told (OfId id Invoked))
+answers_none told (ReturnError id code parameter) = not (told (OfId id Invoked))
+answers_none told (Reject id problem) = rejects_none told id problem
+
+abbrev pub is_not_allowed : (FromFact → Bool) → Component → Bool
+is_not_allowed told (ReturnResult last id body) = not (told (OfId id (Succeeds (option_map (λ b. b.code) body))))
+is_not_allowed told (ReturnError id code parameter) = not (told (OfId id Fails))
+is_not_allowed told _ = false
+
+-- whether a component passes a test
+abbrev pub passes : Table → (FromFact → Bool) → Test → Component → Bool
+passes table told tests.Answer component = is_answer component
+passes table told tests.AnswerOrReject component = is_answer component || is_reject component
+passes table told tests.AnswersNothing component = answers_none told component
+passes table told tests.UnknownOperation component = is_unknown_operation table component
+passes table told tests.NotOfClass4 component = is_not_of_class_4 table component
+passes table told tests.NotAllowed component = is_not_allowed told component
+
+-- whether a component of such a message answers or rejects nothing
+abbrev pub one_answers_nothing : Table → (FromFact → Bool) → Form → List Component → Bool
+one_answers_nothing table told forms.Unidirectional components = list_any (passes table told tests.Answer) components
+one_answers_nothing table told forms.Begin components = list_any (passes table told tests.AnswerOrReject) components
+one_answers_nothing table told _ components = list_any (passes table told tests.AnswersNothing) components
+
+-- whether one is of a wrong operation
+abbrev pub one_is_wrong : Table → (FromFact → Bool) → Form → List Component → Bool
+one_is_wrong table told forms.Unidirectional components = list_any (passes table told tests.NotOfClass4) components
+one_is_wrong table told forms.Begin components = list_any (passes table told tests.UnknownOperation) components
+one_is_wrong table told _ components =
+    list_any (passes table told tests.UnknownOperation) components || list_any (passes table told tests.NotAllowed) components
+
+-- ---- the dialogue portion
+
+abbrev pub dialogue_is_misplaced : Bool → Form → Option Dialogue → Bool
+dialogue_is_misplaced is_asked forms.Unidirectional dialogue = is_some dialogue && not (is_uni dialogue)
+dialogue_is_misplaced is_asked forms.Begin dialogue = is_some dialogue && not (is_request dialogue)
+dialogue_is_misplaced is_asked forms.Abort dialogue = is_misplaced_aborting is_asked dialogue
+dialogue_is_misplaced is_asked _ dialogue = is_misplaced_going_on is_asked dialogue
+
+-- ---- the lowest kind of a message that an end sends
+
+-- by its IDs: where that is told of its end, and of its destination ID
+abbrev pub kind_of_ids : (EndFact → Bool) → (FromFact → Bool) → Message → Option Kind
+kind_of_ids own there message =
+    cond (transaction_is_unknown there message) (Some kinds.UnknownTransaction)
+    (cond (id_is_reused (told_from own (otid_in message)) (dtid_in message) (kind_in message)) (Some kinds.ReusedId)
+    (cond (comes_after_end own (dtid_in message) (cause_in message)) (Some kinds.AfterEnd) None))
+
+-- by its components and its dialogue portion: where that is told of its destination ID
+abbrev pub kind_of_parts : Table → (FromFact → Bool) → Message → Option Kind
+kind_of_parts table there message =
+    cond (one_answers_nothing table there (kind_in message) (components_in message)) (Some kinds.AnswersNothing)
+    (cond (one_is_wrong table there (kind_in message) (components_in message)) (Some kinds.WrongOperation)
+    (cond (dialogue_is_misplaced (there Asked) (kind_in message) (dialogue_in message)) (Some kinds.MisplacedDialogue) None))
+
+-- where that is told of each end
+abbrev pub kind_by : Table → (Side → EndFact → Bool) → Side → Message → Option Kind
+kind_by table told side message =
+    or_else (kind_of_ids (told side) (told_from (told (other side)) (dtid_in message)) message)
+    (kind_of_parts table (told_from (told (other side)) (dtid_in message)) message)

@@ -1,0 +1,40 @@
+-- What a refutation says of all runs.
+use Rattle.std.specs.Prelude.{◌≡◌, ◌⊎◌, ℕ, List, ◌∷◌, ◌++◌, map, length, slice_get, Some, Result, Ok, Err}
+use Rattle.tcap_ber.specs.declared.fault.Fault.{Fault}
+use Rattle.tcap_msg.specs.declared.message.Message.{Message}
+use Rattle.tcap_record.specs.declared.entry.End.{End as Side}
+use Rattle.tcap_end.specs.Table.{Table}
+use Rattle.tcap_check.specs.declared.fault.Reason.{Reason}
+use Rattle.tcap_check.specs.declared.fault.Reason.TheVariants.{BadMessage}
+use Rattle.tcap_check.specs.World.{Item, Sent, World}
+use Rattle.tcap_check.specs.Run.{Event, KeepsRules, Runs}
+use Rattle.tcap_refute.specs.declared.kind.Kind.TheVariants as kinds
+use Rattle.tcap_refute.specs.declared.kind.Refutation.{Refutation}
+
+-- An end that keeps the rules sends the message in no run behind these items, whatever the other end does, and whatever
+-- follows.
+abbrev pub IsUnsendable : Table → List Item → Side → Message → Type 0
+IsUnsendable table before side message =
+    (events : List Event) (w : World) (behind : List Item) → Runs table events w → KeepsRules side events
+    → w.sent ≡ before ++ Sent side message ∷ behind → ⊥
+
+-- an entry whose octets are no message
+pub record IsBadEntry (entries : List (Result Item Reason)) (entry : ℕ) : Type 0 where
+  pub fault : Fault
+  pub there : slice_get entries entry ≡ Some (Err (BadMessage fault))
+
+-- an entry that its end sends in no such run
+pub record IsUnsendableEntry (table : Table) (entries : List (Result Item Reason)) (entry : ℕ) : Type 0 where
+  pub before : List Item
+  pub side : Side
+  pub message : Message
+  pub more : List (Result Item Reason)
+  pub are : entries ≡ map (λ item. Ok item) before ++ Ok (Sent side message) ∷ more
+  pub counted : length before ≡ entry
+  pub unsendable : IsUnsendable table before side message
+
+-- The octets of the entry are no message; or it is a message that its end sends in no run in which it keeps the rules, behind
+-- the items before it.
+abbrev pub IsAtFault : Table → List (Result Item Reason) → Refutation → Type 0
+IsAtFault table entries r =
+    ((r.kind ≡ kinds.BadMessage) × IsBadEntry entries r.entry) ⊎ IsUnsendableEntry table entries r.entry

@@ -1,0 +1,194 @@
+//! What is asked of the components of a message (Q.774 3.2, component sub-layer; Q.771, operation classes).
+
+ghost use Rattle.std.specs.Prelude.{◌≡◌, option_copied, option_map};
+ghost use Rattle.std.specs.List.{list_any};
+ghost use Rattle.tcap_parts.specs.Meaning.{body_of, code_of, component_of, components_left, problem_of};
+ghost use Rattle.tcap_msg.specs.Parts.{components_in, kind_in};
+ghost use Rattle.tcap_end.specs.Class.{of_class, reports_neither};
+ghost use Rattle.tcap_end.specs.Table.{class_of};
+ghost use Rattle.tcap_refute.specs.Facts.{Answered, Fails, Invoked, OfId, Succeeds};
+ghost use Rattle.tcap_refute.specs.Kept.{id_in, told_by_from};
+ghost use Rattle.tcap_refute.specs.Asking.{answers_none, is_not_allowed, one_answers_nothing, one_is_wrong, passes, rejects_none};
+
+use crate::by_id::ById;
+use crate::from_id::FromId;
+use tcap_end::Table;
+use tcap_msg::{Kind as Form, MessageParts};
+use tcap_parts::{CodeView, ComponentView, Components, ProblemView, ResultBodyView};
+
+/// What is asked of a component.
+#[derive(Clone, Copy, Debug)]
+pub(crate) enum Test {
+    /// Whether it is an answer.
+    Answer,
+    /// Whether it is an answer or a Reject.
+    AnswerOrReject,
+    /// Whether it answers or rejects what was never sent from an ID.
+    AnswersNothing,
+    /// Whether it is an Invoke whose operation the table lacks.
+    UnknownOperation,
+    /// Whether it is an Invoke of another class than 4.
+    NotOfClass4,
+    /// Whether it is an answer that no Invoke from an ID allows.
+    NotAllowed,
+}
+
+/// Whether the table has the operation, in class 4.
+fn is_of_class_4(table: &Table, code: CodeView) -> bool
+    ensures { result ≡ of_class reports_neither (class_of table.now (code_of code.entry)) }
+{
+    table.class_of(code) == Some(4)
+}
+
+/// What is kept of an invoke ID.
+fn of_id(from: Option<&FromId>, id: i8) -> Option<&ById>
+    ensures { option_copied result ≡ id_in (option_copied from.entry) id }
+{
+    from?.ids.get(&id)
+}
+
+/// Whether that ID was invoked from there.
+fn is_invoked(from: Option<&FromId>, id: i8) -> bool
+    ensures { result ≡ told_by_from (option_copied from.entry) (OfId id Invoked) }
+{
+    match of_id(from, id) {
+        Some(kept) => kept.invoked,
+        None => false,
+    }
+}
+
+/// Whether a Return Result, or a Return Error, of that ID came from there.
+fn is_answered(from: Option<&FromId>, is_result: bool, id: i8) -> bool
+    ensures { result ≡ told_by_from (option_copied from.entry) (OfId id (Answered is_result)) }
+{
+    match of_id(from, id) {
+        Some(kept) if is_result => kept.by_result,
+        Some(kept) => kept.by_error,
+        None => false,
+    }
+}
+
+/// Whether that ID was invoked from there by an operation whose class reports success, by that one where it is named.
+fn succeeds(from: Option<&FromId>, id: i8, body: Option<ResultBodyView>) -> bool
+    ensures { result ≡ told_by_from (option_copied from.entry)
+        (OfId id (Succeeds (option_map (λ b. b.code) (option_map body_of body.entry)))) }
+{
+    match (of_id(from, id), body) {
+        (Some(kept), Some(body)) => kept.codes.has(body.code),
+        (Some(kept), None) => kept.succeeds,
+        (None, _) => false,
+    }
+}
+
+/// Whether that ID was invoked from there by an operation whose class reports failure.
+fn fails(from: Option<&FromId>, id: i8) -> bool
+    ensures { result ≡ told_by_from (option_copied from.entry) (OfId id Fails) }
+{
+    match of_id(from, id) {
+        Some(kept) => kept.fails,
+        None => false,
+    }
+}
+
+/// Whether a Reject rejects what was never sent from there.
+fn rejects_none(from: Option<&FromId>, id: Option<i8>, problem: ProblemView) -> bool
+    ensures { result ≡ rejects_none (told_by_from (option_copied from.entry)) id (problem_of problem) }
+{
+    match (id, problem) {
+        (None, _) | (Some(_), ProblemView::General(_)) => true,
+        (Some(id), ProblemView::Invoke(_)) => !is_invoked(from, id),
+        (Some(id), ProblemView::ReturnResult(_)) => !is_answered(from, true, id),
+        (Some(id), ProblemView::ReturnError(_)) => !is_answered(from, false, id),
+    }
+}
+
+/// Whether a component answers or rejects what was never sent from there.
+fn answers_none(from: Option<&FromId>, component: ComponentView) -> bool
+    ensures { result ≡ answers_none (told_by_from (option_copied from.entry)) (component_of component.entry) }
+{
+    match component {
+        ComponentView::Invoke { .. } => false,
+        ComponentView::ReturnResult { id, .. } | ComponentView::ReturnError { id, .. } => {
+            !is_invoked(from, id)
+        }
+        ComponentView::Reject { id, problem } => rejects_none(from, id, problem),
+    }
+}
+
+/// Whether it is an answer that no Invoke from there allows.
+fn is_not_allowed(from: Option<&FromId>, component: ComponentView) -> bool
+    ensures { result ≡ is_not_allowed (told_by_from (option_copied from.entry)) (component_of component.entry) }
+{
+    match component {
+        ComponentView::ReturnResult { id, body, .. } => !succeeds(from, id, body),
+        ComponentView::ReturnError { id, .. } => !fails(from, id),
+        _ => false,
+    }
+}
+
+/// Whether a component passes a test.
+fn passes(table: &Table, from: Option<&FromId>, test: Test, component: ComponentView) -> bool
+    ensures { result ≡ passes table.now (told_by_from (option_copied from.entry)) test (component_of component.entry) }
+{
+    match (test, component) {
+        (Test::Answer | Test::AnswerOrReject, ComponentView::Invoke { .. }) => false,
+        (Test::Answer, ComponentView::Reject { .. }) => false,
+        (Test::Answer | Test::AnswerOrReject, _) => true,
+        (Test::AnswersNothing, component) => answers_none(from, component),
+        (Test::UnknownOperation, ComponentView::Invoke { code, .. }) => {
+            table.class_of(code).is_none()
+        }
+        (Test::NotOfClass4, ComponentView::Invoke { code, .. }) => !is_of_class_4(table, code),
+        (Test::UnknownOperation | Test::NotOfClass4, _) => false,
+        (Test::NotAllowed, component) => is_not_allowed(from, component),
+    }
+}
+
+/// Whether one of these components does.
+fn any(table: &Table, from: Option<&FromId>, test: Test, components: Components) -> bool
+    ensures { result ≡ list_any (passes table.now (told_by_from (option_copied from.entry)) test)
+        (components_left components.entry) }
+{
+    for component in components {
+        if passes(table, from, test, component) {
+            return true;
+        }
+    }
+    false
+}
+
+/// Whether a component of a message of that kind answers or rejects what was never sent from there.
+pub(crate) fn one_answers_nothing<M: MessageParts>(
+    table: &Table,
+    from: Option<&FromId>,
+    message: &M,
+) -> bool
+    ensures { result ≡ one_answers_nothing table.now (told_by_from (option_copied from.entry))
+        (kind_in (M.meaning message.now)) (components_in (M.meaning message.now)) }
+{
+    let test = match message.kind() {
+        Form::Unidirectional => Test::Answer,
+        Form::Begin => Test::AnswerOrReject,
+        _ => Test::AnswersNothing,
+    };
+    any(table, from, test, message.components())
+}
+
+/// Whether one is of a wrong operation.
+pub(crate) fn one_is_wrong<M: MessageParts>(
+    table: &Table,
+    from: Option<&FromId>,
+    message: &M,
+) -> bool
+    ensures { result ≡ one_is_wrong table.now (told_by_from (option_copied from.entry))
+        (kind_in (M.meaning message.now)) (components_in (M.meaning message.now)) }
+{
+    match message.kind() {
+        Form::Unidirectional => any(table, from, Test::NotOfClass4, message.components()),
+        Form::Begin => any(table, from, Test::UnknownOperation, message.components()),
+        _ => {
+            any(table, from, Test::UnknownOperation, message.components())
+                || any(table, from, Test::NotAllowed, message.components())
+        }
+    }
+}

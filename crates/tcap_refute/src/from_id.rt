@@ -1,0 +1,193 @@
+//! What an end sent from a transaction ID.
+
+ghost use Rattle.std.specs.Prelude.{◌≡◌, ◌||◌, ℤ, Some, false, OnOk};
+ghost use Rattle.std.specs.Map.{lookup};
+ghost use Rattle.std.specs.BTreeMap.{is_at};
+ghost use Rattle.std.specs.Ordering.{int_cmp};
+ghost use Rattle.std.specs.List.{list_any};
+ghost use Rattle.tcap_parts.specs.Meaning.{component_of, components_left};
+ghost use Rattle.tcap_refute.specs.Facts.{FromFact, IdFact, noted_id, shows, shows_from};
+ghost use Rattle.tcap_refute.specs.Kept.{holds, is_elsewhere, tells, tells_from};
+ghost use Rattle.tcap_refute.specs.Noting.{IsHeaded, IsSameHead, toward_with};
+
+use crate::by_id::ById;
+use crate::dialogues::is_request;
+use std::alloc::{AllocError, Global};
+use std::collections::BTreeMap;
+use tcap_end::Table;
+use tcap_msg::{Kind as Form, MessageParts, TransactionId, TransactionIdView};
+use tcap_parts::{ComponentView, Components};
+
+/// The destination IDs of Continues.
+#[derive(Debug, Drop)]
+pub(crate) enum Toward {
+    /// There was none.
+    Nowhere,
+    /// All of them had this one.
+    One(TransactionId),
+    /// Two of them differ.
+    Several,
+}
+
+/// What an end sent from a transaction ID.
+#[derive(Debug, Drop)]
+pub(crate) struct FromId {
+    /// A Begin.
+    pub(crate) begun: bool,
+    /// A Begin with a dialogue request.
+    pub(crate) asked: bool,
+    /// A Continue.
+    pub(crate) went_on: bool,
+    /// Where its Continues went.
+    pub(crate) toward: Toward,
+    /// Its components, by their invoke IDs.
+    pub(crate) ids: BTreeMap<i8, ById>,
+}
+
+/// The invoke ID of a component of which something is noted.
+fn noted_id(component: &ComponentView) -> Option<i8>
+    ensures { result ≡ noted_id (component_of component.now) }
+{
+    match component {
+        ComponentView::Invoke { id, .. }
+        | ComponentView::ReturnResult { id, .. }
+        | ComponentView::ReturnError { id, .. } => Some(*id),
+        ComponentView::Reject { .. } => None,
+    }
+}
+
+impl Toward {
+    /// Whether one of them is another than this.
+    pub(crate) fn is_elsewhere(&self, dtid: TransactionIdView) -> bool
+        ensures { result ≡ is_elsewhere dtid.entry.octets.now self.now }
+    {
+        match self {
+            Toward::Nowhere => false,
+            Toward::One(other) => dtid.octets != other.octets(),
+            Toward::Several => true,
+        }
+    }
+
+    /// One more.
+    fn note(&mut self, dtid: TransactionIdView)
+        ensures { self.new ≡ toward_with dtid.entry.octets.now self.old }
+    {
+        match self {
+            Toward::Nowhere => *self = Toward::One(dtid.to_transaction_id()),
+            Toward::One(other) if dtid.octets != other.octets() => *self = Toward::Several,
+            _ => {}
+        }
+    }
+}
+
+impl FromId {
+    /// Nothing.
+    pub(crate) fn new(alloc: Global) -> FromId
+        ensures { (fact : FromFact) → tells_from fact result ≡ false }
+    {
+        FromId {
+            begun: false,
+            asked: false,
+            went_on: false,
+            toward: Toward::Nowhere,
+            ids: BTreeMap::new(alloc),
+        }
+    }
+
+    /// A message, but for its components.
+    fn note_head<M: MessageParts>(&mut self, message: &M)
+        ensures { IsHeaded (M.meaning message.now) self.old self.new }
+    {
+        match message.kind() {
+            Form::Begin => {
+                self.begun = true;
+                if is_request(message.dialogue()) {
+                    self.asked = true;
+                }
+            }
+            Form::Continue => {
+                self.went_on = true;
+                if let Some(dtid) = message.dtid() {
+                    self.toward.note(dtid);
+                }
+            }
+            _ => {}
+        }
+    }
+
+    /// A component of that invoke ID.
+    fn note_of_id(
+        &mut self,
+        alloc: Global,
+        table: &Table,
+        id: i8,
+        component: ComponentView,
+    ) -> Result<(), AllocError>
+        requires { noted_id (component_of component) ≡ Some id }
+        ensures ids { OnOk result ((other : ℤ) (fact : IdFact)
+            → holds (tells fact) (lookup (is_at (int_cmp other)) self.new.ids.entries)
+            ≡ holds (tells fact) (lookup (is_at (int_cmp other)) self.old.ids.entries)
+            || shows table.now other fact (component_of component.entry)) }
+        ensures head { IsSameHead self.old self.new }
+    {
+        if let Some(kept) = self.ids.get_mut(&id) {
+            return kept.note(alloc, table, component);
+        }
+        let mut kept = ById::new(alloc);
+        kept.note(alloc, table, component)?;
+        self.ids.insert(id, kept)?;
+        Ok(())
+    }
+
+    /// A component.
+    fn note_component(
+        &mut self,
+        alloc: Global,
+        table: &Table,
+        component: ComponentView,
+    ) -> Result<(), AllocError>
+        ensures ids { OnOk result ((id : ℤ) (fact : IdFact)
+            → holds (tells fact) (lookup (is_at (int_cmp id)) self.new.ids.entries)
+            ≡ holds (tells fact) (lookup (is_at (int_cmp id)) self.old.ids.entries)
+            || shows table.now id fact (component_of component.entry)) }
+        ensures head { IsSameHead self.old self.new }
+    {
+        match noted_id(&component) {
+            Some(id) => self.note_of_id(alloc, table, id, component),
+            None => Ok(()),
+        }
+    }
+
+    /// Components, one after the other.
+    fn note_components(
+        &mut self,
+        alloc: Global,
+        table: &Table,
+        components: Components,
+    ) -> Result<(), AllocError>
+        ensures ids { OnOk result ((id : ℤ) (fact : IdFact)
+            → holds (tells fact) (lookup (is_at (int_cmp id)) self.new.ids.entries)
+            ≡ holds (tells fact) (lookup (is_at (int_cmp id)) self.old.ids.entries)
+            || list_any (shows table.now id fact) (components_left components.entry)) }
+        ensures head { IsSameHead self.old self.new }
+    {
+        for component in components {
+            self.note_component(alloc, table, component)?;
+        }
+        Ok(())
+    }
+
+    /// A message.
+    pub(crate) fn note<M: MessageParts>(
+        &mut self,
+        alloc: Global,
+        table: &Table,
+        message: &M,
+    ) -> Result<(), AllocError>
+        ensures { OnOk result ((fact : FromFact) → tells_from fact self.new
+            ≡ tells_from fact self.old || shows_from table.now fact (M.meaning message.now)) }
+    {
+        self.note_head(message);
+        self.note_components(alloc, table, message.components())
+    }
+}

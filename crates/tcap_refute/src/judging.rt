@@ -1,0 +1,104 @@
+//! What an entry is to a search: whether it has a kind, and what is noted of it.
+
+ghost use Rattle.std.specs.Prelude.{◌≡◌, Ok, List, IfOk};
+ghost use Rattle.tcap_end.specs.Table.{Table};
+ghost use Rattle.tcap_check.specs.World.{Item, Sent};
+ghost use Rattle.tcap_check.specs.Entries.{item_of};
+ghost use Rattle.tcap_refute.specs.Kind.{is_limit};
+ghost use Rattle.tcap_refute.specs.Kept.{AreNotesOf};
+ghost use Rattle.tcap_refute.specs.Judging.{Judges, judged_fault};
+
+use crate::kind::Kind;
+use crate::notes::Notes;
+use std::alloc::{AllocError, Global};
+use tcap_ber::Reason;
+use tcap_end::Table;
+use tcap_msg::MessageParts;
+use tcap_record::{Body, End, Entry};
+
+/// What an entry is to a search.
+#[derive(Clone, Copy, Debug, PartialEq, Eq)]
+pub(crate) enum Judged {
+    /// An item that has no kind: it is noted.
+    Passed,
+    /// It has that kind, the lowest.
+    Refuted(Kind),
+    /// No item, and it has no kind: what is behind it is not looked at.
+    Ended,
+}
+
+/// Whether a reason is a limit of this profile, and not of the standard.
+fn is_limit(reason: Reason) -> bool
+    ensures { result ≡ is_limit reason }
+{
+    matches!(
+        reason,
+        Reason::LengthForm
+            | Reason::TooLong
+            | Reason::TagForm
+            | Reason::BadVersion
+            | Reason::DialogueSyntax
+            | Reason::Indefinite
+            | Reason::CodeTooWide
+            | Reason::TooDeep
+    )
+}
+
+/// What octets are that are no message, by that reason.
+fn judged_fault(reason: Reason) -> Judged
+    ensures { result ≡ judged_fault reason }
+{
+    if is_limit(reason) {
+        Judged::Ended
+    } else {
+        Judged::Refuted(Kind::BadMessage)
+    }
+}
+
+impl Notes {
+    /// Takes a message that an end sent.
+    fn take_message<M: MessageParts>(
+        &mut self,
+        alloc: Global,
+        table: &Table,
+        side: End,
+        message: &M,
+    ) -> Result<Judged, AllocError>
+        ensures { (items : List Item) → AreNotesOf table.now items self.old → IfOk result
+            (λ judged. Judges table.now items (Ok (Sent side (M.meaning message.now))) judged self.new) }
+    {
+        if let Some(kind) = self.kind_of(table, side, message) {
+            return Ok(Judged::Refuted(kind));
+        }
+        self.note(alloc, table, side, message)?;
+        Ok(Judged::Passed)
+    }
+
+    /// Takes a quiet mark: what was before it is forgotten.
+    fn take_mark(&mut self, alloc: Global) -> Judged
+        ensures { (table : Table) (items : List Item) → Judges table items (Ok Item.Quiet) result self.new }
+    {
+        *self = Notes::new(alloc);
+        Judged::Passed
+    }
+
+    /// Takes the next entry.
+    pub(crate) fn take(
+        &mut self,
+        alloc: Global,
+        table: &Table,
+        entry: &Entry,
+    ) -> Result<Judged, AllocError>
+        ensures { (items : List Item) → AreNotesOf table.now items self.old
+            → IfOk result (λ judged. Judges table.now items (item_of entry.now) judged self.new) }
+    {
+        match (entry.side, &entry.body) {
+            (_, Body::Bad(fault)) => Ok(judged_fault(fault.reason)),
+            (Some(side), Body::Good(message)) => {
+                self.take_message(alloc, table, side, &message.view())
+            }
+            (None, Body::Quiet) => Ok(self.take_mark(alloc)),
+            _ => Ok(Judged::Ended),
+        }
+    }
+}

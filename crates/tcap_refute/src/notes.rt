@@ -1,0 +1,189 @@
+//! What is kept of the messages that two ends sent since the last quiet mark, found by transaction IDs.
+
+ghost use Rattle.std.specs.Prelude.{◌≡◌, ◌&&◌, ◌||◌, ℕ, List, Some, false, OnOk, option_copied};
+ghost use Rattle.std.specs.Map.{lookup};
+ghost use Rattle.std.specs.BTreeMap.{is_at};
+ghost use Rattle.std.specs.BTreeSet as set;
+ghost use Rattle.tcap_msg.specs.Meaning.{id_of};
+ghost use Rattle.tcap_record.specs.declared.entry.End.{End as Side};
+ghost use Rattle.tcap_end.specs.End.{is_id};
+ghost use Rattle.tcap_end.specs.Table.{octets_cmp};
+ghost use Rattle.tcap_check.specs.World.{is_side, other};
+ghost use Rattle.tcap_check.specs.Since.{ended_by};
+ghost use Rattle.tcap_refute.specs.Facts.{EndFact, Ended, From, FromFact, shows_end, shows_from};
+ghost use Rattle.tcap_refute.specs.Kept.{holds, notes_at, tells_end, tells_from, told_by_notes};
+
+use crate::from_id::FromId;
+use std::alloc::{AllocError, Global};
+use std::collections::{BTreeMap, BTreeSet};
+use tcap_end::Table;
+use tcap_msg::{Kind as Form, MessageParts, TransactionId, TransactionIdView};
+use tcap_record::End;
+
+/// What an end sent.
+#[derive(Debug, Drop)]
+pub(crate) struct EndNotes {
+    /// Its messages, by their originating IDs.
+    pub(crate) from: BTreeMap<TransactionId, FromId>,
+    /// The destination IDs of its Ends, and of its Aborts without cause.
+    pub(crate) ended: BTreeSet<TransactionId>,
+}
+
+/// What two ends sent.
+#[derive(Debug, Drop)]
+pub(crate) struct Notes {
+    pub(crate) a: EndNotes,
+    pub(crate) b: EndNotes,
+}
+
+/// The destination ID of an End, or of an Abort without cause.
+fn ended_by<M: MessageParts>(message: &M) -> Option<TransactionIdView<'_>>
+    ensures { id_of result ≡ ended_by (M.meaning message.now) }
+{
+    match (message.kind(), message.cause()) {
+        (Form::End, _) | (Form::Abort, None) => message.dtid(),
+        _ => None,
+    }
+}
+
+/// The other end.
+pub(crate) fn other(side: End) -> End
+    ensures { result ≡ other side }
+{
+    match side {
+        End::A => End::B,
+        End::B => End::A,
+    }
+}
+
+impl EndNotes {
+    /// Nothing.
+    fn new(alloc: Global) -> EndNotes
+        ensures { (fact : EndFact) → tells_end fact result ≡ false }
+    {
+        EndNotes {
+            from: BTreeMap::new(alloc),
+            ended: BTreeSet::new(alloc),
+        }
+    }
+
+    /// What it sent from that transaction ID.
+    pub(crate) fn from(&self, id: TransactionIdView) -> Option<&FromId>
+        ensures { option_copied result ≡ lookup (is_at (octets_cmp id.entry.octets.now)) self.now.from.entries }
+    {
+        self.from.get(&id.to_transaction_id())
+    }
+
+    /// Whether it ended the dialogue with that transaction ID.
+    pub(crate) fn has_ended(&self, id: TransactionIdView) -> bool
+        ensures { result ≡ set.contains octets_cmp self.now.ended id.entry.octets.now }
+    {
+        self.ended.contains(&id.to_transaction_id())
+    }
+
+    /// A message from that transaction ID.
+    fn note_from<M: MessageParts>(
+        &mut self,
+        alloc: Global,
+        table: &Table,
+        id: TransactionIdView,
+        message: &M,
+    ) -> Result<(), AllocError>
+        ensures from { OnOk result ((other : List ℕ) (fact : FromFact)
+            → holds (tells_from fact) (lookup (is_at (octets_cmp other)) self.new.from.entries)
+            ≡ holds (tells_from fact) (lookup (is_at (octets_cmp other)) self.old.from.entries)
+            || is_id other (Some id.entry.octets.now) && shows_from table.now fact (M.meaning message.now)) }
+        ensures ended { self.new.ended ≡ self.old.ended }
+    {
+        let key = id.to_transaction_id();
+        if let Some(kept) = self.from.get_mut(&key) {
+            return kept.note(alloc, table, message);
+        }
+        let mut kept = FromId::new(alloc);
+        kept.note(alloc, table, message)?;
+        self.from.insert(key, kept)?;
+        Ok(())
+    }
+
+    /// The originating ID of a message, and what it tells of it.
+    fn note_otid<M: MessageParts>(
+        &mut self,
+        alloc: Global,
+        table: &Table,
+        message: &M,
+    ) -> Result<(), AllocError>
+        ensures from { OnOk result ((id : List ℕ) (fact : FromFact) → tells_end (From id fact) self.new
+            ≡ tells_end (From id fact) self.old || shows_end table.now (From id fact) (M.meaning message.now)) }
+        ensures ended { self.new.ended ≡ self.old.ended }
+    {
+        match message.otid() {
+            Some(id) => self.note_from(alloc, table, id, message),
+            None => Ok(()),
+        }
+    }
+
+    /// The destination ID of a message that ends a dialogue.
+    fn note_ended<M: MessageParts>(&mut self, message: &M) -> Result<(), AllocError>
+        ensures ended { OnOk result ((id : List ℕ) → tells_end (Ended id) self.new
+            ≡ tells_end (Ended id) self.old || is_id id (ended_by (M.meaning message.now))) }
+        ensures from { self.new.from ≡ self.old.from }
+    {
+        if let Some(id) = ended_by(message) {
+            self.ended.insert(id.to_transaction_id())?;
+        }
+        Ok(())
+    }
+
+    /// A message.
+    fn note<M: MessageParts>(
+        &mut self,
+        alloc: Global,
+        table: &Table,
+        message: &M,
+    ) -> Result<(), AllocError>
+        ensures { OnOk result ((fact : EndFact) → tells_end fact self.new
+            ≡ tells_end fact self.old || shows_end table.now fact (M.meaning message.now)) }
+    {
+        self.note_otid(alloc, table, message)?;
+        self.note_ended(message)
+    }
+}
+
+impl Notes {
+    /// Nothing.
+    pub(crate) fn new(alloc: Global) -> Notes
+        ensures { (side : Side) (fact : EndFact) → told_by_notes result side fact ≡ false }
+    {
+        Notes {
+            a: EndNotes::new(alloc),
+            b: EndNotes::new(alloc),
+        }
+    }
+
+    /// What that end sent.
+    pub(crate) fn at(&self, side: End) -> &EndNotes
+        ensures { result.now ≡ notes_at side self.now }
+    {
+        match side {
+            End::A => &self.a,
+            End::B => &self.b,
+        }
+    }
+
+    /// A message that an end sent.
+    pub(crate) fn note<M: MessageParts>(
+        &mut self,
+        alloc: Global,
+        table: &Table,
+        side: End,
+        message: &M,
+    ) -> Result<(), AllocError>
+        ensures { OnOk result ((end : Side) (fact : EndFact) → told_by_notes self.new end fact
+            ≡ told_by_notes self.old end fact || is_side end side && shows_end table.now fact (M.meaning message.now)) }
+    {
+        match side {
+            End::A => self.a.note(alloc, table, message),
+            End::B => self.b.note(alloc, table, message),
+        }
+    }
+}

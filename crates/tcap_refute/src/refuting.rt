@@ -1,0 +1,55 @@
+//! The search for the first entry of a record that no end sends which keeps the rules.
+
+ghost use Rattle.std.specs.Prelude.{◌≡◌, map, IfOk};
+ghost use Rattle.tcap_check.specs.Entries.{item_of};
+ghost use Rattle.tcap_refute.specs.Kind.{refuted};
+
+use crate::judging::Judged;
+use crate::kind::Refutation;
+use crate::notes::Notes;
+use std::alloc::{AllocError, Global};
+use tcap_end::Table;
+use tcap_record::Record;
+
+/// Why a search answers nothing.
+#[derive(Clone, Copy, Debug, PartialEq, Eq)]
+pub enum SearchFault {
+    /// Memory ran out.
+    Memory,
+}
+
+impl From<AllocError> for SearchFault {
+    ghost use Rattle.tcap_refute.specs.declared.refuting.SearchFault.TheVariants.{Memory};
+
+    ghost from_gives = { λ _ fault. fault ≡ Memory };
+
+    fn from(_: AllocError) -> SearchFault {
+        SearchFault::Memory
+    }
+}
+
+/// The lowest entry of a record that has a kind, with its lowest kind: no end sends it that keeps the rules (Q.771, Q.773,
+/// Q.774). None where no entry has one. What stands behind the first entry that is no item, and has no kind, is not looked
+/// at. It takes about the time of looking each message and component up. `Memory` where memory ran out.
+pub fn refute(
+    alloc: Global,
+    record: &Record,
+    table: &Table,
+) -> Result<Option<Refutation>, SearchFault>
+    ensures { IfOk result (λ r. r ≡ refuted table.now (map item_of «record».now.entries.items)) }
+{
+    let mut notes = Notes::new(alloc);
+    for (number, entry) in record.entries.iter().enumerate() {
+        match notes.take(alloc, table, entry)? {
+            Judged::Passed => {}
+            Judged::Refuted(kind) => {
+                return Ok(Some(Refutation {
+                    entry: number as u64,
+                    kind,
+                }));
+            }
+            Judged::Ended => return Ok(None),
+        }
+    }
+    Ok(None)
+}

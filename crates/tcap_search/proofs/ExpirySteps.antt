@@ -1,0 +1,155 @@
+-- The loop that finds expiries: one entry more.
+use Rattle.std.proofs.Common.{◌≡◌, ℕ, ℤ, ◌+◌, ◌<◌, Bool, true, false, cond, List, [], ◌∷◌, map, length, take, get_or, Option, Some, None, refl, sym, ap, ◌∙◌, arith}
+use Rattle.std.specs.Prelude.{◌&&◌, nat_lt}
+use Rattle.std.specs.List.{list_any}
+use Rattle.std.proofs.lemmas.Bool.{le-ltb}
+use Rattle.std.proofs.lemmas.List.{length-map}
+use Rattle.tcap_record.specs.declared.entry.End.{End as Side}
+use Rattle.tcap_record.specs.declared.entry.Entry.{Entry}
+use Rattle.tcap_check.specs.Run.{where_so}
+use Rattle.tcap_check.specs.declared.certificate.Expiry.{Expiry}
+use Rattle.tcap_check.specs.declared.certificate.Fate.{Fate}
+use Rattle.tcap_check.specs.declared.certificate.Fate.TheVariants.{Gap, Lost, By}
+use Rattle.tcap_search.specs.declared.sweep.Sweep.{Sweep}
+use Rattle.tcap_search.specs.Lines.{Line, lines_of, or_else}
+use Rattle.tcap_search.specs.Proposed.{Fated, all_fated, components_at, expiries_by, expiries_from, fate_of, fated, first_fates, ties_of}
+use Rattle.tcap_search.specs.Traced.{AreFates, AreTransactions}
+use Rattle.tcap_search.specs.ByInvocation.{kept_at}
+use Rattle.tcap_search.specs.Due.{due_in}
+use Rattle.tcap_search.specs.Fates.{is_of}
+use Rattle.tcap_search.specs.Listed.{entry_rejected}
+use Rattle.tcap_search.specs.Sweep.{answer_at, answer_kept, answer_rejected, answers_at, invoked_by, invoked_in}
+use Rattle.tcap_search.proofs.ExpiryLaws.{answered_by, entry_same, expiries_more, line_adds}
+use Rattle.tcap_search.proofs.FateSteps.{lines_more}
+use Rattle.tcap_search.proofs.LossLaws.{lines_fated, lines_kept}
+use Rattle.tcap_search.proofs.NumberedLaws.{count_lines, entries_of_lines, line_at, lines_numbered}
+use Rattle.tcap_search.proofs.OrderLaws.{losses_order}
+use Rattle.tcap_search.proofs.SweepLaws.{answer_with, answered_in, answered_more, invoked_more, is_answering, is_in_gap_below}
+
+-- ---- the fates of lines
+
+-- They are of these lines,
+all_lines : (lines : List Line) → map (λ y. y.line) (all_fated lines) ≡ lines
+all_lines lines =
+    let same : length (first_fates lines (ties_of lines)) ≡ length lines =
+    length-map lines (fate_of lines (ties_of lines)) in
+    lines_kept (fated lines (first_fates lines (ties_of lines)))
+    ∙ lines_fated lines (first_fates lines (ties_of lines)) same
+
+map_twice : {A B C : Type 0} (f : A → B) (g : B → C) (xs : List A) → map g (map f xs) ≡ map (λ x. g (f x)) xs
+map_twice f g [] = refl
+map_twice f g (x ∷ xs) = ap (λ ys. g (f x) ∷ ys) (map_twice f g xs)
+
+-- so these are their entries,
+all_entries : (entries : List Entry) → map (λ y. y.line.entry) (all_fated (lines_of entries)) ≡ entries
+all_entries entries =
+    sym (map_twice (λ (y : Fated). y.line) (λ (x : Line). x.entry) (all_fated (lines_of entries)))
+    ∙ ap (map (λ (x : Line). x.entry)) (all_lines (lines_of entries)) ∙ entries_of_lines entries
+
+-- and these their transactions.
+all_transactions : (entries : List Entry) (transactions : List (Option ℕ)) → AreTransactions entries transactions
+    → map (λ y. y.line.transaction) (all_fated (lines_of entries)) ≡ transactions
+all_transactions entries transactions are =
+    sym (map_twice (λ (y : Fated). y.line) (λ (x : Line). x.transaction) (all_fated (lines_of entries)))
+    ∙ ap (map (λ (x : Line). x.transaction)) (all_lines (lines_of entries)) ∙ sym are
+
+pub count_fates : (entries : List Entry) (fates : List Fate) → AreFates entries fates → length fates ≡ length entries
+count_fates entries fates are =
+    ap length are ∙ length-map (all_fated (lines_of entries)) (λ x. x.fate)
+    ∙ sym (length-map (all_fated (lines_of entries)) (λ y. y.line)) ∙ ap length (all_lines (lines_of entries))
+    ∙ count_lines entries
+
+-- ---- at the start
+
+-- No answer comes in a gap below 0.
+answered_none : (lines : List Line) (all : List Fated) (is_result : Bool) (t : ℕ) (s : Side) (id : ℤ)
+    → answered_in lines all 0 is_result t s id ≡ None
+answered_none lines [] is_result t s id = refl
+answered_none lines (y ∷ all) is_result t s id = rw (answered_none lines all is_result t s id) (by y.fate)
+  where
+    by : (f : Fate) → where_so (is_in_gap_below 0 f && is_answering is_result t s id y) (answer_with lines t s id f)
+        ≡ None
+    by (Gap g) = let none : nat_lt g 0 ≡ false = le-ltb g 0 (omega arith) in rw none refl
+    by Lost = refl
+    by (By reply) = refl
+
+pub answers_start : (entries : List Entry) (sweep : Sweep)
+    → ((is_result : Bool) (t : ℕ) (s : Side) (id : ℤ) → answer_kept is_result t s id sweep ≡ None)
+    → (is_result : Bool) (t : ℕ) (s : Side) (id : ℤ) → answer_kept is_result t s id sweep
+    ≡ answered_in (lines_of entries) (all_fated (lines_of entries)) 0 is_result t s id
+answers_start entries sweep none is_result t s id =
+    none is_result t s id ∙ sym (answered_none (lines_of entries) (all_fated (lines_of entries)) is_result t s id)
+
+-- ---- one entry more
+
+-- Answers are kept where nothing else changes.
+pub answers_stay : (a b : Sweep) → b.results ≡ a.results → b.errors ≡ a.errors
+    → (is_result : Bool) (t : ℕ) (s : Side) (id : ℤ) → answer_kept is_result t s id b ≡ answer_kept is_result t s id a
+answers_stay a b results errors true t s id = rw results refl
+answers_stay a b results errors false t s id = rw errors refl
+
+module _ (entries : List Entry) (transactions : List (Option ℕ)) (fates : List Fate)
+    (are : AreTransactions entries transactions) (are_fates : AreFates entries fates) (i : ℕ) where
+  abbrev lines : List Line
+  lines = lines_of entries
+
+  abbrev all : List Fated
+  all = all_fated (lines_of entries)
+
+  -- The answers behind the gap before the entry.
+  pub answers_step : (before behind : Sweep) (due : List ℕ) → due ≡ due_in i 0 fates
+      → ((t : ℕ) (s : Side) (id : ℤ) → kept_at t s id before.invokes ≡ invoked_in (take i lines) t s id)
+      → ((is_result : Bool) (t : ℕ) (s : Side) (id : ℤ)
+      → answer_kept is_result t s id before ≡ answered_in lines all i is_result t s id)
+      → ((is_result : Bool) (t : ℕ) (s : Side) (id : ℤ) → answer_kept is_result t s id behind
+      ≡ cond (list_any (answers_at entries transactions is_result t s id) due)
+      (Some (answer_at i (kept_at t s id before.invokes))) (answer_kept is_result t s id before))
+      → (is_result : Bool) (t : ℕ) (s : Side) (id : ℤ)
+      → answer_kept is_result t s id behind ≡ answered_in lines all (i + 1) is_result t s id
+  answers_step before behind due is_due invokes answers noted is_result t s id =
+      noted is_result t s id
+      ∙ rw (is_due, are_fates, invokes t s id, answers is_result t s id)
+      (ap (λ (es : List Entry).
+      cond (list_any (answers_at es transactions is_result t s id) (due_in i 0 (map (λ x. x.fate) all)))
+      (Some (answer_at i (invoked_in (take i lines) t s id))) (answered_in lines all i is_result t s id))
+      (sym (all_entries entries))
+      ∙ ap (λ (ts : List (Option ℕ)).
+      cond (list_any (answers_at (map (λ y. y.line.entry) all) ts is_result t s id)
+      (due_in i 0 (map (λ x. x.fate) all)))
+      (Some (answer_at i (invoked_in (take i lines) t s id))) (answered_in lines all i is_result t s id))
+      (sym (all_transactions entries transactions are))
+      ∙ answered_more lines all i is_result t s id (losses_order (fated lines (first_fates lines (ties_of lines)))))
+
+  module _ (within : i < length entries) (e : Entry) (is_entry : e ≡ get_or entries i e) where
+    abbrev here : Line
+    here = line_at i e (get_or transactions i None)
+
+    -- The Invokes behind the entry.
+    pub invokes_step : (before behind : Option (ℕ × ℕ)) (t : ℕ) (s : Side) (id : ℤ)
+        → before ≡ invoked_in (take i lines) t s id
+        → behind ≡ or_else (where_so (is_of s t e (get_or transactions i None)) (invoked_by i e id)) before
+        → behind ≡ invoked_in (take (i + 1) lines) t s id
+    invokes_step before behind t s id was noted = noted
+        ∙ ap (or_else (where_so (is_of s t e (get_or transactions i None)) (invoked_by i e id))) was
+        ∙ sym (invoked_more (take i lines) here t s id)
+        ∙ ap (λ (ls : List Line). invoked_in ls t s id) (sym (lines_more entries transactions are i within e is_entry))
+
+    -- The list behind the entry.
+    pub listed_step : (sweep : Sweep) (before behind : List Expiry)
+        → ((is_result : Bool) (t : ℕ) (s : Side) (id : ℤ)
+        → answer_kept is_result t s id sweep ≡ answered_in lines all (i + 1) is_result t s id)
+        → before ≡ expiries_from all lines (take i lines) []
+        → behind ≡ entry_rejected (answer_rejected sweep) before e (get_or transactions i None)
+        → behind ≡ expiries_from all lines (take (i + 1) lines) []
+    listed_step sweep before behind answers was added = added
+        ∙ entry_same (answer_rejected sweep) (answered_by lines all (i + 1)) same before e (get_or transactions i None)
+        ∙ sym (line_adds lines all here before (lines_numbered entries))
+        ∙ ap (λ (l : List Expiry). expiries_by all lines here l (components_at here)) was
+        ∙ sym (expiries_more all lines (take i lines) here [])
+        ∙ ap (λ (ls : List Line). expiries_from all lines ls [])
+        (sym (lines_more entries transactions are i within e is_entry))
+      where
+        same : (t : ℕ) (side : Side) (o : Option (Bool × ℤ)) → answer_rejected sweep t side o
+            ≡ answered_by lines all (i + 1) t side o
+        same t side None = refl
+        same t side (Some (is_result, id)) = answers is_result t side id

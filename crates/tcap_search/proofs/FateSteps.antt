@@ -1,0 +1,211 @@
+-- Steps of the loops that find fates: one entry more, or one tie.
+use Rattle.std.proofs.Common.{◌≡◌, ℕ, ◌+◌, ◌^◌, ◌<◌, ◌≤◌, max, ◌==◌, Bool, true, false, cond, List, [], ◌∷◌, ◌++◌, map, length, take, drop, set, get_or, Option, Some, None, refl, sym, ap, ◌∙◌, arith, append_assoc}
+use Rattle.std.specs.Prelude.{slice_get}
+use Rattle.std.proofs.lemmas.List.{drop_all, drop_more, get_or-map, get_or-take, get_or_append_left, get_or_default, length-take-le, map-append, set_at, take_all, take_more}
+use Rattle.std.proofs.lemmas.Option.{get_or_from_slice_get}
+use Rattle.tcap_record.specs.declared.entry.End.{End as Side}
+use Rattle.tcap_record.specs.declared.entry.Entry.{Entry}
+use Rattle.tcap_check.specs.World.{other}
+use Rattle.tcap_check.specs.declared.certificate.Fate.{Fate}
+use Rattle.tcap_check.specs.declared.certificate.Fate.TheVariants.{Gap}
+use Rattle.tcap_check.specs.Replayed.{time_of}
+use Rattle.tcap_search.specs.declared.per_end.PerEnd.{PerEnd}
+use Rattle.tcap_search.specs.declared.tie.Tie.{Tie}
+use Rattle.tcap_search.specs.Lines.{Line, is_end, lines_of}
+use Rattle.tcap_search.specs.Proposed.{Fated, fate_before, fate_of, fated, gap_behind_reply, reply_of, with_losses}
+use Rattle.tcap_search.specs.Traced.{AreTies, AreTransactions}
+use Rattle.tcap_search.specs.PerEnd.{at_end}
+use Rattle.tcap_search.specs.Fates.{fate_behind_least, fate_from, gap_behind_last, gap_kept, gap_raised, highest, is_of, least_time, receiver_gap, sooner, time_kept}
+use Rattle.tcap_search.proofs.GapLaws.{fate_is, gap_more, gap_of_receiver, gap_so_far, highest_more, reply_more}
+use Rattle.tcap_search.proofs.LossLaws.{count_fated, entries_fated, fate_before_is, fates_fated, least_so_far}
+use Rattle.tcap_search.proofs.NumberedLaws.{count_lines, count_transactions, entries_of_lines, line_at, line_more, lines_numbered, transaction_below}
+use Rattle.tcap_search.proofs.ReplyLaws.{behind_reply, replies_below}
+
+-- ---- replies
+
+pub reply_step : (ties : List Tie) (i number : ℕ) (d : Tie) (old : Option (Option ℕ)) → i < length ties
+    → old ≡ Some (reply_of (take i ties) number)
+    → cond ((get_or ties i d).entry == number) (Some (Some (get_or ties i d).reply)) old
+    ≡ Some (reply_of (take (i + 1) ties) number)
+reply_step ties i number d old within is = rw is
+    (by ((get_or ties i d).entry == number)
+    ∙ ap Some (sym (reply_more (take i ties) (get_or ties i d) number))
+    ∙ ap (λ (ts : List Tie). Some (reply_of ts number)) (sym (take_more ties i d within)))
+  where
+    by : (b : Bool) → cond b (Some (Some (get_or ties i d).reply)) (Some (reply_of (take i ties) number))
+        ≡ Some (cond b (Some (get_or ties i d).reply) (reply_of (take i ties) number))
+    by true = refl
+    by false = refl
+
+-- ---- entries, from the first on
+
+module _ (entries : List Entry) (transactions : List (Option ℕ)) (are : AreTransactions entries transactions)
+    (i : ℕ) (within : i < length entries) (e : Entry) (is_entry : e ≡ get_or entries i e) where
+  -- The lines are one more.
+  pub lines_more : take (i + 1) (lines_of entries)
+      ≡ take i (lines_of entries) ++ line_at i e (get_or transactions i None) ∷ []
+  lines_more =
+      let count : length transactions ≡ length entries = count_transactions entries transactions are in
+      line_more entries transactions are i within e (get_or transactions i None) is_entry
+      (get_or_default transactions i None (get_or transactions i None) (omega arith))
+
+  pub gap_step : (side : Side) (t old : ℕ) → old ≡ gap_behind_last side t (take i (lines_of entries))
+      → cond (is_of side t e (get_or transactions i None)) (i + 1) old
+      ≡ gap_behind_last side t (take (i + 1) (lines_of entries))
+  gap_step side t old is = rw is
+      (sym (gap_more side t (take i (lines_of entries)) (line_at i e (get_or transactions i None))))
+      ∙ ap (gap_behind_last side t) (sym lines_more)
+
+  pub highest_step : (ties : List Tie) (side : Side) (old : ℕ) → old ≡ highest side (take i (lines_of entries)) ties
+      → cond (is_end side e.side) (max old (gap_behind_reply (reply_of ties i))) old
+      ≡ highest side (take (i + 1) (lines_of entries)) ties
+  highest_step ties side old is = rw is
+      (sym (highest_more side (take i (lines_of entries)) (line_at i e (get_or transactions i None)) ties))
+      ∙ ap (λ (lines : List Line). highest side lines ties) (sym lines_more)
+
+  -- What is kept for the receiver is the gap behind its last entry in the transaction.
+  receiver_is : (gaps : List (PerEnd ℕ))
+      → ((side : Side) (t : ℕ) → t < length entries → gap_kept side t gaps ≡ gap_behind_last side t (lines_of entries))
+      → receiver_gap gaps e.side (get_or transactions i None)
+      ≡ gap_of_receiver (lines_of entries) e.side (get_or transactions i None)
+  receiver_is gaps kept = by e.side (get_or transactions i None) refl
+    where
+      by : (s : Option Side) (o : Option ℕ) → get_or transactions i None ≡ o
+          → receiver_gap gaps s o ≡ gap_of_receiver (lines_of entries) s o
+      by None o at = refl
+      by (Some side) None at = refl
+      by (Some side) (Some t) at =
+          let count : length transactions ≡ length entries = count_transactions entries transactions are in
+          let there : Some t ≡ get_or transactions i (Some t) =
+          sym at ∙ get_or_default transactions i None (Some t) (omega arith) in
+          kept (other side) t (transaction_below entries transactions are i t within there)
+
+  -- So the fate that is found is the first fate of the line.
+  pub fate_step : (ties : List Tie) (gaps : List (PerEnd ℕ)) (raised : PerEnd ℕ)
+      → ((side : Side) (t : ℕ) → t < length entries → gap_kept side t gaps ≡ gap_behind_last side t (lines_of entries))
+      → ((side : Side) → at_end side raised ≡ highest side (take i (lines_of entries)) ties)
+      → (fates : List Fate) → fates ≡ map (fate_of (lines_of entries) ties) (take i (lines_of entries))
+      → fates ++ fate_from i e (reply_of ties i) (receiver_gap gaps e.side (get_or transactions i None))
+      (gap_raised raised e.side) ∷ []
+      ≡ map (fate_of (lines_of entries) ties) (take (i + 1) (lines_of entries))
+  fate_step ties gaps raised kept high fates are_fates =
+      rw (are_fates, receiver_is gaps kept, raised_is e.side)
+      (ap (λ (fate : Fate). map (fate_of (lines_of entries) ties) (take i (lines_of entries)) ++ fate ∷ [])
+      (sym (fate_is (lines_of entries) ties (line_at i e (get_or transactions i None)) (lines_numbered entries)))
+      ∙ sym (map-append (fate_of (lines_of entries) ties) (take i (lines_of entries))
+      (line_at i e (get_or transactions i None) ∷ []))
+      ∙ ap (map (fate_of (lines_of entries) ties)) (sym lines_more))
+    where
+      raised_is : (s : Option Side) → gap_raised raised s ≡ gap_so_far (take i (lines_of entries)) ties s
+      raised_is None = refl
+      raised_is (Some side) = high side
+
+-- All of the lines, at the end.
+pub all_lines : (entries : List Entry) (i : ℕ) → length entries ≤ i → take i (lines_of entries) ≡ lines_of entries
+all_lines entries i past =
+    let count : length (lines_of entries) ≡ length entries = count_lines entries in
+    take_all i (lines_of entries) (omega arith)
+
+-- ---- a reply that is read
+
+pub reply_read : (replies : List (Option ℕ)) (i : ℕ) (reply : Option ℕ) (ties : List Tie)
+    → slice_get replies i ≡ Some (reply_of ties i) → reply ≡ get_or replies i reply → reply ≡ reply_of ties i
+reply_read replies i reply ties there is = is ∙ get_or_from_slice_get replies i (reply_of ties i) reply there
+
+pub reply_fits : (entries : List Entry) (ties : List Tie) (i : ℕ) → AreTies entries ties → length entries ≤ 100000
+    → gap_behind_reply (reply_of ties i) < 2 ^ 32
+reply_fits entries ties i are few =
+    let below : gap_behind_reply (reply_of ties i) ≤ length entries =
+    behind_reply (length entries) ties i (replies_below entries ties are) in
+    omega arith
+
+-- ---- losses, from the last entry on
+
+module _ (entries : List Entry) (old : List Fate) (same : length old ≡ length entries)
+    (k n : ℕ) (next : n ≡ k + 1) (within : k < length entries) (e : Entry) (is_entry : e ≡ get_or entries k e) where
+  -- what there is at that place
+  abbrev d : Fated
+  d = record { line = line_at k e None; fate = Gap 0 }
+
+  abbrev all : List Fated
+  all = fated (lines_of entries) old
+
+  abbrev here : Fated
+  here = get_or all k d
+
+  abbrev later : List Fated
+  later = with_losses (drop n all)
+
+  same_lines : length old ≡ length (lines_of entries)
+  same_lines = same ∙ sym (count_lines entries)
+
+  within_all : k < length all
+  within_all = let count : length all ≡ length old = count_fated (lines_of entries) old same_lines in omega arith
+
+  entry_here : here.line.entry ≡ e
+  entry_here = sym (get_or-map (λ (x : Fated). x.line.entry) all k d e within_all)
+      ∙ ap (λ (es : List Entry). get_or es k e) (entries_fated (lines_of entries) old same_lines
+      ∙ entries_of_lines entries)
+      ∙ sym is_entry
+
+  fate_here : here.fate ≡ get_or old k (Gap 0)
+  fate_here = sym (get_or-map (λ (x : Fated). x.fate) all k d (Gap 0) within_all)
+      ∙ ap (λ (fs : List Fate). get_or fs k (Gap 0)) (fates_fated (lines_of entries) old same_lines)
+
+  drop_here : drop k all ≡ here ∷ drop n all
+  drop_here = drop_more all k d within_all ∙ ap (λ (m : ℕ). here ∷ drop m all) (sym next)
+
+  losses_here : with_losses (drop k all) ≡ (let x : Fated = record here { fate = fate_before later here } in x) ∷ later
+  losses_here = ap with_losses drop_here
+
+  -- What is read there is the first fate of the line,
+  fate_read : (fates : List Fate) → fates ≡ take n old ++ map (λ x. x.fate) later
+      → get_or fates k (Gap 0) ≡ get_or old k (Gap 0)
+  fate_read fates are = rw are
+      (get_or_append_left (take n old) (map (λ x. x.fate) later) (Gap 0) k
+      (let count : length (take n old) ≡ n = length-take-le n old (omega arith) in omega arith)
+      ∙ get_or-take n old k (Gap 0) (omega arith))
+
+  module _ (fates : List Fate) (least : PerEnd (Option ℕ)) (made : Fate)
+      (are : fates ≡ take n old ++ map (λ x. x.fate) later)
+      (times : (side : Side) → at_end side least ≡ least_time side later)
+      (is : made ≡ fate_behind_least e (get_or fates k (Gap 0)) (time_kept least e.side)) where
+    kept : (s : Option Side) → time_kept least s ≡ least_so_far later s
+    kept None = refl
+    kept (Some side) = times side
+
+    -- and what it is made there is its fate behind the losses.
+    loss_is : made ≡ fate_before later here
+    loss_is = is
+        ∙ ap (λ (f : Fate). fate_behind_least e f (time_kept least e.side)) (fate_read fates are ∙ sym fate_here)
+        ∙ ap (fate_behind_least e here.fate) (kept e.side)
+        ∙ ap (λ (x : Entry). fate_behind_least x here.fate (least_so_far later x.side)) (sym entry_here)
+        ∙ sym (fate_before_is later here)
+
+    pub losses_step : set fates k made ≡ take k old ++ map (λ x. x.fate) (with_losses (drop k all))
+    losses_step = rw are
+        (ap (λ (fs : List Fate). set (fs ++ map (λ x. x.fate) later) k made)
+        (ap (λ (m : ℕ). take m old) next ∙ take_more old k (Gap 0) (omega arith))
+        ∙ ap (λ (fs : List Fate). set fs k made)
+        (append_assoc (take k old) (get_or old k (Gap 0) ∷ []) (map (λ x. x.fate) later))
+        ∙ set_at (take k old) (get_or old k (Gap 0)) (map (λ x. x.fate) later) made k
+        (length-take-le k old (omega arith))
+        ∙ ap (λ (f : Fate). take k old ++ f ∷ map (λ x. x.fate) later) loss_is
+        ∙ ap (λ (xs : List Fated). take k old ++ map (λ x. x.fate) xs) (sym losses_here))
+
+    pub least_step : (side : Side)
+        → cond (is_end side e.side) (sooner (time_of made) (at_end side least)) (at_end side least)
+        ≡ least_time side (with_losses (drop k all))
+    least_step side = rw (times side, loss_is)
+        (ap (λ (x : Entry). cond (is_end side x.side)
+        (sooner (time_of (fate_before later here)) (least_time side later))
+        (least_time side later)) (sym entry_here)
+        ∙ ap (least_time side) (sym losses_here))
+
+-- At the start nothing is lost.
+pub losses_start : (entries : List Entry) (old : List Fate) → length old ≡ length entries
+    → drop (length entries) (fated (lines_of entries) old) ≡ []
+losses_start entries old same =
+    let lines : length (lines_of entries) ≡ length entries = count_lines entries in
+    let count : length (fated (lines_of entries) old) ≡ length old = count_fated (lines_of entries) old (omega arith) in
+    drop_all (length entries) (fated (lines_of entries) old) (omega arith)

@@ -1,0 +1,277 @@
+-- First fates, from what is kept: the gap behind the last entry of each end in each transaction, and the gap behind the
+-- last reply so far.
+use Rattle.std.proofs.Common.{◌≡◌, ℕ, zero, suc, ◌+◌, ◌<◌, ◌≤◌, max, ◌==◌, Bool, true, false, cond, List, [], ◌∷◌, ◌++◌, take, Option, Some, None, refl, sym, ap, subst, ◌∙◌, arith}
+use Rattle.std.specs.Prelude.{◌&&◌, nat_lt, option_map}
+use Rattle.std.proofs.lemmas.Bool.{le-ltb, lt-ltb, ltb-false, ltb-true}
+use Rattle.std.proofs.lemmas.Option.{none-some, same_Some}
+use Rattle.tcap_msg.specs.declared.message.Message.{Message}
+use Rattle.tcap_msg.specs.declared.message.Message.TheVariants.{Unidirectional, Begin, Continue, End, Abort}
+use Rattle.tcap_record.specs.declared.entry.End.{End as Side}
+use Rattle.tcap_record.specs.declared.entry.Entry.{Entry}
+use Rattle.tcap_check.specs.World.{other}
+use Rattle.tcap_check.specs.Run.{where_so}
+use Rattle.tcap_check.specs.declared.certificate.Fate.TheVariants.{Gap}
+use Rattle.tcap_search.specs.declared.tie.Tie.{Tie}
+use Rattle.tcap_search.specs.Lines.{Line, are_of_one_end, is_end, is_of_peer, last, message_of, or_else, share_transaction}
+use Rattle.tcap_search.specs.Proposed.{fate_by, fate_of, first_gap, first_gap_by, gap_behind, gap_behind_reply, last_of_receiver, raised, reply_of}
+use Rattle.tcap_search.specs.Fates.{earliest, fate_from, gap_behind_last, gap_behind_line, highest, is_line_of, is_of, untied_fate}
+use Rattle.tcap_search.proofs.LastLaws.{last_more, last_never, last_same}
+use Rattle.tcap_search.proofs.NumberedLaws.{AreNumbered}
+use Rattle.tcap_search.proofs.TestLaws.{and_and, and_false}
+
+-- ---- ends and transactions
+
+-- Entries are of one end where the second is of the first one's,
+pub one_end : (e f : Entry) (side : Side) → e.side ≡ Some side → are_of_one_end e f ≡ is_end side f.side
+one_end e f side is = rw is refl
+
+pub one_end_none : (e f : Entry) → e.side ≡ None → are_of_one_end e f ≡ false
+one_end_none e f is = rw is refl
+
+-- and of the peer where it is of the other one.
+pub of_peer : (e f : Entry) (side : Side) → e.side ≡ Some side → is_of_peer e f ≡ is_end (other side) f.side
+of_peer e f side is = rw is refl
+
+pub of_peer_none : (e f : Entry) → e.side ≡ None → is_of_peer e f ≡ false
+of_peer_none e f is = rw is refl
+
+-- A line of that end which shares that transaction is one of both.
+pub of_both : (side : Side) (t : ℕ) (x y : Line) → x.transaction ≡ Some t
+    → (is_end side y.entry.side && share_transaction x y) ≡ is_line_of side t y
+of_both side t x y is = by y.transaction refl
+  where
+    by : (o : Option ℕ) → y.transaction ≡ o
+        → (is_end side y.entry.side && share_transaction x y) ≡ is_of side t y.entry o
+    by None at = rw (is, at) (and_false (is_end side y.entry.side))
+    by (Some u) at = rw (is, at) refl
+
+-- A line without transaction shares none.
+pub shares_none : (x y : Line) → x.transaction ≡ None → share_transaction x y ≡ false
+shares_none x y is = rw is refl
+
+-- ---- the last later one
+
+-- Of lines from that number on, the last has that number or a greater one.
+last_number : (n : ℕ) (lines : List Line) (passes : Line → Bool) (x : Line) → AreNumbered n lines
+    → last passes lines ≡ Some x → n ≤ x.number
+last_number n [] passes x are is = absurd (none-some x is)
+last_number n (y ∷ lines) passes x are is =
+    by (last passes lines) (last_number (n + 1) lines passes x are.1) (passes y) is
+  where
+    by : (o : Option Line) → (o ≡ Some x → n + 1 ≤ x.number) → (b : Bool) → or_else o (where_so b (Some y)) ≡ Some x
+        → n ≤ x.number
+    by None later false found = absurd (none-some x found)
+    by None later true found = subst (λ (z : Line). n ≤ z.number) (same_Some y x found) (omega (arith, are.0))
+    by (Some z) later b found = let more = later found in omega (arith, more)
+
+-- where it is later than that number
+abbrev if_later : ℕ → Option Line → Option Line
+if_later k None = None
+if_later k (Some x) = where_so (nat_lt k x.number) (Some x)
+
+-- The last later line that passes is the last that passes, where that is later.
+last_later : (k n : ℕ) (lines : List Line) (passes : Line → Bool) → AreNumbered n lines
+    → last (λ y. nat_lt k y.number && passes y) lines ≡ if_later k (last passes lines)
+last_later k n [] passes are = refl
+last_later k n (x ∷ lines) passes are = by (last passes lines) refl (last_later k (n + 1) lines passes are.1)
+  where
+    alone : (b : Bool) → where_so (nat_lt k x.number && b) (Some x) ≡ if_later k (where_so b (Some x))
+    alone true = by_test (nat_lt k x.number)
+      where
+        by_test : (c : Bool) → where_so (c && true) (Some x) ≡ where_so c (Some x)
+        by_test true = refl
+        by_test false = refl
+    alone false = ap (λ (c : Bool). where_so c (Some x)) (and_false (nat_lt k x.number))
+
+    behind : (z : Line) → n < z.number → (b c : Bool) → nat_lt k z.number ≡ b
+        → or_else (where_so b (Some z)) (where_so (nat_lt k x.number && c) (Some x)) ≡ where_so b (Some z)
+    behind z after true c test = refl
+    behind z after false c test =
+        let none : nat_lt k x.number ≡ false = le-ltb k x.number (omega (arith, are.0, ltb-false k z.number test)) in
+        ap (λ (b : Bool). where_so (b && c) (Some x)) none
+
+    by : (o : Option Line) → last passes lines ≡ o
+        → last (λ y. nat_lt k y.number && passes y) lines ≡ if_later k o
+        → or_else (last (λ y. nat_lt k y.number && passes y) lines) (where_so (nat_lt k x.number && passes x) (Some x))
+        ≡ if_later k (or_else o (where_so (passes x) (Some x)))
+    by None at is = rw is (alone (passes x))
+    by (Some z) at is =
+        let after : n + 1 ≤ z.number = last_number (n + 1) lines passes z are.1 at in
+        rw is (behind z (omega arith) (nat_lt k z.number) (passes x) refl)
+
+-- The gap behind it, or behind a line itself, is the greater one of the gaps behind both.
+gap_is : (x : Line) (o : Option Line) → gap_behind x (if_later x.number o) ≡ max (x.number + 1) (gap_behind_line o)
+gap_is x None = omega arith
+gap_is x (Some y) = by (nat_lt x.number y.number) refl
+  where
+    by : (b : Bool) → nat_lt x.number y.number ≡ b
+        → gap_behind x (where_so b (Some y)) ≡ max (x.number + 1) (y.number + 1)
+    by true test = omega (arith, ltb-true x.number y.number test)
+    by false test = omega (arith, ltb-false x.number y.number test)
+
+abbrev pub gap_of_receiver : List Line → Option Side → Option ℕ → ℕ
+gap_of_receiver lines (Some side) (Some t) = gap_behind_last (other side) t lines
+gap_of_receiver lines _ _ = 0
+
+-- So is the gap behind the last later line of the receiver in the transaction.
+pub receiver_gap_is : (lines : List Line) (x : Line) → AreNumbered 0 lines
+    → gap_behind x (last_of_receiver lines x) ≡ max (x.number + 1) (gap_of_receiver lines x.entry.side x.transaction)
+receiver_gap_is lines x are =
+    ap (gap_behind x) later ∙ gap_is x (last passes lines)
+    ∙ ap (λ (n : ℕ). max (x.number + 1) n) (by x.entry.side refl x.transaction refl)
+  where
+    passes : Line → Bool
+    passes y = is_of_peer x.entry y.entry && share_transaction x y
+
+    later : last_of_receiver lines x ≡ if_later x.number (last passes lines)
+    later = last_same (λ y. nat_lt x.number y.number && is_of_peer x.entry y.entry && share_transaction x y)
+        (λ y. nat_lt x.number y.number && passes y)
+        (λ y. and_and (nat_lt x.number y.number) (is_of_peer x.entry y.entry) (share_transaction x y)) lines
+        ∙ last_later x.number 0 lines passes are
+
+    none : ((y : Line) → passes y ≡ false) → gap_behind_line (last passes lines) ≡ 0
+    none never = ap gap_behind_line (last_never passes lines never)
+
+    by : (s : Option Side) → x.entry.side ≡ s → (o : Option ℕ) → x.transaction ≡ o
+        → gap_behind_line (last passes lines) ≡ gap_of_receiver lines s o
+    by None at o is = none (λ y. ap (λ (b : Bool). b && share_transaction x y) (of_peer_none x.entry y.entry at))
+    by (Some side) at None is = none (λ y. ap (λ (b : Bool). is_of_peer x.entry y.entry && b) (shares_none x y is)
+        ∙ and_false (is_of_peer x.entry y.entry))
+    by (Some side) at (Some t) is = ap gap_behind_line (last_same passes (is_line_of (other side) t)
+        (λ y. ap (λ (b : Bool). b && share_transaction x y) (of_peer x.entry y.entry side at)
+        ∙ of_both (other side) t x y is)
+        lines)
+
+-- ---- what is raised
+
+raise_step : (b : Bool) (gap reply high : ℕ)
+    → max (cond b (max gap reply) gap) high ≡ max gap (max (cond b reply 0) high)
+raise_step true gap reply high = omega arith
+raise_step false gap reply high = omega arith
+
+abbrev pub gap_so_far : List Line → List Tie → Option Side → ℕ
+gap_so_far lines ties None = 0
+gap_so_far lines ties (Some side) = highest side lines ties
+
+-- Behind a line nothing raises it.
+raised_late : (n : ℕ) (lines : List Line) (ties : List Tie) (x : Line) (gap : ℕ) → AreNumbered n lines → x.number ≤ n
+    → raised lines ties x gap ≡ gap
+raised_late n [] ties x gap are after = refl
+raised_late n (y ∷ lines) ties x gap are after =
+    let not_before : nat_lt y.number x.number ≡ false = le-ltb y.number x.number (omega (arith, are.0)) in
+    rw not_before (raised_late (n + 1) lines ties x gap are.1 (omega arith))
+
+-- Before it each of its end does.
+raised_of : (side : Side) (n : ℕ) (lines : List Line) (ties : List Tie) (x : Line) (i gap : ℕ)
+    → x.entry.side ≡ Some side
+    → AreNumbered n lines → x.number ≡ n + i → raised lines ties x gap ≡ max gap (highest side (take i lines) ties)
+raised_of side n [] ties x zero gap at are is = omega arith
+raised_of side n [] ties x (suc i) gap at are is = omega arith
+raised_of side n (y ∷ lines) ties x zero gap at are is =
+    raised_late n (y ∷ lines) ties x gap are (omega arith) ∙ omega arith
+raised_of side n (y ∷ lines) ties x (suc i) gap at are is =
+    let before : nat_lt y.number x.number ≡ true = lt-ltb y.number x.number (omega (arith, are.0)) in
+    let reply = gap_behind_reply (reply_of ties y.number) in
+    rw (before, one_end x.entry y.entry side at)
+    (raised_of side (n + 1) lines ties x i (cond (is_end side y.entry.side) (max gap reply) gap) at are.1 (omega arith)
+    ∙ raise_step (is_end side y.entry.side) gap reply (highest side (take i lines) ties))
+
+raised_none : (lines : List Line) (ties : List Tie) (x : Line) (gap : ℕ) → x.entry.side ≡ None
+    → raised lines ties x gap ≡ gap
+raised_none [] ties x gap at = refl
+raised_none (y ∷ lines) ties x gap at =
+    rw (one_end_none x.entry y.entry at, and_false (nat_lt y.number x.number)) (raised_none lines ties x gap at)
+
+raised_is : (lines : List Line) (ties : List Tie) (x : Line) (gap : ℕ) → AreNumbered 0 lines
+    → raised lines ties x gap ≡ max gap (gap_so_far (take x.number lines) ties x.entry.side)
+raised_is lines ties x gap are = by x.entry.side refl
+  where
+    by : (s : Option Side) → x.entry.side ≡ s
+        → raised lines ties x gap ≡ max gap (gap_so_far (take x.number lines) ties s)
+    by None at = raised_none lines ties x gap at ∙ omega arith
+    by (Some side) at = raised_of side 0 lines ties x x.number gap at are (omega arith)
+
+-- ---- first fates
+
+earliest_is : (lines : List Line) (x : Line) (m : Message) → AreNumbered 0 lines
+    → first_gap_by lines x (Some m) ≡ earliest x.number m (gap_of_receiver lines x.entry.side x.transaction)
+earliest_is lines x (Unidirectional dialogue components) are = refl
+earliest_is lines x (Begin otid dialogue components) are = refl
+earliest_is lines x (Continue otid dtid dialogue components) are = refl
+earliest_is lines x (End dtid dialogue components) are = receiver_gap_is lines x are
+earliest_is lines x (Abort dtid reason) are = receiver_gap_is lines x are
+
+-- The first fate of a line is that of its entry, from what is kept.
+pub fate_is : (lines : List Line) (ties : List Tie) (x : Line) → AreNumbered 0 lines
+    → fate_of lines ties x
+    ≡ fate_from x.number x.entry (reply_of ties x.number) (gap_of_receiver lines x.entry.side x.transaction)
+    (gap_so_far (take x.number lines) ties x.entry.side)
+fate_is lines ties x are = by (reply_of ties x.number) (message_of x.entry) refl
+  where
+    behind : ℕ
+    behind = gap_of_receiver lines x.entry.side x.transaction
+
+    high : ℕ
+    high = gap_so_far (take x.number lines) ties x.entry.side
+
+    untied : (m : Option Message) → message_of x.entry ≡ m
+        → fate_by lines ties x None m ≡ untied_fate x.number m behind high
+    untied None at = refl
+    untied (Some m) at = ap Gap (raised_is lines ties x (first_gap lines x) are
+        ∙ ap (λ (gap : ℕ). max gap high) (ap (first_gap_by lines x) at ∙ earliest_is lines x m are))
+
+    by : (o : Option ℕ) (m : Option Message) → message_of x.entry ≡ m
+        → fate_by lines ties x o m ≡ fate_from x.number x.entry o behind high
+    by (Some reply) m at = refl
+    by None m at = untied m at ∙ ap (λ (m : Option Message). untied_fate x.number m behind high) (sym at)
+
+-- ---- one line more
+
+max_zero : (n : ℕ) → max n 0 ≡ n
+max_zero n = omega arith
+
+-- The highest with one more.
+pub highest_more : (side : Side) (lines : List Line) (x : Line) (ties : List Tie)
+    → highest side (lines ++ x ∷ []) ties
+    ≡ cond (is_end side x.entry.side) (max (highest side lines ties) (gap_behind_reply (reply_of ties x.number)))
+    (highest side lines ties)
+highest_more side [] x ties = by (is_end side x.entry.side)
+  where
+    by : (b : Bool) → max (cond b (gap_behind_reply (reply_of ties x.number)) 0) 0
+        ≡ cond b (max 0 (gap_behind_reply (reply_of ties x.number))) 0
+    by true = omega arith
+    by false = omega arith
+highest_more side (y ∷ lines) x ties =
+    ap (λ (n : ℕ). max (cond (is_end side y.entry.side) (gap_behind_reply (reply_of ties y.number)) 0) n)
+    (highest_more side lines x ties)
+    ∙ by (is_end side x.entry.side) (cond (is_end side y.entry.side) (gap_behind_reply (reply_of ties y.number)) 0)
+    (highest side lines ties) (gap_behind_reply (reply_of ties x.number))
+  where
+    by : (b : Bool) (first high reply : ℕ)
+        → max first (cond b (max high reply) high) ≡ cond b (max (max first high) reply) (max first high)
+    by true first high reply = omega arith
+    by false first high reply = refl
+
+-- The gap behind the last with one more.
+pub gap_more : (side : Side) (t : ℕ) (lines : List Line) (x : Line)
+    → gap_behind_last side t (lines ++ x ∷ []) ≡ cond (is_line_of side t x) (x.number + 1)
+    (gap_behind_last side t lines)
+gap_more side t lines x = ap gap_behind_line (last_more (is_line_of side t) lines x) ∙ by (is_line_of side t x)
+  where
+    by : (b : Bool) → gap_behind_line (cond b (Some x) (last (is_line_of side t) lines))
+        ≡ cond b (x.number + 1) (gap_behind_last side t lines)
+    by true = refl
+    by false = refl
+
+-- ---- replies
+
+-- The reply with one tie more.
+pub reply_more : (ties : List Tie) (t : Tie) (number : ℕ)
+    → reply_of (ties ++ t ∷ []) number ≡ cond (t.entry == number) (Some t.reply) (reply_of ties number)
+reply_more ties t number = ap (option_map (λ (t : Tie). t.reply)) (last_more (λ t. t.entry == number) ties t)
+    ∙ by (t.entry == number)
+  where
+    by : (b : Bool) → option_map (λ (t : Tie). t.reply) (cond b (Some t) (last (λ t. t.entry == number) ties))
+        ≡ cond b (Some t.reply) (reply_of ties number)
+    by true = refl
+    by false = refl

@@ -1,0 +1,69 @@
+-- The last of a list that passes a test.
+use Rattle.std.proofs.Common.{◌≡◌, Bool, true, false, cond, List, [], ◌∷◌, ◌++◌, Option, Some, None, refl, sym, ap, subst, ◌∙◌}
+use Rattle.std.specs.List.{AllByRecursion}
+use Rattle.std.proofs.lemmas.Option.{none-some, same_Some}
+use Rattle.tcap_check.specs.Run.{where_so}
+use Rattle.tcap_search.specs.Lines.{last, or_else}
+
+-- None stands for nothing behind another,
+pub or_none : {A : Type 0} (o : Option A) → or_else o None ≡ o
+or_none None = refl
+or_none (Some a) = refl
+
+-- and the first of three is the same either way.
+pub or_or : {A : Type 0} (o p q : Option A) → or_else (or_else o p) q ≡ or_else o (or_else p q)
+or_or None p q = refl
+or_or (Some a) p q = refl
+
+-- The last of two lists together is that of the second, or else that of the first,
+pub last_both : {A : Type 0} (passes : A → Bool) (xs ys : List A)
+    → last passes (xs ++ ys) ≡ or_else (last passes ys) (last passes xs)
+last_both passes [] ys = sym (or_none (last passes ys))
+last_both passes (x ∷ xs) ys =
+    ap (λ o. or_else o (where_so (passes x) (Some x))) (last_both passes xs ys)
+    ∙ or_or (last passes ys) (last passes xs) (where_so (passes x) (Some x))
+
+-- and so with one more.
+pub last_more : {A : Type 0} (passes : A → Bool) (xs : List A) (x : A)
+    → last passes (xs ++ x ∷ []) ≡ cond (passes x) (Some x) (last passes xs)
+last_more passes xs x = last_both passes xs (x ∷ []) ∙ by (passes x)
+  where
+    by : (b : Bool) → or_else (where_so b (Some x)) (last passes xs) ≡ cond b (Some x) (last passes xs)
+    by true = refl
+    by false = refl
+
+-- Two tests that agree on each have the same last.
+pub last_same : {A : Type 0} (P Q : A → Bool) → ((x : A) → P x ≡ Q x) → (xs : List A) → last P xs ≡ last Q xs
+last_same P Q same [] = refl
+last_same P Q same (x ∷ xs) =
+    ap (λ b. or_else (last P xs) (where_so b (Some x))) (same x)
+    ∙ ap (λ o. or_else o (where_so (Q x) (Some x))) (last_same P Q same xs)
+
+-- What holds of each holds of the last.
+pub last_among : {A : Type 0} (P : A → Type 0) (passes : A → Bool) (xs : List A) (x : A)
+    → AllByRecursion P xs → last passes xs ≡ Some x → P x
+last_among P passes [] x all found = absurd (none-some x found)
+last_among {A = A} P passes (a ∷ xs) x all found =
+    by (last passes xs) (last_among P passes xs x all.1) (passes a) found
+  where
+    by : (o : Option A) → (o ≡ Some x → P x) → (b : Bool) → or_else o (where_so b (Some a)) ≡ Some x → P x
+    by None more false is = absurd (none-some x is)
+    by None more true is = subst P (same_Some a x is) all.0
+    by (Some y) more b is = more is
+
+-- The last passes the test.
+pub last_passes : {A : Type 0} (passes : A → Bool) (xs : List A) (x : A) → last passes xs ≡ Some x → passes x ≡ true
+last_passes passes [] x found = absurd (none-some x found)
+last_passes {A = A} passes (a ∷ xs) x found =
+    by (last passes xs) (last_passes passes xs x) (passes a) refl found
+  where
+    by : (o : Option A) → (o ≡ Some x → passes x ≡ true) → (b : Bool) → passes a ≡ b
+        → or_else o (where_so b (Some a)) ≡ Some x → passes x ≡ true
+    by None more false test is = absurd (none-some x is)
+    by None more true test is = subst (λ (y : A). passes y ≡ true) (same_Some a x is) test
+    by (Some y) more b test is = more is
+
+-- Where none passes there is none.
+pub last_never : {A : Type 0} (passes : A → Bool) (xs : List A) → ((x : A) → passes x ≡ false) → last passes xs ≡ None
+last_never passes [] never = refl
+last_never passes (x ∷ xs) never = rw (last_never passes xs never, never x) refl

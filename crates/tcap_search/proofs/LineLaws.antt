@@ -1,0 +1,169 @@
+-- The lines of entries: one for each, in their order.
+use Rattle.std.proofs.Common.{◌≡◌, ℕ, zero, suc, ◌+◌, ◌<◌, ◌≤◌, Bool, true, false, cond, List, [], ◌∷◌, ◌++◌, length, take, get_or, reverse, Option, Some, None, refl, sym, ap, ◌∙◌, arith}
+use Rattle.std.specs.Prelude.{IfSome, slice_get}
+use Rattle.std.specs.List.{AllByRecursion}
+use Rattle.std.proofs.lemmas.List.{length-reverse, length-take-le, length_push, reverse-append, take_all, take_more}
+use Rattle.tcap_msg.specs.declared.message.Message.{Message}
+use Rattle.tcap_msg.specs.declared.message.Message.TheVariants.{Unidirectional, Begin, Continue, End as EndMessage, Abort}
+use Rattle.tcap_record.specs.declared.entry.Entry.{Entry}
+use Rattle.tcap_check.specs.Run.{where_so}
+use Rattle.tcap_search.specs.Lines.{Line, is_asked_from, last, line_behind, lines_behind, lines_of, message_of, or_else, transaction_by, transaction_from}
+
+-- ---- one entry more
+
+pub lines_push : (earlier : List Line) (es : List Entry) (e : Entry)
+    → lines_behind earlier (es ++ e ∷ []) ≡ lines_behind earlier es ++ line_behind (lines_behind earlier es) e ∷ []
+lines_push earlier [] e = refl
+lines_push earlier (f ∷ es) e = lines_push (earlier ++ line_behind earlier f ∷ []) es e
+
+pub lines_more : (es : List Entry) (i : ℕ) (e : Entry) → i < length es → e ≡ get_or es i e
+    → lines_of (take (i + 1) es) ≡ lines_of (take i es) ++ line_behind (lines_of (take i es)) e ∷ []
+lines_more es i e below is =
+    ap lines_of (take_more es i e below)
+    ∙ (ap (λ (d : Entry). lines_of (take i es ++ d ∷ [])) (sym is) ∙ lines_push [] (take i es) e)
+
+pub reverse_push : {A : Type 0} (xs : List A) (x : A) → reverse (xs ++ x ∷ []) ≡ x ∷ reverse xs
+reverse_push xs x = reverse-append xs (x ∷ [])
+
+-- ---- how many there are
+
+pub count_behind : (earlier : List Line) (es : List Entry)
+    → length (lines_behind earlier es) ≡ length earlier + length es
+count_behind earlier [] = omega arith
+count_behind earlier (e ∷ es) =
+    let one : length (earlier ++ line_behind earlier e ∷ []) ≡ length earlier + 1 = length_push earlier (line_behind earlier e) in
+    let rest = count_behind (earlier ++ line_behind earlier e ∷ []) es in
+    omega arith
+
+pub count_lines : (es : List Entry) → length (lines_of es) ≡ length es
+count_lines es = let counted = count_behind [] es in omega arith
+
+pub count_taken : (es : List Entry) (i : ℕ) → i ≤ length es → length (lines_of (take i es)) ≡ i
+count_taken es i within = count_lines (take i es) ∙ length-take-le i es within
+
+-- ---- the line of an entry
+
+get_push : (xs : List Line) (x : Line) (k : ℕ) → k < length xs → slice_get (xs ++ x ∷ []) k ≡ slice_get xs k
+get_push [] x k below = absurd (omega arith)
+get_push (y ∷ xs) x zero below = refl
+get_push (y ∷ xs) x (suc k) below = get_push xs x k (omega arith)
+
+get_pushed : (xs : List Line) (x : Line) → slice_get (xs ++ x ∷ []) (length xs) ≡ Some x
+get_pushed [] x = refl
+get_pushed (y ∷ xs) x = get_pushed xs x
+
+kept_line : (earlier : List Line) (es : List Entry) (k : ℕ) → k < length earlier
+    → slice_get (lines_behind earlier es) k ≡ slice_get earlier k
+kept_line earlier [] k below = refl
+kept_line earlier (e ∷ es) k below =
+    let one : length (earlier ++ line_behind earlier e ∷ []) ≡ length earlier + 1 = length_push earlier (line_behind earlier e) in
+    kept_line (earlier ++ line_behind earlier e ∷ []) es k (omega arith) ∙ get_push earlier (line_behind earlier e) k below
+
+line_from : (earlier : List Line) (es : List Entry) (i : ℕ) (e : Entry) → slice_get es i ≡ Some e
+    → slice_get (lines_behind earlier es) (length earlier + i) ≡ Some (line_behind (lines_behind earlier (take i es)) e)
+line_from earlier [] i e is = cc
+line_from earlier (f ∷ es) zero e is =
+    let one : length (earlier ++ line_behind earlier f ∷ []) ≡ length earlier + 1 = length_push earlier (line_behind earlier f) in
+    let here : length earlier + 0 ≡ length earlier = omega arith in
+    let same : f ≡ e = cc in
+    ap (slice_get (lines_behind (earlier ++ line_behind earlier f ∷ []) es)) here
+    ∙ (kept_line (earlier ++ line_behind earlier f ∷ []) es (length earlier) (omega arith)
+    ∙ (get_pushed earlier (line_behind earlier f) ∙ ap (λ (d : Entry). Some (line_behind earlier d)) same))
+line_from earlier (f ∷ es) (suc i) e is =
+    let one : length (earlier ++ line_behind earlier f ∷ []) ≡ length earlier + 1 = length_push earlier (line_behind earlier f) in
+    let here : length earlier + suc i ≡ length (earlier ++ line_behind earlier f ∷ []) + i = omega arith in
+    ap (slice_get (lines_behind (earlier ++ line_behind earlier f ∷ []) es)) here
+    ∙ line_from (earlier ++ line_behind earlier f ∷ []) es i e is
+
+pub line_at : (es : List Entry) (i : ℕ) (e : Entry) → slice_get es i ≡ Some e
+    → slice_get (lines_of es) i ≡ Some (line_behind (lines_of (take i es)) e)
+line_at es i e is =
+    let here : i ≡ 0 + i = omega arith in
+    ap (slice_get (lines_of es)) here ∙ line_from [] es i e is
+
+-- ---- the last that passes
+
+pub last_push : {A : Type 0} (passes : A → Bool) (xs : List A) (x : A)
+    → last passes (xs ++ x ∷ []) ≡ cond (passes x) (Some x) (last passes xs)
+last_push passes [] x = refl
+last_push {A} passes (y ∷ xs) x =
+    ap (λ (o : Option A). or_else o (where_so (passes y) (Some y))) (last_push passes xs x)
+    ∙ by (passes x)
+  where
+    by : (b : Bool) → or_else (cond b (Some x) (last passes xs)) (where_so (passes y) (Some y))
+        ≡ cond b (Some x) (or_else (last passes xs) (where_so (passes y) (Some y)))
+    by true = refl
+    by false = refl
+
+pub last_none : {A : Type 0} (xs : List A) → last (λ x. false) xs ≡ None
+last_none [] = refl
+last_none {A} (x ∷ xs) = ap (λ (o : Option A). or_else o None) (last_none xs)
+
+-- What holds of each holds of it.
+last_holds : {A : Type 0} (P : A → Type 0) (passes : A → Bool) (xs : List A) → AllByRecursion P xs
+    → IfSome (last passes xs) P
+last_holds P passes [] all = tt
+last_holds {A} P passes (x ∷ xs) all = by (last passes xs) (last_holds P passes xs all.1)
+  where
+    here : (b : Bool) → IfSome (where_so b (Some x)) P
+    here true = all.0
+    here false = tt
+
+    by : (o : Option A) → IfSome o P → IfSome (or_else o (where_so (passes x) (Some x))) P
+    by None later = here (passes x)
+    by (Some y) later = later
+
+pub at_holds : {A : Type 0} (P : A → Type 0) (xs : List A) (k : ℕ) (x : A) → AllByRecursion P xs
+    → slice_get xs k ≡ Some x → P x
+at_holds P [] k x all is = cc
+at_holds {A} P (y ∷ xs) zero x all is = let same : y ≡ x = cc in rw (← same) all.0
+at_holds P (y ∷ xs) (suc k) x all is = at_holds P xs k x all.1 is
+
+-- ---- transactions are numbers of entries
+
+abbrev IsNumber : ℕ → Option ℕ → Type 0
+IsNumber count None = Unit {0}
+IsNumber count (Some transaction) = transaction < count
+
+number_behind : (count : ℕ) (earlier : List Line) (e : Entry) (message : Option Message) → length earlier < count
+    → AllByRecursion (λ x. IsNumber count x.transaction) earlier → IsNumber count (transaction_by earlier e message)
+number_behind count earlier e message room all = by message
+  where
+    found : (o : Option Line) → IfSome o (λ x. IsNumber count x.transaction)
+        → IsNumber count (elim o as (λ o. Option ℕ) [ None ↦ None | Some x ↦ x.transaction ])
+    found None last = tt
+    found (Some x) last = last
+
+    from : (dtid : Option (List ℕ)) → IsNumber count (transaction_from earlier e dtid)
+    from None = tt
+    from (Some id) =
+        found (last (λ f. is_asked_from e id f.entry) earlier)
+        (last_holds (λ (x : Line). IsNumber count x.transaction) (λ f. is_asked_from e id f.entry) earlier all)
+
+    by : (message : Option Message) → IsNumber count (transaction_by earlier e message)
+    by None = tt
+    by (Some (Unidirectional dialogue components)) = tt
+    by (Some (Begin otid dialogue components)) = room
+    by (Some (Continue otid dtid dialogue components)) = from (Some dtid)
+    by (Some (EndMessage dtid dialogue components)) = from (Some dtid)
+    by (Some (Abort dtid reason)) = from (Some dtid)
+
+push_all : {A : Type 0} (P : A → Type 0) (xs : List A) (x : A) → AllByRecursion P xs → P x → AllByRecursion P (xs ++ x ∷ [])
+push_all P [] x all new = (new, tt)
+push_all P (y ∷ xs) x all new = (all.0, push_all P xs x all.1 new)
+
+numbers_behind : (count : ℕ) (earlier : List Line) (es : List Entry) → length earlier + length es ≤ count
+    → AllByRecursion (λ x. IsNumber count x.transaction) earlier
+    → AllByRecursion (λ x. IsNumber count x.transaction) (lines_behind earlier es)
+numbers_behind count earlier [] room all = all
+numbers_behind count earlier (e ∷ es) room all =
+    let one : length (earlier ++ line_behind earlier e ∷ []) ≡ length earlier + 1 = length_push earlier (line_behind earlier e) in
+    numbers_behind count (earlier ++ line_behind earlier e ∷ []) es (omega arith)
+    (push_all (λ (x : Line). IsNumber count x.transaction) earlier (line_behind earlier e) all
+    (number_behind count earlier e (message_of e) (omega arith) all))
+
+pub transaction_below : (es : List Entry) (k : ℕ) (x : Line) (transaction : ℕ) → slice_get (lines_of es) k ≡ Some x
+    → x.transaction ≡ Some transaction → transaction < length es
+transaction_below es k x transaction is has =
+    let all = numbers_behind (length es) [] es (omega arith) tt in
+    rw has at (at_holds (λ (x : Line). IsNumber (length es) x.transaction) (lines_of es) k x all is)

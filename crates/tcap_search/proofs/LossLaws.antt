@@ -1,0 +1,120 @@
+-- Losses, from the least time of what each end sends later.
+use Rattle.std.proofs.Common.{◌≡◌, ℕ, zero, suc, ◌<◌, min, Bool, true, false, cond, List, [], ◌∷◌, map, length, get_or, Option, Some, None, refl, sym, ap, arith}
+use Rattle.std.specs.Prelude.{◌&&◌, ◌||◌, is_some, nat_lt}
+use Rattle.std.specs.List.{list_any}
+use Rattle.std.proofs.lemmas.Bool.Decides.{nat_tests}
+use Rattle.tcap_record.specs.declared.entry.End.{End as Side}
+use Rattle.tcap_record.specs.declared.entry.Entry.{Entry}
+use Rattle.tcap_check.specs.declared.certificate.Fate.{Fate}
+use Rattle.tcap_check.specs.declared.certificate.Fate.TheVariants.{Lost}
+use Rattle.tcap_check.specs.Replayed.{is_later, time_of}
+use Rattle.tcap_search.specs.Lines.{Line, is_end, message_of}
+use Rattle.tcap_search.specs.Proposed.{Fated, fate_before, fated, is_gap, is_overtaken, with_losses}
+use Rattle.tcap_search.specs.Fates.{fate_behind_least, least_time, sooner}
+use Rattle.tcap_search.proofs.GapLaws.{one_end, one_end_none}
+use Rattle.tcap_search.proofs.TestLaws.{or_false}
+
+-- ---- the least time
+
+min_before : (a b c : ℕ) → nat_lt (min a b) c ≡ (nat_lt a c || nat_lt b c)
+min_before a b c = grind (arith, nat_tests)
+
+-- The sooner of two times is before another where one of them is.
+sooner_is : (o p q : Option ℕ) → is_later (sooner o p) q ≡ (is_later o q || is_later p q)
+sooner_is None p q = refl
+sooner_is (Some a) None q = sym (or_false (is_later (Some a) q))
+sooner_is (Some a) (Some b) None = refl
+sooner_is (Some a) (Some b) (Some c) = min_before a b c
+
+-- A fate is overtaken by one of that end where the least time is before its own.
+overtaken_by : (x : Fated) (side : Side) (later : List Fated) → x.line.entry.side ≡ Some side
+    → list_any (is_overtaken x) later ≡ is_later (least_time side later) (time_of x.fate)
+overtaken_by x side [] at = refl
+overtaken_by x side (y ∷ later) at =
+    rw (one_end x.line.entry y.line.entry side at, overtaken_by x side later at) (by (is_end side y.line.entry.side))
+  where
+    by : (b : Bool) → ((b && is_later (time_of y.fate) (time_of x.fate))
+        || is_later (least_time side later) (time_of x.fate))
+        ≡ is_later (cond b (sooner (time_of y.fate) (least_time side later)) (least_time side later)) (time_of x.fate)
+    by true = sym (sooner_is (time_of y.fate) (least_time side later) (time_of x.fate))
+    by false = refl
+
+overtaken_never : (x : Fated) (later : List Fated) → x.line.entry.side ≡ None → list_any (is_overtaken x) later ≡ false
+overtaken_never x [] at = refl
+overtaken_never x (y ∷ later) at = rw (one_end_none x.line.entry y.line.entry at) (overtaken_never x later at)
+
+abbrev pub least_so_far : List Fated → Option Side → Option ℕ
+least_so_far later None = None
+least_so_far later (Some side) = least_time side later
+
+-- So a line has the fate that the least time says.
+pub fate_before_is : (later : List Fated) (x : Fated)
+    → fate_before later x ≡ fate_behind_least x.line.entry x.fate (least_so_far later x.line.entry.side)
+fate_before_is later x =
+    ap (λ (b : Bool). cond (is_gap x.fate && is_some (message_of x.line.entry) && b) Lost x.fate)
+    (by x.line.entry.side refl)
+  where
+    by : (s : Option Side) → x.line.entry.side ≡ s
+        → list_any (is_overtaken x) later ≡ is_later (least_so_far later s) (time_of x.fate)
+    by None at = overtaken_never x later at
+    by (Some side) at = overtaken_by x side later at
+
+-- ---- lines and fates
+
+abbrev pub fated_at : Line → Fate → Fated
+fated_at line fate = record { line = line; fate = fate }
+
+pub count_fated : (lines : List Line) (fates : List Fate) → length fates ≡ length lines
+    → length (fated lines fates) ≡ length fates
+count_fated [] [] same = refl
+count_fated (line ∷ lines) [] same = refl
+count_fated [] (fate ∷ fates) same = absurd (omega arith)
+count_fated (line ∷ lines) (fate ∷ fates) same = ap suc (count_fated lines fates (omega arith))
+
+-- The fates of lines with them are those.
+pub fates_fated : (lines : List Line) (fates : List Fate) → length fates ≡ length lines
+    → map (λ x. x.fate) (fated lines fates) ≡ fates
+fates_fated [] [] same = refl
+fates_fated (line ∷ lines) [] same = absurd (omega arith)
+fates_fated [] (fate ∷ fates) same = absurd (omega arith)
+fates_fated (line ∷ lines) (fate ∷ fates) same = ap (λ (fs : List Fate). fate ∷ fs)
+    (fates_fated lines fates (omega arith))
+
+-- What is there at a place.
+pub fated_there : (lines : List Line) (fates : List Fate) (i : ℕ) (line : Line) (fate : Fate) (d : Fated)
+    → i < length lines → length fates ≡ length lines → line ≡ get_or lines i line → fate ≡ get_or fates i fate
+    → get_or (fated lines fates) i d ≡ fated_at line fate
+fated_there [] fates i line fate d within same is_line is_fate = absurd (omega arith)
+fated_there (x ∷ lines) [] i line fate d within same is_line is_fate = absurd (omega arith)
+fated_there (x ∷ lines) (y ∷ fates) zero line fate d within same is_line is_fate =
+    λ i. record { line = sym is_line i; fate = sym is_fate i }
+fated_there (x ∷ lines) (y ∷ fates) (suc i) line fate d within same is_line is_fate =
+    fated_there lines fates i line fate d (omega arith) (omega arith) is_line is_fate
+
+-- ---- losses, from the last line to the first
+
+losses_step : (x : Fated) (more : List Fated)
+    → map (λ x. x.fate) (with_losses (x ∷ more))
+    ≡ fate_before (with_losses more) x ∷ map (λ x. x.fate) (with_losses more)
+losses_step x more = refl
+
+-- Losses keep the lines.
+pub lines_kept : (all : List Fated) → map (λ x. x.line) (with_losses all) ≡ map (λ x. x.line) all
+lines_kept [] = refl
+lines_kept (x ∷ more) = ap (λ (lines : List Line). x.line ∷ lines) (lines_kept more)
+
+pub lines_fated : (lines : List Line) (fates : List Fate) → length fates ≡ length lines
+    → map (λ x. x.line) (fated lines fates) ≡ lines
+lines_fated [] [] same = refl
+lines_fated (line ∷ lines) [] same = absurd (omega arith)
+lines_fated [] (fate ∷ fates) same = absurd (omega arith)
+lines_fated (line ∷ lines) (fate ∷ fates) same = ap (λ (ls : List Line). line ∷ ls)
+    (lines_fated lines fates (omega arith))
+
+pub entries_fated : (lines : List Line) (fates : List Fate) → length fates ≡ length lines
+    → map (λ x. x.line.entry) (fated lines fates) ≡ map (λ x. x.entry) lines
+entries_fated [] [] same = refl
+entries_fated (line ∷ lines) [] same = absurd (omega arith)
+entries_fated [] (fate ∷ fates) same = absurd (omega arith)
+entries_fated (line ∷ lines) (fate ∷ fates) same =
+    ap (λ (es : List Entry). line.entry ∷ es) (entries_fated lines fates (omega arith))

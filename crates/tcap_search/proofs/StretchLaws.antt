@@ -1,0 +1,212 @@
+-- Entries, stretch by stretch between quiet marks.
+use Rattle.std.proofs.Common.{◌≡◌, ◌≢◌, Bool, true, false, cond, ℕ, ◌+◌, ◌-◌, ◌≤◌, ◌<◌, arith, List, [], ◌∷◌, ◌++◌, length, take, drop, get_or, zero, suc, min, refl, sym, ap, subst, ◌∙◌, append_assoc}
+use Rattle.std.specs.Prelude.{◌||◌, Result, Ok, Err, IfOk, map}
+use Rattle.std.specs.List.{list_any}
+use Rattle.std.proofs.lemmas.List.{append-nil, drop_more, get_or-drop, length-append, length-drop, length-map, length-take-le, take-append-drop}
+use Rattle.std.proofs.lemmas.List.Folds.{list_any_more}
+use Rattle.std.proofs.Math.Seq.{drop-nil, take-length}
+use Rattle.tcap_record.specs.declared.entry.Entry.{Entry}
+use Rattle.tcap_check.specs.Certificate.{Certificate}
+use Rattle.tcap_search.specs.Proposed.{behind, fate_behind, is_mark, of_mark, of_stretch, of_stretches, stretches, then_certificate, with_entry}
+
+use Rattle.tcap_search.proofs.LimitLaws.{count_of_stretch}
+
+abbrev pub has_mark : List Entry → Bool
+has_mark entries = list_any (λ e. is_mark e.body) entries
+
+-- There is a first stretch.
+pub first_stretch : (entries : List Entry)
+    → (stretch : List Entry) × (more : List (List Entry)) × (stretches entries ≡ stretch ∷ more)
+first_stretch [] = ([], [], refl)
+first_stretch (e ∷ entries) = by (is_mark e.body) refl (first_stretch entries)
+  where
+    by : (b : Bool) → is_mark e.body ≡ b
+        → (stretch : List Entry) × (more : List (List Entry)) × (stretches entries ≡ stretch ∷ more)
+        → (stretch : List Entry) × (more : List (List Entry))
+        × (cond b ([] ∷ stretches entries) (with_entry e (stretches entries)) ≡ stretch ∷ more)
+    by true so rest = ([], stretches entries, refl)
+    by false so (stretch, more, is) = (e ∷ stretch, more, rw is refl)
+
+-- Entries without a mark are one stretch,
+pub one_stretch : (entries : List Entry) → has_mark entries ≡ false → stretches entries ≡ entries ∷ []
+one_stretch [] none = refl
+one_stretch (e ∷ entries) none = by (is_mark e.body) none (one_stretch entries)
+  where
+    by : (b : Bool) → (b || has_mark entries) ≡ false → (has_mark entries ≡ false → stretches entries ≡ entries ∷ [])
+        → cond b ([] ∷ stretches entries) (with_entry e (stretches entries)) ≡ (e ∷ entries) ∷ []
+    by true none on = cc
+    by false none on = rw (on none) refl
+
+-- and before a mark they are the first.
+pub stretch_before : (front : List Entry) (mark : Entry) (more : List Entry) → has_mark front ≡ false
+    → is_mark mark.body ≡ true → stretches (front ++ mark ∷ more) ≡ front ∷ stretches more
+stretch_before [] mark more none is = rw is refl
+stretch_before (e ∷ front) mark more none is =
+    by (is_mark e.body) none (λ rest. stretch_before front mark more rest is)
+  where
+    by : (b : Bool) → (b || has_mark front) ≡ false
+        → (has_mark front ≡ false → stretches (front ++ mark ∷ more) ≡ front ∷ stretches more)
+        → cond b ([] ∷ stretches (front ++ mark ∷ more)) (with_entry e (stretches (front ++ mark ∷ more)))
+        ≡ (e ∷ front) ∷ stretches more
+    by true none on = cc
+    by false none on = rw (on none) refl
+
+-- ---- certificates, one after the other
+
+pub then_assoc : (c d f : Certificate)
+    → then_certificate (then_certificate c d) f ≡ then_certificate c (then_certificate d f)
+then_assoc c d f = rw (append_assoc c.fates d.fates f.fates, append_assoc c.expire d.expire f.expire, append_assoc c.close d.close f.close) refl
+
+-- What is proposed for entries without a mark.
+pub of_one : (first : ℕ) (entries : List Entry) → has_mark entries ≡ false
+    → of_stretches first (stretches entries) ≡ behind first (of_stretch entries)
+of_one first entries none = rw (one_stretch entries none) refl
+
+-- What is proposed for entries before a mark, for the mark, and for what stands behind it.
+pub of_more : (first : ℕ) (front : List Entry) (mark : Entry) (more : List Entry) → has_mark front ≡ false
+    → is_mark mark.body ≡ true
+    → of_stretches first (stretches (front ++ mark ∷ more))
+    ≡ then_certificate (behind first (of_stretch front))
+    (then_certificate (of_mark (first + length front)) (of_stretches (first + length front + 1) (stretches more)))
+of_more first front mark more none is =
+    let (stretch, others, split) = first_stretch more in
+    rw (stretch_before front mark more none is, split) refl
+
+-- ---- along the entries
+
+drop_drop : {A : Type 0} (n k : ℕ) (xs : List A) → drop k (drop n xs) ≡ drop (n + k) xs
+drop_drop zero k xs = ap (λ m. drop m xs) (omega arith)
+drop_drop (suc n) k [] = drop-nil k ∙ sym (drop-nil (suc n + k))
+drop_drop (suc n) k (x ∷ xs) =
+    let more : suc (n + k) ≡ suc n + k = omega arith in
+    drop_drop n k xs ∙ ap (λ m. drop m (x ∷ xs)) more
+
+-- The entry of that number, k behind the first of a stretch that is under way.
+module _ (entries : List Entry) (first k : ℕ) (e : Entry) (within : first + k < length entries)
+    (is : e ≡ get_or entries (first + k) e) where
+  abbrev under : List Entry
+  under = drop first entries
+
+  k_within : k < length under
+  k_within = rw (length-drop first entries) (omega (arith, within))
+
+  is_there : get_or under k e ≡ e
+  is_there = get_or-drop first entries k e ∙ sym is
+
+  -- It is no mark, and the stretch goes on.
+  pub goes_on : is_mark e.body ≡ false → has_mark (take k under) ≡ false → has_mark (take (k + 1) under) ≡ false
+  goes_on plain none =
+      let more : has_mark (take (k + 1) under) ≡ (has_mark (take k under) || is_mark (get_or under k e).body) =
+      list_any_more (λ x. is_mark x.body) under k e k_within in
+      more ∙ rw (none, is_there, plain) refl
+
+  split : under ≡ take k under ++ e ∷ drop (first + k + 1) entries
+  split =
+      sym (take-append-drop k under)
+      ∙ ap (λ x. take k under ++ x)
+      (drop_more under k e k_within ∙ ap (λ x. x ∷ drop (k + 1) under) is_there
+      ∙ ap (λ x. e ∷ x) (drop_drop first (k + 1) entries ∙ ap (λ n. drop n entries) (omega arith)))
+
+  -- It is a mark, and the next stretch begins.
+  pub begins : (found : Certificate) → is_mark e.body ≡ true → has_mark (take k under) ≡ false
+      → then_certificate found (of_stretches first (stretches under))
+      ≡ then_certificate (then_certificate (then_certificate found (behind first (of_stretch (take k under)))) (of_mark (first + k)))
+      (of_stretches (first + k + 1) (stretches (drop (first + k + 1) entries)))
+  begins found mark none =
+      let count : length (take k under) ≡ k = length-take-le k under (omega (arith, k_within)) in
+      ap (λ x. then_certificate found (of_stretches first (stretches x))) split
+      ∙ ap (then_certificate found) (of_more first (take k under) e (drop (first + k + 1) entries) none mark)
+      ∙ rw count
+      (sym (then_assoc found (behind first (of_stretch (take k under)))
+      (then_certificate (of_mark (first + k)) (of_stretches (first + k + 1) (stretches (drop (first + k + 1) entries)))))
+      ∙ sym (then_assoc (then_certificate found (behind first (of_stretch (take k under)))) (of_mark (first + k))
+      (of_stretches (first + k + 1) (stretches (drop (first + k + 1) entries)))))
+
+-- What stands behind the last mark is the last stretch.
+pub ends : (entries : List Entry) (found : Certificate) (first k : ℕ) → first + k ≡ length entries
+    → has_mark (take k (drop first entries)) ≡ false
+    → then_certificate found (of_stretches first (stretches (drop first entries)))
+    ≡ then_certificate found (behind first (of_stretch (drop first entries)))
+ends entries found first k all none =
+    let count : length (drop first entries) ≡ k = length-drop first entries ∙ omega (arith, all) in
+    let whole : take k (drop first entries) ≡ drop first entries =
+    subst (λ n. take n (drop first entries) ≡ drop first entries) count (take-length (drop first entries)) in
+    ap (then_certificate found) (of_one first (drop first entries) (subst (λ x. has_mark x ≡ false) whole none))
+
+-- The same by the number of the entry.
+module _ (entries : List Entry) (first i : ℕ) (begun : first ≤ i) where
+  at : first + (i - first) ≡ i
+  at = omega (arith, begun)
+
+  next : i - first + 1 ≡ i + 1 - first
+  next = omega (arith, begun)
+
+  pub goes_on_at : (e : Entry) → i < length entries → e ≡ get_or entries i e → is_mark e.body ≡ false
+      → has_mark (take (i - first) (drop first entries)) ≡ false
+      → has_mark (take (i + 1 - first) (drop first entries)) ≡ false
+  goes_on_at e within is plain none =
+      subst (λ n. has_mark (take n (drop first entries)) ≡ false) next
+      (goes_on entries first (i - first) e (rw at within) (rw at is) plain none)
+
+  pub begins_at : (e : Entry) (found : Certificate) → i < length entries → e ≡ get_or entries i e → is_mark e.body ≡ true
+      → has_mark (take (i - first) (drop first entries)) ≡ false
+      → then_certificate found (of_stretches first (stretches (drop first entries)))
+      ≡ then_certificate
+      (then_certificate (then_certificate found (behind first (of_stretch (take (i - first) (drop first entries))))) (of_mark i))
+      (of_stretches (i + 1) (stretches (drop (i + 1) entries)))
+  begins_at e found within is mark none =
+      subst
+      (λ n. then_certificate found (of_stretches first (stretches (drop first entries)))
+      ≡ then_certificate
+      (then_certificate (then_certificate found (behind first (of_stretch (take (i - first) (drop first entries))))) (of_mark n))
+      (of_stretches (n + 1) (stretches (drop (n + 1) entries))))
+      at (begins entries first (i - first) e (rw at within) (rw at is) found mark none)
+
+  pub ends_at : (found : Certificate) → i ≡ length entries → has_mark (take (i - first) (drop first entries)) ≡ false
+      → then_certificate found (of_stretches first (stretches (drop first entries)))
+      ≡ then_certificate found (behind first (of_stretch (take (length entries - first) (drop first entries))))
+  ends_at found all none =
+      ends entries found first (i - first) (at ∙ all) none
+      ∙ ap (λ x. then_certificate found (behind first (of_stretch x)))
+      (sym (subst (λ n. take n (drop first entries) ≡ drop first entries) (length-drop first entries)
+      (take-length (drop first entries))))
+
+-- ---- how many fates there are
+
+with_count : (found : Certificate) (first : ℕ) (stretch : List Entry)
+    → length ((then_certificate found (behind first (of_stretch stretch))).fates) ≡ length found.fates + length stretch
+with_count found first stretch =
+    length-append found.fates (map (fate_behind first) ((of_stretch stretch).fates))
+    ∙ ap (λ n. length found.fates + n)
+    (length-map ((of_stretch stretch).fates) (fate_behind first) ∙ count_of_stretch stretch)
+
+pub count_ends : (entries : List Entry) (found : Certificate) (first : ℕ) → first ≤ length entries
+    → length found.fates ≡ first
+    → length ((then_certificate found (behind first (of_stretch (take (length entries - first) (drop first entries))))).fates)
+    ≡ length entries
+count_ends entries found first within count =
+    let some : length (take (length entries - first) (drop first entries)) ≡ length entries - first =
+    length-take-le (length entries - first) (drop first entries)
+    (let left : length (drop first entries) ≡ length entries - first = length-drop first entries in omega (arith, left)) in
+    with_count found first (take (length entries - first) (drop first entries)) ∙ omega (arith, some, count, within)
+
+pub count_begins : (entries : List Entry) (found : Certificate) (first i : ℕ) → first ≤ i → i < length entries
+    → length found.fates ≡ first
+    → length ((then_certificate (then_certificate found (behind first (of_stretch (take (i - first) (drop first entries)))))
+    (of_mark i)).fates)
+    ≡ i + 1
+count_begins entries found first i begun within count =
+    let some : length (take (i - first) (drop first entries)) ≡ i - first =
+    length-take-le (i - first) (drop first entries)
+    (let left : length (drop first entries) ≡ length entries - first = length-drop first entries in
+    omega (arith, left, within)) in
+    let front : length ((then_certificate found (behind first (of_stretch (take (i - first) (drop first entries))))).fates)
+    ≡ length found.fates + length (take (i - first) (drop first entries)) =
+    with_count found first (take (i - first) (drop first entries)) in
+    length-append ((then_certificate found (behind first (of_stretch (take (i - first) (drop first entries))))).fates) _
+    ∙ omega (arith, front, some, count, begun)
+
+-- What follows of what is answered.
+pub answers_so : {A E : Type 0} (P Q : A → Type 0) (r : Result A E) → ((x : A) → P x → Q x) → IfOk r P → IfOk r Q
+answers_so P Q (Ok x) so is = so x is
+answers_so P Q (Err e) so is = is

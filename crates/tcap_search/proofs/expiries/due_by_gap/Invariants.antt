@@ -1,0 +1,11 @@
+-- the numbers so far, and those of what is left
+use Rattle.std.proofs.Common.{◌≡◌, ◌<◌, ◌++◌, ℕ, drop, length}
+use Rattle.tcap_search.specs.Due.{due_at, due_in}
+use Rattle.tcap_search.proofs.expiries.due_by_gap.Given as goal
+
+abbrev pub invariant-loop-number : goal.invariant-loop-number
+invariant-loop-number l = record {
+  lists : (gap : ℕ) → gap < length l.fates
+      → due_at gap l.lists.items ++ due_in gap l.number (drop l.number l.fates) ≡ due_in gap 0 l.fates;
+  count : length l.lists.items ≡ length l.fates;
+}

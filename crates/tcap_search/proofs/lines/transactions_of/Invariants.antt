@@ -1,0 +1,6 @@
+-- what is kept of the entries so far, and their transactions
+use Rattle.tcap_search.proofs.LatestLaws.{Noted}
+use Rattle.tcap_search.proofs.lines.transactions_of.Given as goal
+
+abbrev pub invariant-loop-number : goal.invariant-loop-number
+invariant-loop-number l = Noted l.entries l.number l.latest l.transactions.items

@@ -1,0 +1,14 @@
+use Rattle.std.proofs.Common.{◌≡◌, ◌≤◌, ◌+◌, ◌-◌, length, take, drop, false, ℕ}
+use Rattle.tcap_search.specs.Proposed.{of_stretches, proposed, stretches, then_certificate}
+use Rattle.tcap_search.proofs.StretchLaws.{has_mark}
+use Rattle.tcap_search.proofs.searching.found_in.Given as goal
+
+-- what was found, and then what is proposed from the stretch on that is under way, is what is proposed
+abbrev pub invariant-loop-number : goal.invariant-loop-number
+invariant-loop-number l = record {
+  count : length l.found.fates ≡ l.first;
+  begun : l.first ≤ l.number;
+  within : l.number ≤ length l.entries;
+  none : has_mark (take (l.number - l.first) (drop l.first l.entries)) ≡ false;
+  is : then_certificate l.found (of_stretches l.first (stretches (drop l.first l.entries))) ≡ proposed l.entries;
+}

@@ -1,0 +1,100 @@
+-- What is kept to find fates: the gap behind the last entry of each end in each transaction, the gap behind the last
+-- reply so far, and the least time of what comes.
+use Rattle.std.specs.Prelude.{ℕ, ◌+◌, max, min, Bool, false, List, [], ◌∷◌, slice_get, Option, Some, None, is_some, ◌==◌, ◌&&◌, cond}
+use Rattle.tcap_msg.specs.declared.message.Message.{Message}
+use Rattle.tcap_msg.specs.declared.message.Message.TheVariants.{End as EndMessage, Abort}
+use Rattle.tcap_record.specs.declared.entry.End.{End as Side}
+use Rattle.tcap_record.specs.declared.entry.Entry.{Entry}
+use Rattle.tcap_check.specs.World.{other}
+use Rattle.tcap_check.specs.declared.certificate.Fate.{Fate}
+use Rattle.tcap_check.specs.declared.certificate.Fate.TheVariants.{Gap, Lost, By}
+use Rattle.tcap_check.specs.Replayed.{is_later, time_of}
+use Rattle.tcap_search.specs.declared.per_end.PerEnd.{PerEnd}
+use Rattle.tcap_search.specs.declared.tie.Tie.{Tie}
+use Rattle.tcap_search.specs.Lines.{Line, is_end, last, message_of}
+use Rattle.tcap_search.specs.Proposed.{Fated, gap_behind_reply, is_gap, reply_of}
+use Rattle.tcap_search.specs.PerEnd.{at_end}
+
+-- ---- the last entry of each end in each transaction
+
+-- whether an entry in that transaction, if it is in one, is of that end and in this one
+abbrev pub is_of : Side → ℕ → Entry → Option ℕ → Bool
+is_of side transaction e None = false
+is_of side transaction e (Some t) = is_end side e.side && (transaction == t)
+
+abbrev pub is_line_of : Side → ℕ → Line → Bool
+is_line_of side transaction x = is_of side transaction x.entry x.transaction
+
+-- the gap behind a line; 0 where there is none
+abbrev pub gap_behind_line : Option Line → ℕ
+gap_behind_line None = 0
+gap_behind_line (Some x) = x.number + 1
+
+-- the gap behind the last of these of that end in that transaction; 0 where there is none
+abbrev pub gap_behind_last : Side → ℕ → List Line → ℕ
+gap_behind_last side transaction lines = gap_behind_line (last (is_line_of side transaction) lines)
+
+abbrev pub gap_of_end : Side → Option (PerEnd ℕ) → ℕ
+gap_of_end side None = 0
+gap_of_end side (Some gaps) = at_end side gaps
+
+-- the gap that is kept for that end in that transaction
+abbrev pub gap_kept : Side → ℕ → List (PerEnd ℕ) → ℕ
+gap_kept side transaction gaps = gap_of_end side (slice_get gaps transaction)
+
+-- the gap that is kept for the receiver of an entry; 0 where it has none
+abbrev pub receiver_gap : List (PerEnd ℕ) → Option Side → Option ℕ → ℕ
+receiver_gap gaps (Some side) (Some transaction) = gap_kept (other side) transaction gaps
+receiver_gap gaps _ _ = 0
+
+-- ---- the last reply
+
+abbrev pub gap_raised : PerEnd ℕ → Option Side → ℕ
+gap_raised raised None = 0
+gap_raised raised (Some side) = at_end side raised
+
+-- the last gap behind a reply to one of these of that end
+abbrev pub highest : Side → List Line → List Tie → ℕ
+highest side [] ties = 0
+highest side (x ∷ lines) ties =
+    max (cond (is_end side x.entry.side) (gap_behind_reply (reply_of ties x.number)) 0) (highest side lines ties)
+
+-- ---- first fates
+
+-- where an End or an Abort comes behind that gap, another message behind its entry
+abbrev pub earliest : ℕ → Message → ℕ → ℕ
+earliest number (EndMessage dtid dialogue components) behind = max (number + 1) behind
+earliest number (Abort dtid reason) behind = max (number + 1) behind
+earliest number _ behind = number + 1
+
+abbrev pub untied_fate : ℕ → Option Message → ℕ → ℕ → Fate
+untied_fate number None behind raised = Gap (number + 1)
+untied_fate number (Some message) behind raised = Gap (max (earliest number message behind) raised)
+
+-- the first fate of an entry, from its number, its reply, the gap behind the last entry of its receiver, and the gap to
+-- which it is raised
+abbrev pub fate_from : ℕ → Entry → Option ℕ → ℕ → ℕ → Fate
+fate_from number e (Some reply) behind raised = By reply
+fate_from number e None behind raised = untied_fate number (message_of e) behind raised
+
+-- ---- losses
+
+-- the lesser of two times, where there are any
+abbrev pub sooner : Option ℕ → Option ℕ → Option ℕ
+sooner None time = time
+sooner (Some time) None = Some time
+sooner (Some time) (Some other) = Some (min time other)
+
+-- the least time of these of that end
+abbrev pub least_time : Side → List Fated → Option ℕ
+least_time side [] = None
+least_time side (x ∷ later) =
+    cond (is_end side x.line.entry.side) (sooner (time_of x.fate) (least_time side later)) (least_time side later)
+
+abbrev pub time_kept : PerEnd (Option ℕ) → Option Side → Option ℕ
+time_kept least None = None
+time_kept least (Some side) = at_end side least
+
+-- A message that is delivered is lost, where what its end sends later comes before.
+abbrev pub fate_behind_least : Entry → Fate → Option ℕ → Fate
+fate_behind_least e fate least = cond (is_gap fate && is_some (message_of e) && is_later least (time_of fate)) Lost fate

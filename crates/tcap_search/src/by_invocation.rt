@@ -1,0 +1,66 @@
+//! Values by transaction, end and invoke ID.
+
+ghost use Rattle.std.specs.Prelude.{◌≡◌};
+ghost use Rattle.tcap_search.specs.ByInvocation.{key_of};
+
+use std::alloc::{AllocError, Global};
+use std::collections::BTreeMap;
+use tcap_record::End;
+
+/// Values by transaction, end and invoke ID.
+#[derive(Debug, Drop)]
+pub(crate) struct ByInvocation<T> {
+    map: BTreeMap<(u64, i8), T>,
+}
+
+/// The key of a transaction, an end and an invoke ID. The first two are one number.
+fn key(transaction: u32, side: End, id: i8) -> (u64, i8)
+    ensures { result ≡ key_of transaction side id }
+{
+    let half = match side {
+        End::A => 2 * u64::from(transaction),
+        End::B => 2 * u64::from(transaction) + 1,
+    };
+    (half, id)
+}
+
+impl<T: Copy> ByInvocation<T> {
+    ghost use Rattle.std.specs.Prelude.{◌≡◌, ◌==◌, ◌&&◌, ℕ, ℤ, Some, None, cond, OnOk};
+    ghost use Rattle.std.specs.Ordering.{int_cmp};
+    ghost use Rattle.std.specs.BTreeMap.{is_at};
+    ghost use Rattle.tcap_record.specs.declared.entry.End.{End as Side};
+    ghost use Rattle.tcap_check.specs.World.{is_side};
+    ghost use Rattle.tcap_search.specs.ByInvocation.{kept_at};
+
+    /// No values.
+    pub(crate) fn new(alloc: Global) -> ByInvocation<T>
+        ensures { (transaction : ℕ) (side : Side) (id : ℤ) → kept_at transaction side id result ≡ None }
+    {
+        ByInvocation {
+            map: BTreeMap::new(alloc),
+        }
+    }
+
+    /// The value that is kept there.
+    pub(crate) fn get(&self, transaction: u32, side: End, id: i8) -> Option<T>
+        ensures { result ≡ kept_at transaction side id self.now }
+    {
+        self.map.get(&key(transaction, side, id)).copied()
+    }
+
+    /// Keeps a value there, in place of one that was.
+    pub(crate) fn put(
+        &mut self,
+        transaction: u32,
+        side: End,
+        id: i8,
+        value: T,
+    ) -> Result<(), AllocError>
+        ensures { OnOk result ((t : ℕ) (s : Side) (other : ℤ) → kept_at t s other self.new
+            ≡ cond (t == transaction && is_side s side && is_at (int_cmp other) id) (Some value)
+            (kept_at t s other self.old)) }
+    {
+        self.map.insert(key(transaction, side, id), value)?;
+        Ok(())
+    }
+}

@@ -1,0 +1,104 @@
+//! The least number that was noted, by end and transaction.
+
+ghost use Rattle.std.specs.Prelude.{◌≡◌, ◌<◌, ◌&&◌, ◌==◌, ℕ, None, cond, length, slice_get, IfOk};
+ghost use Rattle.tcap_record.specs.declared.entry.End.{End as Side};
+ghost use Rattle.tcap_check.specs.Run.{then_so};
+ghost use Rattle.tcap_search.specs.Leasts.{HasRoom, is_below, is_transaction, is_within, least_at, lesser};
+ghost use Rattle.tcap_search.specs.Lines.{is_end};
+
+use std::alloc::{AllocError, Global};
+use tcap_record::End;
+
+/// For each end and each of so many transactions, from 0, the least number that was noted.
+#[derive(Debug, Drop)]
+pub(crate) struct Leasts {
+    pub(crate) a: Vec<Option<u32>>,
+    pub(crate) b: Vec<Option<u32>>,
+}
+
+/// Of so many transactions, none.
+fn nothing(alloc: Global, count: usize) -> Result<Vec<Option<u32>>, AllocError>
+    ensures nothing { IfOk result (λ made. (at : ℕ) → then_so (slice_get made.items at) (λ least. least) ≡ None) }
+    ensures room { IfOk result (λ made. length made.items ≡ count) }
+{
+    let mut list = Vec::new(alloc);
+    list.resize(count, None)?;
+    Ok(list)
+}
+
+/// Notes one number more of a transaction; nothing where there is no room for it.
+fn note_in(list: &mut Vec<Option<u32>>, transaction: u32, number: u32)
+    ensures noted { (at : ℕ) → at < length list.old.items
+        → then_so (slice_get list.new.items at) (λ least. least)
+        ≡ cond (at == transaction) (lesser number (then_so (slice_get list.old.items at) (λ least. least)))
+        (then_so (slice_get list.old.items at) (λ least. least)) }
+    ensures room { length list.new.items ≡ length list.old.items }
+{
+    if let Some(least) = list.get_mut(transaction as usize) {
+        *least = match *least {
+            Some(before) => Some(before.min(number)),
+            None => Some(number),
+        };
+    }
+}
+
+impl Leasts {
+    /// Nothing noted of so many transactions.
+    pub(crate) fn new(alloc: Global, count: usize) -> Result<Leasts, AllocError>
+        ensures nothing { IfOk result (λ made. (side : Side) (transaction : ℕ) → least_at side transaction made ≡ None) }
+        ensures room { IfOk result (λ made. HasRoom count made) }
+    {
+        Ok(Leasts {
+            a: nothing(alloc, count)?,
+            b: nothing(alloc, count)?,
+        })
+    }
+
+    /// The least number of an end's half of a transaction.
+    pub(crate) fn get(&self, side: End, transaction: u32) -> Option<u32>
+        ensures { result ≡ least_at side transaction self.now }
+    {
+        let list = match side {
+            End::A => &self.a,
+            End::B => &self.b,
+        };
+        *list.get(transaction as usize)?
+    }
+
+    /// Whether a number below that one was noted of it.
+    pub(crate) fn has_below(&self, side: End, transaction: u32, limit: u32) -> bool
+        ensures { result ≡ is_below limit (least_at side transaction self.now) }
+    {
+        match self.get(side, transaction) {
+            Some(least) => least < limit,
+            None => false,
+        }
+    }
+
+    /// Whether a number that is at most that one was noted of it.
+    pub(crate) fn has_within(&self, side: End, transaction: u32, limit: u32) -> bool
+        ensures { result ≡ is_within limit (least_at side transaction self.now) }
+    {
+        match self.get(side, transaction) {
+            Some(least) => least <= limit,
+            None => false,
+        }
+    }
+
+    /// Notes one number more of an end's half of a transaction; nothing where there is no room for it.
+    pub(crate) fn note(&mut self, side: Option<End>, transaction: Option<u32>, number: u32)
+        ensures noted { (count : ℕ) (at : Side) (t : ℕ) → HasRoom count self.old → t < count
+            → least_at at t self.new
+            ≡ cond (is_end at side && is_transaction t transaction) (lesser number (least_at at t self.old))
+            (least_at at t self.old) }
+        ensures room { (count : ℕ) → HasRoom count self.old → HasRoom count self.new }
+    {
+        let (Some(side), Some(transaction)) = (side, transaction) else {
+            return;
+        };
+        match side {
+            End::A => note_in(&mut self.a, transaction, number),
+            End::B => note_in(&mut self.b, transaction, number),
+        }
+    }
+}

@@ -1,0 +1,320 @@
+//! What is kept in a sweep over gaps and entries: the last Invokes so far, and the last answers that came.
+
+ghost use Rattle.std.specs.Prelude.{◌≡◌, ◌==◌, ◌&&◌, ℕ, ℤ, Bool, Some, None, nat_le, cond, option_map, OnOk};
+ghost use Rattle.std.specs.List.{list_any};
+ghost use Rattle.tcap_record.specs.declared.entry.End.{End as Side};
+ghost use Rattle.tcap_msg.specs.Parts.{items_of};
+ghost use Rattle.tcap_check.specs.World.{is_side, other};
+ghost use Rattle.tcap_check.specs.Run.{where_so};
+ghost use Rattle.tcap_search.specs.Lines.{message_of, or_else};
+ghost use Rattle.tcap_search.specs.Proposed.{is_answer_of, is_invoke_of, last_invoke, may_invoke, number_limit, unrecognized};
+ghost use Rattle.tcap_search.specs.ByInvocation.{kept_at};
+ghost use Rattle.tcap_search.specs.Fates.{is_of};
+ghost use Rattle.tcap_search.specs.Sweep.{answer_at, answer_kept, answer_rejected, answers, answers_at, components_of, invoked_by};
+
+use crate::by_invocation::ByInvocation;
+use std::alloc::{AllocError, Global};
+use tcap_msg::Message;
+use tcap_parts::{Component, Portion, Problem};
+use tcap_record::{Body, End, Entry};
+
+/// The greatest place of a component that a certificate names.
+const PLACE_LIMIT: usize = 100_000;
+
+/// An answer that came: in which gap, and the last Invoke of its ID before, by the number of its entry and its place
+/// among the entry's components.
+#[derive(Clone, Copy, Debug)]
+pub(crate) struct Answer {
+    pub(crate) gap: u32,
+    pub(crate) invoked: Option<(u32, u32)>,
+}
+
+/// For each transaction, end and invoke ID of its own: the last Invoke so far, and the last Return Result and the last
+/// Return Error that came to it.
+#[derive(Debug, Drop)]
+pub(crate) struct Sweep {
+    pub(crate) invokes: ByInvocation<(u32, u32)>,
+    pub(crate) results: ByInvocation<Answer>,
+    pub(crate) errors: ByInvocation<Answer>,
+}
+
+/// The components of a portion, if there is one.
+fn portion_items(portion: &Option<Portion>) -> &[Component]
+    ensures { result.now ≡ items_of portion.now }
+{
+    match portion {
+        Some(portion) => portion.items(),
+        None => &[],
+    }
+}
+
+/// The components of an entry; of octets that are no message none.
+pub(crate) fn components_of(entry: &Entry) -> &[Component]
+    ensures { result.now ≡ components_of entry.now }
+{
+    let Body::Good(message) = &entry.body else {
+        return &[];
+    };
+    match message {
+        Message::Unidirectional { components, .. } => components.items(),
+        Message::Begin { components, .. }
+        | Message::Continue { components, .. }
+        | Message::End { components, .. } => portion_items(components),
+        Message::Abort { .. } => &[],
+    }
+}
+
+/// Whether an entry is a Begin or a Continue, whose Invokes a certificate may name.
+fn may_invoke(entry: &Entry) -> bool
+    ensures { result ≡ may_invoke (message_of entry.now) }
+{
+    matches!(
+        &entry.body,
+        Body::Good(Message::Begin { .. } | Message::Continue { .. })
+    )
+}
+
+/// The other end.
+fn peer_of(side: End) -> End
+    ensures { result ≡ other side }
+{
+    match side {
+        End::A => End::B,
+        End::B => End::A,
+    }
+}
+
+/// The ID, and whether it is a Return Result, of which a component says unrecognizedInvokeID (Q.773 4.2.2).
+fn unrecognized(component: &Component) -> Option<(bool, i8)>
+    ensures { result ≡ unrecognized component.now }
+{
+    let Component::Reject {
+        id: Some(id),
+        problem,
+    } = component
+    else {
+        return None;
+    };
+    match problem {
+        Problem::ReturnResult(number) if number.number() == 0 => Some((true, *id)),
+        Problem::ReturnError(number) if number.number() == 0 => Some((false, *id)),
+        _ => None,
+    }
+}
+
+impl Sweep {
+    /// Nothing yet.
+    pub(crate) fn new(alloc: Global) -> Sweep
+        ensures invokes { (t : ℕ) (s : Side) (id : ℤ) → kept_at t s id result.invokes ≡ None }
+        ensures answers { (is_result : Bool) (t : ℕ) (s : Side) (id : ℤ) → answer_kept is_result t s id result ≡ None }
+    {
+        Sweep {
+            invokes: ByInvocation::new(alloc),
+            results: ByInvocation::new(alloc),
+            errors: ByInvocation::new(alloc),
+        }
+    }
+
+    /// Notes a component that comes to an end in a gap, if it is an answer.
+    fn note_answer(
+        &mut self,
+        gap: u32,
+        transaction: u32,
+        receiver: End,
+        component: &Component,
+    ) -> Result<(), AllocError>
+        ensures noted { OnOk result ((is_result : Bool) (t : ℕ) (s : Side) (id : ℤ)
+            → answer_kept is_result t s id self.new
+            ≡ cond (t == transaction && is_side s receiver && is_answer_of is_result id component.now)
+            (Some (answer_at gap (kept_at t s id self.old.invokes))) (answer_kept is_result t s id self.old)) }
+        ensures invokes { self.new.invokes ≡ self.old.invokes }
+    {
+        match component {
+            Component::ReturnResult { id, .. } => {
+                let invoked = self.invokes.get(transaction, receiver, *id);
+                self.results
+                    .put(transaction, receiver, *id, Answer { gap, invoked })
+            }
+            Component::ReturnError { id, .. } => {
+                let invoked = self.invokes.get(transaction, receiver, *id);
+                self.errors
+                    .put(transaction, receiver, *id, Answer { gap, invoked })
+            }
+            _ => Ok(()),
+        }
+    }
+
+    /// Notes the answers among components that come to an end in a gap.
+    fn note_answers(
+        &mut self,
+        gap: u32,
+        transaction: u32,
+        receiver: End,
+        components: &[Component],
+    ) -> Result<(), AllocError>
+        ensures noted { OnOk result ((is_result : Bool) (t : ℕ) (s : Side) (id : ℤ)
+            → answer_kept is_result t s id self.new
+            ≡ cond (t == transaction && is_side s receiver && list_any (is_answer_of is_result id) components.now)
+            (Some (answer_at gap (kept_at t s id self.old.invokes))) (answer_kept is_result t s id self.old)) }
+        ensures invokes { self.new.invokes ≡ self.old.invokes }
+    {
+        for component in components {
+            self.note_answer(gap, transaction, receiver, component)?;
+        }
+        Ok(())
+    }
+
+    /// Notes the answers of an entry that is delivered in a gap.
+    fn deliver(
+        &mut self,
+        gap: u32,
+        entry: &Entry,
+        transaction: Option<u32>,
+    ) -> Result<(), AllocError>
+        ensures noted { OnOk result ((is_result : Bool) (t : ℕ) (s : Side) (id : ℤ)
+            → answer_kept is_result t s id self.new
+            ≡ cond (answers is_result t s id entry.now transaction)
+            (Some (answer_at gap (kept_at t s id self.old.invokes))) (answer_kept is_result t s id self.old)) }
+        ensures invokes { self.new.invokes ≡ self.old.invokes }
+    {
+        match (entry.side, transaction) {
+            (Some(sender), Some(transaction)) => {
+                self.note_answers(gap, transaction, peer_of(sender), components_of(entry))
+            }
+            _ => Ok(()),
+        }
+    }
+
+    /// Notes the answers of the entry of that number, which is delivered in a gap.
+    fn deliver_number(
+        &mut self,
+        gap: u32,
+        number: u32,
+        entries: &[Entry],
+        transactions: &[Option<u32>],
+    ) -> Result<(), AllocError>
+        ensures noted { OnOk result ((is_result : Bool) (t : ℕ) (s : Side) (id : ℤ)
+            → answer_kept is_result t s id self.new
+            ≡ cond (answers_at entries.now transactions.now is_result t s id number)
+            (Some (answer_at gap (kept_at t s id self.old.invokes))) (answer_kept is_result t s id self.old)) }
+        ensures invokes { self.new.invokes ≡ self.old.invokes }
+    {
+        let number = number as usize;
+        match (entries.get(number), transactions.get(number)) {
+            (Some(entry), Some(transaction)) => self.deliver(gap, entry, *transaction),
+            _ => Ok(()),
+        }
+    }
+
+    /// Notes the answers of the entries of these numbers, which are delivered in a gap.
+    pub(crate) fn deliver_all(
+        &mut self,
+        gap: u32,
+        due: &[u32],
+        entries: &[Entry],
+        transactions: &[Option<u32>],
+    ) -> Result<(), AllocError>
+        ensures noted { OnOk result ((is_result : Bool) (t : ℕ) (s : Side) (id : ℤ)
+            → answer_kept is_result t s id self.new
+            ≡ cond (list_any (answers_at entries.now transactions.now is_result t s id) due.now)
+            (Some (answer_at gap (kept_at t s id self.old.invokes))) (answer_kept is_result t s id self.old)) }
+        ensures invokes { self.new.invokes ≡ self.old.invokes }
+    {
+        for number in due {
+            self.deliver_number(gap, *number, entries, transactions)?;
+        }
+        Ok(())
+    }
+
+    /// Notes a component of an entry with that number, if it is an Invoke and a certificate can name its place.
+    fn note_invoke(
+        &mut self,
+        number: u32,
+        transaction: u32,
+        side: End,
+        place: usize,
+        component: &Component,
+    ) -> Result<(), AllocError>
+        ensures noted { OnOk result ((t : ℕ) (s : Side) (id : ℤ) → kept_at t s id self.new.invokes
+            ≡ cond (t == transaction && is_side s side && (is_invoke_of id component.now && nat_le place number_limit))
+            (Some (number, place)) (kept_at t s id self.old.invokes)) }
+        ensures results { self.new.results ≡ self.old.results }
+        ensures errors { self.new.errors ≡ self.old.errors }
+    {
+        match component {
+            Component::Invoke { id, .. } if place <= PLACE_LIMIT => {
+                self.invokes
+                    .put(transaction, side, *id, (number, place as u32))
+            }
+            _ => Ok(()),
+        }
+    }
+
+    /// Notes the Invokes among the components of an entry with that number.
+    fn note_invokes(
+        &mut self,
+        number: u32,
+        transaction: u32,
+        side: End,
+        components: &[Component],
+    ) -> Result<(), AllocError>
+        ensures noted { OnOk result ((t : ℕ) (s : Side) (id : ℤ) → kept_at t s id self.new.invokes
+            ≡ or_else (where_so (t == transaction && is_side s side)
+            (option_map (λ place. (number, place)) (last_invoke id 0 components.now)))
+            (kept_at t s id self.old.invokes)) }
+        ensures results { self.new.results ≡ self.old.results }
+        ensures errors { self.new.errors ≡ self.old.errors }
+    {
+        for (place, component) in components.iter().enumerate() {
+            self.note_invoke(number, transaction, side, place, component)?;
+        }
+        Ok(())
+    }
+
+    /// Notes the Invokes of an entry with that number, if it is a Begin or a Continue.
+    pub(crate) fn note_entry(
+        &mut self,
+        number: u32,
+        entry: &Entry,
+        transaction: Option<u32>,
+    ) -> Result<(), AllocError>
+        ensures noted { OnOk result ((t : ℕ) (s : Side) (id : ℤ) → kept_at t s id self.new.invokes
+            ≡ or_else (where_so (is_of s t entry.now transaction) (invoked_by number entry.now id))
+            (kept_at t s id self.old.invokes)) }
+        ensures results { self.new.results ≡ self.old.results }
+        ensures errors { self.new.errors ≡ self.old.errors }
+    {
+        if !may_invoke(entry) {
+            return Ok(());
+        }
+        let (Some(side), Some(transaction)) = (entry.side, transaction) else {
+            return Ok(());
+        };
+        self.note_invokes(number, transaction, side, components_of(entry))?;
+        Ok(())
+    }
+
+    /// The last answer to an invoke ID of an end, a Return Result or a Return Error, where one came.
+    fn answer(&self, is_result: bool, transaction: u32, side: End, id: i8) -> Option<Answer>
+        ensures { result ≡ answer_kept is_result transaction side id self.now }
+    {
+        if is_result {
+            self.results.get(transaction, side, id)
+        } else {
+            self.errors.get(transaction, side, id)
+        }
+    }
+
+    /// The answer that a component of an end rejects as unrecognized, where one came.
+    pub(crate) fn rejected(
+        &self,
+        transaction: u32,
+        side: End,
+        component: &Component,
+    ) -> Option<Answer>
+        ensures { result ≡ answer_rejected self.now transaction side (unrecognized component.now) }
+    {
+        let (is_result, id) = unrecognized(component)?;
+        self.answer(is_result, transaction, side, id)
+    }
+}
