@@ -1,5 +1,5 @@
 -- Where a record is said to be lawful, it is.
-use Rattle.std.proofs.Common.{◌≡◌, ℕ, ◌+◌, ◌-◌, List, [], ◌∷◌, ◌++◌, length, refl, sym, subst, ◌∙◌, inl, inr}
+use Rattle.std.proofs.Common.{◌≡◌, ℕ, ◌+◌, ◌-◌, List, [], ◌∷◌, ◌++◌, length, refl, sym, subst, ◌∙◌, inl, inr, append-nil}
 use Rattle.std.specs.Prelude.{IfOk, Option, Some, None, Result, Ok, Err}
 use Rattle.std.specs.Io.KnownBytes.{Appends, Consumes, IsAtEnd}
 use Rattle.tcap_record.specs.declared.entry.Entry.{Entry}
@@ -7,7 +7,6 @@ use Rattle.tcap_record.specs.declared.entry.Body.{Body}
 use Rattle.tcap_record.specs.declared.entry.End.{End as Side}
 use Rattle.tcap_record.specs.declared.fault.FeedFault.{FeedFault}
 use Rattle.tcap_record.specs.Framed.{FramedFrom, IsBody, octet_of}
-use Rattle.tcap_record.specs.Reading.{IsReadAs, EndsOnlyAtEnd}
 use Rattle.tcap_end.specs.Table.{Table}
 use Rattle.tcap_end.specs.TableText.{IsTableOf}
 use Rattle.tcap_check.specs.declared.fault.CheckFault.{CheckFault}
@@ -21,13 +20,13 @@ use Rattle.tcap_check.proofs.ReasonGaps.{as_many}
 use Rattle.tcap_judge.specs.declared.text_reading.TextFault.{TextFault}
 use Rattle.tcap_judge.specs.declared.text_reading.TextFault.TheVariants as faults
 use Rattle.tcap_judge.specs.declared.outcome.Outcome.{Outcome}
-use Rattle.tcap_judge.specs.declared.outcome.Outcome.TheVariants.{Lawful, NotShown, Faulty}
+use Rattle.tcap_judge.specs.declared.outcome.Outcome.TheVariants.{Lawful, NotShown, Refuted, Undecided, Faulty}
 use Rattle.tcap_judge.specs.declared.status.Status.{Status}
 use Rattle.tcap_judge.specs.declared.status.Status.TheVariants as statuses
 use Rattle.tcap_judge.specs.declared.status.WriteFailed.{WriteFailed}
-use Rattle.tcap_judge.specs.Outcome.{Says, outcome_line}
+use Rattle.tcap_judge.specs.Outcome.{Says, SaysWith, outcome_line}
 use Rattle.tcap_judge.specs.Text.{ReadsText}
-use Rattle.tcap_judge.specs.Checked.{Checks, Device, IsCertificateGiven, IsTableGiven, Judges, JudgesBy, JudgesRecord, JudgesWith, ReadsCertificate, ReadsTable, SaysOfRecord, judged, out_of_memory, record_says, said_of_text, text_limit}
+use Rattle.tcap_judge.specs.Checked.{Checks, Device, IsCertificateGiven, IsTableGiven, Judges, JudgesBy, JudgesRecord, JudgesWith, ReadsCertificate, ReadsRecord, ReadsTable, judged, out_of_memory, record_says, said_of_text, text_limit}
 use Rattle.tcap_judge.specs.LawfulRecord.{FindsLawful, SpellsRecord, TellsAll}
 
 -- ---- what the octets spell
@@ -62,10 +61,18 @@ pub is_lawful : (outcome : Outcome) (line : List ℕ) (status : Status) → Says
 is_lawful (Lawful count) line status (inl said) fine = (count, refl, said.0)
 is_lawful (NotShown fault) line status (inl said) fine =
     let bad : statuses.NotShown ≡ statuses.Fine = sym said.1 ∙ fine in cc
+is_lawful (Refuted r) line status (inl said) fine =
+    let bad : statuses.Refuted ≡ statuses.Fine = sym said.1 ∙ fine in cc
+is_lawful (Undecided fault) line status (inl said) fine =
+    let bad : statuses.NotShown ≡ statuses.Fine = sym said.1 ∙ fine in cc
 is_lawful (Faulty number place) line status (inl said) fine =
     let bad : statuses.Fault ≡ statuses.Fine = sym said.1 ∙ fine in cc
 is_lawful outcome line status (inr said) fine =
     let bad : statuses.Fault ≡ statuses.Fine = sym said.1 ∙ fine in cc
+
+-- so many entries
+pub lawful_count : (count other : ℕ) → Lawful count ≡ Lawful other → count ≡ other
+lawful_count count other same = cc
 
 -- what is said where there is no text is no lawful record
 no_text : (too_long : ℕ) (fault : TextFault) (count : ℕ) → Lawful count ≡ said_of_text too_long fault → ⊥
@@ -74,7 +81,7 @@ no_text too_long (faults.Read place) count is = cc
 no_text too_long faults.Memory count is = cc
 
 -- nor what is said where there is no table
-no_table : (text : Result (List ℕ) TextFault) (said : Outcome) (count : ℕ) → IsTableGiven text (Err said)
+pub no_table : (text : Result (List ℕ) TextFault) (said : Outcome) (count : ℕ) → IsTableGiven text (Err said)
     → Lawful count ≡ said → ⊥
 no_table (Ok octets) said count (Ok table, is, given) same = cc
 no_table (Ok octets) said count (Err fault, is, given) same = cc
@@ -100,36 +107,41 @@ pub record IsFoundBy (table : Table) (d : Device) (count : ℕ) : Type 0 where
   pub lawful : IsLawful items table moves
   pub counted : count ≡ length items
 
-by_replay : (table : Table) (c : Certificate) (d : Device) (count : ℕ) (says : SaysOfRecord table c d (Lawful count))
-    (replay : Result (List Event) CheckFault) → replayed table c says.entries ≡ replay
-    → Lawful count ≡ judged (length says.entries) replay
-    → FramedFrom 0 says.entries says.told [] → IsAtEnd d.after → IsFoundBy table d count
-by_replay table c d count says (Err fault) is said framed at = let bad : Lawful count ≡ NotShown fault = said in cc
-by_replay table c d count says (Ok events) is said framed at =
-    let given = gives table c says.entries events is in
-    let counted : count ≡ length says.entries = cc in
+-- entries that are all that was told, and of which a certificate gives a run
+pub found_of : (table : Table) (c : Certificate) (d : Device) (count : ℕ) (entries : List Entry) (end : Unit {0})
+    (events : List Event) → ReadsRecord d entries (Ok end) → replayed table c entries ≡ Ok events → count ≡ length entries
+    → IsFoundBy table d count
+found_of table c d count entries end events reads is counted =
+    let given = gives table c entries events is in
+    let framed = subst (FramedFrom 0 entries reads.told) reads.is_read.ends reads.is_read.framed in
     record {
-      octets = says.told;
+      octets = reads.told;
       items = given.items;
       moves = length events;
-      tells = (says.tells, at);
-      spells = spells_items 0 says.entries given.items says.told framed given.are;
+      tells = (reads.tells, reads.ended);
+      spells = spells_items 0 entries given.items reads.told framed given.are;
       lawful = (events, given.run, given.keeps, refl);
-      counted = counted ∙ as_many says.entries given.items given.are;
+      counted = counted ∙ as_many entries given.items given.are;
     }
 
-by_end : (table : Table) (c : Certificate) (d : Device) (count : ℕ) (says : SaysOfRecord table c d (Lawful count))
-    (end : Result (Unit {0}) FeedFault) → IsReadAs says.entries end says.told → EndsOnlyAtEnd d.after end
-    → Lawful count ≡ record_says table c says.entries end → IsFoundBy table d count
-by_end table c d count says (Err fault) read ended said = cc
-by_end table c d count says (Ok end) read ended said =
-    by_replay table c d count says (replayed table c says.entries) refl said
-    (subst (FramedFrom 0 says.entries says.told) read.ends read.framed) ended
+by_replay : (table : Table) (c : Certificate) (d : Device) (count : ℕ) (entries : List Entry) (end : Unit {0})
+    (replay : Result (List Event) CheckFault) → ReadsRecord d entries (Ok end) → replayed table c entries ≡ replay
+    → Lawful count ≡ judged (length entries) replay → IsFoundBy table d count
+by_replay table c d count entries end (Err fault) reads is said = let bad : Lawful count ≡ NotShown fault = said in cc
+by_replay table c d count entries end (Ok events) reads is said =
+    found_of table c d count entries end events reads is (lawful_count count (length entries) said)
+
+by_end : (table : Table) (c : Certificate) (d : Device) (count : ℕ) (entries : List Entry)
+    (end : Result (Unit {0}) FeedFault) → ReadsRecord d entries end → Lawful count ≡ record_says table c entries end
+    → IsFoundBy table d count
+by_end table c d count entries (Err fault) reads said = cc
+by_end table c d count entries (Ok end) reads said =
+    by_replay table c d count entries end (replayed table c entries) reads refl said
 
 found_by : (table : Table) (c : Certificate) (d : Device) (count : ℕ) → JudgesRecord table c d (Lawful count)
     → IsFoundBy table d count
 found_by table c d count (inl memory) = let bad : Lawful count ≡ out_of_memory = memory in cc
-found_by table c d count (inr says) = by_end table c d count says says.end says.is_read says.ended says.says
+found_by table c d count (inr says) = by_end table c d count says.entries says.end says.reads says.says
 
 by_certificate : (table : Table) (given : Result Certificate Outcome) (certificate d : Device) (count : ℕ)
     → ReadsCertificate certificate given → JudgesBy table given d (Lawful count) → IsFoundBy table d count
@@ -142,7 +154,7 @@ by_certificate table (Err said) certificate d count reads judges = elim reads.is
 -- ---- all three
 
 -- the text of the table that was read
-table_text : (d : Device) (operations : Table) (text : Result (List ℕ) TextFault)
+pub table_text : (d : Device) (operations : Table) (text : Result (List ℕ) TextFault)
     → ReadsText text_limit d.before d.after d.failed_before d.failed_after text → IsTableGiven text (Ok operations)
     → (octets : List ℕ) × TellsAll d octets × IsTableOf octets (Ok operations)
 table_text d operations (Ok octets) reads (Ok table, is, given) =
@@ -154,6 +166,24 @@ table_text d operations (Ok octets) reads (Ok table, is, given) =
 table_text d operations (Ok octets) reads (Err fault, is, given) = cc
 table_text d operations (Err fault) reads given = cc
 
+-- what was found, with the text of the table and the line
+pub finds : (entries table : Device) (operations : Table) (taken taken' : Option (List ℕ)) (count : ℕ)
+    → (octets : List ℕ) × TellsAll table octets × IsTableOf octets (Ok operations) → IsFoundBy operations entries count
+    → Appends taken taken' (outcome_line (Lawful count)) → FindsLawful entries table taken taken'
+finds entries table operations taken taken' count text found line = record {
+  octets = found.octets;
+  text = text.0;
+  operations = operations;
+  items = found.items;
+  moves = found.moves;
+  tells = found.tells;
+  tells_table = text.1;
+  is_table = text.2;
+  spells = found.spells;
+  lawful = found.lawful;
+  line = subst (λ (n : ℕ). Appends taken taken' (outcome_line (Lawful n))) found.counted line;
+}
+
 by_table : (given : Result Table Outcome) (entries table certificate : Device) (taken taken' : Option (List ℕ))
     (count : ℕ) → ReadsTable table given → JudgesWith given certificate entries (Lawful count)
     → Appends taken taken' (outcome_line (Lawful count)) → FindsLawful entries table taken taken'
@@ -164,21 +194,8 @@ by_table (Err said) entries table certificate taken taken' count reads judges li
 by_table (Ok operations) entries table certificate taken taken' count reads judges line = elim reads.is [
   | inl memory ↦ cc
   | inr given ↦
-      let text = table_text table operations reads.text reads.reads given in
-      let found = by_certificate operations judges.0 certificate entries count judges.1 judges.2 in
-      record {
-        octets = found.octets;
-        text = text.0;
-        operations = operations;
-        items = found.items;
-        moves = found.moves;
-        tells = found.tells;
-        tells_table = text.1;
-        is_table = text.2;
-        spells = found.spells;
-        lawful = found.lawful;
-        line = subst (λ (n : ℕ). Appends taken taken' (outcome_line (Lawful n))) found.counted line;
-      }
+      finds entries table operations taken taken' count (table_text table operations reads.text reads.reads given)
+      (by_certificate operations judges.0 certificate entries count judges.1 judges.2) line
 ]
 
 -- where a run is fine, the record is lawful
@@ -192,18 +209,31 @@ fine_is_lawful entries table certificate taken taken' status checks fine =
     let line = subst (Appends taken taken') said.2 checks.takes in
     by_table judges.0 entries table certificate taken taken' said.0 judges.1 judges.2 line
 
--- the same of a run that may have failed to write
-pub fine_run : (entries table certificate : Device) (outcome : Outcome) (taken taken' : Option (List ℕ))
+-- ---- what was written
+
+-- nothing behind the line
+plain : (outcome : Outcome) (line : List ℕ) (status : Status) → SaysWith outcome [] line status → Says outcome line status
+plain outcome line status (inl said) = inl (said.0 ∙ append-nil (outcome_line outcome), said.1)
+plain outcome line status (inr memory) = inr memory
+
+-- what was written of the outcome that the readers gave
+pub checks_of : (entries table certificate : Device) (outcome : Outcome) (taken taken' : Option (List ℕ))
     (result : Result Status WriteFailed) → Judges entries table certificate outcome
-    → IfOk result (λ status. (line : List ℕ) × Says outcome line status × Appends taken taken' line)
+    → IfOk result (λ status. (text : List ℕ) × SaysWith outcome [] text status × Appends taken taken' text)
+    → IfOk result (Checks entries table certificate taken taken')
+checks_of entries table certificate outcome taken taken' (Ok status) judges said = record {
+  outcome = outcome;
+  line = said.0;
+  judges = judges;
+  says = plain outcome said.0 status said.1;
+  takes = said.2;
+}
+checks_of entries table certificate outcome taken taken' (Err failed) judges said = tt
+
+-- the same of a run that may have failed to write
+pub fine_run : (entries table certificate : Device) (taken taken' : Option (List ℕ))
+    (result : Result Status WriteFailed) → IfOk result (Checks entries table certificate taken taken')
     → result ≡ Ok statuses.Fine → FindsLawful entries table taken taken'
-fine_run entries table certificate outcome taken taken' (Ok status) judges said fine =
-    let checks : Checks entries table certificate taken taken' status = record {
-      outcome = outcome;
-      line = said.0;
-      judges = judges;
-      says = said.1;
-      takes = said.2;
-    } in
+fine_run entries table certificate taken taken' (Ok status) checks fine =
     fine_is_lawful entries table certificate taken taken' status checks cc
-fine_run entries table certificate outcome taken taken' (Err failed) judges said fine = cc
+fine_run entries table certificate taken taken' (Err failed) checks fine = cc

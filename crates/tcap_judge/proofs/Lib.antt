@@ -8,3 +8,4 @@ pub mod PrintLaws
 pub mod ShowLaws
 pub mod JudgeLaws
 pub mod LawfulLaws
+pub mod VerdictLaws

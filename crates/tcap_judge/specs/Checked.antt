@@ -89,16 +89,20 @@ abbrev pub record_says : Table → Certificate → List Entry → Result (Unit {
 record_says table c entries (Ok end) = judged (length entries) (replayed table c entries)
 record_says table c entries (Err fault) = Faulty (feed_number_of fault.reason) fault.place
 
--- What the reader told is these entries and the end behind them, which is the reader's own end, or its failure, where
--- it says so; and what is said is what is said of them.
-pub record SaysOfRecord (table : Table) (c : Certificate) (d : Device) (outcome : Outcome) : Type 0 where
+-- What the reader told is these entries and this end behind them, which is the reader's own end, or its failure, where
+-- it says so.
+pub record ReadsRecord (d : Device) (entries : List Entry) (end : Result (Unit {0}) FeedFault) : Type 0 where
   pub told : List ℕ
-  pub entries : List Entry
-  pub end : Result (Unit {0}) FeedFault
   pub tells : Consumes d.before d.after told
   pub is_read : IsReadAs entries end told
   pub ended : EndsOnlyAtEnd d.after end
   pub failed : FailsOnlyByReader d.failed_before d.failed_after end
+
+-- What the reader told is entries and the end behind them, and what is said is what is said of them.
+pub record SaysOfRecord (table : Table) (c : Certificate) (d : Device) (outcome : Outcome) : Type 0 where
+  pub entries : List Entry
+  pub end : Result (Unit {0}) FeedFault
+  pub reads : ReadsRecord d entries end
   pub says : outcome ≡ record_says table c entries end
 
 -- That is so, or memory ran out.

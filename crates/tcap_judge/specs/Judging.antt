@@ -1,10 +1,8 @@
 -- How a certificate is replayed over a record as its octets come.
 use Rattle.std.specs.Prelude.{◌≡◌, ◌⊎◌, ℕ, List, [], ◌∷◌, ◌++◌, length, map, Result, Ok, Err}
-use Rattle.std.specs.Io.KnownBytes.{Consumes}
 use Rattle.tcap_record.specs.declared.entry.Entry.{Entry}
 use Rattle.tcap_record.specs.declared.fault.FeedFault.{FeedFault}
 use Rattle.tcap_record.specs.Held.{Held, Fed}
-use Rattle.tcap_record.specs.Reading.{IsReadAs, EndsOnlyAtEnd, FailsOnlyByReader}
 use Rattle.tcap_end.specs.Table.{Table}
 use Rattle.tcap_check.specs.declared.fault.CheckFault.{CheckFault}
 use Rattle.tcap_check.specs.Certificate.{Certificate}
@@ -12,7 +10,7 @@ use Rattle.tcap_check.specs.Checking.{Checking, Took}
 use Rattle.tcap_check.specs.Entries.{item_of}
 use Rattle.tcap_check.specs.Replayed.{certificate_fits, replayed}
 use Rattle.tcap_judge.specs.declared.outcome.Outcome.{Outcome}
-use Rattle.tcap_judge.specs.Checked.{Device, judged, out_of_memory}
+use Rattle.tcap_judge.specs.Checked.{Device, ReadsRecord, judged, out_of_memory}
 
 -- A checker took these entries; or the certificate's numbers are out of their ranges, and there is none.
 abbrev pub StandsFor : Table → Certificate → Result Checking CheckFault → List Entry → Type 0
@@ -55,12 +53,8 @@ EndsWith table c entries held checker (Err fault) = Unit {0}
 -- What the reader told is these entries, which the checker took, and this end behind them.
 pub record ReadsAll (table : Table) (c : Certificate) (d : Device) (held : Held) (checker : Result Checking CheckFault)
     (end : Result (Unit {0}) FeedFault) : Type 0 where
-  pub told : List ℕ
   pub entries : List Entry
-  pub tells : Consumes d.before d.after told
-  pub is_read : IsReadAs entries end told
-  pub ended : EndsOnlyAtEnd d.after end
-  pub failed : FailsOnlyByReader d.failed_before d.failed_after end
+  pub reads : ReadsRecord d entries end
   pub stands : EndsWith table c entries held checker end
 
 -- That is so wherever the checker took nothing before.

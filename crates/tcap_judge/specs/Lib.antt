@@ -7,3 +7,4 @@ pub mod Outcome
 pub mod Checked
 pub mod Judging
 pub mod LawfulRecord
+pub mod Verdict

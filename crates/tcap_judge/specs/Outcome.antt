@@ -1,4 +1,4 @@
--- What a check says, and its line.
+-- What a run says of a record, and its line.
 use Rattle.std.specs.Prelude.{◌≡◌, ◌⊎◌, ℕ, List, [], ◌++◌, Option, Some, None, codes}
 use Rattle.std.specs.Fmt.{decimal}
 use Rattle.tcap_ber.specs.Fault.{number_of}
@@ -8,9 +8,11 @@ use Rattle.tcap_check.specs.declared.fault.CheckFault.{CheckFault}
 use Rattle.tcap_check.specs.declared.fault.Reason.{Reason}
 use Rattle.tcap_check.specs.declared.fault.Reason.TheVariants as reasons
 use Rattle.tcap_check.specs.Fault.{reason_number}
+use Rattle.tcap_refute.specs.declared.kind.Refutation.{Refutation}
+use Rattle.tcap_refute.specs.Kind.{kind_number}
 use Rattle.tcap_judge.specs.Shown.{memory_line}
 use Rattle.tcap_judge.specs.declared.outcome.Outcome.{Outcome}
-use Rattle.tcap_judge.specs.declared.outcome.Outcome.TheVariants.{Lawful, NotShown, Faulty}
+use Rattle.tcap_judge.specs.declared.outcome.Outcome.TheVariants.{Lawful, NotShown, Refuted, Undecided, Faulty}
 use Rattle.tcap_judge.specs.declared.status.Status.{Status}
 use Rattle.tcap_judge.specs.declared.status.Status.TheVariants as statuses
 
@@ -41,16 +43,28 @@ reason_text reason = decimal (reason_number reason) ++ inner_text (inner_number 
 abbrev pub not_shown_line : CheckFault → List ℕ
 not_shown_line fault = codes "NOT SHOWN " ++ decimal fault.entry ++ codes " " ++ reason_text fault.reason ++ line_end
 
+-- the line where an entry is at fault: its number, and the number of its kind
+abbrev pub refuted_line : Refutation → List ℕ
+refuted_line r = codes "REFUTED " ++ decimal r.entry ++ codes " F" ++ decimal (kind_number r.kind) ++ line_end
+
+-- the line where nothing shows either: where the proposed certificate fails, and the reason
+abbrev pub undecided_line : CheckFault → List ℕ
+undecided_line fault = codes "UNDECIDED " ++ decimal fault.entry ++ codes " " ++ reason_text fault.reason ++ line_end
+
 -- the line of an outcome
 abbrev pub outcome_line : Outcome → List ℕ
 outcome_line (Lawful count) = codes "LAWFUL " ++ decimal count ++ line_end
 outcome_line (NotShown fault) = not_shown_line fault
+outcome_line (Refuted r) = refuted_line r
+outcome_line (Undecided fault) = undecided_line fault
 outcome_line (Faulty number place) = fault_line number place
 
 -- how a run ends that says this
 abbrev pub outcome_status : Outcome → Status
 outcome_status (Lawful count) = statuses.Fine
 outcome_status (NotShown fault) = statuses.NotShown
+outcome_status (Refuted r) = statuses.Refuted
+outcome_status (Undecided fault) = statuses.NotShown
 outcome_status (Faulty number place) = statuses.Fault
 
 -- The line and the status are those of the outcome; or the line says that memory ran out, and that is a fault.
@@ -58,3 +72,9 @@ abbrev pub Says : Outcome → List ℕ → Status → Type 0
 Says outcome line status =
     ((line ≡ outcome_line outcome) × (status ≡ outcome_status outcome))
     ⊎ ((line ≡ memory_line) × (status ≡ statuses.Fault))
+
+-- The same with a text behind the line, which is left out where memory ran out.
+abbrev pub SaysWith : Outcome → List ℕ → List ℕ → Status → Type 0
+SaysWith outcome behind text status =
+    ((text ≡ outcome_line outcome ++ behind) × (status ≡ outcome_status outcome))
+    ⊎ ((text ≡ memory_line) × (status ≡ statuses.Fault))

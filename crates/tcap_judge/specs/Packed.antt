@@ -36,6 +36,7 @@ abbrev pub PacksSo : List ℕ → Option (List ℕ) → ℕ → ℕ → Option (
     → Status → Type 0
 PacksSo told untold failures failures' taken taken' said said' statuses.Fine =
     PacksAll told untold failures failures' taken taken' said said'
+PacksSo told untold failures failures' taken taken' said said' statuses.Refuted = ⊥
 PacksSo told untold failures failures' taken taken' said said' statuses.NotShown = ⊥
 PacksSo told untold failures failures' taken taken' said said' statuses.Fault =
     FailsToPack told untold failures failures' taken taken' said said'

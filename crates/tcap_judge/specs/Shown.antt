@@ -15,6 +15,7 @@ use Rattle.tcap_judge.specs.declared.status.Status.TheVariants as statuses
 -- the exit status of the program
 abbrev pub status_number : Status → ℕ
 status_number statuses.Fine = 0
+status_number statuses.Refuted = 1
 status_number statuses.NotShown = 2
 status_number statuses.Fault = 3
 

@@ -33,7 +33,7 @@ const NOT_JSON: u8 = 30;
 const CERTIFICATE_SHAPE: u8 = 60;
 
 /// Memory ran out.
-const OUT_OF_MEMORY: Outcome = Outcome::Faulty(99, 0);
+pub(crate) const OUT_OF_MEMORY: Outcome = Outcome::Faulty(99, 0);
 
 /// What is said where there is no text; that number where it is too long.
 fn without_text(too_long: u8, fault: TextFault) -> Outcome
@@ -47,7 +47,7 @@ fn without_text(too_long: u8, fault: TextFault) -> Outcome
 }
 
 /// The operation table that a reader tells; else what is said in its place.
-fn read_table<R: Read>(alloc: Global, reader: &mut R) -> Result<Table, Outcome>
+pub(crate) fn read_table<R: Read>(alloc: Global, reader: &mut R) -> Result<Table, Outcome>
     ensures { ReadsTable (record {
       before = R.untold reader.old;
       after = R.untold reader.new;
@@ -312,5 +312,5 @@ pub fn run_check<R: Read, T: Read, C: Read, W: Write>(
     ensures failed { OnErr result (W.failures writer.new ≡ one_more (W.failures writer.old)) }
 {
     let outcome = judge(alloc, entries, table, certificate);
-    write_outcome(alloc, outcome, writer)
+    write_outcome(alloc, outcome, "", writer)
 }

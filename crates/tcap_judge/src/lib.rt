@@ -4,6 +4,7 @@
 mod asked;
 mod checking;
 mod fault_lines;
+mod judging;
 mod outcome;
 mod packing;
 mod showing;
@@ -14,6 +15,7 @@ mod words;
 pub use asked::Request;
 pub use checking::run_check;
 pub use fault_lines::MEMORY_LINE;
+pub use judging::run_judge;
 pub use packing::run_pack;
 pub use showing::run_show;
 pub use status::{Status, WriteFailed};

@@ -1,11 +1,11 @@
-//! What a check says, and its line.
+//! What a run says of a record, and its line.
 
 ghost use Rattle.std.specs.Prelude.{◌≡◌, ◌++◌, ℕ, List, IfOk, OnOk, OnErr};
 ghost use Rattle.std.specs.Io.KnownBytes.{Appends};
 ghost use Rattle.std.specs.String.{string_bytes};
 ghost use Rattle.tcap_ber.specs.Device.{one_more};
-ghost use Rattle.tcap_judge.specs.Outcome.{Says, inner_number, not_shown_line, reason_text};
-ghost use Rattle.tcap_judge.specs.Outcome.{outcome_line, outcome_status};
+ghost use Rattle.tcap_judge.specs.Outcome.{SaysWith, inner_number, not_shown_line, reason_text};
+ghost use Rattle.tcap_judge.specs.Outcome.{outcome_line, outcome_status, refuted_line, undecided_line};
 
 use crate::fault_lines::{MEMORY_LINE, write_line};
 use crate::status::{Status, WriteFailed};
@@ -13,14 +13,19 @@ use std::alloc::{AllocError, Global};
 use tcap_ber::Write;
 use tcap_check::{CheckFault, Reason};
 use tcap_record::push_fault;
+use tcap_refute::Refutation;
 
-/// What a check says of a record.
+/// What is said of a record.
 #[derive(Clone, Copy, Debug, PartialEq, Eq)]
 pub(crate) enum Outcome {
     /// The record, of so many entries, is lawful.
     Lawful(usize),
     /// The certificate does not show that it is.
     NotShown(CheckFault),
+    /// An entry is at fault.
+    Refuted(Refutation),
+    /// No entry is found to be at fault, and the certificate that is proposed does not show that it is lawful.
+    Undecided(CheckFault),
     /// What was given has a fault: the number of its reason, and its place.
     Faulty(u8, u64),
 }
@@ -32,7 +37,8 @@ impl Outcome {
     {
         match self {
             Outcome::Lawful(_) => Status::Fine,
-            Outcome::NotShown(_) => Status::NotShown,
+            Outcome::Refuted(_) => Status::Refuted,
+            Outcome::NotShown(_) | Outcome::Undecided(_) => Status::NotShown,
             Outcome::Faulty(_, _) => Status::Fault,
         }
     }
@@ -70,6 +76,25 @@ fn push_not_shown(text: &mut String, fault: CheckFault) -> Result<(), AllocError
     text.push_str("\n")
 }
 
+/// Appends the line where an entry is at fault.
+fn push_refuted(text: &mut String, refutation: Refutation) -> Result<(), AllocError>
+    ensures { OnOk result (string_bytes text.new ≡ string_bytes text.old ++ refuted_line refutation) }
+{
+    let entry = refutation.entry;
+    let number = refutation.kind.number();
+    writeln!(text, "REFUTED {entry} F{number}")
+}
+
+/// Appends the line where nothing shows either.
+fn push_undecided(text: &mut String, fault: CheckFault) -> Result<(), AllocError>
+    ensures { OnOk result (string_bytes text.new ≡ string_bytes text.old ++ undecided_line fault) }
+{
+    let entry = fault.entry;
+    write!(text, "UNDECIDED {entry} ")?;
+    push_reason(text, fault.reason)?;
+    text.push_str("\n")
+}
+
 /// Appends the line of an outcome.
 fn push_outcome(text: &mut String, outcome: Outcome) -> Result<(), AllocError>
     ensures { OnOk result (string_bytes text.new ≡ string_bytes text.old ++ outcome_line outcome) }
@@ -77,26 +102,37 @@ fn push_outcome(text: &mut String, outcome: Outcome) -> Result<(), AllocError>
     match outcome {
         Outcome::Lawful(count) => writeln!(text, "LAWFUL {count}"),
         Outcome::NotShown(fault) => push_not_shown(text, fault),
+        Outcome::Refuted(refutation) => push_refuted(text, refutation),
+        Outcome::Undecided(fault) => push_undecided(text, fault),
         Outcome::Faulty(number, place) => push_fault(text, number, place),
     }
 }
 
-/// Writes the line of an outcome, or that memory ran out where there is none for it, and answers how the run ends. The
-/// line is whole before its first octet is written.
+/// Appends the line of an outcome, and what stands behind it.
+fn push_with(text: &mut String, outcome: Outcome, behind: &str) -> Result<(), AllocError>
+    ensures { OnOk result (string_bytes text.new ≡ string_bytes text.old ++ outcome_line outcome ++ behind.now) }
+{
+    push_outcome(text, outcome)?;
+    text.push_str(behind)
+}
+
+/// Writes the line of an outcome, and what stands behind it, or that memory ran out where there is none for them, and
+/// answers how the run ends. All is there before its first octet is written.
 pub(crate) fn write_outcome<W: Write>(
     alloc: Global,
     outcome: Outcome,
+    behind: &str,
     writer: &mut W,
 ) -> Result<Status, WriteFailed>
-    ensures line { IfOk result (λ status. (line : List ℕ) × Says outcome line status
-        × Appends (W.taken writer.old) (W.taken writer.new) line) }
+    ensures text { IfOk result (λ status. (text : List ℕ) × SaysWith outcome behind.now text status
+        × Appends (W.taken writer.old) (W.taken writer.new) text) }
     ensures counts { OnOk result (W.failures writer.new ≡ W.failures writer.old) }
     ensures failed { OnErr result (W.failures writer.new ≡ one_more (W.failures writer.old)) }
 {
-    let mut line = String::new(alloc);
-    match push_outcome(&mut line, outcome) {
+    let mut text = String::new(alloc);
+    match push_with(&mut text, outcome, behind) {
         Ok(()) => {
-            write_line(writer, line.as_bytes())?;
+            write_line(writer, text.as_bytes())?;
             Ok(outcome.status())
         }
         Err(AllocError) => {

@@ -10,19 +10,22 @@ use thiserror::Error;
 pub enum Status {
     /// No line of fault was printed.
     Fine,
-    /// A certificate does not show that the record is lawful.
+    /// An entry of the record is at fault.
+    Refuted,
+    /// Nothing shows that the record is lawful, and no entry is found to be at fault.
     NotShown,
     /// A line of fault was printed.
     Fault,
 }
 
 impl Status {
-    /// The exit status of the program: 0, 2 or 3.
+    /// The exit status of the program: 0, 1, 2 or 3.
     pub fn number(self) -> u8
         ensures { result ≡ status_number self }
     {
         match self {
             Status::Fine => 0,
+            Status::Refuted => 1,
             Status::NotShown => 2,
             Status::Fault => 3,
         }

@@ -10,13 +10,9 @@ returns-in-Ok g c =
     elim (c.finish.ensures table certificate all.entries all.stands.1 (c.dropped.ensures.count ∙ all.stands.0)) [
       | inl memory ↦ inl memory
       | inr said ↦ inr (record {
-        told = all.told;
         entries = all.entries;
         end = Ok c.in-Ok.field-0;
-        tells = all.tells;
-        is_read = all.is_read;
-        ended = all.ended;
-        failed = all.failed;
+        reads = all.reads;
         says = said;
       })
     ]
@@ -26,12 +22,8 @@ returns g c =
     let fault = c.in-Err.fault in
     let all = c.in-Err.ensures c.args.table.now c.args.certificate.now c.in-Some.ensures in
     inr (record {
-      told = all.told;
       entries = all.entries;
       end = Err fault;
-      tells = all.tells;
-      is_read = all.is_read;
-      ended = all.ended;
-      failed = all.failed;
+      reads = all.reads;
       says = ap (λ (n : ℕ). Faulty n fault.place) c.number.ensures;
     })

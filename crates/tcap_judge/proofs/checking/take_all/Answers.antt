@@ -21,13 +21,15 @@ returns-in-Ok-eq0 g c = λ table cert stands.
     let consumed = Consumes-trans at_first (g.R.Read.untold c.loop-frames.reader) at_last was.told more was.consumed
     c.in-Ok-eq0.ensures.tells in
     record {
-      told = was.told;
       entries = have.0;
-      tells = subst (Consumes at_first at_last) all consumed;
-      is_read = read_finished end was.told have.0 frames
-          (record { fed = have.1.fed; held = was.held; sound = was.sound; is_part = was.is_part }) c.finish.ensures;
-      ended = ended_at_end at_last end (c.in-Ok-eq0.ensures.end c.in-Ok-eq0.field-0-test (omega arith));
-      failed = ended_fails end frames _ _ c.finish.ensures was.sound (c.in-Ok-eq0.ensures.counts ∙ was.none_failed);
+      reads = record {
+        told = was.told;
+        tells = subst (Consumes at_first at_last) all consumed;
+        is_read = read_finished end was.told have.0 frames
+            (record { fed = have.1.fed; held = was.held; sound = was.sound; is_part = was.is_part }) c.finish.ensures;
+        ended = ended_at_end at_last end (c.in-Ok-eq0.ensures.end c.in-Ok-eq0.field-0-test (omega arith));
+        failed = ended_fails end frames _ _ c.finish.ensures was.sound (c.in-Ok-eq0.ensures.counts ∙ was.none_failed);
+      };
       stands = ends_with table cert have.0 frames c.loop-frames.checker end have.1.fed.count_is have.1.stands;
     }
 
@@ -62,12 +64,14 @@ returns-in_err-take_piece g c =
     let have = was.taken table cert stands in
     let there = fed.2 table cert was.told have.0 have.1 in
     record {
-      told = was.told ++ told;
       entries = there.0;
-      tells = Consumes-trans (g.R.Read.untold c.args.reader.now) (g.R.Read.untold c.loop-frames.reader)
-          (g.R.Read.untold c.read.new.self) was.told told was.consumed c.in-Ok.ensures.tells;
-      is_read = stopped_read was.told told fed.0 there.0 frames f there.1 held why;
-      ended = λ cut. absurd (not_cut frames f held why cut);
-      failed = stopped_counts f frames _ _ held why (c.in-Ok.ensures.counts ∙ was.none_failed);
+      reads = record {
+        told = was.told ++ told;
+        tells = Consumes-trans (g.R.Read.untold c.args.reader.now) (g.R.Read.untold c.loop-frames.reader)
+            (g.R.Read.untold c.read.new.self) was.told told was.consumed c.in-Ok.ensures.tells;
+        is_read = stopped_read was.told told fed.0 there.0 frames f there.1 held why;
+        ended = λ cut. absurd (not_cut frames f held why cut);
+        failed = stopped_counts f frames _ _ held why (c.in-Ok.ensures.counts ∙ was.none_failed);
+      };
       stands = tt;
     })
