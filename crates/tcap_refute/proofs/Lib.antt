@@ -63,3 +63,4 @@ pub mod FromLaws
 pub mod EndLaws
 pub mod AskLaws
 pub mod ItemLaws
+pub mod BlamedLaws

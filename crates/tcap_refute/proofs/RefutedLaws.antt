@@ -21,7 +21,7 @@ use Rattle.tcap_refute.specs.Unsendable.{IsAtFault}
 use Rattle.tcap_refute.proofs.KindLaws.{none_of_kind}
 
 -- What is found passes the test.
-found_so : {A : Type 0} (passes : A → Bool) (xs : List A) (x : A) → find passes xs ≡ Some x → passes x ≡ true
+pub found_so : {A : Type 0} (passes : A → Bool) (xs : List A) (x : A) → find passes xs ≡ Some x → passes x ≡ true
 found_so passes [] x is = cc
 found_so passes (y ∷ ys) x is = by (passes y) refl (found_so passes ys x) is
   where
@@ -31,21 +31,21 @@ found_so passes (y ∷ ys) x is = by (passes y) refl (found_so passes ys x) is
     by false so on is = on is
 
 -- The items before, and one more entry.
-abbrev oks : List Item → List (Result Item Reason)
+abbrev pub oks : List Item → List (Result Item Reason)
 oks items = map (λ item. Ok item) items
 
-oks_more : (before : List Item) (item : Item) (more : List (Result Item Reason))
+pub oks_more : (before : List Item) (item : Item) (more : List (Result Item Reason))
     → oks (before ++ item ∷ []) ++ more ≡ oks before ++ Ok item ∷ more
 oks_more [] item more = refl
 oks_more (first ∷ before) item more = ap (λ (x : List (Result Item Reason)). Ok first ∷ x) (oks_more before item more)
 
-get_there : (before : List Item) (entry : Result Item Reason) (more : List (Result Item Reason))
+pub get_there : (before : List Item) (entry : Result Item Reason) (more : List (Result Item Reason))
     → slice_get (oks before ++ entry ∷ more) (length before) ≡ Some entry
 get_there [] entry more = refl
 get_there (first ∷ before) entry more = get_there before entry more
 
 -- A reason that names a kind is that of octets that are no message.
-bad_reason : (reason : Reason) (kind : Kind) → kind_of_reason reason ≡ Some kind
+pub bad_reason : (reason : Reason) (kind : Kind) → kind_of_reason reason ≡ Some kind
     → (kind ≡ kinds.BadMessage) × (fault : Fault) × (reason ≡ reasons.BadMessage fault)
     × (is_limit fault.reason ≡ false)
 bad_reason (reasons.BadMessage fault) kind is = by (is_limit fault.reason) refl is

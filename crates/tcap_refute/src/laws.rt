@@ -14,9 +14,9 @@ ghost use Rattle.tcap_check.specs.Run.{IsLawful};
 ghost use Rattle.tcap_refute.specs.declared.kind.Kind.{Kind};
 ghost use Rattle.tcap_refute.specs.declared.kind.Refutation.{Refutation};
 ghost use Rattle.tcap_refute.specs.Before.{since_quiet};
-ghost use Rattle.tcap_refute.specs.Blame.{is_fault, is_open_at_mark};
+ghost use Rattle.tcap_refute.specs.Blame.{blamed, is_fault, is_open_at_mark};
 ghost use Rattle.tcap_refute.specs.Kind.{is_of_kind, refuted};
-ghost use Rattle.tcap_refute.specs.Unsendable.{IsAtFault};
+ghost use Rattle.tcap_refute.specs.Unsendable.{IsAtFault, IsAtFaultOf};
 
 /// A message that has a kind, behind what was sent before it, is sent in no run in which its end keeps the rules, whatever
 /// the other end sends, and whatever follows.
@@ -54,4 +54,11 @@ pub fn refuted_is_at_fault()
 pub fn refuted_is_never_lawful()
     ensures { (table : Table) (entries : List Entry) (items : List Item) (r : Refutation) (moves : ℕ)
         → refuted table (map item_of entries) ≡ Some r → AreItems entries items → IsLawful items table moves → ⊥ }
+{}
+
+/// The same of an end and all kinds: the entry that is blamed on it has octets that are no message, or is one that the end
+/// sends in no run in which it keeps the rules, or a quiet mark that stands in no such run, whatever the other end sends.
+pub fn blamed_is_at_fault()
+    ensures { (table : Table) (side : Side) (entries : List Entry) (r : Refutation)
+        → blamed table side entries ≡ Some r → IsAtFaultOf table side (map item_of entries) r }
 {}
