@@ -16,7 +16,8 @@ use Rattle.tcap_search.specs.Proposed.{Fated, closing_by, closings_from, closing
 use Rattle.tcap_search.specs.Shown.{KeepsEnded, KeepsListed, KeepsTold, both_of, shown_by}
 use Rattle.tcap_search.specs.Traced.{AreTransactions}
 use Rattle.tcap_search.proofs.LineLaws.{count_lines, line_at, transaction_below, transaction_is}
-use Rattle.tcap_search.proofs.NotedLaws.{any_push, eqb_turned, or_none}
+use Rattle.tcap_search.proofs.NotedLaws.{any_push, eqb_turned}
+use Rattle.tcap_search.proofs.TestLaws.{or_false}
 
 -- ---- the half that a tie shows to have closed
 
@@ -79,7 +80,8 @@ module _ (entries : List Entry) (transactions : List (Option ℕ)) (all : List F
       let below = transaction_below entries k line transaction there belongs_line in
       let so : unseen ≡ is_unseen =
       is
-      ∙ (ap (λ (b : Bool). is_continue (message_of e) && not b && not (is_within reply (least_at side transaction told)))
+      ∙ (ap (λ (b : Bool). is_continue (message_of e) && not b
+      && not (is_within reply (least_at side transaction told)))
       (ended_is line side transaction reply sent belongs_line below)
       ∙ ap (λ (b : Bool). is_continue (message_of e) && not (was_ended (lines_of entries) line reply) && not b)
       (told_is line side transaction reply sent belongs_line below)) in
@@ -211,5 +213,5 @@ module _ (all : List Fated) (lines : List Line) (ties : List Tie) (count i : ℕ
             → is_some (cond (a && b) (lesser t.reply o) o) ≡ (is_some o || (a && b))
         one true true None = refl
         one true true (Some n) = refl
-        one true false o = sym (or_none (is_some o))
-        one false b o = sym (or_none (is_some o))
+        one true false o = sym (or_false (is_some o))
+        one false b o = sym (or_false (is_some o))

@@ -11,7 +11,9 @@ use Rattle.tcap_search.specs.Lines.{Line, is_end, is_of_peer, line_behind, lines
 use Rattle.tcap_search.specs.Proposed.{ends, was_ended}
 use Rattle.tcap_search.specs.Shown.{KeepsEnded}
 use Rattle.tcap_search.proofs.LineLaws.{count_taken, lines_more}
-use Rattle.tcap_search.proofs.NotedLaws.{and_none, any_push, below_lesser, of_peer, or_none, same_tests, shares, test_noted}
+use Rattle.tcap_search.proofs.NotedLaws.{any_push, below_lesser, same_tests, shares, test_noted}
+use Rattle.tcap_search.proofs.PeerLaws.{of_peer}
+use Rattle.tcap_search.proofs.TestLaws.{and_false, or_false}
 
 -- ---- what ended transactions
 
@@ -59,9 +61,9 @@ module _ (entries : List Entry) (i : ℕ) (old : Leasts) (e : Entry) (below : i 
     kept = λ x side transaction limit sent has within.
         let fails : ends_it x limit ≡ false =
         ap (λ (b : Bool). nat_lt next.number limit && is_of_peer x.entry e && share_transaction x next && b) not_ends
-        ∙ and_none (nat_lt next.number limit && is_of_peer x.entry e && share_transaction x next) in
+        ∙ and_false (nat_lt next.number limit && is_of_peer x.entry e && share_transaction x next) in
         so_far.kept x side transaction limit sent has within
-        ∙ sym (ended_next x limit ∙ (ap (λ (b : Bool). was x limit || b) fails ∙ or_none (was x limit)));
+        ∙ sym (ended_next x limit ∙ (ap (λ (b : Bool). was x limit || b) fails ∙ or_false (was x limit)));
   }
 
   pub ended_more : (new : Leasts) (transaction : Option ℕ) → transaction ≡ next.transaction → ends (message_of e) ≡ true

@@ -18,7 +18,8 @@ use Rattle.tcap_search.specs.Proposed.{Fated, components_at, expiries_by, expiri
 use Rattle.tcap_search.specs.Fates.{is_line_of}
 use Rattle.tcap_search.specs.Listed.{all_rejected, entry_rejected, rejected_of, with_answer}
 use Rattle.tcap_search.specs.Sweep.{components_of, invoked_in}
-use Rattle.tcap_search.proofs.GapLaws.{of_both, of_peer, of_peer_none, one_end, shares_none}
+use Rattle.tcap_search.proofs.GapLaws.{of_both, shares_none}
+use Rattle.tcap_search.proofs.PeerLaws.{of_peer, of_peer_none, one_end}
 use Rattle.tcap_search.proofs.LastLaws.{last_never, last_passes, last_same}
 use Rattle.tcap_search.proofs.LastGivenLaws.{last_earlier, given_is, given_same}
 use Rattle.tcap_search.proofs.NumberedLaws.{AreNumbered}

@@ -3,7 +3,6 @@ use Rattle.std.proofs.Common.{◌≡◌, ℕ, ℤ, ◌+◌, ◌<◌, Bool, true,
 use Rattle.std.specs.Prelude.{◌&&◌, nat_lt}
 use Rattle.std.specs.List.{list_any}
 use Rattle.std.proofs.lemmas.Bool.{le-ltb}
-use Rattle.std.proofs.lemmas.List.{length-map}
 use Rattle.tcap_record.specs.declared.entry.End.{End as Side}
 use Rattle.tcap_record.specs.declared.entry.Entry.{Entry}
 use Rattle.tcap_check.specs.Run.{where_so}
@@ -12,7 +11,7 @@ use Rattle.tcap_check.specs.declared.certificate.Fate.{Fate}
 use Rattle.tcap_check.specs.declared.certificate.Fate.TheVariants.{Gap, Lost, By}
 use Rattle.tcap_search.specs.declared.sweep.Sweep.{Sweep}
 use Rattle.tcap_search.specs.Lines.{Line, lines_of, or_else}
-use Rattle.tcap_search.specs.Proposed.{Fated, all_fated, components_at, expiries_by, expiries_from, fate_of, fated, first_fates, ties_of}
+use Rattle.tcap_search.specs.Proposed.{Fated, all_fated, components_at, expiries_by, expiries_from, fated, first_fates, ties_of}
 use Rattle.tcap_search.specs.Traced.{AreFates, AreTransactions}
 use Rattle.tcap_search.specs.ByInvocation.{kept_at}
 use Rattle.tcap_search.specs.Due.{due_in}
@@ -21,27 +20,18 @@ use Rattle.tcap_search.specs.Listed.{entry_rejected}
 use Rattle.tcap_search.specs.Sweep.{answer_at, answer_kept, answer_rejected, answers_at, invoked_by, invoked_in}
 use Rattle.tcap_search.proofs.ExpiryLaws.{answered_by, entry_same, expiries_more, line_adds}
 use Rattle.tcap_search.proofs.FateSteps.{lines_more}
-use Rattle.tcap_search.proofs.LossLaws.{lines_fated, lines_kept}
-use Rattle.tcap_search.proofs.LineLaws.{count_lines}
+use Rattle.tcap_search.proofs.LossLaws.{all_lines}
 use Rattle.tcap_search.proofs.NumberedLaws.{entries_of_lines, line_at, lines_numbered}
 use Rattle.tcap_search.proofs.OrderLaws.{losses_order}
 use Rattle.tcap_search.proofs.SweepLaws.{answer_with, answered_in, answered_more, invoked_more, is_answering, is_in_gap_below}
 
 -- ---- the fates of lines
 
--- They are of these lines,
-all_lines : (lines : List Line) → map (λ y. y.line) (all_fated lines) ≡ lines
-all_lines lines =
-    let same : length (first_fates lines (ties_of lines)) ≡ length lines =
-    length-map lines (fate_of lines (ties_of lines)) in
-    lines_kept (fated lines (first_fates lines (ties_of lines)))
-    ∙ lines_fated lines (first_fates lines (ties_of lines)) same
-
 map_twice : {A B C : Type 0} (f : A → B) (g : B → C) (xs : List A) → map g (map f xs) ≡ map (λ x. g (f x)) xs
 map_twice f g [] = refl
 map_twice f g (x ∷ xs) = ap (λ ys. g (f x) ∷ ys) (map_twice f g xs)
 
--- so these are their entries,
+-- These are their entries,
 all_entries : (entries : List Entry) → map (λ y. y.line.entry) (all_fated (lines_of entries)) ≡ entries
 all_entries entries =
     sym (map_twice (λ (y : Fated). y.line) (λ (x : Line). x.entry) (all_fated (lines_of entries)))
@@ -53,12 +43,6 @@ all_transactions : (entries : List Entry) (transactions : List (Option ℕ)) →
 all_transactions entries transactions are =
     sym (map_twice (λ (y : Fated). y.line) (λ (x : Line). x.transaction) (all_fated (lines_of entries)))
     ∙ ap (map (λ (x : Line). x.transaction)) (all_lines (lines_of entries)) ∙ sym are
-
-pub count_fates : (entries : List Entry) (fates : List Fate) → AreFates entries fates → length fates ≡ length entries
-count_fates entries fates are =
-    ap length are ∙ length-map (all_fated (lines_of entries)) (λ x. x.fate)
-    ∙ sym (length-map (all_fated (lines_of entries)) (λ y. y.line)) ∙ ap length (all_lines (lines_of entries))
-    ∙ count_lines entries
 
 -- ---- at the start
 

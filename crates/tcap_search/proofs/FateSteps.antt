@@ -18,8 +18,8 @@ use Rattle.tcap_search.specs.PerEnd.{at_end}
 use Rattle.tcap_search.specs.Fates.{fate_behind_least, fate_from, gap_behind_last, gap_kept, gap_raised, highest, is_of, least_time, receiver_gap, sooner, time_kept}
 use Rattle.tcap_search.proofs.GapLaws.{fate_is, gap_more, gap_of_receiver, gap_so_far, highest_more, reply_more}
 use Rattle.tcap_search.proofs.LossLaws.{count_fated, entries_fated, fate_before_is, fates_fated, least_so_far}
-use Rattle.tcap_search.proofs.LineLaws.{count_lines}
-use Rattle.tcap_search.proofs.NumberedLaws.{count_transactions, entries_of_lines, line_at, line_more, lines_numbered, transaction_within}
+use Rattle.tcap_search.proofs.LineLaws.{count_lines, count_transactions}
+use Rattle.tcap_search.proofs.NumberedLaws.{entries_of_lines, line_at, line_more, lines_numbered, transaction_within}
 use Rattle.tcap_search.proofs.ReplyLaws.{behind_reply, replies_below}
 
 -- ---- replies

@@ -7,34 +7,20 @@ use Rattle.std.proofs.lemmas.Option.{none-some, same_Some}
 use Rattle.tcap_msg.specs.declared.message.Message.{Message}
 use Rattle.tcap_msg.specs.declared.message.Message.TheVariants.{Unidirectional, Begin, Continue, End, Abort}
 use Rattle.tcap_record.specs.declared.entry.End.{End as Side}
-use Rattle.tcap_record.specs.declared.entry.Entry.{Entry}
 use Rattle.tcap_check.specs.World.{other}
 use Rattle.tcap_check.specs.Run.{where_so}
 use Rattle.tcap_check.specs.declared.certificate.Fate.TheVariants.{Gap}
 use Rattle.tcap_search.specs.declared.tie.Tie.{Tie}
-use Rattle.tcap_search.specs.Lines.{Line, are_of_one_end, is_end, is_of_peer, last, message_of, or_else, share_transaction}
+use Rattle.tcap_search.specs.Lines.{Line, is_end, is_of_peer, last, message_of, or_else, share_transaction}
 use Rattle.tcap_search.specs.Proposed.{fate_by, fate_of, first_gap, first_gap_by, gap_behind, gap_behind_reply, last_of_receiver, raised, reply_of}
 use Rattle.tcap_search.specs.Fates.{earliest, fate_from, gap_behind_last, gap_behind_line, highest, is_line_of, is_of, untied_fate}
 use Rattle.tcap_search.proofs.LastLaws.{last_never, last_same}
 use Rattle.tcap_search.proofs.LineLaws.{last_push}
 use Rattle.tcap_search.proofs.NumberedLaws.{AreNumbered}
+use Rattle.tcap_search.proofs.PeerLaws.{of_peer, of_peer_none, one_end, one_end_none}
 use Rattle.tcap_search.proofs.TestLaws.{and_and, and_false}
 
 -- ---- ends and transactions
-
--- Entries are of one end where the second is of the first one's,
-pub one_end : (e f : Entry) (side : Side) → e.side ≡ Some side → are_of_one_end e f ≡ is_end side f.side
-one_end e f side is = rw is refl
-
-pub one_end_none : (e f : Entry) → e.side ≡ None → are_of_one_end e f ≡ false
-one_end_none e f is = rw is refl
-
--- and of the peer where it is of the other one.
-pub of_peer : (e f : Entry) (side : Side) → e.side ≡ Some side → is_of_peer e f ≡ is_end (other side) f.side
-of_peer e f side is = rw is refl
-
-pub of_peer_none : (e f : Entry) → e.side ≡ None → is_of_peer e f ≡ false
-of_peer_none e f is = rw is refl
 
 -- A line of that end which shares that transaction is one of both.
 pub of_both : (side : Side) (t : ℕ) (x y : Line) → x.transaction ≡ Some t

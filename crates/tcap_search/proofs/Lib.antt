@@ -16,6 +16,7 @@ pub mod LossLaws
 pub mod NotedLaws
 pub mod NumberedLaws
 pub mod OrderLaws
+pub mod PeerLaws
 pub mod ReplyLaws
 pub mod StackLaws
 pub mod StretchLaws

@@ -175,11 +175,13 @@ module _ (entries : List Entry) where
           (gap_in_it, within.1, omega (arith, within.0))
 
   -- The place of an Invoke that is found is within the limit,
-  place_within : (id : ℤ) (place : ℕ) (components : List Component) (found : ℕ) → last_invoke id place components ≡ Some found
+  place_within : (id : ℤ) (place : ℕ) (components : List Component) (found : ℕ)
+      → last_invoke id place components ≡ Some found
       → found ≤ number_limit
   place_within id place [] found is = cc
   place_within id place (c ∷ more) found is =
-      by (last_invoke id (place + 1) more) (place_within id (place + 1) more found) (sym (first_invoke id place c more) ∙ is)
+      by (last_invoke id (place + 1) more) (place_within id (place + 1) more found)
+      (sym (first_invoke id place c more) ∙ is)
     where
       leave : (a b : Bool) → where_so (a && b) (Some place) ≡ Some found → (b ≡ true) × (place ≡ found)
       leave true true is = (refl, cc)
@@ -205,11 +207,13 @@ module _ (entries : List Entry) where
       at_line y there (may_invoke (message_of y.entry)) at
     where
       at_line : (y : Line) → y.number < length entries → (b : Bool)
-          → cond b (option_map {U = ℕ × ℕ} (λ place. (y.number, place)) (last_invoke id 0 (components_at y))) None ≡ Some (entry, component)
+          → cond b (option_map {U = ℕ × ℕ} (λ place. (y.number, place)) (last_invoke id 0 (components_at y))) None
+          ≡ Some (entry, component)
           → (entry < length entries) × (component ≤ number_limit)
       at_line y there false is = cc
       at_line y there true is =
-          let (place, found, made) = map_some {B = ℕ × ℕ} (λ place. (y.number, place)) (last_invoke id 0 (components_at y)) (entry, component) is in
+          let (place, found, made) = map_some {B = ℕ × ℕ} (λ place. (y.number, place))
+          (last_invoke id 0 (components_at y)) (entry, component) is in
           let same : y.number ≡ entry = ap (λ (p : ℕ × ℕ). p.0) made in
           let also : place ≡ component = ap (λ (p : ℕ × ℕ). p.1) made in
           (rw (← same) there, rw (← also) (place_within id 0 (components_at y) place found))
@@ -234,7 +238,8 @@ module _ (entries : List Entry) where
           → AllByRecursion (ExpiryWithin (length entries)) (expiry_in lines x listed id o)
       by None is = all
       by (Some gap) is =
-          let (y, found, at) = then_some (rejected_line (all_fated lines) x (is_result, id)) (λ y. gap_in y.fate) gap is in
+          let (y, found, at) = then_some (rejected_line (all_fated lines) x (is_result, id))
+          (λ y. gap_in y.fate) gap is in
           let within : FateWithin (length entries) y.fate =
           last_among (λ z. FateWithin (length entries) z.fate) _ (all_fated lines) y all_within found in
           expiry_added listed x.entry.side gap (last_invocation lines x id gap) (gap_within y gap y.fate refl within at)
@@ -305,7 +310,8 @@ module _ (entries : List Entry) where
 
 -- ---- the limits of a certificate
 
-fate_fits : (first n : ℕ) (fate : Fate) → first + n ≤ number_limit → FateWithin n fate → FateFits (fate_behind first fate)
+fate_fits : (first n : ℕ) (fate : Fate) → first + n ≤ number_limit
+    → FateWithin n fate → FateFits (fate_behind first fate)
 fate_fits first n (Gap gap) few within = omega (arith, few, within)
 fate_fits first n (By reply) few within = omega (arith, few, within)
 fate_fits first n Lost few within = tt
@@ -325,7 +331,8 @@ module _ (first : ℕ) (entries : List Entry) (few : first + length entries ≤ 
       all_mapped ExpiryFits (expiry_behind first) listed
       (all_weaker (ExpiryWithin (length entries)) (λ x. ExpiryFits (expiry_behind first x)) listed
       (λ x within. (omega (arith, few, within.0), within.1, omega (arith, few, within.2)))
-      (subst (λ (xs : List Expiry). AllByRecursion (ExpiryWithin (length entries)) xs) (sym are) (expiries_of_stretch entries)))
+      (subst (λ (xs : List Expiry). AllByRecursion (ExpiryWithin (length entries)) xs) (sym are)
+      (expiries_of_stretch entries)))
 
   pub closings_fit : (listed : List Closing) → listed ≡ (of_stretch entries).close
       → AllByRecursion ClosingFits (map (closing_behind first) listed)
@@ -333,7 +340,8 @@ module _ (first : ℕ) (entries : List Entry) (few : first + length entries ≤ 
       all_mapped ClosingFits (closing_behind first) listed
       (all_weaker (ClosingWithin (length entries)) (λ x. ClosingFits (closing_behind first x)) listed
       (λ x within. (omega (arith, few, within.0), omega (arith, few, within.1)))
-      (subst (λ (xs : List Closing). AllByRecursion (ClosingWithin (length entries)) xs) (sym are) (closings_of_stretch entries)))
+      (subst (λ (xs : List Closing). AllByRecursion (ClosingWithin (length entries)) xs) (sym are)
+      (closings_of_stretch entries)))
 
 fate_small : (n : ℕ) (fate : Fate) → n ≤ number_limit → FateWithin n fate → FateFits fate
 fate_small n (Gap gap) few within = omega (arith, few, within)
@@ -352,10 +360,12 @@ module _ (entries : List Entry) (few : length entries ≤ number_limit) where
   expiries_small listed are =
       all_weaker (ExpiryWithin (length entries)) ExpiryFits listed
       (λ x within. (omega (arith, few, within.0), within.1, omega (arith, few, within.2)))
-      (subst (λ (xs : List Expiry). AllByRecursion (ExpiryWithin (length entries)) xs) (sym are) (expiries_of_stretch entries))
+      (subst (λ (xs : List Expiry). AllByRecursion (ExpiryWithin (length entries)) xs) (sym are)
+      (expiries_of_stretch entries))
 
   pub closings_small : (listed : List Closing) → listed ≡ (of_stretch entries).close → AllByRecursion ClosingFits listed
   closings_small listed are =
       all_weaker (ClosingWithin (length entries)) ClosingFits listed
       (λ x within. (omega (arith, few, within.0), omega (arith, few, within.1)))
-      (subst (λ (xs : List Closing). AllByRecursion (ClosingWithin (length entries)) xs) (sym are) (closings_of_stretch entries))
+      (subst (λ (xs : List Closing). AllByRecursion (ClosingWithin (length entries)) xs) (sym are)
+      (closings_of_stretch entries))

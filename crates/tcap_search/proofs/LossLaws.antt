@@ -1,17 +1,20 @@
 -- Losses, from the least time of what each end sends later.
-use Rattle.std.proofs.Common.{◌≡◌, ℕ, zero, suc, ◌<◌, min, Bool, true, false, cond, List, [], ◌∷◌, map, length, get_or, Option, Some, None, refl, sym, ap, arith}
+use Rattle.std.proofs.Common.{◌≡◌, ℕ, zero, suc, ◌<◌, min, Bool, true, false, cond, List, [], ◌∷◌, map, length, get_or, Option, Some, None, refl, sym, ap, arith, ◌∙◌}
 use Rattle.std.specs.Prelude.{◌&&◌, ◌||◌, is_some, nat_lt}
 use Rattle.std.specs.List.{list_any}
 use Rattle.std.proofs.lemmas.Bool.Decides.{nat_tests}
+use Rattle.std.proofs.lemmas.List.{length-map}
 use Rattle.tcap_record.specs.declared.entry.End.{End as Side}
 use Rattle.tcap_record.specs.declared.entry.Entry.{Entry}
 use Rattle.tcap_check.specs.declared.certificate.Fate.{Fate}
 use Rattle.tcap_check.specs.declared.certificate.Fate.TheVariants.{Lost}
 use Rattle.tcap_check.specs.Replayed.{is_later, time_of}
-use Rattle.tcap_search.specs.Lines.{Line, is_end, message_of}
-use Rattle.tcap_search.specs.Proposed.{Fated, fate_before, fated, is_gap, is_overtaken, with_losses}
+use Rattle.tcap_search.specs.Lines.{Line, is_end, lines_of, message_of}
+use Rattle.tcap_search.specs.Proposed.{Fated, all_fated, fate_before, fate_of, fated, first_fates, is_gap, is_overtaken, ties_of, with_losses}
+use Rattle.tcap_search.specs.Traced.{AreFates}
 use Rattle.tcap_search.specs.Fates.{fate_behind_least, least_time, sooner}
-use Rattle.tcap_search.proofs.GapLaws.{one_end, one_end_none}
+use Rattle.tcap_search.proofs.LineLaws.{count_lines}
+use Rattle.tcap_search.proofs.PeerLaws.{one_end, one_end_none}
 use Rattle.tcap_search.proofs.TestLaws.{or_false}
 
 -- ---- the least time
@@ -118,3 +121,19 @@ entries_fated (line ∷ lines) [] same = absurd (omega arith)
 entries_fated [] (fate ∷ fates) same = absurd (omega arith)
 entries_fated (line ∷ lines) (fate ∷ fates) same =
     ap (λ (es : List Entry). line.entry ∷ es) (entries_fated lines fates (omega arith))
+
+-- ---- the fates behind all rules
+
+-- They are of these lines, one for each.
+pub all_lines : (lines : List Line) → map (λ y. y.line) (all_fated lines) ≡ lines
+all_lines lines =
+    let same : length (first_fates lines (ties_of lines)) ≡ length lines =
+    length-map lines (fate_of lines (ties_of lines)) in
+    lines_kept (fated lines (first_fates lines (ties_of lines)))
+    ∙ lines_fated lines (first_fates lines (ties_of lines)) same
+
+pub count_fates : (entries : List Entry) (fates : List Fate) → AreFates entries fates → length fates ≡ length entries
+count_fates entries fates are =
+    ap length are ∙ length-map (all_fated (lines_of entries)) (λ x. x.fate)
+    ∙ sym (length-map (all_fated (lines_of entries)) (λ y. y.line)) ∙ ap length (all_lines (lines_of entries))
+    ∙ count_lines entries

@@ -5,11 +5,10 @@ use Rattle.std.specs.List.{list_any}
 use Rattle.std.proofs.lemmas.Bool.{eq-eqb, eqb-false, eqb-true, ne_eqb}
 use Rattle.std.proofs.lemmas.Bool.Decides.{nat_tests}
 use Rattle.std.proofs.lemmas.List.Folds.{list_any-append}
-use Rattle.tcap_record.specs.declared.entry.End.{End as Side}
-use Rattle.tcap_record.specs.declared.entry.Entry.{Entry}
 use Rattle.tcap_check.specs.World.{other}
 use Rattle.tcap_search.specs.Leasts.{is_below, is_transaction, is_within, lesser}
-use Rattle.tcap_search.specs.Lines.{Line, are_of_one_end, is_end, is_of_peer, share_transaction}
+use Rattle.tcap_search.specs.Lines.{Line, share_transaction}
+use Rattle.tcap_search.proofs.TestLaws.{and_true, or_false}
 
 -- ---- numbers that are noted
 
@@ -30,32 +29,22 @@ eqb_turned m n = by (m == n) refl
     by true is = sym (eq-eqb n m (sym (eqb-true m n is)))
     by false is = sym (ne_eqb n m (λ same. eqb-false m n is (sym same)))
 
-pub or_none : (b : Bool) → (b || false) ≡ b
-or_none true = refl
-or_none false = refl
-
 -- What a test says where a number is noted for a half, or not.
 pub test_noted : (test : Option ℕ → Bool) (first second number : Bool) (new old : Option ℕ) (least : Option ℕ)
     → test least ≡ (test old || number) → new ≡ cond (first && second) least old
     → test new ≡ (test old || (number && first && second))
 test_noted test true true true new old least more is = ap test is ∙ more
 test_noted test true true false new old least more is = ap test is ∙ more
-test_noted test true false true new old least more is = ap test is ∙ sym (or_none (test old))
-test_noted test true false false new old least more is = ap test is ∙ sym (or_none (test old))
-test_noted test false second true new old least more is = ap test is ∙ sym (or_none (test old))
-test_noted test false second false new old least more is = ap test is ∙ sym (or_none (test old))
+test_noted test true false true new old least more is = ap test is ∙ sym (or_false (test old))
+test_noted test true false false new old least more is = ap test is ∙ sym (or_false (test old))
+test_noted test false second true new old least more is = ap test is ∙ sym (or_false (test old))
+test_noted test false second false new old least more is = ap test is ∙ sym (or_false (test old))
 
 pub any_push : {A : Type 0} (test : A → Bool) (xs : List A) (x : A)
     → list_any test (xs ++ x ∷ []) ≡ (list_any test xs || test x)
-any_push {A} test xs x = list_any-append test xs (x ∷ []) ∙ ap (λ (b : Bool). list_any test xs || b) (or_none (test x))
+any_push {A} test xs x = list_any-append test xs (x ∷ []) ∙ ap (λ (b : Bool). list_any test xs || b) (or_false (test x))
 
 -- ---- tests of lines
-
-pub of_peer : (e f : Entry) (side : Side) → e.side ≡ Some side → is_of_peer e f ≡ is_end (other side) f.side
-of_peer e f side has = ap (λ (s : Option Side). is_of_peer (record e { side = s }) f) has
-
-pub of_one_end : (e f : Entry) (side : Side) → e.side ≡ Some side → are_of_one_end e f ≡ is_end side f.side
-of_one_end e f side has = ap (λ (s : Option Side). are_of_one_end (record e { side = s }) f) has
 
 pub shares : (x y : Line) (transaction : ℕ) → x.transaction ≡ Some transaction
     → share_transaction x y ≡ is_transaction transaction y.transaction
@@ -67,14 +56,6 @@ shares x y transaction has =
         ≡ is_transaction transaction o
     by None = refl
     by (Some other) = refl
-
-pub and_true : (b : Bool) → (b && true) ≡ b
-and_true true = refl
-and_true false = refl
-
-pub and_none : (b : Bool) → (b && false) ≡ false
-and_none true = refl
-and_none false = refl
 
 -- Three tests, each as another, and a fourth that passes.
 pub same_tests : (a b c d x y z : Bool) → a ≡ x → b ≡ y → c ≡ z → d ≡ true → (a && b && c && d) ≡ (x && y && z)

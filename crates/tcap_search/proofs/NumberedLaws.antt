@@ -1,12 +1,12 @@
 -- The lines of entries: one for each, numbered from 0, and their transactions.
 use Rattle.std.proofs.Common.{◌≡◌, ℕ, zero, suc, ◌+◌, ◌<◌, List, [], ◌∷◌, ◌++◌, map, length, take, get_or, Option, Some, None, refl, sym, ap, ◌∙◌, arith, append_assoc}
 use Rattle.std.specs.Prelude.{option_map, slice_get}
-use Rattle.std.proofs.lemmas.List.{append-nil, get_or-map, length-map, map-append, take_more}
+use Rattle.std.proofs.lemmas.List.{append-nil, get_or-map, map-append, take_more}
 use Rattle.std.proofs.lemmas.Option.{none-some, same_Some, slice_get-map, slice_get_read}
 use Rattle.tcap_record.specs.declared.entry.Entry.{Entry}
 use Rattle.tcap_search.specs.Lines.{Line, line_behind, lines_behind, lines_of}
 use Rattle.tcap_search.specs.Traced.{AreTransactions}
-use Rattle.tcap_search.proofs.LineLaws.{count_lines, transaction_below}
+use Rattle.tcap_search.proofs.LineLaws.{count_lines, count_transactions, transaction_below}
 
 -- ---- entries
 
@@ -21,12 +21,6 @@ lines_entries earlier (e ∷ entries) =
 
 pub entries_of_lines : (entries : List Entry) → map (λ x. x.entry) (lines_of entries) ≡ entries
 entries_of_lines entries = lines_entries [] entries
-
--- and so are their transactions as many.
-pub count_transactions : (entries : List Entry) (transactions : List (Option ℕ)) → AreTransactions entries transactions
-    → length transactions ≡ length entries
-count_transactions entries transactions are =
-    ap length are ∙ length-map (lines_of entries) (λ x. x.transaction) ∙ count_lines entries
 
 -- ---- numbers
 

@@ -54,7 +54,12 @@ stretch_before (e ∷ front) mark more none is =
 
 pub then_assoc : (c d f : Certificate)
     → then_certificate (then_certificate c d) f ≡ then_certificate c (then_certificate d f)
-then_assoc c d f = rw (append_assoc c.fates d.fates f.fates, append_assoc c.expire d.expire f.expire, append_assoc c.close d.close f.close) refl
+then_assoc c d f =
+    rw (
+      append_assoc c.fates d.fates f.fates,
+      append_assoc c.expire d.expire f.expire,
+      append_assoc c.close d.close f.close,
+    ) refl
 
 -- What is proposed for entries without a mark.
 pub of_one : (first : ℕ) (entries : List Entry) → has_mark entries ≡ false
@@ -109,7 +114,8 @@ module _ (entries : List Entry) (first k : ℕ) (e : Entry) (within : first + k 
   -- It is a mark, and the next stretch begins.
   pub begins : (found : Certificate) → is_mark e.body ≡ true → has_mark (take k under) ≡ false
       → then_certificate found (of_stretches first (stretches under))
-      ≡ then_certificate (then_certificate (then_certificate found (behind first (of_stretch (take k under)))) (of_mark (first + k)))
+      ≡ then_certificate (then_certificate (then_certificate found (behind first (of_stretch (take k under))))
+      (of_mark (first + k)))
       (of_stretches (first + k + 1) (stretches (drop (first + k + 1) entries)))
   begins found mark none =
       let count : length (take k under) ≡ k = length-take-le k under (omega (arith, k_within)) in
@@ -117,7 +123,8 @@ module _ (entries : List Entry) (first k : ℕ) (e : Entry) (within : first + k 
       ∙ ap (then_certificate found) (of_more first (take k under) e (drop (first + k + 1) entries) none mark)
       ∙ rw count
       (sym (then_assoc found (behind first (of_stretch (take k under)))
-      (then_certificate (of_mark (first + k)) (of_stretches (first + k + 1) (stretches (drop (first + k + 1) entries)))))
+      (then_certificate (of_mark (first + k))
+      (of_stretches (first + k + 1) (stretches (drop (first + k + 1) entries)))))
       ∙ sym (then_assoc (then_certificate found (behind first (of_stretch (take k under)))) (of_mark (first + k))
       (of_stretches (first + k + 1) (stretches (drop (first + k + 1) entries)))))
 
@@ -147,17 +154,20 @@ module _ (entries : List Entry) (first i : ℕ) (begun : first ≤ i) where
       subst (λ n. has_mark (take n (drop first entries)) ≡ false) next
       (goes_on entries first (i - first) e (rw at within) (rw at is) plain none)
 
-  pub begins_at : (e : Entry) (found : Certificate) → i < length entries → e ≡ get_or entries i e → is_mark e.body ≡ true
+  pub begins_at : (e : Entry) (found : Certificate) → i < length entries → e ≡ get_or entries i e
+      → is_mark e.body ≡ true
       → has_mark (take (i - first) (drop first entries)) ≡ false
       → then_certificate found (of_stretches first (stretches (drop first entries)))
       ≡ then_certificate
-      (then_certificate (then_certificate found (behind first (of_stretch (take (i - first) (drop first entries))))) (of_mark i))
+      (then_certificate (then_certificate found (behind first (of_stretch (take (i - first) (drop first entries)))))
+      (of_mark i))
       (of_stretches (i + 1) (stretches (drop (i + 1) entries)))
   begins_at e found within is mark none =
       subst
       (λ n. then_certificate found (of_stretches first (stretches (drop first entries)))
       ≡ then_certificate
-      (then_certificate (then_certificate found (behind first (of_stretch (take (i - first) (drop first entries))))) (of_mark n))
+      (then_certificate (then_certificate found (behind first (of_stretch (take (i - first) (drop first entries)))))
+      (of_mark n))
       (of_stretches (n + 1) (stretches (drop (n + 1) entries))))
       at (begins entries first (i - first) e (rw at within) (rw at is) found mark none)
 
@@ -181,17 +191,20 @@ with_count found first stretch =
 
 pub count_ends : (entries : List Entry) (found : Certificate) (first : ℕ) → first ≤ length entries
     → length found.fates ≡ first
-    → length ((then_certificate found (behind first (of_stretch (take (length entries - first) (drop first entries))))).fates)
+    → length ((then_certificate found (behind first (of_stretch
+    (take (length entries - first) (drop first entries))))).fates)
     ≡ length entries
 count_ends entries found first within count =
     let some : length (take (length entries - first) (drop first entries)) ≡ length entries - first =
     length-take-le (length entries - first) (drop first entries)
-    (let left : length (drop first entries) ≡ length entries - first = length-drop first entries in omega (arith, left)) in
+    (let left : length (drop first entries) ≡ length entries - first = length-drop first entries in
+    omega (arith, left)) in
     with_count found first (take (length entries - first) (drop first entries)) ∙ omega (arith, some, count, within)
 
 pub count_begins : (entries : List Entry) (found : Certificate) (first i : ℕ) → first ≤ i → i < length entries
     → length found.fates ≡ first
-    → length ((then_certificate (then_certificate found (behind first (of_stretch (take (i - first) (drop first entries)))))
+    → length ((then_certificate (then_certificate found (behind first
+    (of_stretch (take (i - first) (drop first entries)))))
     (of_mark i)).fates)
     ≡ i + 1
 count_begins entries found first i begun within count =
@@ -199,7 +212,8 @@ count_begins entries found first i begun within count =
     length-take-le (i - first) (drop first entries)
     (let left : length (drop first entries) ≡ length entries - first = length-drop first entries in
     omega (arith, left, within)) in
-    let front : length ((then_certificate found (behind first (of_stretch (take (i - first) (drop first entries))))).fates)
+    let front : length ((then_certificate found (behind first (of_stretch
+    (take (i - first) (drop first entries))))).fates)
     ≡ length found.fates + length (take (i - first) (drop first entries)) =
     with_count found first (take (i - first) (drop first entries)) in
     length-append ((then_certificate found (behind first (of_stretch (take (i - first) (drop first entries))))).fates) _

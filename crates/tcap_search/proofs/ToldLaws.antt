@@ -1,7 +1,7 @@
 -- What is noted of the entries that tell of ends, by their fates.
 use Rattle.std.proofs.Common.{◌≡◌, ℕ, ◌+◌, ◌<◌, ◌≤◌, ◌&&◌, ◌||◌, Bool, true, false, cond, List, [], ◌∷◌, ◌++◌, length, map, take, get_or, Option, Some, None, refl, sym, ap, ◌∙◌, arith}
 use Rattle.std.specs.Prelude.{nat_le}
-use Rattle.std.proofs.lemmas.List.{length-map, length-take-le, take_all, take_more}
+use Rattle.std.proofs.lemmas.List.{length-take-le, take_all, take_more}
 use Rattle.std.proofs.lemmas.Option.{cond_some}
 use Rattle.tcap_record.specs.declared.entry.End.{End as Side}
 use Rattle.tcap_record.specs.declared.entry.Entry.{Entry}
@@ -10,28 +10,16 @@ use Rattle.tcap_check.specs.declared.certificate.Fate.TheVariants.{Gap, Lost, By
 use Rattle.tcap_search.specs.declared.leasts.Leasts.{Leasts}
 use Rattle.tcap_search.specs.Leasts.{HasRoom, is_transaction, is_within, least_at, lesser}
 use Rattle.tcap_search.specs.Lines.{Line, are_of_one_end, is_end, line_behind, lines_of, message_of, share_transaction}
-use Rattle.tcap_search.specs.Proposed.{Fated, all_fated, fate_of, fated, first_fates, is_delivered_by, is_end_or_abort, ties_of, was_told, with_losses}
+use Rattle.tcap_search.specs.Proposed.{Fated, all_fated, fated, is_delivered_by, is_end_or_abort, was_told}
 use Rattle.tcap_search.specs.Shown.{KeepsTold, gap_told}
 use Rattle.tcap_search.specs.Traced.{AreFates}
-use Rattle.tcap_search.proofs.LineLaws.{count_lines, count_taken, lines_more}
-use Rattle.tcap_search.proofs.NotedLaws.{and_none, any_push, of_one_end, or_none, shares, test_noted, turned_tests, within_lesser}
+use Rattle.tcap_search.proofs.LineLaws.{count_taken, lines_more}
+use Rattle.tcap_search.proofs.NotedLaws.{any_push, shares, test_noted, turned_tests, within_lesser}
+use Rattle.tcap_search.proofs.LossLaws.{all_lines, count_fates}
+use Rattle.tcap_search.proofs.PeerLaws.{one_end}
+use Rattle.tcap_search.proofs.TestLaws.{and_false, or_false}
 
 -- ---- lines and their fates
-
-losses_lines : (all : List Fated) → map (λ x. x.line) (with_losses all) ≡ map (λ x. x.line) all
-losses_lines [] = refl
-losses_lines (x ∷ all) = ap (λ (lines : List Line). x.line ∷ lines) (losses_lines all)
-
-fated_lines : (lines : List Line) (fates : List Fate) → length fates ≡ length lines
-    → map (λ x. x.line) (fated lines fates) ≡ lines
-fated_lines [] fates same = nothing fates
-  where
-    nothing : (fates : List Fate) → map (λ x. x.line) (fated [] fates) ≡ []
-    nothing [] = refl
-    nothing (fate ∷ fates) = refl
-fated_lines (x ∷ lines) [] same = cc
-fated_lines (x ∷ lines) (fate ∷ fates) same =
-    ap (λ (more : List Line). x ∷ more) (fated_lines lines fates (omega arith))
 
 fated_parts : (all : List Fated) → fated (map (λ x. x.line) all) (map (λ x. x.fate) all) ≡ all
 fated_parts [] = refl
@@ -45,11 +33,6 @@ fated_push (y ∷ lines) [] x fate same = cc
 fated_push (y ∷ lines) (f ∷ fates) x fate same =
     ap (λ (more : List Fated). record { line = y; fate = f } ∷ more) (fated_push lines fates x fate (omega arith))
 
-all_lines : (lines : List Line) → map (λ x. x.line) (all_fated lines) ≡ lines
-all_lines lines =
-    losses_lines (fated lines (first_fates lines (ties_of lines)))
-    ∙ fated_lines lines (first_fates lines (ties_of lines)) (length-map lines (fate_of lines (ties_of lines)))
-
 pub all_is : (entries : List Entry) (fates : List Fate) → AreFates entries fates
     → all_fated (lines_of entries) ≡ fated (lines_of entries) fates
 all_is entries fates are =
@@ -57,14 +40,6 @@ all_is entries fates are =
     sym (fated_parts (all_fated lines))
     ∙ (ap (λ (ls : List Line). fated ls (map (λ x. x.fate) (all_fated lines))) (all_lines lines)
     ∙ ap (fated lines) (sym are))
-
-pub count_fates : (entries : List Entry) (fates : List Fate) → AreFates entries fates → length fates ≡ length entries
-count_fates entries fates are =
-    let all : List Fated = all_fated (lines_of entries) in
-    ap (length {A = Fate}) are
-    ∙ (length-map all (λ (x : Fated). x.fate)
-    ∙ (sym (length-map all (λ (x : Fated). x.line))
-    ∙ (ap (length {A = Line}) (all_lines (lines_of entries)) ∙ count_lines entries)))
 
 -- ---- what tells of ends
 
@@ -126,7 +101,7 @@ module _ (entries : List Entry) (fates : List Fate) (i : ℕ) (old : Leasts) (e 
         so_far.kept x side transaction limit sent has within
         ∙ sym (told_next x limit
         ∙ (ap (λ (b : Bool). was_told fated_so_far x limit || b) (fails x limit)
-        ∙ or_none (was_told fated_so_far x limit)));
+        ∙ or_false (was_told fated_so_far x limit)));
   }
 
   pub told_other : gap_told (message_of e) fate ≡ None → Told entries fates (i + 1) old
@@ -145,11 +120,11 @@ module _ (entries : List Entry) (fates : List Fate) (i : ℕ) (old : Leasts) (e 
           && is_delivered_by limit (Gap gap))
           (so (is_end_or_abort (message_of e)) gap none)
           ∙ ap (λ (b : Bool). b && is_delivered_by limit (Gap gap))
-          (and_none (are_of_one_end x.entry e && share_transaction x next_line))
+          (and_false (are_of_one_end x.entry e && share_transaction x next_line))
       by x limit Lost none =
-          and_none (are_of_one_end x.entry e && share_transaction x next_line && is_end_or_abort (message_of e))
+          and_false (are_of_one_end x.entry e && share_transaction x next_line && is_end_or_abort (message_of e))
       by x limit (By reply) none =
-          and_none (are_of_one_end x.entry e && share_transaction x next_line && is_end_or_abort (message_of e))
+          and_false (are_of_one_end x.entry e && share_transaction x next_line && is_end_or_abort (message_of e))
 
   told_gap : (gap : ℕ) (f : Fate) → gap_told (message_of e) f ≡ Some gap
       → (is_end_or_abort (message_of e) ≡ true) × (f ≡ Gap gap)
@@ -166,7 +141,7 @@ module _ (entries : List Entry) (fates : List Fate) (i : ℕ) (old : Leasts) (e 
   told_more new transaction gap has is_told room noted = record {
     room = room;
     kept = λ x side t limit sent belongs within.
-        let first : are_of_one_end x.entry e ≡ is_end side e.side = of_one_end x.entry e side sent in
+        let first : are_of_one_end x.entry e ≡ is_end side e.side = one_end x.entry e side sent in
         let second : share_transaction x next_line ≡ is_transaction t transaction =
         shares x next_line t belongs ∙ ap (is_transaction t) (sym has) in
         let parts = told_gap gap fate is_told in

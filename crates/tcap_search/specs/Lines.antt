@@ -1,5 +1,5 @@
--- The entries of a stretch between two quiet marks, as the search sees them: each with its number in the stretch and the
--- transaction that it belongs to (Q.774 3.3).
+-- The entries of a stretch between two quiet marks, as the search sees them: each with its number in the stretch and
+-- the transaction that it belongs to (Q.774 3.3).
 use Rattle.std.specs.Prelude.{ℕ, Bool, false, List, [], ◌∷◌, ◌++◌, length, Option, Some, None, ◌==◌, ◌&&◌}
 use Rattle.tcap_msg.specs.declared.message.Message.{Message}
 use Rattle.tcap_msg.specs.declared.message.Message.TheVariants.{Begin}
@@ -77,8 +77,8 @@ abbrev pub transaction_from : List Line → Entry → Option (List ℕ) → Opti
 transaction_from earlier e None = None
 transaction_from earlier e (Some id) = then_so (last (λ f. is_asked_from e id f.entry) earlier) (λ f. f.transaction)
 
--- The transaction of a Begin is its number. That of a message with a destination ID is that of the last earlier entry of
--- the peer from that ID. Another entry has none, which no two entries share.
+-- The transaction of a Begin is its number. That of a message with a destination ID is that of the last earlier entry
+-- of the peer from that ID. Another entry has none, which no two entries share.
 abbrev pub transaction_by : List Line → Entry → Option Message → Option ℕ
 transaction_by earlier e None = None
 transaction_by earlier e (Some (Begin otid dialogue components)) = Some (length earlier)

@@ -1,5 +1,5 @@
--- The certificate that is proposed for a record, by five rules: for the entries of each stretch between quiet marks alone,
--- each by "last", "earlier" and "later" over their list. Nothing is tried twice, and nothing of it is believed.
+-- The certificate that is proposed for a record, by five rules: for the entries of each stretch between quiet marks
+-- alone, each by "last", "earlier" and "later" over their list. Nothing is tried twice, and nothing of it is believed.
 use Rattle.std.specs.Prelude.{ℕ, ℤ, ◌+◌, max, Bool, true, false, List, [], ◌∷◌, ◌++◌, map, length, reverse, slice_get, Option, Some, None, is_some, is_none, ◌==◌, ◌&&◌, not, nat_lt, nat_le, cond, option_map}
 use Rattle.std.specs.List.{list_any}
 use Rattle.std.specs.Ordering.{int_cmp}
@@ -40,7 +40,8 @@ is_tied ties x = list_any (λ t. t.entry == x.number) ties
 -- the last of these of the peer, from that ID, that an Abort with that cause answers and that is not tied
 abbrev pub answered_line : List Line → List Tie → Entry → List ℕ → ℕ → Option Line
 answered_line earlier ties abort id cause =
-    last (λ x. is_asked_from abort id x.entry && is_answered_by cause (message_of x.entry) && not (is_tied ties x)) earlier
+    last (λ x. is_asked_from abort id x.entry && is_answered_by cause (message_of x.entry) && not (is_tied ties x))
+    earlier
 
 -- with the tie of this Abort, where it has a cause that answers something
 abbrev pub with_tie_by : List Line → List Tie → Line → Option Message → List Tie
@@ -98,7 +99,8 @@ abbrev pub raised : List Line → List Tie → Line → ℕ → ℕ
 raised [] ties x gap = gap
 raised (y ∷ lines) ties x gap =
     raised lines ties x
-    (cond (nat_lt y.number x.number && are_of_one_end x.entry y.entry) (max gap (gap_behind_reply (reply_of ties y.number))) gap)
+    (cond (nat_lt y.number x.number && are_of_one_end x.entry y.entry)
+    (max gap (gap_behind_reply (reply_of ties y.number))) gap)
 
 -- A message that is tied is taken by its Abort. Octets that are no message have the gap behind them, which no rule
 -- changes.
@@ -216,7 +218,8 @@ abbrev pub last_invocation : List Line → Line → ℤ → ℕ → Option (ℕ 
 last_invocation lines x id number =
     then_so
     (last
-    (λ y. nat_lt y.number number && are_of_one_end x.entry y.entry && share_transaction x y && is_some (invocation_at id y))
+    (λ y. nat_lt y.number number && are_of_one_end x.entry y.entry && share_transaction x y
+    && is_some (invocation_at id y))
     lines)
     (invocation_at id)
 

@@ -34,9 +34,9 @@ fn found_in(alloc: Global, entries: &[Entry]) -> Result<Found, AllocError>
     found.with_stretch(alloc, first, &entries[first..])
 }
 
-/// Proposes a certificate for a record of at most 100,000 entries: the one that the five rules give. Nothing says that it
-/// gives a run, nor that there is none where it gives none: `tcap_check::check` says what it gives. Fails only where memory
-/// ran out.
+/// Proposes a certificate for a record of at most 100,000 entries: the one that the five rules give. Nothing says that
+/// it gives a run, nor that there is none where it gives none: `tcap_check::check` says what it gives. Fails only where
+/// memory ran out.
 pub fn search(alloc: Global, record: &Record) -> Result<Certificate, SearchFault>
     requires few { length «record».now.entries.items ≤ 100000 }
     ensures { IfOk result (λ c. c ≡ proposed «record».now.entries.items) }

@@ -13,6 +13,7 @@ ghost use Rattle.tcap_search.specs.Fates.{is_of};
 ghost use Rattle.tcap_search.specs.Sweep.{answer_at, answer_kept, answer_rejected, answers, answers_at, components_of, invoked_by};
 
 use crate::by_invocation::ByInvocation;
+use crate::lines::other;
 use std::alloc::{AllocError, Global};
 use tcap_msg::Message;
 use tcap_parts::{Component, Portion, Problem};
@@ -72,16 +73,6 @@ fn may_invoke(entry: &Entry) -> bool
         &entry.body,
         Body::Good(Message::Begin { .. } | Message::Continue { .. })
     )
-}
-
-/// The other end.
-fn peer_of(side: End) -> End
-    ensures { result ≡ other side }
-{
-    match side {
-        End::A => End::B,
-        End::B => End::A,
-    }
 }
 
 /// The ID, and whether it is a Return Result, of which a component says unrecognizedInvokeID (Q.773 4.2.2).
@@ -179,7 +170,7 @@ impl Sweep {
     {
         match (entry.side, transaction) {
             (Some(sender), Some(transaction)) => {
-                self.note_answers(gap, transaction, peer_of(sender), components_of(entry))
+                self.note_answers(gap, transaction, other(sender), components_of(entry))
             }
             _ => Ok(()),
         }

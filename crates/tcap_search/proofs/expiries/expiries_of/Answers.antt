@@ -6,9 +6,10 @@ use Rattle.tcap_search.specs.Proposed.{all_fated, expiries_from}
 use Rattle.tcap_search.specs.ByInvocation.{kept_at}
 use Rattle.tcap_search.specs.Due.{due_at, due_in}
 use Rattle.tcap_search.specs.Sweep.{answer_kept}
-use Rattle.tcap_search.proofs.ExpirySteps.{answers_start, answers_stay, answers_step, count_fates, invokes_step, listed_step}
+use Rattle.tcap_search.proofs.ExpirySteps.{answers_start, answers_stay, answers_step, invokes_step, listed_step}
+use Rattle.tcap_search.proofs.LossLaws.{count_fates}
 use Rattle.tcap_search.proofs.FateSteps.{all_lines}
-use Rattle.tcap_search.proofs.NumberedLaws.{count_transactions}
+use Rattle.tcap_search.proofs.LineLaws.{count_transactions}
 use Rattle.tcap_search.proofs.SweepLaws.{answered_in}
 use Rattle.tcap_search.proofs.expiries.expiries_of.Goals as goal
 

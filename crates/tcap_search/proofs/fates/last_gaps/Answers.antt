@@ -2,7 +2,7 @@
 use Rattle.std.proofs.Common.{ap, ◌∙◌, arith}
 use Rattle.tcap_search.specs.Fates.{gap_behind_last}
 use Rattle.tcap_search.proofs.FateSteps.{all_lines, gap_step}
-use Rattle.tcap_search.proofs.NumberedLaws.{count_transactions}
+use Rattle.tcap_search.proofs.LineLaws.{count_transactions}
 use Rattle.tcap_search.proofs.fates.last_gaps.Goals as goal
 
 pub bounds-transactions-number : goal.bounds-transactions-number

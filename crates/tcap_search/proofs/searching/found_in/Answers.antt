@@ -27,7 +27,8 @@ loop-number-preserved c =
         begun = rw (w.first-is) (omega (arith, was.begun));
         within = omega (arith, c.loop-number-test.true);
         none = rw (w.first-is)
-            (goes_on_at c.args.entries.now c.loop-number.first c.loop-number.number was.begun c.index-entries-number.result
+            (goes_on_at c.args.entries.now c.loop-number.first c.loop-number.number was.begun
+            c.index-entries-number.result
             c.loop-number-test.true c.index-entries-number.is (sym w.if-is_mark.ensures) was.none);
         is = rw (w.first-is, w.found-is) (was.is);
       }
@@ -41,8 +42,10 @@ returns c =
     answers_so _ _ c.with_stretch-2.result
     (λ found is. (
       is
-          ∙ sym (ends_at c.args.entries.now c.loop-number.first c.loop-number.number was.begun c.loop-number.found all was.none)
+          ∙ sym (ends_at c.args.entries.now c.loop-number.first c.loop-number.number was.begun
+          c.loop-number.found all was.none)
           ∙ was.is,
-      rw is (count_ends c.args.entries.now c.loop-number.found c.loop-number.first (omega (arith, was.begun, was.within)) was.count),
+      rw is (count_ends c.args.entries.now c.loop-number.found c.loop-number.first
+          (omega (arith, was.begun, was.within)) was.count),
     ))
     c.with_stretch-2.ensures
