@@ -7,14 +7,7 @@ use std::process::ExitCode;
 use std::{env, fs, io};
 use tcap_ber::{Counted, Read, Unopened};
 use tcap_judge::{
-    MEMORY_LINE,
-    Request,
-    Status,
-    WordsFault,
-    request,
-    run_check,
-    run_pack,
-    run_show,
+    MEMORY_LINE, Request, Status, WordsFault, request, run_check, run_pack, run_show,
 };
 
 /// The exit status where a word of the command is not text, so that it is not for `clap` to say.
