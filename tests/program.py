@@ -8,8 +8,29 @@ PROGRAM = "crates/tcapjudge/out/tcapjudge"
 BEGIN = bytes.fromhex("416203480101")
 LINE = b"0 A Begin otid=01\n"
 LINES = b"# A Begin.\nA 6203480101\n"
+# A Begin with an Invoke, and the End with its result, each delivered at once.
+DIALOGUE = bytes.fromhex("41620d4801016c08a10602010102012d42640a4901016c05a203020101")
+TABLE = b'{"operations":[{"class":1,"code":45}]}'
+CERT = b'{"close":[],"expire":[],"fates":[1,2],"version":1}'
+# The greatest length of the text of a table or a certificate.
+LIMIT = 67_108_864
 # What a word of these names stands for: a file that holds this.
-FILES = {"RECORD": BEGIN, "LINES": LINES}
+FILES = {
+    "RECORD": BEGIN,
+    "LINES": LINES,
+    "DIALOGUE": DIALOGUE,
+    "TABLE": TABLE,
+    "CERT": CERT,
+    # The Begin is delivered behind the End.
+    "LATE": CERT.replace(b"[1,2]", b"[2,2]"),
+    "BROKEN": b"{",
+    "CUT": DIALOGUE[:-1],
+    "FULL_TABLE": TABLE.ljust(LIMIT),
+    "FULL_CERT": CERT.ljust(LIMIT),
+    "LONG_TABLE": TABLE.ljust(LIMIT + 1),
+    "LONG_CERT": CERT.ljust(LIMIT + 1),
+}
+NONE = "/no/such/file"
 SOME = object()
 
 # The words, the standard input, and then the standard output, the standard error and the exit status that are wanted.
@@ -21,56 +42,101 @@ ROWS = [
     ([], b"", b"", SOME, 4),
     (["shew"], b"", b"", SOME, 4),
     (["show", "RECORD"], b"", LINE, b"", 0),
-    (["show", "/no/such/file"], BEGIN, b"FAULT 23 0\n", b"", 3),
+    (["show", NONE], BEGIN, b"FAULT 23 0\n", b"", 3),
     (["show", "x", "y"], b"", b"", SOME, 4),
     (["pack"], LINES, BEGIN, b"", 0),
     (["pack"], LINES + b"b 6203480101\n", BEGIN, b"FAULT 24 3\n", 3),
     (["pack", "LINES"], b"", BEGIN, b"", 0),
-    (["pack", "/no/such/file"], LINES, b"", b"FAULT 23 0\n", 3),
+    (["pack", NONE], LINES, b"", b"FAULT 23 0\n", 3),
     (["pack", "x", "y"], b"", b"", SOME, 4),
-    (["--version"], b"", b"", SOME, 4),
+    (["check", "DIALOGUE", "TABLE", "CERT"], b"", b"LAWFUL 2\n", b"", 0),
+    (["check", "DIALOGUE", "TABLE", "LATE"], b"", b"NOT SHOWN 1 65/40\n", b"", 2),
+    (["check", "RECORD", "TABLE", "CERT"], b"", b"NOT SHOWN 1 61\n", b"", 2),
+    # A fault of one of the three: the table, then the certificate, then the record.
+    (["check", "DIALOGUE", "BROKEN", "CERT"], b"", b"FAULT 30 0\n", b"", 3),
+    (["check", "DIALOGUE", "TABLE", "BROKEN"], b"", b"FAULT 60 0\n", b"", 3),
+    (["check", "CUT", "TABLE", "CERT"], b"", b"FAULT 21 28\n", b"", 3),
+    (["check", "CUT", "TABLE", "LATE"], b"", b"FAULT 21 28\n", b"", 3),
+    (["check", "CUT", "BROKEN", "BROKEN"], b"", b"FAULT 30 0\n", b"", 3),
+    (["check", "CUT", "TABLE", "BROKEN"], b"", b"FAULT 60 0\n", b"", 3),
+    # Files that can't be opened, or read.
+    (["check", NONE, "TABLE", "CERT"], b"", b"FAULT 23 0\n", b"", 3),
+    (["check", "DIALOGUE", NONE, "CERT"], b"", b"FAULT 23 0\n", b"", 3),
+    (["check", "DIALOGUE", "TABLE", NONE], b"", b"FAULT 23 0\n", b"", 3),
+    (["check", NONE, "BROKEN", NONE], b"", b"FAULT 30 0\n", b"", 3),
+    (["check", NONE, "TABLE", "BROKEN"], b"", b"FAULT 60 0\n", b"", 3),
+    (["check", "DIALOGUE", "/", "CERT"], b"", b"FAULT 23 0\n", b"", 3),
+    # Texts of the greatest length, longer ones, and one without end.
+    (["check", "DIALOGUE", "FULL_TABLE", "FULL_CERT"], b"", b"LAWFUL 2\n", b"", 0),
+    (["check", "DIALOGUE", "LONG_TABLE", "CERT"], b"", b"FAULT 30 0\n", b"", 3),
+    (["check", "DIALOGUE", "TABLE", "LONG_CERT"], b"", b"FAULT 60 0\n", b"", 3),
+    (["check", "DIALOGUE", "/dev/zero", "CERT"], b"", b"FAULT 30 0\n", b"", 3),
+    (["check", "DIALOGUE", "TABLE"], b"", b"", SOME, 4),
+    (["check", "DIALOGUE", "TABLE", "CERT", "x"], b"", b"", SOME, 4),
+    (["--version"], b"", b"tcapjudge 0.1.0\n", b"", 0),
     ([b"\xff"], b"", b"", b"error: a word of the command is not text\n", 4),
     (["--help"], b"", SOME, b"", 0),
     (["help"], b"", SOME, b"", 0),
     (["show", "--help"], b"", SOME, b"", 0),
     (["pack", "--help"], b"", SOME, b"", 0),
+    (["check", "--help"], b"", SOME, b"", 0),
 ]
 
 # The same where the standard output takes nothing.
-FULL = [(["pack"], LINES, 3), (["show"], BEGIN, 3), (["show"], BEGIN * 2000, 3), (["--help"], b"", 3), (["shew"], b"", 4)]
+FULL = [
+    (["pack"], LINES, 3),
+    (["show"], BEGIN, 3),
+    (["show"], BEGIN * 2000, 3),
+    (["check", "DIALOGUE", "TABLE", "CERT"], b"", 3),
+    (["check", "DIALOGUE", "TABLE", "LATE"], b"", 3),
+    (["--help"], b"", 3),
+    (["--version"], b"", 3),
+    (["shew"], b"", 4),
+]
 
 
 def is_wanted(found, wanted):
     return found != b"" if wanted is SOME else found == wanted
 
 
-def run_with(words, given):
-    """What the program does with these words, where files stand in place of the names of FILES."""
+def run_with(folder, words, given, **how):
+    """What the program does with these words, where files of that folder stand in place of the names of FILES."""
+    words = [f"{folder}/{word}" if word in FILES else word for word in words]
+    return subprocess.run([PROGRAM, *words], input=given, check=False, **how)
+
+
+def wrong_in(folder):
+    """How many runs are not as they are wanted, each of which is printed."""
+    wrong = 0
+    for words, given, out, error, status in ROWS:
+        run = run_with(folder, words, given, capture_output=True)
+        if not (is_wanted(run.stdout, out) and is_wanted(run.stderr, error) and run.returncode == status):
+            wrong += 1
+            print(f"{words}: {run.returncode} {run.stdout} {run.stderr}")
+    for words, given, status in FULL:
+        with open("/dev/full", "wb") as full:
+            run = run_with(folder, words, given, stdout=full, stderr=subprocess.DEVNULL)
+        if run.returncode != status:
+            wrong += 1
+            print(f"{words}, no standard output: {run.returncode}")
+    # What was packed goes out where standard error takes nothing.
+    with open("/dev/full", "wb") as full:
+        run = run_with(folder, ["pack"], LINES + b"x\n", stdout=subprocess.PIPE, stderr=full)
+    if run.stdout != BEGIN or run.returncode != 3:
+        wrong += 1
+        print(f"pack, no standard error: {run.returncode} {run.stdout}")
+    return wrong
+
+
+def main():
     with tempfile.TemporaryDirectory() as folder:
         for name, octets in FILES.items():
             with open(f"{folder}/{name}", "wb") as file:
                 file.write(octets)
-        words = [f"{folder}/{word}" if word in FILES else word for word in words]
-        return subprocess.run([PROGRAM, *words], input=given, capture_output=True, check=False)
+        wrong = wrong_in(folder)
+    print(f"{len(ROWS) + len(FULL) + 1 - wrong} passed, {wrong} failed")
+    return int(wrong != 0)
 
 
-wrong = 0
-for words, given, out, error, status in ROWS:
-    run = run_with(words, given)
-    if not (is_wanted(run.stdout, out) and is_wanted(run.stderr, error) and run.returncode == status):
-        wrong += 1
-        print(f"{words}: {run.returncode} {run.stdout} {run.stderr}")
-for words, given, status in FULL:
-    with open("/dev/full", "wb") as full:
-        run = subprocess.run([PROGRAM, *words], input=given, stdout=full, stderr=subprocess.DEVNULL, check=False)
-    if run.returncode != status:
-        wrong += 1
-        print(f"{words}, no standard output: {run.returncode}")
-# What was packed goes out where standard error takes nothing.
-with open("/dev/full", "wb") as full:
-    run = subprocess.run([PROGRAM, "pack"], input=LINES + b"x\n", stdout=subprocess.PIPE, stderr=full, check=False)
-if run.stdout != BEGIN or run.returncode != 3:
-    wrong += 1
-    print(f"pack, no standard error: {run.returncode} {run.stdout}")
-print(f"{len(ROWS) + len(FULL) + 1 - wrong} passed, {wrong} failed")
-sys.exit(wrong != 0)
+if __name__ == "__main__":
+    sys.exit(main())

@@ -1,29 +1,59 @@
-"""What `make demo` runs: makes records of the lines of examples/ by `pack` and shows them by `show`, by the program as
-`rt try` runs it, compiled but not proved."""
+"""What `make demo` runs: makes records of the lines of examples/ by `pack`, shows them by `show`, and checks those that have an operation
+table and a certificate by `check`. It is the program as `rt try` runs it, compiled but not proved."""
 
+import concurrent.futures
+import glob
 import os
 import re
+import shutil
 import subprocess
 import sys
 import tempfile
 
 
-def run(word, folder, out):
-    """Runs the program with that word over each file of the folder, one after the other. `rt try` puts a line with
-    a file's name before what is printed of it, and a newline behind that."""
-    command = ["rt", "try", "--cases", os.path.abspath(folder), "--", word]
-    run = subprocess.run(command, cwd="crates/tcapjudge", stdout=out, stderr=subprocess.PIPE, check=False)
-    if run.returncode != 0:
+def run(flags, words, statuses):
+    """What the program prints with these words. Stops where it ends with another status than one of these."""
+    command = ["rt", "try", *flags, "--", *words]
+    run = subprocess.run(command, cwd="crates/tcapjudge", capture_output=True, check=False)
+    if run.returncode not in statuses:
         sys.stderr.buffer.write(run.stderr)
-        sys.exit(run.returncode)
+        os._exit(run.returncode or 1)
     return run.stdout
 
 
-print("This run proves nothing and takes a minute; `make program` proves and builds the program.", flush=True)
-packed = run("pack", "examples", subprocess.PIPE).removesuffix(b"\n")
-parts = re.split(rb"(?:^|\n)== (\w+)\.hex\n", packed)
-with tempfile.TemporaryDirectory() as folder:
-    for name, octets in zip(parts[1::2], parts[2::2]):
-        with open(f"{folder}/{name.decode()}", "wb") as file:
-            file.write(octets)
-    run("show", folder, None)
+def run_each(word, folder):
+    """What the program prints with that word over each file of the folder, one after the other. `rt try` puts a line with a
+    file's name before what is printed of it, and a newline behind that."""
+    return run(["--cases", folder], [word], [0])
+
+
+def checked(name, record):
+    """What `check` prints of the record of that example, which stands in that file."""
+    files = {"record": record, "table": f"examples/{name}.table.json", "certificate": f"examples/{name}.cert.json"}
+    flags = [word for file, path in files.items() for word in ("--data", f"{file}={os.path.abspath(path)}")]
+    return f"== check {name}\n".encode() + run(flags, ["check", *files], [0, 2, 3])
+
+
+def main():
+    print("This run proves nothing and takes two minutes; `make program` proves and builds the program.", flush=True)
+    with tempfile.TemporaryDirectory() as folder, concurrent.futures.ThreadPoolExecutor(os.cpu_count()) as lanes:
+        lines, records = f"{folder}/lines", f"{folder}/records"
+        os.mkdir(lines)
+        os.mkdir(records)
+        for path in glob.glob("examples/*.hex"):
+            shutil.copy(path, lines)
+        packed = run_each("pack", lines).removesuffix(b"\n")
+        parts = re.split(rb"(?:^|\n)== (\w+)\.hex\n", packed)
+        for name, octets in zip(parts[1::2], parts[2::2]):
+            with open(f"{records}/{name.decode()}", "wb") as file:
+                file.write(octets)
+        shown = lanes.submit(run_each, "show", records)
+        names = sorted(os.path.basename(path).removesuffix(".cert.json") for path in glob.glob("examples/*.cert.json"))
+        checks = [lanes.submit(checked, name, f"{records}/{name}") for name in names]
+        for said in [shown, *checks]:
+            sys.stdout.buffer.write(said.result())
+            sys.stdout.buffer.flush()
+
+
+if __name__ == "__main__":
+    main()
