@@ -14,7 +14,7 @@ mod refute;
 pub use ber::integer_content;
 pub use check::all_taken;
 pub use end::first_sent;
-pub use judge::{is_called_lawful, shown};
+pub use judge::shown;
 pub use msg::read_again;
 pub use parts::first_component;
 pub use record::entries_of;
