@@ -10,6 +10,7 @@ mod msg;
 mod parts;
 mod record;
 mod refute;
+mod search;
 
 pub use ber::integer_content;
 pub use check::all_taken;
@@ -19,3 +20,4 @@ pub use msg::read_again;
 pub use parts::first_component;
 pub use record::entries_of;
 pub use refute::no_certificate_helps;
+pub use search::is_shown_lawful;
