@@ -1,17 +1,14 @@
 -- What is asked of what was noted is what a kind asks of the list.
-use Rattle.std.proofs.Common.{◌≡◌, ℕ, ℤ, Bool, true, false, cond, not, ◌&&◌, ◌||◌, ◌==◌, List, [], ◌∷◌, ◌++◌, filter, Option, Some, None, refl, sym, ap, ap₂, ◌∙◌}
+use Rattle.std.proofs.Common.{◌≡◌, ℕ, ℤ, Bool, true, false, cond, not, ◌&&◌, ◌||◌, List, [], ◌∷◌, filter, Option, Some, None, refl, sym, ap, ap₂, ◌∙◌}
 use Rattle.std.proofs.Math.Path.{fun_ext}
-use Rattle.std.specs.List.{find, flat_map, list_any}
+use Rattle.std.specs.List.{flat_map, list_any}
 use Rattle.std.proofs.lemmas.List.Folds.{list_any-append}
 use Rattle.tcap_parts.specs.declared.component.Component.{Component}
 use Rattle.tcap_parts.specs.declared.component.Component.TheVariants.{Invoke, ReturnResult, ReturnError, Reject}
-use Rattle.tcap_parts.specs.declared.dialogue.Dialogue.{Dialogue}
-use Rattle.tcap_parts.specs.declared.problem.Problem.{Problem}
 use Rattle.tcap_parts.specs.declared.problem.Problem.TheVariants as problems
 use Rattle.tcap_msg.specs.declared.kind.Kind.TheVariants as forms
 use Rattle.tcap_msg.specs.declared.message.Message.{Message}
 use Rattle.tcap_msg.specs.declared.message.Message.TheVariants.{Unidirectional, Begin, Continue, End as EndMessage, Abort}
-use Rattle.tcap_msg.specs.declared.message.AbortReason.{AbortReason}
 use Rattle.tcap_msg.specs.declared.message.AbortReason.TheVariants as reasons
 use Rattle.tcap_msg.specs.Parts.{cause_in, components_in, dialogue_in, dtid_in, kind_in, otid_in}
 use Rattle.tcap_record.specs.declared.entry.End.{End as Side}
@@ -23,15 +20,17 @@ use Rattle.tcap_refute.specs.declared.kind.Kind.TheVariants as kinds
 use Rattle.tcap_refute.specs.declared.from_id.FromId.{FromId}
 use Rattle.tcap_refute.specs.declared.notes.EndNotes.{EndNotes}
 use Rattle.tcap_refute.specs.declared.notes.Notes.{Notes}
-use Rattle.tcap_refute.specs.Before.{asked, components_of, has_a, is_a, sent_by, since_quiet}
-use Rattle.tcap_refute.specs.Kind.{answers_none_of, answers_nothing, goes_elsewhere, is_after_end, is_begin_with_request, is_misplaced_dialogue, is_of_kind, is_reused, is_unasked, is_unknown_operation, is_unknown_transaction, is_wrong_operation, lowest_kind, no_class_allows, or_else}
-use Rattle.tcap_refute.specs.Facts.{IdFact, Invoked, Answered, Succeeds, Fails, FromFact, Spoke, Begun, Asked, WentOn, WentElsewhere, OfId, EndFact, From, Ended, is_other, shows, shows_from, shows_end, told_by_list}
+use Rattle.tcap_refute.specs.Before.{asked, components_of, sent_by, since_quiet}
+use Rattle.tcap_refute.specs.Kind.{answers_none_of, answers_nothing, goes_elsewhere, is_after_end, is_begin_with_request, is_misplaced_dialogue, is_reused, is_unasked, is_unknown_operation, is_unknown_transaction, is_wrong_operation, lowest_kind, no_class_allows, or_else}
+use Rattle.tcap_refute.specs.Facts.{IdFact, Invoked, Answered, Succeeds, Fails, FromFact, Spoke, Asked, WentElsewhere, OfId, EndFact, shows, shows_from, told_by_list}
 use Rattle.tcap_refute.specs.Kept.{AreNotesOf, kept_from, notes_at, tells_end, told_by_from, told_by_notes}
-use Rattle.tcap_refute.specs.Asking.{answers_none, comes_after_end, dialogue_is_misplaced, id_is_reused, is_not_allowed, kind_by, kind_of_ids, kind_of_parts, one_answers_nothing, one_is_wrong, rejects_none, told_from, transaction_is_unknown, was_not_asked}
+use Rattle.tcap_refute.proofs.TestLaws.{and_false, or_none}
+use Rattle.tcap_refute.specs.Asking.{answers_none, comes_after_end, dialogue_is_misplaced, id_is_reused, is_not_allowed, kind_by, kind_of_ids, kind_of_parts, one_answers_nothing, one_is_wrong, told_from, transaction_is_unknown, was_not_asked}
 
 -- ---- what is kept, asked of
 
-there_told : (id : Option (List ℕ)) (kept : EndNotes) → told_by_from (kept_from id kept) ≡ told_from (λ fact. tells_end fact kept) id
+there_told : (id : Option (List ℕ)) (kept : EndNotes)
+    → told_by_from (kept_from id kept) ≡ told_from (λ fact. tells_end fact kept) id
 there_told None kept = refl
 there_told (Some id) kept = refl
 
@@ -40,8 +39,8 @@ kind_told : Table → Message → (EndFact → Bool) → (FromFact → Bool) →
 kind_told table m own there = or_else (kind_of_ids own there m) (kind_of_parts table there m)
 
 -- The lowest kind by the parts, where the IDs give none.
-pub kind_asked : (table : Table) (notes : Notes) (side : Side) (m : Message) (own theirs : EndNotes) (there : Option FromId)
-    (r : Option Kind) → own ≡ notes_at side notes → theirs ≡ notes_at (other side) notes
+pub kind_asked : (table : Table) (notes : Notes) (side : Side) (m : Message) (own theirs : EndNotes)
+    (there : Option FromId) (r : Option Kind) → own ≡ notes_at side notes → theirs ≡ notes_at (other side) notes
     → there ≡ kept_from (dtid_in m) theirs → None ≡ kind_of_ids (λ fact. tells_end fact own) (told_by_from there) m
     → r ≡ kind_of_parts table (told_by_from there) m → r ≡ kind_by table (told_by_notes notes) side m
 unfolding kind_told
@@ -65,13 +64,11 @@ any_filtered p q (x ∷ xs) = by (q x) (any_filtered p q xs)
     by true rest = ap (λ r. p x || r) rest
     by false rest = rest
 
-any_flat : {A B : Type 0} (f : A → List B) (p : B → Bool) (xs : List A) → list_any (λ x. list_any p (f x)) xs ≡ list_any p (flat_map f xs)
+any_flat : {A B : Type 0} (f : A → List B) (p : B → Bool) (xs : List A)
+    → list_any (λ x. list_any p (f x)) xs ≡ list_any p (flat_map f xs)
 any_flat f p [] = refl
-any_flat f p (x ∷ xs) = ap (λ r. list_any p (f x) || r) (any_flat f p xs) ∙ sym (list_any-append p (f x) (flat_map f xs))
-
-and_false : (a : Bool) → (a && false) ≡ false
-and_false true = refl
-and_false false = refl
+any_flat f p (x ∷ xs) =
+    ap (λ r. list_any p (f x) || r) (any_flat f p xs) ∙ sym (list_any-append p (f x) (flat_map f xs))
 
 -- ---- what the list tells of an ID
 
@@ -83,7 +80,8 @@ abbrev told_of : Table → List Message → FromFact → Bool
 told_of table messages fact = list_any (shows_from table fact) messages
 
 told_is : (table : Table) (items : List Item) (side : Side) (id : List ℕ)
-    → told_from (told_by_list table items side) (Some id) ≡ told_of table (from_id id (sent_by side (since_quiet items)))
+    → told_from (told_by_list table items side) (Some id)
+    ≡ told_of table (from_id id (sent_by side (since_quiet items)))
 told_is table items side id =
     fun_ext λ fact. any_filtered (shows_from table fact) (λ m. is_id id (otid_in m)) (sent_by side (since_quiet items))
 
@@ -114,7 +112,8 @@ not_asked : (table : Table) (id : List ℕ) (xs : List Message) (cause : Option 
     → was_not_asked (told_of table (from_id id xs)) cause ≡ is_unasked cause (from_id id xs)
 not_asked table id xs cause = by (from_id id xs) refl cause
   where
-    by : (ms : List Message) → from_id id xs ≡ ms → (cause : Option ℕ) → was_not_asked (told_of table ms) cause ≡ is_unasked cause ms
+    by : (ms : List Message) → from_id id xs ≡ ms → (cause : Option ℕ)
+        → was_not_asked (told_of table ms) cause ≡ is_unasked cause ms
     by [] is None = refl
     by [] is (Some cause) = refl
     by (m ∷ ms) is None = rw (spoke_where table id xs m ms is) refl
@@ -194,7 +193,8 @@ module _ (table : Table) (messages : List Message) where
   answers_of (Reject (Some id) (problems.ReturnResult n)) = ap not (told_id id (Answered true))
   answers_of (Reject (Some id) (problems.ReturnError n)) = ap not (told_id id (Answered false))
 
-  allowed : (c : Component) → is_not_allowed (told_of table messages) c ≡ no_class_allows table (components_of messages) c
+  allowed : (c : Component)
+      → is_not_allowed (told_of table messages) c ≡ no_class_allows table (components_of messages) c
   allowed (Invoke id linked code parameter) = refl
   allowed (ReturnResult last id body) = ap not (told_id id (Succeeds _))
   allowed (ReturnError id code parameter) = ap not (told_id id Fails)
@@ -226,12 +226,9 @@ module _ (table : Table) (items : List Item) (side : Side) where
   answering (Begin otid dialogue components) = refl
   answering (Continue otid dtid dialogue components) =
       one_answers dtid (components_in (Continue otid dtid dialogue components))
-  answering (EndMessage dtid dialogue components) = one_answers dtid (components_in (EndMessage dtid dialogue components))
+  answering (EndMessage dtid dialogue components) =
+      one_answers dtid (components_in (EndMessage dtid dialogue components))
   answering (Abort dtid reason) = refl
-
-  or_none : (b : Bool) → b ≡ (b || false)
-  or_none true = refl
-  or_none false = refl
 
   wrong : (m : Message)
       → one_is_wrong table (there m) (kind_in m) (components_in m) ≡ is_wrong_operation table side (since_quiet items) m
@@ -257,14 +254,18 @@ module _ (table : Table) (items : List Item) (side : Side) where
   asked_there : (dtid : List ℕ) → told_from (told_by_list table items (other side)) (Some dtid) Asked
       ≡ list_any is_begin_with_request (asked side dtid (since_quiet items))
   asked_there dtid =
-      ap (λ told. told Asked) (told_is table items (other side) dtid) ∙ same_any _ _ (asked side dtid (since_quiet items)) asks
+      ap (λ told. told Asked) (told_is table items (other side) dtid)
+      ∙ same_any _ _ (asked side dtid (since_quiet items)) asks
 
   misplaced : (m : Message)
-      → dialogue_is_misplaced (there m Asked) (kind_in m) (dialogue_in m) ≡ is_misplaced_dialogue side (since_quiet items) m
+      → dialogue_is_misplaced (there m Asked) (kind_in m) (dialogue_in m)
+      ≡ is_misplaced_dialogue side (since_quiet items) m
   misplaced (Unidirectional dialogue components) = refl
   misplaced (Begin otid dialogue components) = refl
-  misplaced (Continue otid dtid dialogue components) = ap (λ b. dialogue_is_misplaced b forms.Continue dialogue) (asked_there dtid)
-  misplaced (EndMessage dtid dialogue components) = ap (λ b. dialogue_is_misplaced b forms.End dialogue) (asked_there dtid)
+  misplaced (Continue otid dtid dialogue components) =
+      ap (λ b. dialogue_is_misplaced b forms.Continue dialogue) (asked_there dtid)
+  misplaced (EndMessage dtid dialogue components) =
+      ap (λ b. dialogue_is_misplaced b forms.End dialogue) (asked_there dtid)
   misplaced (Abort dtid reason) =
       ap (λ b. dialogue_is_misplaced b forms.Abort (dialogue_in (Abort dtid reason))) (asked_there dtid)
 
@@ -286,11 +287,19 @@ kind_by_list table items side m =
     (id_is_reused (told_from (told_by_list table items side) (otid_in m)) (dtid_in m) (kind_in m))
     (comes_after_end (told_by_list table items side) (dtid_in m) (cause_in m))
     kinds.UnknownTransaction kinds.ReusedId kinds.AfterEnd _
-    ∙ rw (transaction table items side m, reused table items side m, after_end table items side m, answering table items side m,
-    wrong table items side m, misplaced table items side m) refl
+    ∙ rw (
+      transaction table items side m,
+      reused table items side m,
+      after_end table items side m,
+      answering table items side m,
+      wrong table items side m,
+      misplaced table items side m,
+    ) refl
 
 -- What is noted of items gives the lowest kind behind them.
-pub kind_noted : (table : Table) (items : List Item) (notes : Notes) (side : Side) (m : Message) → AreNotesOf table items notes
+pub kind_noted : (table : Table) (items : List Item) (notes : Notes) (side : Side) (m : Message)
+    → AreNotesOf table items notes
     → kind_by table (told_by_notes notes) side m ≡ lowest_kind table items (Sent side m)
 kind_noted table items notes side m are =
-    ap (λ told. kind_by table told side m) (fun_ext λ end. fun_ext λ fact. are.told end fact) ∙ kind_by_list table items side m
+    ap (λ told. kind_by table told side m) (fun_ext λ end. fun_ext λ fact. are.told end fact)
+    ∙ kind_by_list table items side m

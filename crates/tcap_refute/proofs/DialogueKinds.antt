@@ -32,17 +32,17 @@ use Rattle.tcap_refute.proofs.SentLaws.{IsSent, half_over}
 -- ---- portions that a half may carry
 
 -- A half in Received that was asked for a dialogue.
-abbrev IsAsked : Phase → Standing → Type 0
+abbrev pub IsAsked : Phase → Standing → Type 0
 IsAsked phase standing = (phase ≡ phases.Received) × (standing ≡ standings.Asked)
 
 -- A half that goes on carries none, or was asked for a dialogue and accepts it.
-goes_on : (phase : Phase) (standing : Standing) (d : Option Dialogue) → may_go_on phase standing d ≡ true
+pub goes_on : (phase : Phase) (standing : Standing) (d : Option Dialogue) → may_go_on phase standing d ≡ true
     → (is_none d ≡ true) ⊎ (IsAsked phase standing × (accepts_dialogue d ≡ true))
 goes_on phases.Received standings.Asked d may = inr ((refl, refl), may)
 goes_on phase standing d may = inl may
 
 -- One that aborts carries none, or an ABRT of the user, or was asked for a dialogue and refuses it.
-aborts : (phase : Phase) (standing : Standing) (d : Option Dialogue) → may_abort phase standing d ≡ true
+pub aborts : (phase : Phase) (standing : Standing) (d : Option Dialogue) → may_abort phase standing d ≡ true
     → ((is_none d || is_user_abort d) ≡ true) ⊎ (IsAsked phase standing × (refuses_dialogue d ≡ true))
 aborts phases.Received standings.Asked d may = by (is_none d) (refuses_dialogue d) (is_user_abort d) refl may
   where

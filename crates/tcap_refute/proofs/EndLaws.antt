@@ -1,5 +1,5 @@
 -- What is told of an end behind a message more.
-use Rattle.std.proofs.Common.{◌≡◌, ℕ, Bool, true, false, ◌&&◌, ◌||◌, List, Option, Some, None, bytes_eq, refl, sym, ap, ◌∙◌}
+use Rattle.std.proofs.Common.{◌≡◌, ℕ, Bool, true, false, ◌&&◌, ◌||◌, List, Some, None, bytes_eq, refl, sym, ap, ◌∙◌}
 use Rattle.std.specs.BTreeMap.{BTreeMap, WritesThrough, is_at}
 use Rattle.std.specs.BTreeSet.{BTreeSet, insert_key}
 use Rattle.std.specs.BTreeSet as set
@@ -11,7 +11,6 @@ use Rattle.std.proofs.lemmas.Map.Lookups.{exact_bytes}
 use Rattle.std.proofs.lemmas.Map.Views.{tells_apart}
 use Rattle.std.proofs.lemmas.Slice.Eq.{bytes_eq-Decides}
 use Rattle.tcap_msg.specs.declared.message.Message.{Message}
-use Rattle.tcap_msg.specs.Parts.{otid_in}
 use Rattle.tcap_end.specs.End.{is_id}
 use Rattle.tcap_end.specs.Table.{Table, octets_cmp}
 use Rattle.tcap_check.specs.Since.{ended_by}
@@ -19,7 +18,7 @@ use Rattle.tcap_refute.specs.declared.from_id.FromId.{FromId}
 use Rattle.tcap_refute.specs.declared.notes.EndNotes.{EndNotes}
 use Rattle.tcap_refute.specs.Facts.{FromFact, EndFact, From, Ended, shows_end, shows_from}
 use Rattle.tcap_refute.specs.Kept.{tells_end, tells_from}
-use Rattle.tcap_refute.proofs.SetLaws.{Puts, any_inserted, made, or_none, told_at, written}
+use Rattle.tcap_refute.proofs.SetLaws.{Puts, any_inserted, made, told_at, written}
 
 -- ---- transaction IDs
 
@@ -54,7 +53,8 @@ module _ (table : Table) (id : List ℕ) (m : Message) (old new : BTreeMap (List
   pub from_made : (fresh : FromId) → None ≡ lookup (is_at (octets_cmp id)) old.entries
       → Puts exact_bytes tells_from old.entries new.entries id s
       → ((f : FromFact) → tells_from f fresh ≡ false)
-      → ((f : FromFact) → tells_from f s ≡ (tells_from f fresh || shows_from table f m)) → (other : List ℕ) (f : FromFact)
+      → ((f : FromFact) → tells_from f s ≡ (tells_from f fresh || shows_from table f m))
+      → (other : List ℕ) (f : FromFact)
       → told_at exact_bytes tells_from new.entries other f
       ≡ (told_at exact_bytes tells_from old.entries other f || (is_id other (Some id) && shows_from table f m))
   from_made fresh none puts nothing told other f =
@@ -74,7 +74,8 @@ end_noted table m old headed new from same ended kept (From id f) = rw kept (fro
 end_noted table m old headed new from same ended kept (Ended id) = rw (ended id, same) refl
 
 pub ended_more : (id : List ℕ) (old new : BTreeSet (List ℕ)) → new.keys ≡ insert_key octets_cmp old.keys id
-    → (other : List ℕ) → set.contains octets_cmp new other ≡ (set.contains octets_cmp old other || is_id other (Some id))
+    → (other : List ℕ)
+    → set.contains octets_cmp new other ≡ (set.contains octets_cmp old other || is_id other (Some id))
 ended_more id old new is other =
     ap (λ keys. set.contains_by (octets_cmp other) (record { keys = keys })) is
     ∙ any_inserted octets_cmp (is_at (octets_cmp other)) (λ x y e. rw (exact_bytes x y e) refl) old.keys id

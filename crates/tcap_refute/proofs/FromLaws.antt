@@ -5,9 +5,7 @@ use Rattle.std.proofs.lemmas.Map.Lookups.{exact_signed}
 use Rattle.std.proofs.lemmas.Slice.Eq.{bytes_eq-Decides}
 use Rattle.tcap_msg.specs.declared.kind.Kind.TheVariants as forms
 use Rattle.tcap_msg.specs.declared.message.Message.{Message}
-use Rattle.tcap_msg.specs.Parts.{components_in, dialogue_in, dtid_in}
-use Rattle.tcap_end.specs.Dialogue.{is_request}
-use Rattle.tcap_end.specs.End.{is_id}
+use Rattle.tcap_msg.specs.Parts.{components_in, dtid_in}
 use Rattle.tcap_end.specs.Table.{Table}
 use Rattle.tcap_refute.specs.declared.from_id.FromId.{FromId}
 use Rattle.tcap_refute.specs.declared.from_id.Toward.{Toward}
@@ -16,7 +14,8 @@ use Rattle.tcap_refute.specs.Before.{is_a}
 use Rattle.tcap_refute.specs.Facts.{IdFact, FromFact, Spoke, Begun, Asked, WentOn, WentElsewhere, OfId, is_other, shows, shows_from}
 use Rattle.tcap_refute.specs.Kept.{is_elsewhere, tells, tells_from}
 use Rattle.tcap_refute.specs.Noting.{IsHeaded, IsSameHead, toward_behind, toward_with}
-use Rattle.tcap_refute.proofs.SetLaws.{or_none, told_at}
+use Rattle.tcap_refute.proofs.TestLaws.{or_none}
+use Rattle.tcap_refute.proofs.SetLaws.{told_at}
 
 -- ---- destination IDs
 
@@ -64,7 +63,8 @@ or_pairs false true true q = refl
 or_pairs false true false q = refl
 or_pairs false false p q = refl
 
-pub message_noted : (table : Table) (m : Message) (old headed new : FromId) → IsHeaded m old headed → IsSameHead headed new
+pub message_noted : (table : Table) (m : Message) (old headed new : FromId)
+    → IsHeaded m old headed → IsSameHead headed new
     → ((id : ℤ) (fact : IdFact) → told_at exact_signed tells new.ids.entries id fact
     ≡ (told_at exact_signed tells headed.ids.entries id fact || list_any (shows table id fact) (components_in m)))
     → (fact : FromFact) → tells_from fact new ≡ (tells_from fact old || shows_from table fact m)
@@ -78,4 +78,6 @@ message_noted table m old headed new head same ids (WentElsewhere dtid) =
     ap (is_elsewhere dtid) (same.toward ∙ head.toward)
     ∙ elsewhere_behind dtid (is_a forms.Continue m) (dtid_in m) old.toward
 message_noted table m old headed new head same ids (OfId id fact) =
-    ids id fact ∙ ap (λ kept. told_at exact_signed tells kept.entries id fact || list_any (shows table id fact) (components_in m)) head.ids
+    ids id fact
+    ∙ ap (λ kept. told_at exact_signed tells kept.entries id fact || list_any (shows table id fact) (components_in m))
+    head.ids

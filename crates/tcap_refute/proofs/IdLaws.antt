@@ -12,6 +12,7 @@ use Rattle.tcap_end.specs.Table.{Table}
 use Rattle.tcap_refute.specs.declared.by_id.ById.{ById}
 use Rattle.tcap_refute.specs.Facts.{IdFact, Invoked, Answered, Succeeds, Fails, noted_id, shows}
 use Rattle.tcap_refute.specs.Kept.{tells}
+use Rattle.tcap_refute.proofs.TestLaws.{and_false}
 use Rattle.tcap_refute.proofs.SetLaws.{Puts, made, told_at, written}
 
 -- ---- a component tells of its ID alone
@@ -20,16 +21,13 @@ and_true : (a : Bool) → (a && true) ≡ a
 and_true true = refl
 and_true false = refl
 
-and_false : (a : Bool) → (a && false) ≡ false
-and_false true = refl
-and_false false = refl
-
 of_invoke : (a r n : Bool) → (a && (true && r && n)) ≡ (a && r && n)
 of_invoke true r n = refl
 of_invoke false r n = refl
 
--- Of more, one part is told now.
-pub one_more : (old part rest now all : Bool) → now ≡ (old || part) → (old || (part || rest)) ≡ all → (now || rest) ≡ all
+-- Of what is to be told, one part is.
+pub one_more : (old part rest now all : Bool) → now ≡ (old || part) → (old || (part || rest)) ≡ all
+    → (now || rest) ≡ all
 one_more true part rest now all is told = rw is told
 one_more false part rest now all is told = rw is told
 
@@ -58,27 +56,19 @@ module _ (table : Table) (id other : ℤ) where
   of_that_id (ReturnResult last n body) Fails e = and_false _
   of_that_id (ReturnError n code parameter) Invoked e = and_false _
   of_that_id (ReturnError n code parameter) (Answered true) e = and_false _
-  of_that_id (ReturnError n code parameter) (Answered false) e = let same : n ≡ id = cc in rw (same, it, turned) (and_true _)
+  of_that_id (ReturnError n code parameter) (Answered false) e =
+      let same : n ≡ id = cc in rw (same, it, turned) (and_true _)
   of_that_id (ReturnError n code parameter) (Succeeds named) e = and_false _
   of_that_id (ReturnError n code parameter) Fails e = and_false _
   of_that_id (Reject n problem) f e = cc
 
-  -- One of which nothing is noted tells of none.
-  pub of_no_id : (c : Component) (f : IdFact) → noted_id c ≡ None → shows table other f c ≡ false
-  of_no_id (Invoke n linked code parameter) f e = cc
-  of_no_id (ReturnResult last n body) f e = cc
-  of_no_id (ReturnError n code parameter) f e = cc
-  of_no_id (Reject n problem) Invoked e = refl
-  of_no_id (Reject n problem) (Answered true) e = refl
-  of_no_id (Reject n problem) (Answered false) e = refl
-  of_no_id (Reject n problem) (Succeeds named) e = refl
-  of_no_id (Reject n problem) Fails e = refl
-
 -- ---- behind it
 
-module _ (table : Table) (id : ℤ) (component : Component) (its : noted_id component ≡ Some id) (old new : BTreeMap ℤ ById) (s : ById) where
+module _ (table : Table) (id : ℤ) (component : Component) (its : noted_id component ≡ Some id)
+    (old new : BTreeMap ℤ ById) (s : ById) where
   -- Something was kept of the ID.
-  pub id_written : (was : ById) → Some was ≡ lookup (is_at (int_cmp id)) old.entries → WritesThrough int_cmp (int_cmp id) old s new
+  pub id_written : (was : ById) → Some was ≡ lookup (is_at (int_cmp id)) old.entries
+      → WritesThrough int_cmp (int_cmp id) old s new
       → ((f : IdFact) → tells f s ≡ (tells f was || shows table id f component)) → (other : ℤ) (f : IdFact)
       → told_at exact_signed tells new.entries other f
       ≡ (told_at exact_signed tells old.entries other f || shows table other f component)
@@ -87,8 +77,9 @@ module _ (table : Table) (id : ℤ) (component : Component) (its : noted_id comp
       ∙ ap (λ b. told_at exact_signed tells old.entries other f || b) (of_that_id table id other component f its)
 
   -- Nothing was.
-  pub id_made : (fresh : ById) → None ≡ lookup (is_at (int_cmp id)) old.entries → Puts exact_signed tells old.entries new.entries id s
-      → ((f : IdFact) → tells f fresh ≡ false) → ((f : IdFact) → tells f s ≡ (tells f fresh || shows table id f component))
+  pub id_made : (fresh : ById) → None ≡ lookup (is_at (int_cmp id)) old.entries
+      → Puts exact_signed tells old.entries new.entries id s → ((f : IdFact) → tells f fresh ≡ false)
+      → ((f : IdFact) → tells f s ≡ (tells f fresh || shows table id f component))
       → (other : ℤ) (f : IdFact) → told_at exact_signed tells new.entries other f
       ≡ (told_at exact_signed tells old.entries other f || shows table other f component)
   id_made fresh none puts nothing told other f =

@@ -1,5 +1,5 @@
 -- What is noted behind one item more.
-use Rattle.std.proofs.Common.{◌≡◌, ℕ, ◌+◌, Bool, true, false, cond, ◌&&◌, ◌||◌, List, [], ◌∷◌, ◌++◌, map, drop, Option, Some, None, Result, Ok, Err, refl, sym, ap, ◌∙◌}
+use Rattle.std.proofs.Common.{◌≡◌, ℕ, Bool, true, false, cond, ◌&&◌, ◌||◌, List, [], ◌∷◌, ◌++◌, map, drop, Option, Some, None, Ok, refl, sym, ap, ◌∙◌}
 use Rattle.std.specs.List.{cons_option, list_any}
 use Rattle.std.proofs.lemmas.List.Folds.{list_any-append}
 use Rattle.tcap_msg.specs.declared.message.Message.{Message}
@@ -10,17 +10,16 @@ use Rattle.tcap_check.specs.World.{Item, Sent, is_side}
 use Rattle.tcap_check.specs.Entries.{item_of}
 use Rattle.tcap_check.specs.Follows.{has_quiet, is_quiet}
 use Rattle.tcap_check.specs.Run.{where_so}
-use Rattle.tcap_refute.specs.declared.judging.Judged.TheVariants.{Passed, Refuted, Ended}
-use Rattle.tcap_check.specs.declared.fault.Reason.{Reason}
+use Rattle.tcap_refute.specs.declared.judging.Judged.TheVariants.{Passed}
 use Rattle.tcap_refute.specs.declared.kind.Kind.{Kind}
-use Rattle.tcap_refute.specs.declared.kind.Refutation.{Refutation}
 use Rattle.tcap_refute.specs.declared.notes.Notes.{Notes}
 use Rattle.tcap_refute.specs.Before.{message_of, sent_by, since_quiet}
 use Rattle.tcap_refute.specs.Facts.{EndFact, shows_end, told_by_list}
 use Rattle.tcap_refute.specs.Kept.{AreNotesOf, told_by_notes}
-use Rattle.tcap_refute.specs.Kind.{lowest_kind, or_else, refutation_at, refuted, refuted_behind}
+use Rattle.tcap_refute.specs.Kind.{lowest_kind, refuted, refuted_behind}
 use Rattle.tcap_refute.specs.Asking.{kind_by}
-use Rattle.tcap_refute.specs.Judging.{Judges, entry_kind}
+use Rattle.tcap_refute.specs.Judging.{Judges}
+use Rattle.tcap_refute.proofs.TestLaws.{or_none}
 use Rattle.tcap_refute.proofs.AskLaws.{kind_noted}
 
 -- ---- a message more
@@ -46,20 +45,19 @@ module _ (side : Side) (m : Message) where
       → list_any test (sent_by end (Sent side m ∷ [])) ≡ (is_side end side && test m)
   sent_last test end = by (is_side end side)
     where
-      last : (b : Bool) → (b || false) ≡ b
-      last true = refl
-      last false = refl
-
       by : (b : Bool) → list_any test (cons_option (where_so b (Some m)) []) ≡ (b && test m)
-      by true = last (test m)
+      by true = sym (or_none (test m))
       by false = refl
 
-  sent_more : (end : Side) (xs : List Item) → sent_by end (xs ++ Sent side m ∷ []) ≡ sent_by end xs ++ sent_by end (Sent side m ∷ [])
+  sent_more : (end : Side) (xs : List Item)
+      → sent_by end (xs ++ Sent side m ∷ []) ≡ sent_by end xs ++ sent_by end (Sent side m ∷ [])
   sent_more end [] = refl
   sent_more end (x ∷ xs) = by (message_of end x) (sent_more end xs)
     where
-      by : (o : Option Message) → sent_by end (xs ++ Sent side m ∷ []) ≡ sent_by end xs ++ sent_by end (Sent side m ∷ [])
-          → cons_option o (sent_by end (xs ++ Sent side m ∷ [])) ≡ cons_option o (sent_by end xs) ++ sent_by end (Sent side m ∷ [])
+      by : (o : Option Message)
+          → sent_by end (xs ++ Sent side m ∷ []) ≡ sent_by end xs ++ sent_by end (Sent side m ∷ [])
+          → cons_option o (sent_by end (xs ++ Sent side m ∷ []))
+          ≡ cons_option o (sent_by end xs) ++ sent_by end (Sent side m ∷ [])
       by None rest = rest
       by (Some message) rest = ap (λ ms. message ∷ ms) rest
 
@@ -110,14 +108,19 @@ quiet_last (item ∷ xs) = by (is_quiet item) (quiet_last xs)
 since_mark : (xs : List Item) → since_quiet (xs ++ Item.Quiet ∷ []) ≡ []
 since_mark [] = refl
 since_mark (item ∷ xs) =
-    ap (λ b. cond b (since_quiet (xs ++ Item.Quiet ∷ [])) (item ∷ xs ++ Item.Quiet ∷ [])) (quiet_last (item ∷ xs)) ∙ since_mark xs
+    ap (λ b. cond b (since_quiet (xs ++ Item.Quiet ∷ [])) (item ∷ xs ++ Item.Quiet ∷ [])) (quiet_last (item ∷ xs))
+    ∙ since_mark xs
 
 pub marked : (table : Table) (items : List Item) (new : Notes)
     → ((end : Side) (fact : EndFact) → told_by_notes new end fact ≡ false)
     → Judges table items (Ok Item.Quiet) Passed new
-marked table items new told = (refl, record {
-  told = λ end fact. told end fact ∙ sym (ap (λ xs. list_any (shows_end table fact) (sent_by end xs)) (since_mark items));
-})
+marked table items new told = (
+  refl,
+  record {
+    told = λ end fact. told end fact
+        ∙ sym (ap (λ xs. list_any (shows_end table fact) (sent_by end xs)) (since_mark items));
+  },
+)
 
 -- ---- a record
 

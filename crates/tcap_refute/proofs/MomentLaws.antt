@@ -37,7 +37,7 @@ pub record IsMoment (table : Table) (side : Side) (before : List Item) (message 
 -- ---- lists with one item more
 
 -- A place in such a list is the last, or was there before.
-last_or_before : (item at : Item) (items front behind : List Item) → items ++ item ∷ [] ≡ front ++ at ∷ behind
+pub last_or_before : (item at : Item) (items front behind : List Item) → items ++ item ∷ [] ≡ front ++ at ∷ behind
     → ((item ≡ at) × (items ≡ front)) ⊎ ((rest : List Item) × (items ≡ front ++ at ∷ rest))
 last_or_before item at [] [] behind is = inl (cc, refl)
 last_or_before item at [] (f ∷ front) behind is = none front cc
@@ -54,7 +54,7 @@ last_or_before item at (i ∷ items) (f ∷ front) behind is = by (cc) (last_or_
     by same (inr (rest, all)) = inr (rest, cc)
 
 -- An end that keeps the rules kept them before the last event, and in it.
-kept_before : (side : Side) (before : List Event) (event : Event) → KeepsRules side (before ++ event ∷ [])
+pub kept_before : (side : Side) (before : List Event) (event : Event) → KeepsRules side (before ++ event ∷ [])
     → KeepsRules side before × (is_told_by side event ≡ false)
 kept_before side [] event keeps = (refl, (or_parts (is_told_by side event) false keeps).0)
 kept_before side (first ∷ before) event keeps =

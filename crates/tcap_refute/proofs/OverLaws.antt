@@ -1,5 +1,5 @@
 -- What a message is sent over: a Continue, an End or an Abort goes over an open half whose peer has the destination ID.
-use Rattle.std.proofs.Common.{◌≡◌, Bool, true, false, cond, ℕ, List, [], ◌∷◌, Option, Some, None, Ok, is_none, not, refl, subst, ◌∙◌}
+use Rattle.std.proofs.Common.{◌≡◌, ◌⊎◌, inl, inr, Bool, true, false, cond, ℕ, List, [], ◌∷◌, Option, Some, None, Ok, is_none, not, refl, sym, ap, subst, ◌∙◌}
 use Rattle.std.specs.Prelude.{ok_or}
 use Rattle.std.proofs.lemmas.Bool.{not-true}
 use Rattle.tcap_parts.specs.declared.component.Component.{Component}
@@ -10,28 +10,43 @@ use Rattle.tcap_msg.specs.declared.message.Message.TheVariants.{Unidirectional, 
 use Rattle.tcap_msg.specs.Parts.{cause_in, components_in, dialogue_in, dtid_in, items_of, reason_cause, reason_dialogue}
 use Rattle.tcap_end.specs.declared.fault.EndFault.TheVariants as faults
 use Rattle.tcap_end.specs.declared.half.Phase.{Phase}
+use Rattle.tcap_end.specs.declared.half.Phase.TheVariants as phases
 use Rattle.tcap_end.specs.declared.half.Slot.{Slot}
 use Rattle.tcap_end.specs.declared.half.Slot.TheVariants.{Begun, Accepted}
 use Rattle.tcap_end.specs.declared.half.Standing.{Standing}
 use Rattle.tcap_end.specs.Table.{Table}
-use Rattle.tcap_end.specs.Half.{Half, is_closed}
+use Rattle.tcap_end.specs.Half.{Half, closed_half, is_closed}
 use Rattle.tcap_end.specs.Dialogue.{may_abort, may_go_on}
-use Rattle.tcap_end.specs.End.{End, KeptHalf, first_half, half_where, is_id, with_own, with_peer}
+use Rattle.tcap_end.specs.End.{End, KeptHalf, first_half, half_where, is_id, put, with_own, with_peer}
 use Rattle.tcap_end.specs.Message.{active_half, is_active, is_received, send, send_abort, send_components, send_continue, send_end, send_first_continue, send_next_continue}
 use Rattle.tcap_end.specs.Sound.{Has, IsEnd}
 use Rattle.tcap_end.proofs.AnsweringLaws.{needs_ok, some_ok, then_ok}
+use Rattle.tcap_end.proofs.ComponentLaws.{all_sends}
 use Rattle.tcap_end.proofs.FoundLaws.{own_has, peer_has}
-use Rattle.tcap_end.proofs.HalfLaws.{active_is, received_is}
+use Rattle.tcap_end.proofs.HalfLaws.{Follows, active_is, received_is}
 use Rattle.tcap_end.proofs.StepLaws.{none_is}
 use Rattle.tcap_check.proofs.TurnLaws.{id_is}
+use Rattle.tcap_refute.proofs.HalfLawsTurns.{Answers, Deed, Said, Turned, answers, closes, stays}
 
 -- whether a half may carry the dialogue portion of a message with a destination ID
 abbrev pub may_carry : Message → Phase → Standing → Bool
 may_carry (Abort dtid reason) phase standing = may_abort phase standing (reason_dialogue reason)
 may_carry m phase standing = may_go_on phase standing (dialogue_in m)
 
+-- A Continue goes over an active half with its originating ID, or over one whose Begin it answers, where no half has
+-- that ID.
+abbrev pub Speaks : End → Message → Half → Type 0
+Speaks e (Continue otid dtid dialogue components) h =
+    ((h.phase ≡ phases.Active) × (h.own ≡ Some otid)) ⊎ ((h.phase ≡ phases.Received) × (with_own e otid ≡ None))
+Speaks e m h = Unit {0}
+
+-- It leaves its half active, with that ID.
+abbrev pub HasSpoken : Message → Half → Type 0
+HasSpoken (Continue otid dtid dialogue components) h = (h.phase ≡ phases.Active) × (h.own ≡ Some otid)
+HasSpoken m h = Unit {0}
+
 -- The message has no cause, and is sent over that half, which is open and may carry its dialogue portion. Its
--- components are sent from a half with the same invocations and answers.
+-- components are sent from a half with the same invocations and answers; and this is what the half becomes.
 pub record IsOver (table : Table) (e : End) (m : Message) (id : List ℕ) : Type 0 where
   pub kept : KeptHalf
   pub had : Has e kept
@@ -39,11 +54,17 @@ pub record IsOver (table : Table) (e : End) (m : Message) (id : List ℕ) : Type
   pub is_open : is_closed kept.half.phase ≡ false
   pub carries : may_carry m kept.half.phase kept.half.standing ≡ true
   pub no_cause : cause_in m ≡ None
+  pub speaks : Speaks e m kept.half
   pub start : Half
+  pub out : start.out ≡ kept.half.out
   pub inn : start.inn ≡ kept.half.inn
   pub grants : start.grants ≡ kept.half.grants
   pub behind : Half
   pub sends : send_components table start (components_in m) ≡ Ok behind
+  pub now : Half
+  pub turned : Turned table (Said m) kept.half now
+  pub spoken : HasSpoken m now
+  pub leads : send table e m ≡ Ok (put e kept.slot kept.key now)
 
 -- ---- halves that are found
 
@@ -62,7 +83,7 @@ first_passes passes slot ((key, half) ∷ es) f is = by (passes half) refl is (f
     by false so is rest = rest is
 
 -- So do those of an end.
-found_passes : (passes : Half → Bool) (e : End) (f : KeptHalf) → half_where passes e ≡ Some f → passes f.half ≡ true
+pub found_passes : (passes : Half → Bool) (e : End) (f : KeptHalf) → half_where passes e ≡ Some f → passes f.half ≡ true
 found_passes passes e f is = by (first_half passes Begun e.begun) refl
   where
     by : (o : Option KeptHalf) → first_half passes Begun e.begun ≡ o → passes f.half ≡ true
@@ -70,35 +91,68 @@ found_passes passes e f is = by (first_half passes Begun e.begun) refl
     by (Some g) some = first_passes passes Begun e.begun f (let same = rw some at is in some ∙ same)
 
 -- A half that is found by its peer's ID has it.
-peer_is : (e : End) (id : List ℕ) (f : KeptHalf) → with_peer e id ≡ Some f → f.half.peer ≡ Some id
+pub peer_is : (e : End) (id : List ℕ) (f : KeptHalf) → with_peer e id ≡ Some f → f.half.peer ≡ Some id
 peer_is e id f is = id_is id f.half.peer (found_passes (λ h. is_id id h.peer) e f is)
+
+pub own_is : (e : End) (id : List ℕ) (f : KeptHalf) → with_own e id ≡ Some f → f.half.own ≡ Some id
+own_is e id f is = id_is id f.half.own (found_passes (λ h. is_id id h.own) e f is)
+
+-- Components leave a half's phase, its IDs and its dialogue.
+pub follows_stays : {table : Table} {deed : Deed} (h g : Half) → Follows h g → Turned table deed h g
+follows_stays h g follows =
+    stays (record { phase = follows.phase; own = follows.own; peer = follows.peer; standing = follows.standing })
 
 -- ---- each message
 
 module _ (table : Table) (e made : End) (sound : IsEnd e) where
   -- A Continue that answers a Begin,
   answer_over : (otid dtid : List ℕ) (dialogue : Option Dialogue) (components : Option (List Component))
-      → send_first_continue table e otid dtid dialogue (items_of components) ≡ Ok made
+      → with_own e otid ≡ None → send_first_continue table e otid dtid dialogue (items_of components) ≡ Ok made
       → IsOver table e (Continue otid dtid dialogue components) dtid
-  answer_over otid dtid dialogue components is =
+  answer_over otid dtid dialogue components none is =
       let (f, ok, step) = then_ok (ok_or (with_peer e dtid) faults.NoTransaction) _ made is in
       let found = some_ok _ _ f ok in
       let waits = needs_ok (is_received f.half.phase) faults.WrongPhase _ made step in
       let may = needs_ok (may_go_on f.half.phase f.half.standing dialogue) faults.WrongDialogue _ made waits.1 in
       let start = active_half Accepted otid f.half in
       let (g, sent, done) = then_ok (send_components table start (items_of components)) _ made may.1 in
+      let had = peer_has e dtid sound f found in
+      let at = received_is f.half.phase waits.0 in
+      let peer = peer_is e dtid f found in
+      let follows = (all_sends table (items_of components) start g sent).follows in
+      let fits = rw at at (sound.halves f had).phase in
+      let it : Answers (Said (Continue otid dtid dialogue components)) f.half g = record {
+        id = otid;
+        to = dtid;
+        dialogue = dialogue;
+        components = components;
+        deed_is = refl;
+        was = at;
+        own_was = fits.0;
+        peer_was = peer;
+        phase = follows.phase;
+        own = follows.own;
+        peer = follows.peer ∙ peer;
+        standing = follows.standing;
+      } in
       record {
         kept = f;
-        had = peer_has e dtid sound f found;
-        peer = peer_is e dtid f found;
-        is_open = rw (received_is f.half.phase waits.0) refl;
+        had = had;
+        peer = peer;
+        is_open = rw at refl;
         carries = may.0;
         no_cause = refl;
+        speaks = inr (at, none);
         start = start;
+        out = refl;
         inn = refl;
         grants = refl;
         behind = g;
         sends = sent;
+        now = g;
+        turned = answers it;
+        spoken = (follows.phase, follows.own);
+        leads = ap (send_continue table e otid dtid dialogue (items_of components)) none ∙ is ∙ sym done;
       }
 
   -- or one that goes on,
@@ -110,18 +164,26 @@ module _ (table : Table) (e made : End) (sound : IsEnd e) where
       let peer = needs_ok (is_id dtid f.half.peer) faults.NoTransaction _ made active.1 in
       let may = needs_ok (may_go_on f.half.phase f.half.standing dialogue) faults.WrongDialogue _ made peer.1 in
       let (g, sent, done) = then_ok (send_components table f.half (items_of components)) _ made may.1 in
+      let at = active_is f.half.phase active.0 in
+      let follows = (all_sends table (items_of components) f.half g sent).follows in
       record {
         kept = f;
         had = own_has e otid sound f found;
         peer = id_is dtid f.half.peer peer.0;
-        is_open = rw (active_is f.half.phase active.0) refl;
+        is_open = rw at refl;
         carries = may.0;
         no_cause = refl;
+        speaks = inl (at, own_is e otid f found);
         start = f.half;
+        out = refl;
         inn = refl;
         grants = refl;
         behind = g;
         sends = sent;
+        now = g;
+        turned = follows_stays f.half g follows;
+        spoken = (follows.phase ∙ at, follows.own ∙ own_is e otid f found);
+        leads = ap (send_continue table e otid dtid dialogue (items_of components)) found ∙ is ∙ sym done;
       }
 
   -- by the half that has its own ID;
@@ -129,7 +191,7 @@ module _ (table : Table) (e made : End) (sound : IsEnd e) where
       (o : Option KeptHalf) → with_own e otid ≡ o
       → send_continue table e otid dtid dialogue (items_of components) o ≡ Ok made
       → IsOver table e (Continue otid dtid dialogue components) dtid
-  continue_over otid dtid dialogue components None found is = answer_over otid dtid dialogue components is
+  continue_over otid dtid dialogue components None found is = answer_over otid dtid dialogue components found is
   continue_over otid dtid dialogue components (Some f) found is = next_over otid dtid dialogue components f found is
 
   -- an End;
@@ -142,6 +204,7 @@ module _ (table : Table) (e made : End) (sound : IsEnd e) where
       let still = needs_ok (not (is_closed f.half.phase)) faults.WrongPhase _ made step in
       let may = needs_ok (may_go_on f.half.phase f.half.standing dialogue) faults.WrongDialogue _ made still.1 in
       let (g, sent, done) = then_ok (send_components table f.half (items_of components)) _ made may.1 in
+      let follows = (all_sends table (items_of components) f.half g sent).follows in
       record {
         kept = f;
         had = peer_has e dtid sound f found;
@@ -149,11 +212,24 @@ module _ (table : Table) (e made : End) (sound : IsEnd e) where
         is_open = not-true _ still.0;
         carries = may.0;
         no_cause = refl;
+        speaks = tt;
         start = f.half;
+        out = refl;
         inn = refl;
         grants = refl;
         behind = g;
         sends = sent;
+        now = closed_half g;
+        turned = closes (record {
+          phase = refl;
+          own = follows.own;
+          peer = follows.peer;
+          standing = refl;
+          was_open = not-true _ still.0;
+          ended = (dtid, refl, peer_is e dtid f found);
+        });
+        spoken = tt;
+        leads = is ∙ sym done;
       }
 
   -- and an Abort, which has no cause.
@@ -173,11 +249,24 @@ module _ (table : Table) (e made : End) (sound : IsEnd e) where
         is_open = not-true _ still.0;
         carries = may.0;
         no_cause = none_is (reason_cause reason) user.0;
+        speaks = tt;
         start = f.half;
+        out = refl;
         inn = refl;
         grants = refl;
         behind = f.half;
         sends = refl;
+        now = closed_half f.half;
+        turned = closes (record {
+          phase = refl;
+          own = refl;
+          peer = refl;
+          standing = refl;
+          was_open = not-true _ still.0;
+          ended = (dtid, rw (user.0) refl, peer_is e dtid f found);
+        });
+        spoken = tt;
+        leads = is ∙ sym may.1;
       }
 
   -- A message with a destination ID that is sent is sent over such a half.

@@ -1,28 +1,27 @@
 -- What a refutation says of all runs.
-use Rattle.std.proofs.Common.{◌≡◌, ◌⊎◌, inl, inr, Bool, true, false, cond, ℕ, zero, suc, ◌+◌, arith, List, [], ◌∷◌, ◌++◌, map, length, slice_get, Option, Some, None, option_map, Result, Ok, Err, refl, sym, ap, subst, ◌∙◌, append_assoc}
+use Rattle.std.proofs.Common.{◌≡◌, inl, inr, Bool, true, false, cond, ℕ, zero, suc, ◌+◌, List, [], ◌∷◌, ◌++◌, map, length, slice_get, Option, Some, None, Result, Ok, Err, refl, sym, ap, subst, ◌∙◌}
 use Rattle.std.specs.List.{find}
-use Rattle.std.proofs.lemmas.List.{append-nil, length-append}
+use Rattle.std.proofs.lemmas.List.{length-append}
 use Rattle.tcap_ber.specs.declared.fault.Fault.{Fault}
-use Rattle.tcap_msg.specs.declared.message.Message.{Message}
 use Rattle.tcap_record.specs.declared.entry.End.{End as Side}
 use Rattle.tcap_record.specs.declared.entry.End.TheVariants as sides
 use Rattle.tcap_record.specs.declared.entry.Entry.{Entry}
 use Rattle.tcap_end.specs.Table.{Table}
 use Rattle.tcap_check.specs.declared.fault.Reason.{Reason}
 use Rattle.tcap_check.specs.declared.fault.Reason.TheVariants as reasons
-use Rattle.tcap_check.specs.World.{Item, Sent, World}
-use Rattle.tcap_check.specs.Run.{BothKeepRules, Event, IsLawful, KeepsRules, Runs}
+use Rattle.tcap_check.specs.World.{Item, Sent}
+use Rattle.tcap_check.specs.Run.{BothKeepRules, Event, IsLawful, KeepsRules}
 use Rattle.tcap_check.specs.Entries.{AreItems, item_of}
 use Rattle.tcap_refute.specs.declared.kind.Kind.{Kind}
 use Rattle.tcap_refute.specs.declared.kind.Kind.TheVariants as kinds
 use Rattle.tcap_refute.specs.declared.kind.Refutation.{Refutation}
 use Rattle.tcap_refute.specs.Before.{since_quiet}
-use Rattle.tcap_refute.specs.Kind.{is_limit, is_of_kind, kind_of_reason, lowest_kind, or_else, refutation_at, refuted, refuted_behind, refuting_kinds}
-use Rattle.tcap_refute.specs.Unsendable.{IsAtFault, IsBadEntry, IsUnsendable, IsUnsendableEntry}
+use Rattle.tcap_refute.specs.Kind.{is_limit, is_of_kind, kind_of_reason, or_else, refutation_at, refuted, refuted_behind, refuting_kinds}
+use Rattle.tcap_refute.specs.Unsendable.{IsAtFault}
 use Rattle.tcap_refute.proofs.KindLaws.{none_of_kind}
 
 -- What is found passes the test.
-found_so : {A : Type 0} (passes : A → Bool) (xs : List A) (x : A) → find passes xs ≡ Some x → passes x ≡ true
+pub found_so : {A : Type 0} (passes : A → Bool) (xs : List A) (x : A) → find passes xs ≡ Some x → passes x ≡ true
 found_so passes [] x is = cc
 found_so passes (y ∷ ys) x is = by (passes y) refl (found_so passes ys x) is
   where
@@ -32,28 +31,30 @@ found_so passes (y ∷ ys) x is = by (passes y) refl (found_so passes ys x) is
     by false so on is = on is
 
 -- The items before, and one more entry.
-abbrev oks : List Item → List (Result Item Reason)
+abbrev pub oks : List Item → List (Result Item Reason)
 oks items = map (λ item. Ok item) items
 
-oks_more : (before : List Item) (item : Item) (more : List (Result Item Reason))
+pub oks_more : (before : List Item) (item : Item) (more : List (Result Item Reason))
     → oks (before ++ item ∷ []) ++ more ≡ oks before ++ Ok item ∷ more
 oks_more [] item more = refl
 oks_more (first ∷ before) item more = ap (λ (x : List (Result Item Reason)). Ok first ∷ x) (oks_more before item more)
 
-get_there : (before : List Item) (entry : Result Item Reason) (more : List (Result Item Reason))
+pub get_there : (before : List Item) (entry : Result Item Reason) (more : List (Result Item Reason))
     → slice_get (oks before ++ entry ∷ more) (length before) ≡ Some entry
 get_there [] entry more = refl
 get_there (first ∷ before) entry more = get_there before entry more
 
 -- A reason that names a kind is that of octets that are no message.
-bad_reason : (reason : Reason) (kind : Kind) → kind_of_reason reason ≡ Some kind
+pub bad_reason : (reason : Reason) (kind : Kind) → kind_of_reason reason ≡ Some kind
     → (kind ≡ kinds.BadMessage) × (fault : Fault) × (reason ≡ reasons.BadMessage fault)
-bad_reason (reasons.BadMessage fault) kind is = by (is_limit fault.reason) is
+    × (is_limit fault.reason ≡ false)
+bad_reason (reasons.BadMessage fault) kind is = by (is_limit fault.reason) refl is
   where
-    by : (b : Bool) → cond b None (Some kinds.BadMessage) ≡ Some kind
+    by : (b : Bool) → is_limit fault.reason ≡ b → cond b None (Some kinds.BadMessage) ≡ Some kind
         → (kind ≡ kinds.BadMessage) × (f : Fault) × (reasons.BadMessage fault ≡ reasons.BadMessage f)
-    by true is = cc
-    by false is = (cc, fault, refl)
+        × (is_limit f.reason ≡ false)
+    by true so is = cc
+    by false so is = (cc, fault, refl, so)
 bad_reason reasons.CertificateShape kind is = cc
 bad_reason reasons.FateCount kind is = cc
 bad_reason reasons.FateRange kind is = cc
@@ -76,11 +77,12 @@ at_fault_behind table before (Err reason ∷ more) r is = by (kind_of_reason rea
     by None named is = cc
     by (Some kind) named is =
         let made : (let x : Refutation = record { entry = length before; kind = kind } in x) ≡ r = cc in
-        let (bad, fault, of) = bad_reason reason kind named in
+        let (bad, fault, of, no_limit) = bad_reason reason kind named in
         inl (
           sym (ap (λ (x : Refutation). x.kind) made) ∙ bad,
           record {
             fault = fault;
+            no_limit = no_limit;
             there = subst (λ (n : ℕ). slice_get (oks before ++ Err reason ∷ more) n ≡ Some (Err (reasons.BadMessage fault)))
                 (ap (λ (x : Refutation). x.entry) made)
                 (get_there before (Err reason) more ∙ ap (λ (x : Reason). let o : Option (Result Item Reason) = Some (Err x) in o) of);

@@ -1,11 +1,11 @@
 -- Sets and maps of what was noted: what a query finds behind one key more.
-use Rattle.std.proofs.Common.{◌≡◌, ℕ, ℤ, Bool, true, false, cond, ◌&&◌, ◌||◌, List, [], ◌∷◌, Option, Some, None, is_some, Vec, Global as Alloc, Ordering, Less, Equal, Greater, int_cmp, nat_cmp, refl, sym, ap, ◌∙◌}
+use Rattle.std.proofs.Common.{◌≡◌, ℕ, ℤ, Bool, true, false, cond, ◌&&◌, ◌||◌, List, [], ◌∷◌, Some, None, is_some, Vec, Global as Alloc, Ordering, Less, Equal, Greater, int_cmp, nat_cmp, refl, sym, ap, ◌∙◌}
 use Rattle.std.specs.BTreeMap.{BTreeMap, WritesThrough, is_at}
 use Rattle.std.specs.BTreeSet.{insert_key}
 use Rattle.std.specs.Cmp.Lexicographic.{slice_cmp}
 use Rattle.std.specs.List.{list_any}
 use Rattle.std.specs.Map.{lookup}
-use Rattle.std.specs.Ordering.{match_ordering, is_eq}
+use Rattle.std.specs.Ordering.{match_ordering}
 use Rattle.std.proofs.lemmas.Map.Lookups.{CmpEqualImpliesEq, exact_bytes, exact_signed}
 use Rattle.std.proofs.lemmas.Map.Views.{tells_apart}
 use Rattle.tcap_parts.specs.declared.code.Code.{Code}
@@ -13,6 +13,7 @@ use Rattle.tcap_parts.specs.declared.code.Code.TheVariants.{Local, Global}
 use Rattle.tcap_end.specs.Component.{is_code}
 use Rattle.tcap_refute.specs.declared.codes.Codes.{Codes}
 use Rattle.tcap_refute.specs.Kept.{has_code, holds}
+use Rattle.tcap_refute.proofs.TestLaws.{or_none}
 
 -- ---- sets
 
@@ -52,10 +53,6 @@ module _ {K : Type 0} (cmp : K → K → Ordering) (test : K → Bool) where
 abbrev vec_cmp : Vec ℕ Alloc → Vec ℕ Alloc → Ordering
 vec_cmp a b = slice_cmp nat_cmp a.items b.items
 
-pub or_none : (b : Bool) → b ≡ (b || false)
-or_none true = refl
-or_none false = refl
-
 -- A local code more.
 pub local_added : (codes new : Codes) (n : ℤ) → new.locals.keys ≡ insert_key int_cmp codes.locals.keys n
     → new.globals.keys ≡ codes.globals.keys → (other : Code)
@@ -66,8 +63,8 @@ local_added codes new n is same (Global octets) = rw same (or_none _)
 
 -- A global one.
 pub global_added : (codes new : Codes) (octets : List ℕ) (vec : Vec ℕ Alloc) → vec.items ≡ octets
-    → new.globals.keys ≡ insert_key vec_cmp codes.globals.keys vec → new.locals.keys ≡ codes.locals.keys → (other : Code)
-    → has_code other new ≡ (has_code other codes || is_code other (Global octets))
+    → new.globals.keys ≡ insert_key vec_cmp codes.globals.keys vec → new.locals.keys ≡ codes.locals.keys
+    → (other : Code) → has_code other new ≡ (has_code other codes || is_code other (Global octets))
 global_added codes new octets vec its is same (Local m) = rw same (or_none _)
 global_added codes new octets vec its is same (Global others) = rw (is, ← its)
     (any_inserted vec_cmp (is_at (λ k. slice_cmp nat_cmp others k.items))
@@ -96,16 +93,17 @@ module _ {K A F : Type 0} {cmp : K → K → Ordering} (exact : CmpEqualImpliesE
       by false apart = or_none _
 
   -- It was there, and was written.
-  pub written : (shown : F → Bool) (old new : BTreeMap K A) (k : K) (was s : A) → Some was ≡ lookup (is_at (cmp k)) old.entries
-      → WritesThrough cmp (cmp k) old s new → ((f : F) → tell f s ≡ (tell f was || shown f)) → (q : K) (f : F)
+  pub written : (shown : F → Bool) (old new : BTreeMap K A) (k : K) (was s : A)
+      → Some was ≡ lookup (is_at (cmp k)) old.entries → WritesThrough cmp (cmp k) old s new → ((f : F) → tell f s ≡ (tell f was || shown f)) → (q : K) (f : F)
       → told_at new.entries q f ≡ (told_at old.entries q f || (is_at (cmp k) q && shown f))
   written shown old new k was s there writes told =
       put shown old.entries new.entries k s (writes.3 (sym (ap is_some there))).0
       (λ f. told f ∙ ap (λ o. holds (tell f) o || shown f) there)
 
   -- It was not there, and is new.
-  pub made : (shown : F → Bool) (old new : BTreeMap K A) (k : K) (fresh s : A) → None ≡ lookup (is_at (cmp k)) old.entries
-      → Puts old.entries new.entries k s → ((f : F) → tell f fresh ≡ false) → ((f : F) → tell f s ≡ (tell f fresh || shown f))
+  pub made : (shown : F → Bool) (old new : BTreeMap K A) (k : K) (fresh s : A)
+      → None ≡ lookup (is_at (cmp k)) old.entries → Puts old.entries new.entries k s
+      → ((f : F) → tell f fresh ≡ false) → ((f : F) → tell f s ≡ (tell f fresh || shown f))
       → (q : K) (f : F) → told_at new.entries q f ≡ (told_at old.entries q f || (is_at (cmp k) q && shown f))
   made shown old new k fresh s none puts nothing told =
       put shown old.entries new.entries k s puts

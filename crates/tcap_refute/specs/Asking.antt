@@ -1,5 +1,5 @@
 -- The kinds of a message (`Kind`), by what is told of the facts.
-use Rattle.std.specs.Prelude.{ℕ, ℤ, Bool, true, false, List, Option, Some, None, ◌==◌, ◌&&◌, ◌||◌, not, cond, is_none, is_some, option_map}
+use Rattle.std.specs.Prelude.{ℕ, ℤ, Bool, true, false, List, Option, Some, None, ◌==◌, ◌&&◌, ◌||◌, not, cond, is_some, option_map}
 use Rattle.std.specs.List.{list_any}
 use Rattle.tcap_parts.specs.declared.component.Component.{Component}
 use Rattle.tcap_parts.specs.declared.component.Component.TheVariants.{Invoke, ReturnResult, ReturnError, Reject}
@@ -93,7 +93,8 @@ abbrev pub one_is_wrong : Table → (FromFact → Bool) → Form → List Compon
 one_is_wrong table told forms.Unidirectional components = list_any (passes table told tests.NotOfClass4) components
 one_is_wrong table told forms.Begin components = list_any (passes table told tests.UnknownOperation) components
 one_is_wrong table told _ components =
-    list_any (passes table told tests.UnknownOperation) components || list_any (passes table told tests.NotAllowed) components
+    list_any (passes table told tests.UnknownOperation) components
+    || list_any (passes table told tests.NotAllowed) components
 
 -- ---- the dialogue portion
 
@@ -117,7 +118,8 @@ abbrev pub kind_of_parts : Table → (FromFact → Bool) → Message → Option 
 kind_of_parts table there message =
     cond (one_answers_nothing table there (kind_in message) (components_in message)) (Some kinds.AnswersNothing)
     (cond (one_is_wrong table there (kind_in message) (components_in message)) (Some kinds.WrongOperation)
-    (cond (dialogue_is_misplaced (there Asked) (kind_in message) (dialogue_in message)) (Some kinds.MisplacedDialogue) None))
+    (cond (dialogue_is_misplaced (there Asked) (kind_in message) (dialogue_in message)) (Some kinds.MisplacedDialogue)
+    None))
 
 -- where that is told of each end
 abbrev pub kind_by : Table → (Side → EndFact → Bool) → Side → Message → Option Kind

@@ -1,6 +1,6 @@
 -- What stands before an entry of a list, since the last quiet mark: what its end was sent, and what it sent, by
 -- transaction IDs (Q.774 3.3).
-use Rattle.std.specs.Prelude.{ℕ, ℤ, Bool, true, false, List, [], ◌∷◌, filter, filter_map, Option, Some, None, ◌&&◌, cond}
+use Rattle.std.specs.Prelude.{ℕ, ℤ, Bool, true, false, List, [], ◌∷◌, filter, filter_map, Option, Some, None, cond}
 use Rattle.std.specs.Ordering.{int_cmp}
 use Rattle.std.specs.BTreeMap.{is_at}
 use Rattle.std.specs.List.{list_any, flat_map}

@@ -1,15 +1,15 @@
 -- Worked records in which an end is given a fault, or none: what is blamed of each end.
-use Rattle.std.specs.Prelude.{◌≡◌, pos, negsuc, true, false, [], ◌∷◌, Some, None}
+use Rattle.std.specs.Prelude.{pos, true, [], ◌∷◌, Some, None}
 use Rattle.tcap_parts.specs.declared.code.Code.TheVariants.{Local}
 use Rattle.tcap_parts.specs.declared.problem.Problem.TheVariants as problems
 use Rattle.tcap_parts.specs.declared.component.Component.TheVariants.{Invoke, ReturnResult, ReturnError, Reject}
 use Rattle.tcap_parts.specs.declared.dialogue.Dialogue.TheVariants as dialogues
-use Rattle.tcap_parts.specs.declared.dialogue.Source.TheVariants.{User, Provider}
+use Rattle.tcap_parts.specs.declared.dialogue.Source.TheVariants.{User}
 use Rattle.tcap_msg.specs.declared.message.AbortReason.TheVariants as aborts
-use Rattle.tcap_msg.specs.declared.message.Message.TheVariants.{Unidirectional, Begin, Continue, End as EndMessage, Abort}
+use Rattle.tcap_msg.specs.declared.message.Message.TheVariants.{Begin, Continue, End as EndMessage, Abort}
 use Rattle.tcap_record.specs.declared.entry.End.TheVariants.{A, B}
-use Rattle.tcap_check.specs.World.{Item, Sent}
-use Rattle.tcap_refute.specs.WorkedBlame.{Blamed, IsBlamed, Unblamed, all_last, prearranged, some_last, table}
+use Rattle.tcap_check.specs.World.{Sent}
+use Rattle.tcap_refute.specs.WorkedBlame.{Blamed, IsBlamed, Unblamed, table}
 
 -- an error of nothing called mistyped
 abbrev row_183 : Type 0

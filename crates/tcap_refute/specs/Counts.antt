@@ -1,7 +1,6 @@
 -- How many components of an invoke ID there are, of each sort (Q.773 4.2.2).
-use Rattle.std.specs.Prelude.{ℕ, ℤ, ◌+◌, Bool, true, false, List, length, filter, Option, Some, None, is_some, ◌==◌, ◌&&◌, ◌||◌, not, cond}
+use Rattle.std.specs.Prelude.{ℕ, ℤ, Bool, true, false, List, length, filter, Option, Some, None, is_some, ◌==◌, ◌&&◌, ◌||◌, not}
 use Rattle.tcap_parts.specs.declared.code.Code.{Code}
-use Rattle.tcap_parts.specs.declared.component.ResultBody.{ResultBody}
 use Rattle.tcap_parts.specs.declared.component.Component.{Component}
 use Rattle.tcap_parts.specs.declared.component.Component.TheVariants.{Invoke, ReturnResult, ReturnError, Reject}
 use Rattle.tcap_parts.specs.declared.problem.Problem.TheVariants as problems

@@ -1,5 +1,5 @@
--- Facts that are noted of the messages that an end sends. Each holds of a message or not; what is noted tells whether it
--- holds of one of the messages since the last quiet mark.
+-- Facts that are noted of the messages that an end sends. Each holds of a message or not; what is noted tells whether
+-- it holds of one of the messages since the last quiet mark.
 use Rattle.std.specs.Prelude.{ℤ, ℕ, Bool, true, false, List, Option, Some, None, ◌&&◌, ◌||◌, not}
 use Rattle.std.specs.List.{list_any}
 use Rattle.tcap_parts.specs.declared.code.Code.{Code}

@@ -1,5 +1,5 @@
 -- Messages that do not fit the half over which they would be sent: its IDs and its phase, and its dialogue (Q.774 3.2, 3.3).
-use Rattle.std.specs.Prelude.{ℕ, Bool, true, false, List, [], ◌∷◌, ◌++◌, Option, Some, None, is_some, ◌==◌, ◌&&◌, ◌||◌, not, cond}
+use Rattle.std.specs.Prelude.{ℕ, Bool, false, List, [], ◌∷◌, ◌++◌, Option, Some, None, is_some, ◌==◌, ◌&&◌, ◌||◌, not, cond}
 use Rattle.std.specs.List.{list_any}
 use Rattle.tcap_parts.specs.declared.dialogue.Dialogue.{Dialogue}
 use Rattle.tcap_parts.specs.declared.dialogue.Dialogue.TheVariants as dialogues

@@ -21,11 +21,12 @@ abbrev pub entry_kind : Table → List Item → Result Item Reason → Option Ki
 entry_kind table items (Ok item) = lowest_kind table items item
 entry_kind table items (Err reason) = kind_of_reason reason
 
--- What is said of an entry behind these items holds of it: that it is an item of no kind, which is noted; that it has that
--- kind; or that it is no item, and has none.
+-- What is said of an entry behind these items holds of it: that it is an item of no kind, which is noted; that it has
+-- that kind; or that it is no item, and has none.
 abbrev pub Judges : Table → List Item → Result Item Reason → Judged → Notes → Type 0
 Judges table items entry (Refuted kind) notes = entry_kind table items entry ≡ Some kind
-Judges table items (Ok item) Passed notes = (lowest_kind table items item ≡ None) × AreNotesOf table (items ++ item ∷ []) notes
+Judges table items (Ok item) Passed notes =
+    (lowest_kind table items item ≡ None) × AreNotesOf table (items ++ item ∷ []) notes
 Judges table items (Ok item) Ended notes = ⊥
 Judges table items (Err reason) Passed notes = ⊥
 Judges table items (Err reason) Ended notes = kind_of_reason reason ≡ None

@@ -7,12 +7,10 @@ use Rattle.tcap_ber.specs.declared.fault.Reason.TheVariants as reading
 use Rattle.tcap_parts.specs.declared.code.Code.{Code}
 use Rattle.tcap_parts.specs.declared.component.Component.{Component}
 use Rattle.tcap_parts.specs.declared.component.Component.TheVariants.{Invoke, ReturnResult, ReturnError, Reject}
-use Rattle.tcap_parts.specs.declared.problem.Problem.{Problem}
 use Rattle.tcap_parts.specs.declared.problem.Problem.TheVariants as problems
 use Rattle.tcap_parts.specs.declared.dialogue.Dialogue.{Dialogue}
 use Rattle.tcap_parts.specs.declared.dialogue.Dialogue.TheVariants as dialogues
 use Rattle.tcap_msg.specs.declared.kind.Kind.TheVariants as forms
-use Rattle.tcap_msg.specs.declared.message.AbortReason.TheVariants.{Cause}
 use Rattle.tcap_msg.specs.declared.message.Message.{Message}
 use Rattle.tcap_msg.specs.declared.message.Message.TheVariants.{Unidirectional, Begin, Continue, End as EndMessage, Abort}
 use Rattle.tcap_msg.specs.Parts.{cause_in, components_in, dialogue_in, dtid_in, otid_in}
@@ -238,8 +236,8 @@ abbrev pub or_else : {A : Type 0} → Option A → Option A → Option A
 or_else None other = other
 or_else (Some a) other = Some a
 
--- The lowest of these entries that has a kind, with its lowest kind; that of the items before them is known, and they
--- are so many. What stands behind the first entry that is no item is not looked at.
+-- The lowest of these entries that has a kind, with its lowest kind. These items stand before them, and none has a kind;
+-- the number is their count. What stands behind the first entry that is no item is not looked at.
 abbrev pub refuted_behind : Table → List Item → ℕ → List (Result Item Reason) → Option Refutation
 refuted_behind table items entry [] = None
 refuted_behind table items entry (Err reason ∷ more) = refutation_at entry (kind_of_reason reason)

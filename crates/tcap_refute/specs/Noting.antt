@@ -1,5 +1,5 @@
 -- What is kept behind one component, or one message, more.
-use Rattle.std.specs.Prelude.{◌≡◌, Bool, true, false, List, ℕ, Option, Some, None, ◌&&◌, ◌||◌, cond}
+use Rattle.std.specs.Prelude.{◌≡◌, Bool, true, false, List, ℕ, Option, Some, ◌&&◌, ◌||◌, cond}
 use Rattle.tcap_parts.specs.declared.code.Code.{Code}
 use Rattle.tcap_msg.specs.declared.kind.Kind.TheVariants as forms
 use Rattle.tcap_msg.specs.declared.message.Message.{Message}

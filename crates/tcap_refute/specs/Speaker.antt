@@ -1,19 +1,18 @@
 -- The half over which an end sends a message to a destination ID, as far as the list before it tells, since the last quiet
 -- mark: its own ID, how it began, what it may have heard, and what it invoked (Q.774 3.2, 3.3).
-use Rattle.std.specs.Prelude.{◌≡◌, ℕ, ℤ, Bool, true, false, List, [], ◌∷◌, ◌++◌, filter, filter_map, length, Option, Some, None, is_some, is_none, ◌==◌, ◌&&◌, ◌||◌, not, nat_le, cond}
+use Rattle.std.specs.Prelude.{ℕ, Bool, true, false, List, [], ◌∷◌, ◌++◌, filter, filter_map, Option, Some, None, is_some, is_none, ◌==◌, ◌&&◌, ◌||◌, not, cond}
 use Rattle.std.specs.List.{find, list_any}
 use Rattle.std.specs.Str.{bytes_eq}
 use Rattle.tcap_parts.specs.declared.component.Component.{Component}
-use Rattle.tcap_parts.specs.declared.component.Component.TheVariants.{Invoke}
 use Rattle.tcap_msg.specs.declared.kind.Kind.TheVariants as forms
 use Rattle.tcap_msg.specs.declared.message.Message.{Message}
 use Rattle.tcap_msg.specs.declared.message.Message.TheVariants.{Continue}
-use Rattle.tcap_msg.specs.Parts.{cause_in, components_in, dialogue_in, dtid_in, otid_in}
+use Rattle.tcap_msg.specs.Parts.{cause_in, dialogue_in, dtid_in, otid_in}
 use Rattle.tcap_record.specs.declared.entry.End.{End as Side}
 use Rattle.tcap_end.specs.Dialogue.{is_response}
 use Rattle.tcap_end.specs.End.{is_id}
 use Rattle.tcap_end.specs.Table.{Table}
-use Rattle.tcap_check.specs.World.{Item, Sent, other}
+use Rattle.tcap_check.specs.World.{Item, other}
 use Rattle.tcap_check.specs.Run.{then_so}
 use Rattle.tcap_check.specs.Since.{ended_by}
 use Rattle.tcap_refute.specs.Before.{asked, components_of, has_a, is_a, sent_by}
@@ -50,6 +49,7 @@ is_back side items seen m = by (dtid_in m)
     by_begin : List ℕ → Option Message → Bool
     by_begin own None = false
     by_begin own (Some begin) = not (is_begin_with_request begin) || list_any (accepts_to own) seen
+
     by : Option (List ℕ) → Bool
     by None = false
     by (Some own) = by_begin own (begin_from side own items)

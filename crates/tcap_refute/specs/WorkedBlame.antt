@@ -1,9 +1,9 @@
 -- What a worked record says of its ends: the entry that is blamed, and all its kinds.
-use Rattle.std.specs.Prelude.{◌≡◌, ℕ, ◌+◌, pos, Bool, true, false, List, [], ◌∷◌, ◌++◌, map, filter, cond, Option, Some, None}
+use Rattle.std.specs.Prelude.{◌≡◌, ℕ, ◌+◌, pos, true, false, List, [], ◌∷◌, ◌++◌, map, filter, cond, Option, Some, None}
 use Rattle.tcap_parts.specs.declared.code.Code.TheVariants.{Local}
 use Rattle.tcap_record.specs.declared.entry.End.{End as Side}
 use Rattle.tcap_record.specs.declared.entry.End.TheVariants.{A, B}
-use Rattle.tcap_end.specs.Table.{Table, Operation}
+use Rattle.tcap_end.specs.Table.{Table}
 use Rattle.tcap_check.specs.World.{Item, Sent, is_side}
 use Rattle.tcap_check.specs.Entries.{entry_of}
 use Rattle.tcap_refute.specs.declared.kind.Kind.{Kind}

@@ -1,12 +1,11 @@
 -- Worked records: the entry that is refuted, and its kind; or none.
 use Rattle.std.specs.Prelude.{◌≡◌, ℕ, pos, List, [], ◌∷◌, ◌++◌, map, take, Option, Some, None, Result, Ok, Err}
-use Rattle.tcap_ber.specs.declared.fault.Fault.{Fault}
 use Rattle.tcap_ber.specs.declared.fault.Reason.{Reason as ReadingReason}
 use Rattle.tcap_ber.specs.declared.fault.Reason.TheVariants as reading
 use Rattle.tcap_parts.specs.declared.code.Code.TheVariants.{Local}
 use Rattle.tcap_parts.specs.declared.problem.Problem.TheVariants as problems
 use Rattle.tcap_parts.specs.declared.component.Component.{Component}
-use Rattle.tcap_parts.specs.declared.component.Component.TheVariants.{Invoke, ReturnError, Reject}
+use Rattle.tcap_parts.specs.declared.component.Component.TheVariants.{ReturnError, Reject}
 use Rattle.tcap_parts.specs.declared.dialogue.Dialogue.{Dialogue}
 use Rattle.tcap_parts.specs.declared.dialogue.Dialogue.TheVariants as dialogues
 use Rattle.tcap_parts.specs.declared.dialogue.Source.TheVariants.{User}
@@ -18,7 +17,7 @@ use Rattle.tcap_check.specs.World.{Item, Sent}
 use Rattle.tcap_check.specs.Run.{provider_abort}
 use Rattle.tcap_check.specs.declared.fault.Reason.{Reason}
 use Rattle.tcap_check.specs.declared.fault.Reason.TheVariants.{BadMessage}
-use Rattle.tcap_check.specs.Worked.{Worked, answer, begin, crossing, end_to, further, id, invoke, result, table, three_entries, over_a_mark}
+use Rattle.tcap_check.specs.Worked.{answer, begin, crossing, end_to, further, id, invoke, result, table, three_entries, over_a_mark}
 use Rattle.tcap_refute.specs.declared.kind.Kind.{Kind}
 use Rattle.tcap_refute.specs.declared.kind.Kind.TheVariants as kinds
 use Rattle.tcap_refute.specs.Kind.{refuted}

@@ -2,7 +2,7 @@
 
 ghost use Rattle.std.specs.Prelude.{◌≡◌, option_copied};
 ghost use Rattle.tcap_msg.specs.Meaning.{cause_of, id_of};
-ghost use Rattle.tcap_msg.specs.Parts.{cause_in, dialogue_in, dtid_in, kind_in, otid_in};
+ghost use Rattle.tcap_msg.specs.Parts.{cause_in, dialogue_in, dtid_in, kind_in};
 ghost use Rattle.tcap_refute.specs.Facts.{Asked, Begun, Spoke, WentElsewhere, WentOn};
 ghost use Rattle.tcap_refute.specs.Kept.{kept_from, tells_end, told_by_from, told_by_notes};
 ghost use Rattle.tcap_refute.specs.Asking.{cause_is_unfounded, comes_after_end, dialogue_is_misplaced, id_is_reused, kind_by, kind_of_ids, kind_of_parts, transaction_is_unknown, was_not_asked};
@@ -146,8 +146,8 @@ impl EndNotes {
     }
 }
 
-/// The lowest kind by the components and the dialogue portion of a message; there has what was sent from its destination
-/// ID.
+/// The lowest kind by the components and the dialogue portion of a message; there has what was sent from its
+/// destination ID.
 fn kind_of_parts<M: MessageParts>(
     table: &Table,
     there: Option<&FromId>,

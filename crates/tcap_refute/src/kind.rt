@@ -10,9 +10,10 @@ pub enum Kind {
     /// The octets are no message (Q.773, X.690), by a reason that is no limit of this profile.
     BadMessage,
     /// A message to a transaction ID from which the peer sent nothing, or an Abort of the provider that answers nothing
-    /// from there, or has another cause than 1 and 4 (Q.774 3.3).
+    /// from there, or has another cause than 1 and 4, which no provider of this profile sends (Q.774 3.3).
     UnknownTransaction,
-    /// A Begin from an ID that its end has used; a Continue from one that its end used towards another (Q.774 3.3).
+    /// A Begin from an ID that its end has used; a Continue from one that its end used towards another (Q.774 3.3; that an
+    /// ID is used once between quiet marks is this profile's choice).
     ReusedId,
     /// A Continue, an End, or an Abort without cause, behind the end of its dialogue (Q.774 3.3).
     AfterEnd,

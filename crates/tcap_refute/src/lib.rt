@@ -2,8 +2,8 @@
 //! first entry of a record of which one holds.
 #![tactic(auto)]
 
-pub mod blame_rows;
 mod asking;
+pub mod blame_rows;
 mod by_id;
 mod codes;
 mod components;

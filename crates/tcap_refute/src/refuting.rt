@@ -28,9 +28,10 @@ impl From<AllocError> for SearchFault {
     }
 }
 
-/// The lowest entry of a record that has a kind, with its lowest kind: no end sends it that keeps the rules (Q.771, Q.773,
-/// Q.774). None where no entry has one. What stands behind the first entry that is no item, and has no kind, is not looked
-/// at. It takes about the time of looking each message and component up. `Memory` where memory ran out.
+/// The lowest entry of a record that has a kind, with its lowest kind: no end sends it that keeps the rules (Q.771,
+/// Q.773, Q.774). `None` where no entry has one. What stands behind octets that are no message by a limit of this
+/// profile, or behind an entry that is no item, is not looked at. Each message and each component takes a few look-ups
+/// in maps. `Memory` where memory ran out.
 pub fn refute(
     alloc: Global,
     record: &Record,

@@ -22,7 +22,8 @@ use Rattle.tcap_search.specs.Sweep.{answer_at, answer_kept, answer_rejected, ans
 use Rattle.tcap_search.proofs.ExpiryLaws.{answered_by, entry_same, expiries_more, line_adds}
 use Rattle.tcap_search.proofs.FateSteps.{lines_more}
 use Rattle.tcap_search.proofs.LossLaws.{lines_fated, lines_kept}
-use Rattle.tcap_search.proofs.NumberedLaws.{count_lines, entries_of_lines, line_at, lines_numbered}
+use Rattle.tcap_search.proofs.LineLaws.{count_lines}
+use Rattle.tcap_search.proofs.NumberedLaws.{entries_of_lines, line_at, lines_numbered}
 use Rattle.tcap_search.proofs.OrderLaws.{losses_order}
 use Rattle.tcap_search.proofs.SweepLaws.{answer_with, answered_in, answered_more, invoked_more, is_answering, is_in_gap_below}
 

@@ -18,7 +18,8 @@ use Rattle.tcap_search.specs.PerEnd.{at_end}
 use Rattle.tcap_search.specs.Fates.{fate_behind_least, fate_from, gap_behind_last, gap_kept, gap_raised, highest, is_of, least_time, receiver_gap, sooner, time_kept}
 use Rattle.tcap_search.proofs.GapLaws.{fate_is, gap_more, gap_of_receiver, gap_so_far, highest_more, reply_more}
 use Rattle.tcap_search.proofs.LossLaws.{count_fated, entries_fated, fate_before_is, fates_fated, least_so_far}
-use Rattle.tcap_search.proofs.NumberedLaws.{count_lines, count_transactions, entries_of_lines, line_at, line_more, lines_numbered, transaction_below}
+use Rattle.tcap_search.proofs.LineLaws.{count_lines}
+use Rattle.tcap_search.proofs.NumberedLaws.{count_transactions, entries_of_lines, line_at, line_more, lines_numbered, transaction_within}
 use Rattle.tcap_search.proofs.ReplyLaws.{behind_reply, replies_below}
 
 -- ---- replies
@@ -78,7 +79,7 @@ module _ (entries : List Entry) (transactions : List (Option ℕ)) (are : AreTra
           let count : length transactions ≡ length entries = count_transactions entries transactions are in
           let there : Some t ≡ get_or transactions i (Some t) =
           sym at ∙ get_or_default transactions i None (Some t) (omega arith) in
-          kept (other side) t (transaction_below entries transactions are i t within there)
+          kept (other side) t (transaction_within entries transactions are i t within there)
 
   -- So the fate that is found is the first fate of the line.
   pub fate_step : (ties : List Tie) (gaps : List (PerEnd ℕ)) (raised : PerEnd ℕ)

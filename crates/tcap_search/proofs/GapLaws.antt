@@ -15,7 +15,8 @@ use Rattle.tcap_search.specs.declared.tie.Tie.{Tie}
 use Rattle.tcap_search.specs.Lines.{Line, are_of_one_end, is_end, is_of_peer, last, message_of, or_else, share_transaction}
 use Rattle.tcap_search.specs.Proposed.{fate_by, fate_of, first_gap, first_gap_by, gap_behind, gap_behind_reply, last_of_receiver, raised, reply_of}
 use Rattle.tcap_search.specs.Fates.{earliest, fate_from, gap_behind_last, gap_behind_line, highest, is_line_of, is_of, untied_fate}
-use Rattle.tcap_search.proofs.LastLaws.{last_more, last_never, last_same}
+use Rattle.tcap_search.proofs.LastLaws.{last_never, last_same}
+use Rattle.tcap_search.proofs.LineLaws.{last_push}
 use Rattle.tcap_search.proofs.NumberedLaws.{AreNumbered}
 use Rattle.tcap_search.proofs.TestLaws.{and_and, and_false}
 
@@ -256,7 +257,7 @@ highest_more side (y ∷ lines) x ties =
 pub gap_more : (side : Side) (t : ℕ) (lines : List Line) (x : Line)
     → gap_behind_last side t (lines ++ x ∷ []) ≡ cond (is_line_of side t x) (x.number + 1)
     (gap_behind_last side t lines)
-gap_more side t lines x = ap gap_behind_line (last_more (is_line_of side t) lines x) ∙ by (is_line_of side t x)
+gap_more side t lines x = ap gap_behind_line (last_push (is_line_of side t) lines x) ∙ by (is_line_of side t x)
   where
     by : (b : Bool) → gap_behind_line (cond b (Some x) (last (is_line_of side t) lines))
         ≡ cond b (x.number + 1) (gap_behind_last side t lines)
@@ -268,7 +269,7 @@ gap_more side t lines x = ap gap_behind_line (last_more (is_line_of side t) line
 -- The reply with one tie more.
 pub reply_more : (ties : List Tie) (t : Tie) (number : ℕ)
     → reply_of (ties ++ t ∷ []) number ≡ cond (t.entry == number) (Some t.reply) (reply_of ties number)
-reply_more ties t number = ap (option_map (λ (t : Tie). t.reply)) (last_more (λ t. t.entry == number) ties t)
+reply_more ties t number = ap (option_map (λ (t : Tie). t.reply)) (last_push (λ t. t.entry == number) ties t)
     ∙ by (t.entry == number)
   where
     by : (b : Bool) → option_map (λ (t : Tie). t.reply) (cond b (Some t) (last (λ t. t.entry == number) ties))

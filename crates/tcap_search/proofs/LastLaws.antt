@@ -1,5 +1,5 @@
 -- The last of a list that passes a test.
-use Rattle.std.proofs.Common.{◌≡◌, Bool, true, false, cond, List, [], ◌∷◌, ◌++◌, Option, Some, None, refl, sym, ap, subst, ◌∙◌}
+use Rattle.std.proofs.Common.{◌≡◌, Bool, true, false, List, [], ◌∷◌, Option, Some, None, refl, ap, subst, ◌∙◌}
 use Rattle.std.specs.List.{AllByRecursion}
 use Rattle.std.proofs.lemmas.Option.{none-some, same_Some}
 use Rattle.tcap_check.specs.Run.{where_so}
@@ -14,23 +14,6 @@ or_none (Some a) = refl
 pub or_or : {A : Type 0} (o p q : Option A) → or_else (or_else o p) q ≡ or_else o (or_else p q)
 or_or None p q = refl
 or_or (Some a) p q = refl
-
--- The last of two lists together is that of the second, or else that of the first,
-pub last_both : {A : Type 0} (passes : A → Bool) (xs ys : List A)
-    → last passes (xs ++ ys) ≡ or_else (last passes ys) (last passes xs)
-last_both passes [] ys = sym (or_none (last passes ys))
-last_both passes (x ∷ xs) ys =
-    ap (λ o. or_else o (where_so (passes x) (Some x))) (last_both passes xs ys)
-    ∙ or_or (last passes ys) (last passes xs) (where_so (passes x) (Some x))
-
--- and so with one more.
-pub last_more : {A : Type 0} (passes : A → Bool) (xs : List A) (x : A)
-    → last passes (xs ++ x ∷ []) ≡ cond (passes x) (Some x) (last passes xs)
-last_more passes xs x = last_both passes xs (x ∷ []) ∙ by (passes x)
-  where
-    by : (b : Bool) → or_else (where_so b (Some x)) (last passes xs) ≡ cond b (Some x) (last passes xs)
-    by true = refl
-    by false = refl
 
 -- Two tests that agree on each have the same last.
 pub last_same : {A : Type 0} (P Q : A → Bool) → ((x : A) → P x ≡ Q x) → (xs : List A) → last P xs ≡ last Q xs

@@ -49,7 +49,8 @@ put_is sides.B id transaction old new put kept sides.B key =
 
 -- the transaction of the last of these lines that is of that end from that ID
 abbrev last_from : List Line → Side → List ℕ → Option ℕ
-last_from lines side id = then_so (last (λ f. is_end side f.entry.side && is_from id f.entry) lines) (λ f. f.transaction)
+last_from lines side id =
+    then_so (last (λ f. is_end side f.entry.side && is_from id f.entry) lines) (λ f. f.transaction)
 
 -- Of these lines that is kept.
 abbrev pub IsLatest : List Line → Latest → Type 0
@@ -126,7 +127,8 @@ pub noted_more : (entries : List Entry) (i : ℕ) (old new : Latest) (transactio
 noted_more entries i old new transactions e transaction below is noted has says = record {
   latest = rw (lines_more entries i e below is)
       (latest_more lines old new e transaction noted.latest whose says);
-  transactions = rw (lines_more entries i e below is) (ap (λ (ts : List (Option ℕ)). ts ++ transaction ∷ []) noted.transactions
+  transactions =
+      rw (lines_more entries i e below is) (ap (λ (ts : List (Option ℕ)). ts ++ transaction ∷ []) noted.transactions
       ∙ (ap (λ (t : Option ℕ). map (λ (x : Line). x.transaction) lines ++ t ∷ []) whose
       ∙ sym (map_push (λ (x : Line). x.transaction) lines (line_behind lines e))));
 }

@@ -1,4 +1,5 @@
 pub mod ClosingLaws
+pub mod EndedLaws
 pub mod ExpiryLaws
 pub mod ExpirySteps
 pub mod FateSteps
@@ -12,6 +13,7 @@ pub mod LimitLaws
 pub mod LineLaws
 pub mod ListedLaws
 pub mod LossLaws
+pub mod NotedLaws
 pub mod NumberedLaws
 pub mod OrderLaws
 pub mod ReplyLaws
@@ -21,3 +23,5 @@ pub mod SweepLaws
 pub mod SweepSteps
 pub mod TestLaws
 pub mod TieLaws
+pub mod ToldLaws
+pub mod UntiedLaws

@@ -1,6 +1,6 @@
 -- The numbers of what is proposed for a stretch are gaps and entries of it, and one fate for each entry.
-use Rattle.std.proofs.Common.{◌≡◌, ℕ, ℤ, zero, suc, ◌+◌, ◌≤◌, ◌<◌, arith, max, Bool, true, false, cond, List, [], ◌∷◌, ◌++◌, map, length, Option, Some, None, option_map, slice_get, refl, sym, ap, subst, ◌∙◌}
-use Rattle.std.specs.Prelude.{◌==◌, ◌&&◌, not, nat_le, nat_lt, is_some}
+use Rattle.std.proofs.Common.{◌≡◌, ℕ, ℤ, ◌+◌, ◌≤◌, ◌<◌, arith, max, Bool, true, false, cond, List, [], ◌∷◌, ◌++◌, map, length, Option, Some, None, option_map, slice_get, refl, sym, ap, subst, ◌∙◌}
+use Rattle.std.specs.Prelude.{◌&&◌, not, nat_le, nat_lt, is_some}
 use Rattle.std.specs.List.{AllByRecursion, list_any}
 use Rattle.std.proofs.lemmas.Bool.{leb-true}
 use Rattle.std.proofs.lemmas.List.{length-map}
@@ -17,15 +17,15 @@ use Rattle.tcap_check.specs.declared.certificate.Fate.{Fate}
 use Rattle.tcap_check.specs.declared.certificate.Fate.TheVariants.{Gap, Lost, By}
 use Rattle.tcap_check.specs.CertificateText.{ClosingFits, ExpiryFits, FateFits}
 use Rattle.tcap_check.proofs.ListLaws.{all_more, all_weaker}
-use Rattle.tcap_check.proofs.RunLaws.{map_some, then_some, where_some}
+use Rattle.tcap_check.proofs.RunLaws.{map_some, then_some}
 use Rattle.tcap_search.specs.declared.tie.Tie.{Tie}
-use Rattle.tcap_search.specs.Lines.{Line, are_of_one_end, last, or_else, lines_of, message_of, share_transaction}
-use Rattle.tcap_search.specs.Proposed.{Fated, all_fated, closing_behind, closing_by, closings_from, closings_of, expiries_by, expiries_from, expiries_of, expiry_behind, expiry_by, expiry_in, fate_before, fate_behind, fate_by, fate_of, fated, first_fates, first_gap, first_gap_by, gap_behind, gap_behind_reply, gap_in, invocation_at, is_closing_of, is_continue, is_expiry_of, is_gap, is_invoke_of, is_overtaken, last_invocation, last_invoke, last_of_receiver, may_invoke, components_at, number_limit, of_stretch, raised, rejected_line, reply_of, ties_of, unrecognized, was_ended, was_told, with_closing, with_expiry, with_losses}
+use Rattle.tcap_search.specs.Lines.{Line, are_of_one_end, or_else, lines_of, message_of}
+use Rattle.tcap_search.specs.Proposed.{Fated, all_fated, closing_behind, closing_by, closings_from, expiries_by, expiries_from, expiry_behind, expiry_by, expiry_in, fate_before, fate_behind, fate_by, fate_of, fated, first_fates, first_gap, first_gap_by, gap_behind, gap_behind_reply, gap_in, invocation_at, is_closing_of, is_continue, is_expiry_of, is_gap, is_invoke_of, is_overtaken, last_invocation, last_invoke, last_of_receiver, may_invoke, components_at, number_limit, of_stretch, raised, rejected_line, reply_of, ties_of, unrecognized, was_ended, was_told, with_closing, with_expiry, with_losses}
 use Rattle.tcap_search.specs.Traced.{AreFates}
 use Rattle.tcap_search.proofs.LastLaws.{last_among}
-use Rattle.tcap_search.proofs.NumberedLaws.{AreNumbered, count_lines, lines_numbered}
+use Rattle.tcap_search.proofs.NumberedLaws.{lines_numbered}
 use Rattle.tcap_search.proofs.ReplyLaws.{RepliesBelow, behind_reply, numbers_below, replies_below}
-use Rattle.tcap_search.proofs.LineLaws.{transaction_below}
+use Rattle.tcap_search.proofs.LineLaws.{count_lines, transaction_below}
 use Rattle.tcap_search.proofs.SweepSteps.{first_invoke}
 
 -- ---- what lies within

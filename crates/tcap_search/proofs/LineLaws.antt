@@ -1,13 +1,15 @@
 -- The lines of entries: one for each, in their order.
 use Rattle.std.proofs.Common.{◌≡◌, ℕ, zero, suc, ◌+◌, ◌<◌, ◌≤◌, Bool, true, false, cond, List, [], ◌∷◌, ◌++◌, length, take, get_or, reverse, Option, Some, None, refl, sym, ap, ◌∙◌, arith}
-use Rattle.std.specs.Prelude.{IfSome, slice_get}
+use Rattle.std.specs.Prelude.{IfSome, slice_get, option_map}
 use Rattle.std.specs.List.{AllByRecursion}
-use Rattle.std.proofs.lemmas.List.{length-reverse, length-take-le, length_push, reverse-append, take_all, take_more}
+use Rattle.std.proofs.lemmas.List.{length-take-le, length_push, reverse-append, take_more, length-map}
 use Rattle.tcap_msg.specs.declared.message.Message.{Message}
 use Rattle.tcap_msg.specs.declared.message.Message.TheVariants.{Unidirectional, Begin, Continue, End as EndMessage, Abort}
 use Rattle.tcap_record.specs.declared.entry.Entry.{Entry}
 use Rattle.tcap_check.specs.Run.{where_so}
 use Rattle.tcap_search.specs.Lines.{Line, is_asked_from, last, line_behind, lines_behind, lines_of, message_of, or_else, transaction_by, transaction_from}
+use Rattle.tcap_search.specs.Traced.{AreTransactions}
+use Rattle.std.proofs.lemmas.Option.{get_or_from_slice_get, slice_get-map, slice_get_read}
 
 -- ---- one entry more
 
@@ -31,7 +33,8 @@ pub count_behind : (earlier : List Line) (es : List Entry)
     → length (lines_behind earlier es) ≡ length earlier + length es
 count_behind earlier [] = omega arith
 count_behind earlier (e ∷ es) =
-    let one : length (earlier ++ line_behind earlier e ∷ []) ≡ length earlier + 1 = length_push earlier (line_behind earlier e) in
+    let one : length (earlier ++ line_behind earlier e ∷ []) ≡ length earlier + 1 =
+    length_push earlier (line_behind earlier e) in
     let rest = count_behind (earlier ++ line_behind earlier e ∷ []) es in
     omega arith
 
@@ -56,21 +59,25 @@ kept_line : (earlier : List Line) (es : List Entry) (k : ℕ) → k < length ear
     → slice_get (lines_behind earlier es) k ≡ slice_get earlier k
 kept_line earlier [] k below = refl
 kept_line earlier (e ∷ es) k below =
-    let one : length (earlier ++ line_behind earlier e ∷ []) ≡ length earlier + 1 = length_push earlier (line_behind earlier e) in
-    kept_line (earlier ++ line_behind earlier e ∷ []) es k (omega arith) ∙ get_push earlier (line_behind earlier e) k below
+    let one : length (earlier ++ line_behind earlier e ∷ []) ≡ length earlier + 1 =
+    length_push earlier (line_behind earlier e) in
+    kept_line (earlier ++ line_behind earlier e ∷ []) es k (omega arith)
+    ∙ get_push earlier (line_behind earlier e) k below
 
 line_from : (earlier : List Line) (es : List Entry) (i : ℕ) (e : Entry) → slice_get es i ≡ Some e
     → slice_get (lines_behind earlier es) (length earlier + i) ≡ Some (line_behind (lines_behind earlier (take i es)) e)
 line_from earlier [] i e is = cc
 line_from earlier (f ∷ es) zero e is =
-    let one : length (earlier ++ line_behind earlier f ∷ []) ≡ length earlier + 1 = length_push earlier (line_behind earlier f) in
+    let one : length (earlier ++ line_behind earlier f ∷ []) ≡ length earlier + 1 =
+    length_push earlier (line_behind earlier f) in
     let here : length earlier + 0 ≡ length earlier = omega arith in
     let same : f ≡ e = cc in
     ap (slice_get (lines_behind (earlier ++ line_behind earlier f ∷ []) es)) here
     ∙ (kept_line (earlier ++ line_behind earlier f ∷ []) es (length earlier) (omega arith)
     ∙ (get_pushed earlier (line_behind earlier f) ∙ ap (λ (d : Entry). Some (line_behind earlier d)) same))
 line_from earlier (f ∷ es) (suc i) e is =
-    let one : length (earlier ++ line_behind earlier f ∷ []) ≡ length earlier + 1 = length_push earlier (line_behind earlier f) in
+    let one : length (earlier ++ line_behind earlier f ∷ []) ≡ length earlier + 1 =
+    length_push earlier (line_behind earlier f) in
     let here : length earlier + suc i ≡ length (earlier ++ line_behind earlier f ∷ []) + i = omega arith in
     ap (slice_get (lines_behind (earlier ++ line_behind earlier f ∷ []) es)) here
     ∙ line_from (earlier ++ line_behind earlier f ∷ []) es i e is
@@ -148,7 +155,8 @@ number_behind count earlier e message room all = by message
     by (Some (EndMessage dtid dialogue components)) = from (Some dtid)
     by (Some (Abort dtid reason)) = from (Some dtid)
 
-push_all : {A : Type 0} (P : A → Type 0) (xs : List A) (x : A) → AllByRecursion P xs → P x → AllByRecursion P (xs ++ x ∷ [])
+push_all : {A : Type 0} (P : A → Type 0) (xs : List A) (x : A) → AllByRecursion P xs → P x
+    → AllByRecursion P (xs ++ x ∷ [])
 push_all P [] x all new = (new, tt)
 push_all P (y ∷ xs) x all new = (all.0, push_all P xs x all.1 new)
 
@@ -157,7 +165,8 @@ numbers_behind : (count : ℕ) (earlier : List Line) (es : List Entry) → lengt
     → AllByRecursion (λ x. IsNumber count x.transaction) (lines_behind earlier es)
 numbers_behind count earlier [] room all = all
 numbers_behind count earlier (e ∷ es) room all =
-    let one : length (earlier ++ line_behind earlier e ∷ []) ≡ length earlier + 1 = length_push earlier (line_behind earlier e) in
+    let one : length (earlier ++ line_behind earlier e ∷ []) ≡ length earlier + 1 =
+    length_push earlier (line_behind earlier e) in
     numbers_behind count (earlier ++ line_behind earlier e ∷ []) es (omega arith)
     (push_all (λ (x : Line). IsNumber count x.transaction) earlier (line_behind earlier e) all
     (number_behind count earlier e (message_of e) (omega arith) all))
@@ -167,3 +176,21 @@ pub transaction_below : (es : List Entry) (k : ℕ) (x : Line) (transaction : �
 transaction_below es k x transaction is has =
     let all = numbers_behind (length es) [] es (omega arith) tt in
     rw has at (at_holds (λ (x : Line). IsNumber (length es) x.transaction) (lines_of es) k x all is)
+
+-- ---- the transactions of entries
+
+pub count_transactions : (entries : List Entry) (transactions : List (Option ℕ)) → AreTransactions entries transactions
+    → length transactions ≡ length entries
+count_transactions entries transactions are =
+    ap (length {A = Option ℕ}) are
+    ∙ (length-map (lines_of entries) (λ (x : Line). x.transaction) ∙ count_lines entries)
+
+pub transaction_is : (entries : List Entry) (transactions : List (Option ℕ)) (i : ℕ) (e : Entry)
+    → AreTransactions entries transactions → i < length entries → e ≡ get_or entries i e
+    → get_or transactions i None ≡ (line_behind (lines_of (take i entries)) e).transaction
+transaction_is entries transactions i e are below read =
+    let there = line_at entries i e (slice_get_read entries (length entries) i e refl below read) in
+    get_or_from_slice_get transactions i (line_behind (lines_of (take i entries)) e).transaction None
+    (ap (λ (ts : List (Option ℕ)). slice_get ts i) are
+    ∙ (slice_get-map (λ (x : Line). x.transaction) (lines_of entries) i
+    ∙ ap (option_map (λ (x : Line). x.transaction)) there))

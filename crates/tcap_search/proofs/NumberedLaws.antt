@@ -1,15 +1,12 @@
 -- The lines of entries: one for each, numbered from 0, and their transactions.
-use Rattle.std.proofs.Common.{◌≡◌, ℕ, zero, suc, ◌+◌, ◌<◌, List, [], ◌∷◌, ◌++◌, map, length, take, get_or, Option, Some, None, refl, sym, ap, subst, ◌∙◌, arith, append_assoc}
-use Rattle.std.specs.List.{AllByRecursion}
-use Rattle.std.proofs.lemmas.List.{append-nil, get_or-map, length-append, length-map, map-append, take_more}
-use Rattle.tcap_msg.specs.declared.message.Message.{Message}
-use Rattle.tcap_msg.specs.declared.message.Message.TheVariants.{Unidirectional, Begin, Continue, End, Abort}
+use Rattle.std.proofs.Common.{◌≡◌, ℕ, zero, suc, ◌+◌, ◌<◌, List, [], ◌∷◌, ◌++◌, map, length, take, get_or, Option, Some, None, refl, sym, ap, ◌∙◌, arith, append_assoc}
+use Rattle.std.specs.Prelude.{option_map, slice_get}
+use Rattle.std.proofs.lemmas.List.{append-nil, get_or-map, length-map, map-append, take_more}
+use Rattle.std.proofs.lemmas.Option.{none-some, same_Some, slice_get-map, slice_get_read}
 use Rattle.tcap_record.specs.declared.entry.Entry.{Entry}
-use Rattle.tcap_check.specs.Run.{then_so}
-use Rattle.tcap_check.proofs.ListLaws.{all_more}
-use Rattle.tcap_search.specs.Lines.{Line, is_asked_from, last, line_behind, lines_behind, lines_of, message_of, transaction_by, transaction_from}
+use Rattle.tcap_search.specs.Lines.{Line, line_behind, lines_behind, lines_of}
 use Rattle.tcap_search.specs.Traced.{AreTransactions}
-use Rattle.tcap_search.proofs.LastLaws.{last_among}
+use Rattle.tcap_search.proofs.LineLaws.{count_lines, transaction_below}
 
 -- ---- entries
 
@@ -25,11 +22,7 @@ lines_entries earlier (e ∷ entries) =
 pub entries_of_lines : (entries : List Entry) → map (λ x. x.entry) (lines_of entries) ≡ entries
 entries_of_lines entries = lines_entries [] entries
 
--- as many as there are,
-pub count_lines : (entries : List Entry) → length (lines_of entries) ≡ length entries
-count_lines entries =
-    sym (length-map (lines_of entries) (λ x. x.entry)) ∙ ap length (entries_of_lines entries)
-
+-- and so are their transactions as many.
 pub count_transactions : (entries : List Entry) (transactions : List (Option ℕ)) → AreTransactions entries transactions
     → length transactions ≡ length entries
 count_transactions entries transactions are =
@@ -100,63 +93,20 @@ module _ (entries : List Entry) (transactions : List (Option ℕ)) (are : AreTra
 
 -- ---- transactions are numbers of entries
 
-abbrev pub IsBelow : ℕ → Option ℕ → Type 0
-IsBelow n None = Unit {0}
-IsBelow n (Some t) = t < n
-
-from_below : (n : ℕ) (earlier : List Line) (e : Entry) (id : Option (List ℕ))
-    → AllByRecursion (λ x. IsBelow n x.transaction) earlier → IsBelow n (transaction_from earlier e id)
-from_below n earlier e None all = tt
-from_below n earlier e (Some id) all = by (last (λ f. is_asked_from e id f.entry) earlier) refl
-  where
-    by : (o : Option Line) → last (λ f. is_asked_from e id f.entry) earlier ≡ o
-        → IsBelow n (then_so o (λ f. f.transaction))
-    by None at = tt
-    by (Some f) at = last_among (λ x. IsBelow n x.transaction) (λ f. is_asked_from e id f.entry) earlier f all at
-
-by_below : (n : ℕ) (earlier : List Line) (e : Entry) (m : Option Message) → length earlier < n
-    → AllByRecursion (λ x. IsBelow n x.transaction) earlier → IsBelow n (transaction_by earlier e m)
-by_below n earlier e None within all = tt
-by_below n earlier e (Some (Begin otid dialogue components)) within all = within
-by_below n earlier e (Some (Continue otid dtid dialogue components)) within all = from_below n earlier e (Some dtid) all
-by_below n earlier e (Some (End dtid dialogue components)) within all = from_below n earlier e (Some dtid) all
-by_below n earlier e (Some (Abort dtid reason)) within all = from_below n earlier e (Some dtid) all
-by_below n earlier e (Some (Unidirectional dialogue components)) within all = tt
-
-behind_below : (n : ℕ) (earlier : List Line) (entries : List Entry) → length earlier + length entries ≡ n
-    → AllByRecursion (λ x. IsBelow n x.transaction) earlier
-    → AllByRecursion (λ x. IsBelow n x.transaction) (lines_behind earlier entries)
-behind_below n earlier [] count all = all
-behind_below n earlier (e ∷ entries) count all =
-    behind_below n (earlier ++ line_behind earlier e ∷ []) entries
-    (omega (arith, length-append earlier (line_behind earlier e ∷ [])))
-    (all_more (λ x. IsBelow n x.transaction) earlier (line_behind earlier e) all
-    (by_below n earlier e (message_of e) (omega arith) all))
-
-all_at : {A : Type 0} (P : A → Type 0) (xs : List A) (i : ℕ) (d : A) → AllByRecursion P xs → i < length xs
-    → P (get_or xs i d)
-all_at P [] i d all within = absurd (omega arith)
-all_at P (x ∷ xs) zero d all within = all.0
-all_at P (x ∷ xs) (suc i) d all within = all_at P xs i d all.1 (omega arith)
-
-all_map : {A B : Type 0} (P : B → Type 0) (f : A → B) (xs : List A) → AllByRecursion (λ x. P (f x)) xs
-    → AllByRecursion P (map f xs)
-all_map P f [] all = tt
-all_map P f (x ∷ xs) all = (all.0, all_map P f xs all.1)
-
 -- The transaction of each is the number of an entry.
-pub transactions_below : (entries : List Entry) (transactions : List (Option ℕ)) → AreTransactions entries transactions
-    → AllByRecursion (IsBelow (length entries)) transactions
-transactions_below entries transactions are =
-    subst (λ (ts : List (Option ℕ)). AllByRecursion (IsBelow (length entries)) ts) (sym are)
-    (all_map (IsBelow (length entries)) (λ (x : Line). x.transaction) (lines_of entries)
-    (behind_below (length entries) [] entries (omega arith) tt))
-
-pub transaction_below : (entries : List Entry) (transactions : List (Option ℕ)) → AreTransactions entries transactions
+pub transaction_within : (entries : List Entry) (transactions : List (Option ℕ)) → AreTransactions entries transactions
     → (i t : ℕ) → i < length entries → Some t ≡ get_or transactions i (Some t) → t < length entries
-transaction_below entries transactions are i t within is =
-    let count : length transactions ≡ length entries = count_transactions entries transactions are in
-    let below : IsBelow (length entries) (get_or transactions i (Some t)) =
-    all_at (IsBelow (length entries)) transactions i (Some t) (transactions_below entries transactions are)
-    (omega arith) in
-    rw (← is) at below
+transaction_within entries transactions are i t within is = by (slice_get (lines_of entries) i) refl there
+  where
+    count : length transactions ≡ length entries
+    count = count_transactions entries transactions are
+
+    there : option_map (λ (x : Line). x.transaction) (slice_get (lines_of entries) i) ≡ Some (Some t)
+    there = sym (slice_get-map (λ (x : Line). x.transaction) (lines_of entries) i)
+        ∙ ap (λ (ts : List (Option ℕ)). slice_get ts i) (sym are)
+        ∙ slice_get_read transactions (length transactions) i (Some t) refl (omega (arith, count)) is
+
+    by : (o : Option Line) → slice_get (lines_of entries) i ≡ o
+        → option_map (λ (x : Line). x.transaction) o ≡ Some (Some t) → t < length entries
+    by None at has = absurd (none-some (Some t) has)
+    by (Some x) at has = transaction_below entries i x t at (same_Some x.transaction (Some t) has)

@@ -13,7 +13,8 @@ use Rattle.tcap_search.specs.Lines.{Line, last, lines_of, message_of}
 use Rattle.tcap_search.specs.Proposed.{answered_line, gap_behind_reply, reply_of, ties_from, with_tie_by}
 use Rattle.tcap_search.specs.Traced.{AreTies}
 use Rattle.tcap_search.proofs.LastLaws.{last_among}
-use Rattle.tcap_search.proofs.NumberedLaws.{AreNumbered, lines_numbered, count_lines}
+use Rattle.tcap_search.proofs.LineLaws.{count_lines}
+use Rattle.tcap_search.proofs.NumberedLaws.{AreNumbered, lines_numbered}
 
 abbrev pub RepliesBelow : ℕ → List Tie → Type 0
 RepliesBelow n ties = AllByRecursion (λ t. t.reply < n) ties

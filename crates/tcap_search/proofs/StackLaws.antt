@@ -1,16 +1,13 @@
 -- Stacks in a map, and in the maps of both ends.
-use Rattle.std.proofs.Common.{◌≡◌, ℕ, ◌+◌, ◌==◌, ◌&&◌, Bool, true, false, cond, List, [], ◌∷◌, ◌++◌, length, reverse, Option, Some, None, Vec, refl, sym, ap, ◌∙◌, arith}
+use Rattle.std.proofs.Common.{◌≡◌, ℕ, ◌+◌, Bool, true, false, cond, List, [], ◌∷◌, ◌++◌, length, reverse, Option, Some, None, Vec, refl, sym, ap, ◌∙◌, arith}
 use Rattle.std.specs.Prelude.{MatchOption}
 use Rattle.std.specs.BTreeMap.{is_at}
 use Rattle.std.specs.Map.{lookup}
 use Rattle.std.specs.Option.{option_to_list}
 use Rattle.std.specs.Str.{bytes_eq}
-use Rattle.std.proofs.lemmas.List.{append-nil, reverse-append}
+use Rattle.std.proofs.lemmas.List.{append-nil}
 use Rattle.std.proofs.lemmas.Slice.Eq.{bytes_eq-Decides}
-use Rattle.tcap_record.specs.declared.entry.End.{End as Side}
-use Rattle.tcap_record.specs.declared.entry.End.TheVariants as sides
 use Rattle.tcap_end.specs.Table.{octets_cmp}
-use Rattle.tcap_check.specs.World.{is_side, other}
 use Rattle.tcap_search.specs.Candidates.{is_top, numbers_of, stack_in, under_top, without}
 use Rattle.tcap_search.proofs.IdLaws.{same_id}
 use Rattle.tcap_search.proofs.LineLaws.{reverse_push}
@@ -18,17 +15,20 @@ use Rattle.tcap_search.proofs.LineLaws.{reverse_push}
 -- ---- one map
 
 -- What is put at an ID changes the stack of that ID alone.
-pub put_stack : {A : Type 0} (step : List ℕ → List ℕ) (id : List ℕ) (old new : List (List ℕ × Vec ℕ A)) (stack : Vec ℕ A)
+pub put_stack : {A : Type 0} (step : List ℕ → List ℕ) (id : List ℕ) (old new : List (List ℕ × Vec ℕ A))
+    (stack : Vec ℕ A)
     → ((key : List ℕ) → lookup (is_at (octets_cmp key)) new
     ≡ cond (is_at (octets_cmp id) key) (Some stack) (lookup (is_at (octets_cmp key)) old))
     → reverse stack.items ≡ step (stack_in id old)
     → (key : List ℕ) → stack_in key new ≡ cond (bytes_eq key id) (step (stack_in key old)) (stack_in key old)
 put_stack {A} step id old new stack put is key =
-    ap numbers_of (put key ∙ ap (λ (b : Bool). cond b (Some stack) (lookup (is_at (octets_cmp key)) old)) (same_id id key))
+    ap numbers_of (put key ∙ ap (λ (b : Bool). cond b (Some stack) (lookup (is_at (octets_cmp key)) old))
+    (same_id id key))
     ∙ by (bytes_eq key id) refl
   where
     by : (b : Bool) → bytes_eq key id ≡ b
-        → numbers_of (cond b (Some stack) (lookup (is_at (octets_cmp key)) old)) ≡ cond b (step (stack_in key old)) (stack_in key old)
+        → numbers_of (cond b (Some stack) (lookup (is_at (octets_cmp key)) old))
+        ≡ cond b (step (stack_in key old)) (stack_in key old)
     by true same = let one : key ≡ id = (bytes_eq-Decides key id).0 same in rw one is
     by false apart = refl
 

@@ -1,14 +1,13 @@
 -- Entries, stretch by stretch between quiet marks.
-use Rattle.std.proofs.Common.{◌≡◌, ◌≢◌, Bool, true, false, cond, ℕ, ◌+◌, ◌-◌, ◌≤◌, ◌<◌, arith, List, [], ◌∷◌, ◌++◌, length, take, drop, get_or, zero, suc, min, refl, sym, ap, subst, ◌∙◌, append_assoc}
+use Rattle.std.proofs.Common.{◌≡◌, Bool, true, false, cond, ℕ, ◌+◌, ◌-◌, ◌≤◌, ◌<◌, arith, List, [], ◌∷◌, ◌++◌, length, take, drop, get_or, zero, suc, refl, sym, ap, subst, ◌∙◌, append_assoc}
 use Rattle.std.specs.Prelude.{◌||◌, Result, Ok, Err, IfOk, map}
 use Rattle.std.specs.List.{list_any}
-use Rattle.std.proofs.lemmas.List.{append-nil, drop_more, get_or-drop, length-append, length-drop, length-map, length-take-le, take-append-drop}
+use Rattle.std.proofs.lemmas.List.{drop_more, get_or-drop, length-append, length-drop, length-map, length-take-le, take-append-drop}
 use Rattle.std.proofs.lemmas.List.Folds.{list_any_more}
 use Rattle.std.proofs.Math.Seq.{drop-nil, take-length}
 use Rattle.tcap_record.specs.declared.entry.Entry.{Entry}
 use Rattle.tcap_check.specs.Certificate.{Certificate}
 use Rattle.tcap_search.specs.Proposed.{behind, fate_behind, is_mark, of_mark, of_stretch, of_stretches, stretches, then_certificate, with_entry}
-
 use Rattle.tcap_search.proofs.LimitLaws.{count_of_stretch}
 
 abbrev pub has_mark : List Entry → Bool

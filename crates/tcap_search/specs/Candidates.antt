@@ -1,6 +1,6 @@
 -- What is kept of the entries that an Abort may answer and that are not tied: their numbers by end, originating ID and
 -- cause, the newest first.
-use Rattle.std.specs.Prelude.{◌≡◌, ℕ, Bool, true, false, List, [], ◌∷◌, map, filter, reverse, Option, Some, None, Vec, ◌==◌, ◌&&◌, not, cond}
+use Rattle.std.specs.Prelude.{◌≡◌, ℕ, Bool, false, List, [], ◌∷◌, map, filter, reverse, Option, Some, None, Vec, ◌==◌, ◌&&◌, not, cond}
 use Rattle.std.specs.Str.{bytes_eq}
 use Rattle.std.specs.Map.{lookup}
 use Rattle.std.specs.BTreeMap.{is_at}

@@ -1,11 +1,9 @@
 -- The entries of a stretch between two quiet marks, as the search sees them: each with its number in the stretch and the
 -- transaction that it belongs to (Q.774 3.3).
-use Rattle.std.specs.Prelude.{ℕ, Bool, true, false, List, [], ◌∷◌, ◌++◌, length, filter, Option, Some, None, ◌==◌, ◌&&◌, cond}
-use Rattle.tcap_msg.specs.declared.kind.Kind.{Kind}
-use Rattle.tcap_msg.specs.declared.kind.Kind.TheVariants as kinds
+use Rattle.std.specs.Prelude.{ℕ, Bool, false, List, [], ◌∷◌, ◌++◌, length, Option, Some, None, ◌==◌, ◌&&◌}
 use Rattle.tcap_msg.specs.declared.message.Message.{Message}
 use Rattle.tcap_msg.specs.declared.message.Message.TheVariants.{Begin}
-use Rattle.tcap_msg.specs.Parts.{dtid_in, kind_in, otid_in}
+use Rattle.tcap_msg.specs.Parts.{dtid_in, otid_in}
 use Rattle.tcap_record.specs.declared.entry.Body.{Body}
 use Rattle.tcap_record.specs.declared.entry.Body.TheVariants.{Good}
 use Rattle.tcap_record.specs.declared.entry.End.{End as Side}

@@ -1,12 +1,11 @@
 -- The certificate that is proposed for a record, by five rules: for the entries of each stretch between quiet marks alone,
 -- each by "last", "earlier" and "later" over their list. Nothing is tried twice, and nothing of it is believed.
-use Rattle.std.specs.Prelude.{ℕ, ℤ, ◌+◌, max, Bool, true, false, List, [], ◌∷◌, ◌++◌, map, length, reverse, slice_get, Option, Some, None, is_some, is_none, ◌==◌, ◌&&◌, ◌||◌, not, nat_lt, nat_le, cond, option_map}
+use Rattle.std.specs.Prelude.{ℕ, ℤ, ◌+◌, max, Bool, true, false, List, [], ◌∷◌, ◌++◌, map, length, reverse, slice_get, Option, Some, None, is_some, is_none, ◌==◌, ◌&&◌, not, nat_lt, nat_le, cond, option_map}
 use Rattle.std.specs.List.{list_any}
 use Rattle.std.specs.Ordering.{int_cmp}
 use Rattle.std.specs.BTreeMap.{is_at}
 use Rattle.tcap_parts.specs.declared.component.Component.{Component}
 use Rattle.tcap_parts.specs.declared.component.Component.TheVariants.{Invoke, ReturnResult, ReturnError, Reject}
-use Rattle.tcap_parts.specs.declared.problem.Problem.{Problem}
 use Rattle.tcap_parts.specs.declared.problem.Problem.TheVariants as problems
 use Rattle.tcap_msg.specs.declared.message.AbortReason.TheVariants.{Cause}
 use Rattle.tcap_msg.specs.declared.message.Message.{Message}
@@ -94,7 +93,7 @@ abbrev pub gap_behind_reply : Option ℕ → ℕ
 gap_behind_reply None = 0
 gap_behind_reply (Some reply) = reply + 1
 
--- It is raised to the gap behind the Abort of each earlier entry of the same end that is tied.
+-- For each earlier entry of the same end that is tied to an Abort, it becomes at least the gap behind that Abort.
 abbrev pub raised : List Line → List Tie → Line → ℕ → ℕ
 raised [] ties x gap = gap
 raised (y ∷ lines) ties x gap =
@@ -133,7 +132,8 @@ abbrev pub is_gap : Fate → Bool
 is_gap (Gap gap) = true
 is_gap _ = false
 
--- A message that is delivered, and would come behind a later one of the same end that is not lost, is lost.
+-- A message that is delivered, and would come behind a later entry of the same end that is not lost, is lost. Octets that
+-- are no message are such an entry too.
 abbrev pub fate_before : List Fated → Fated → Fate
 fate_before later x =
     cond (is_gap x.fate && is_some (message_of x.line.entry) && list_any (is_overtaken x) later) Lost x.fate
@@ -299,8 +299,8 @@ with_closing listed (Some side) gap (Some transaction) =
     (listed ++ record { gap = gap; side = side; entry = transaction } ∷ [])
 with_closing listed _ gap _ = listed
 
--- What the tie of a Continue adds: where nothing else had closed the half to which it came, that closed unseen right
--- before the Abort.
+-- What the tie of a Continue adds: where nothing in the list had closed the half that it came to, the half closed unseen in
+-- the gap before the Abort.
 abbrev pub closing_by : List Fated → List Line → List Closing → ℕ → Option Line → List Closing
 closing_by all lines listed reply None = listed
 closing_by all lines listed reply (Some x) =

@@ -10,7 +10,7 @@ use Rattle.tcap_check.specs.declared.certificate.Fate.TheVariants.{Gap}
 use Rattle.tcap_search.specs.declared.leasts.Leasts.{Leasts}
 use Rattle.tcap_search.specs.Leasts.{is_below, is_within, least_at}
 use Rattle.tcap_search.specs.Lines.{Line, message_of}
-use Rattle.tcap_search.specs.Proposed.{Fated, is_closing_of, is_continue, is_end_or_abort, was_ended, was_told, with_closing}
+use Rattle.tcap_search.specs.Proposed.{Fated, is_closing_of, is_continue, is_end_or_abort, was_ended, was_told}
 
 -- both, where both are there
 abbrev pub both_of : {A B : Type 0} → Option A → Option B → Option (A × B)

@@ -1,8 +1,6 @@
 -- Worked proposals: the certificate that is proposed for a record.
-use Rattle.std.specs.Prelude.{◌≡◌, ℕ, pos, List, [], ◌∷◌, ◌++◌, map, Some, None}
-use Rattle.tcap_ber.specs.declared.fault.Fault.{Fault}
+use Rattle.std.specs.Prelude.{◌≡◌, List, [], ◌∷◌, map, Some, None}
 use Rattle.tcap_ber.specs.declared.fault.Reason.TheVariants as reading
-use Rattle.tcap_msg.specs.declared.message.Message.{Message}
 use Rattle.tcap_msg.specs.declared.message.Message.TheVariants.{Begin}
 use Rattle.tcap_record.specs.declared.entry.Body.TheVariants.{Bad}
 use Rattle.tcap_record.specs.declared.entry.End.TheVariants.{A, B}
@@ -10,10 +8,9 @@ use Rattle.tcap_record.specs.declared.entry.Entry.{Entry}
 use Rattle.tcap_check.specs.World.{Item, Sent}
 use Rattle.tcap_check.specs.Run.{provider_abort}
 use Rattle.tcap_check.specs.Certificate.{Certificate}
-use Rattle.tcap_check.specs.declared.certificate.Fate.{Fate}
 use Rattle.tcap_check.specs.declared.certificate.Fate.TheVariants.{Gap, Lost, By}
 use Rattle.tcap_check.specs.Entries.{entry_of}
-use Rattle.tcap_check.specs.Worked.{Worked, answer, begin, by_fates, both_again, closed_half, crossing, delayed, empty_record, end_implies, end_to, id, invoke, late_reject, over_a_mark, refused_begin, result, three_entries, two_entries}
+use Rattle.tcap_check.specs.Worked.{Worked, answer, begin, by_fates, both_again, closed_half, crossing, delayed, empty_record, end_implies, end_to, id, late_reject, over_a_mark, refused_begin, three_entries, two_entries}
 use Rattle.tcap_search.specs.Proposed.{proposed}
 
 -- The certificate that is proposed for the record of a worked run is the one that describes it.

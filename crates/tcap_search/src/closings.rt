@@ -40,7 +40,7 @@ fn ends(entry: &Entry) -> bool
     }
 }
 
-/// The gap in which an entry tells its receiver of the end of a dialogue: that of an End or an Abort, where it is delivered.
+/// The gap in which an entry tells its receiver of the end of a dialogue: where an End or an Abort is delivered.
 fn gap_told(entry: &Entry, fate: Fate) -> Option<u32>
     ensures { result ≡ gap_told (message_of entry.now) fate }
 {
@@ -96,8 +96,8 @@ fn told_of(
     Ok(told)
 }
 
-/// Whether the Abort that answers an entry shows that a half had closed unseen: the entry is a Continue, its receiver had
-/// not ended the transaction before the Abort, and nothing from its sender that ends it was delivered.
+/// Whether the Abort that answers an entry shows that a half had closed unseen: the entry is a Continue, its receiver
+/// had not ended the transaction before the Abort, and no End or Abort of its sender was delivered before.
 fn is_unseen(
     entry: &Entry,
     side: End,

@@ -45,7 +45,7 @@ fn note_in(list: &mut Vec<Option<u32>>, transaction: u32, number: u32)
 impl Leasts {
     /// Nothing noted of so many transactions.
     pub(crate) fn new(alloc: Global, count: usize) -> Result<Leasts, AllocError>
-        ensures nothing { IfOk result (λ made. (side : Side) (transaction : ℕ) → least_at side transaction made ≡ None) }
+        ensures nothing { IfOk result (λ made. (side : Side) (at : ℕ) → least_at side at made ≡ None) }
         ensures room { IfOk result (λ made. HasRoom count made) }
     {
         Ok(Leasts {

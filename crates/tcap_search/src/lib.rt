@@ -18,4 +18,5 @@ mod tie;
 mod ties;
 pub mod worked;
 
-pub use searching::{SearchFault, search};
+pub use searching::search;
+pub use tcap_refute::{Kind, Refutation, SearchFault, refute};

@@ -7,13 +7,7 @@ use crate::found::Found;
 use std::alloc::{AllocError, Global};
 use tcap_check::Certificate;
 use tcap_record::{Body, Entry, Record};
-
-/// Why nothing is proposed.
-#[derive(Clone, Copy, Debug, PartialEq, Eq)]
-pub enum SearchFault {
-    /// Memory ran out.
-    Memory,
-}
+use tcap_refute::SearchFault;
 
 /// Whether the entry is a quiet mark.
 fn is_mark(entry: &Entry) -> bool

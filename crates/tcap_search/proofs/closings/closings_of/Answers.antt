@@ -1,4 +1,4 @@
-use Rattle.std.proofs.Common.{◌≡◌, length, get_or, not, refl, sym, ap, ◌∙◌}
+use Rattle.std.proofs.Common.{length, get_or, not, refl, sym, ap, ◌∙◌}
 use Rattle.tcap_search.specs.declared.tie.Tie.{Tie}
 use Rattle.tcap_search.specs.Lines.{lines_of}
 use Rattle.tcap_search.specs.Proposed.{all_fated}
@@ -27,8 +27,8 @@ loop-tie-preserved c =
     let is_none = rw c.get.ensures at c.is_none.ensures in
     elim c.if-is_none.branch [
       | then-is_none+in_ok-push w ↦ rw (w.kept-is, w.listed-is, w.in_ok-push.ensures.items)
-          (listed_more all lines ties count i listed old zero_tie t below refl so_far side transaction shown within w.note.new.self
-          (is_none ∙ ap not w.if-is_none.true) (w.note.ensures.room count so_far.room)
+          (listed_more all lines ties count i listed old zero_tie t below refl so_far side transaction shown within
+          w.note.new.self (is_none ∙ ap not w.if-is_none.true) (w.note.ensures.room count so_far.room)
           (λ at u fits. w.note.ensures.noted count at u so_far.room fits))
       | else-is_none w ↦ rw (w.kept-is, w.listed-is)
           (listed_again all lines ties count i listed old zero_tie t below refl so_far side transaction shown within

@@ -7,4 +7,5 @@ use Rattle.tcap_search.proofs.closings.closings_of.Given as goal
 
 abbrev pub invariant-loop-tie : goal.invariant-loop-tie
 invariant-loop-tie l =
-    Listed (all_fated (lines_of l.entries)) (lines_of l.entries) l.ties (length l.entries) l.tie-index l.listed.items l.kept
+    Listed (all_fated (lines_of l.entries)) (lines_of l.entries) l.ties (length l.entries) l.tie-index l.listed.items
+    l.kept

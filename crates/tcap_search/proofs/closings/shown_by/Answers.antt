@@ -1,30 +1,25 @@
-use Rattle.std.proofs.Common.{◌≡◌, ◌<◌, length, ℕ, Bool, Option, Some, None, cond, refl, ap, sym, ◌∙◌, arith}
-use Rattle.std.specs.Prelude.{slice_get}
-use Rattle.std.proofs.lemmas.Option.{slice_get_past, slice_get_read}
-use Rattle.tcap_record.specs.declared.entry.End.{End as Side}
-use Rattle.tcap_check.specs.World.{other}
+use Rattle.std.proofs.Common.{true, false, sym, ◌∙◌, arith}
 use Rattle.tcap_search.specs.Lines.{lines_of}
 use Rattle.tcap_search.specs.Proposed.{all_fated}
-use Rattle.tcap_search.specs.Shown.{shown_by}
-use Rattle.tcap_search.proofs.ClosingLaws.{count_transactions, no_line, no_side, no_transaction, shown_is, transaction_is}
+use Rattle.tcap_search.proofs.ClosingLaws.{no_entry, no_side, no_transaction, shown_is}
+use Rattle.tcap_search.proofs.LineLaws.{count_transactions}
 use Rattle.tcap_search.proofs.closings.shown_by.Goals as goal
 
 pub returns-in_err-entry : goal.returns-in_err-entry
 returns-in_err-entry c =
     let entries = c.args.entries.now in
-    let past = slice_get_past entries c.args.tie.now.entry c.in_err-entry.ensures.lookup.3 in
+    let t = c.args.tie.now in
     c.from_residual.ensures
-    ∙ sym (ap (shown_by (all_fated (lines_of entries)) (lines_of entries) c.args.tie.now.reply)
-    (no_line entries c.args.tie.now.entry past))
+    ∙ no_entry entries (all_fated (lines_of entries)) t.entry t.reply c.in_err-entry.ensures.lookup.3
 
 pub returns-in_err-side : goal.returns-in_err-side
 returns-in_err-side c =
     let entries = c.args.entries.now in
+    let t = c.args.tie.now in
     let look = c.in_ok-entry.ensures.lookup in
-    let is = slice_get_read entries (length entries) c.args.tie.now.entry c.in_ok-entry.entry.now refl look.3.0 look.1 in
     c.from_residual-in_err-side.ensures
-    ∙ sym (no_side entries (all_fated (lines_of entries)) c.args.tie.now.entry c.args.tie.now.reply c.in_ok-entry.entry.now is
-    c.in_err-side.was)
+    ∙ no_side entries c.args.transactions.now (all_fated (lines_of entries)) t.entry t.reply c.in_ok-entry.entry.now
+    c.requires.transactions look.3.0 look.1 c.in_err-side.was
 
 pub bounds-transactions-tie : goal.bounds-transactions-tie
 bounds-transactions-tie c =
@@ -34,34 +29,29 @@ bounds-transactions-tie c =
 pub returns-in_err-transaction : goal.returns-in_err-transaction
 returns-in_err-transaction c =
     let entries = c.args.entries.now in
+    let t = c.args.tie.now in
     let look = c.in_ok-entry.ensures.lookup in
-    let is = slice_get_read entries (length entries) c.args.tie.now.entry c.in_ok-entry.entry.now refl look.3.0 look.1 in
     c.from_residual-in_err-transaction.ensures
-    ∙ sym (no_transaction entries (all_fated (lines_of entries)) c.args.tie.now.entry c.args.tie.now.reply
-    c.in_ok-entry.entry.now is c.in_ok-side.side c.in_ok-side.was
-    (sym (transaction_is entries c.args.transactions.now c.args.tie.now.entry c.in_ok-entry.entry.now c.requires.transactions is)
-    ∙ c.in_err-transaction.was))
+    ∙ no_transaction entries c.args.transactions.now (all_fated (lines_of entries)) t.entry t.reply
+    c.in_ok-entry.entry.now c.requires.transactions look.3.0 look.1 c.in_ok-side.side c.in_ok-side.was
+    c.in_err-transaction.was
 
 pub returns-then-is_unseen : goal.returns-then-is_unseen
 returns-then-is_unseen c =
     let entries = c.args.entries.now in
+    let t = c.args.tie.now in
     let look = c.in_ok-entry.ensures.lookup in
-    let is = slice_get_read entries (length entries) c.args.tie.now.entry c.in_ok-entry.entry.now refl look.3.0 look.1 in
-    let half : Option (Side × ℕ) = Some (other c.in_ok-side.side, c.in_ok-transaction.transaction) in
-    rw c.other.ensures (sym (shown_is entries (all_fated (lines_of entries)) c.args.tie.now.entry c.args.tie.now.reply
-    c.in_ok-entry.entry.now is c.args.ended.now c.args.told.now c.in_ok-side.side c.in_ok-transaction.transaction c.in_ok-side.was
-    (sym (transaction_is entries c.args.transactions.now c.args.tie.now.entry c.in_ok-entry.entry.now c.requires.transactions is)
-    ∙ c.in_ok-transaction.was) c.requires.ended c.requires.told
-    ∙ ap (λ (b : Bool). cond b half None) (sym c.is_unseen.ensures ∙ c.if-is_unseen.true)))
+    rw c.other.ensures (shown_is entries c.args.transactions.now (all_fated (lines_of entries)) t.entry t.reply
+    c.in_ok-entry.entry.now c.requires.transactions look.3.0 look.1 c.args.ended.now c.args.told.now c.in_ok-side.side
+    c.in_ok-transaction.transaction true c.in_ok-side.was c.in_ok-transaction.was c.requires.ended c.requires.told
+    (sym c.if-is_unseen.true ∙ c.is_unseen.ensures))
 
 pub returns-else-is_unseen : goal.returns-else-is_unseen
 returns-else-is_unseen c =
     let entries = c.args.entries.now in
+    let t = c.args.tie.now in
     let look = c.in_ok-entry.ensures.lookup in
-    let is = slice_get_read entries (length entries) c.args.tie.now.entry c.in_ok-entry.entry.now refl look.3.0 look.1 in
-    let half : Option (Side × ℕ) = Some (other c.in_ok-side.side, c.in_ok-transaction.transaction) in
-    sym (shown_is entries (all_fated (lines_of entries)) c.args.tie.now.entry c.args.tie.now.reply
-    c.in_ok-entry.entry.now is c.args.ended.now c.args.told.now c.in_ok-side.side c.in_ok-transaction.transaction c.in_ok-side.was
-    (sym (transaction_is entries c.args.transactions.now c.args.tie.now.entry c.in_ok-entry.entry.now c.requires.transactions is)
-    ∙ c.in_ok-transaction.was) c.requires.ended c.requires.told
-    ∙ ap (λ (b : Bool). cond b half None) (sym c.is_unseen.ensures ∙ c.if-is_unseen.false))
+    shown_is entries c.args.transactions.now (all_fated (lines_of entries)) t.entry t.reply
+    c.in_ok-entry.entry.now c.requires.transactions look.3.0 look.1 c.args.ended.now c.args.told.now c.in_ok-side.side
+    c.in_ok-transaction.transaction false c.in_ok-side.was c.in_ok-transaction.was c.requires.ended c.requires.told
+    (sym c.if-is_unseen.false ∙ c.is_unseen.ensures)

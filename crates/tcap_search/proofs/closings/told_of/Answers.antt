@@ -1,7 +1,7 @@
-use Rattle.std.proofs.Common.{◌≡◌, length, get_or, None, refl, sym, ◌∙◌, arith}
-use Rattle.std.proofs.lemmas.Option.{slice_get_read}
+use Rattle.std.proofs.Common.{length, get_or, None, refl, sym, arith}
 use Rattle.tcap_check.specs.declared.certificate.Fate.TheVariants.{Gap}
-use Rattle.tcap_search.proofs.ClosingLaws.{count_fates, count_transactions, told_all, told_more, told_other, transaction_is}
+use Rattle.tcap_search.proofs.LineLaws.{count_transactions, transaction_is}
+use Rattle.tcap_search.proofs.ToldLaws.{count_fates, told_all, told_more, told_other}
 use Rattle.tcap_search.proofs.closings.told_of.Goals.{in-Some, in_default}
 use Rattle.tcap_search.proofs.closings.told_of.Goals as goal
 
@@ -15,28 +15,29 @@ bounds-transactions-number c =
 
 pub returns : goal.returns
 returns c =
-    told_all c.args.entries.now c.args.fates.now c.loop-number.number c.loop-number.told c.requires.fates
-    c.loop-number-test.false c.loop-number.invariant
+    let l = c.loop-number in
+    told_all c.args.entries.now c.args.fates.now l.number l.told c.requires.fates c.loop-number-test.false l.invariant
 
 pub loop-number-preserved : goal.loop-number-preserved
 loop-number-preserved c =
-    let e = c.index-entries-number.result in
     let entries = c.args.entries.now in
     let transactions = c.args.transactions.now in
     let fates = c.args.fates.now in
     let i = c.loop-number.number in
     let old = c.loop-number.told in
-    let fate = get_or fates i (Gap 0) in
-    let below = c.loop-number-test.true in
     let so_far = c.loop-number.invariant in
+    let below = c.loop-number-test.true in
+    let e = c.index-entries-number.result in
+    let read = c.index-entries-number.is in
     let counted = count_fates entries fates c.requires.fates in
-    let is = slice_get_read entries (length entries) i e refl below c.index-entries-number.is in
     elim c.match-gap_told.branch [
-      | in-Some w ↦ rw w.told-is (told_more entries fates i old e (Gap 0) fate below counted c.index-entries-number.is refl so_far
+      | in-Some w ↦ rw w.told-is
+          (told_more entries fates i old e (Gap 0) (get_or fates i (Gap 0)) below counted read refl so_far
           w.note.new.self (get_or transactions i None) w.in-Some.gap
-          (transaction_is entries transactions i e c.requires.transactions is) (sym w.in-Some.ensures)
+          (transaction_is entries transactions i e c.requires.transactions below read) (sym w.in-Some.ensures)
           (w.note.ensures.room (length entries) so_far.room)
           (λ side t within. w.note.ensures.noted (length entries) side t so_far.room within))
-      | in_default w ↦ rw w.told-is (told_other entries fates i old e (Gap 0) fate below counted c.index-entries-number.is refl so_far
+      | in_default w ↦ rw w.told-is
+          (told_other entries fates i old e (Gap 0) (get_or fates i (Gap 0)) below counted read refl so_far
           (sym w.in_default.ensures))
     ]

@@ -3,7 +3,7 @@ use Rattle.std.proofs.Common.{length, ap, ◌∙◌}
 use Rattle.std.proofs.lemmas.List.{length-map}
 use Rattle.tcap_search.specs.Lines.{lines_of}
 use Rattle.tcap_search.specs.Proposed.{fate_of}
-use Rattle.tcap_search.proofs.NumberedLaws.{count_lines}
+use Rattle.tcap_search.proofs.LineLaws.{count_lines}
 use Rattle.tcap_search.proofs.fates.fates_of.Goals as goal
 
 pub lose_overtaken-requires : goal.lose_overtaken-requires

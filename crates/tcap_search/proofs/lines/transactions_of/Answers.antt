@@ -3,7 +3,8 @@ use Rattle.tcap_search.proofs.lines.transactions_of.Goals as goal
 
 pub loop-number-preserved : goal.loop-number-preserved
 loop-number-preserved c =
+    let l = c.loop-number in
     rw c.in_ok-push.ensures.items
-    (noted_more c.args.entries.now c.loop-number.number c.loop-number.latest c.note.new.self c.loop-number.transactions.items
-    c.index-entries-number.result c.transaction_of-transaction.result c.loop-number-test.true c.index-entries-number.is
-    c.loop-number.invariant c.transaction_of-transaction.ensures c.in_ok-note.ensures)
+    (noted_more c.args.entries.now l.number l.latest c.note.new.self l.transactions.items c.index-entries-number.result
+    c.transaction_of-transaction.result c.loop-number-test.true c.index-entries-number.is l.invariant
+    c.transaction_of-transaction.ensures c.in_ok-note.ensures)

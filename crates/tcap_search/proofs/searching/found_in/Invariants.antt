@@ -1,4 +1,4 @@
-use Rattle.std.proofs.Common.{◌≡◌, ◌≤◌, ◌+◌, ◌-◌, length, take, drop, false, ℕ}
+use Rattle.std.proofs.Common.{◌≡◌, ◌≤◌, ◌-◌, length, take, drop, false}
 use Rattle.tcap_search.specs.Proposed.{of_stretches, proposed, stretches, then_certificate}
 use Rattle.tcap_search.proofs.StretchLaws.{has_mark}
 use Rattle.tcap_search.proofs.searching.found_in.Given as goal

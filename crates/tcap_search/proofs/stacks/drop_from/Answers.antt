@@ -1,5 +1,5 @@
-use Rattle.std.proofs.Common.{◌≡◌, Vec, Global, Option, None, ℕ, List, reverse, refl, ap, sym, ◌∙◌}
-use Rattle.tcap_search.specs.Candidates.{numbers_of, stack_in, without}
+use Rattle.std.proofs.Common.{Vec, Global, Option, ℕ, reverse, refl, ap, sym, ◌∙◌}
+use Rattle.tcap_search.specs.Candidates.{numbers_of, without}
 use Rattle.tcap_search.proofs.StackLaws.{left_on, popped, put_stack, same_stack, taken_off}
 use Rattle.tcap_search.proofs.stacks.drop_from.Goals as goal
 
@@ -27,5 +27,6 @@ returns-else-is_top c =
 
 pub returns-in_default : goal.returns-in_default
 returns-in_default c =
-    same_stack (without c.args.number) c.args.id.octets.now c.args.stacks.now.entries _ (rw c.get_mut.follows.holds-at-none refl)
+    same_stack (without c.args.number) c.args.id.octets.now c.args.stacks.now.entries _
+    (rw c.get_mut.follows.holds-at-none refl)
     (rw (← (rw c.to_transaction_id-key.ensures at c.in_default.ensures.value)) refl)

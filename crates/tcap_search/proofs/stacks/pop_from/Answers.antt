@@ -1,5 +1,5 @@
-use Rattle.std.proofs.Common.{◌≡◌, Vec, Global, Option, None, ℕ, List, refl, ap, sym, ◌∙◌}
-use Rattle.tcap_search.specs.Candidates.{numbers_of, stack_in, under_top}
+use Rattle.std.proofs.Common.{Vec, Global, Option, ℕ, refl, ap, ◌∙◌}
+use Rattle.tcap_search.specs.Candidates.{numbers_of, under_top}
 use Rattle.tcap_search.proofs.StackLaws.{popped, put_stack, same_stack}
 use Rattle.tcap_search.proofs.stacks.pop_from.Goals as goal
 

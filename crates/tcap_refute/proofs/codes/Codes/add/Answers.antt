@@ -1,5 +1,5 @@
-use Rattle.std.proofs.Common.{refl, to_z-of_z, SFits, w32, rules}
-use Rattle.tcap_refute.proofs.SetLaws.{global_added, local_added}
+use Rattle.std.proofs.Common.{refl}
+use Rattle.tcap_refute.proofs.SetLaws.{global_added}
 use Rattle.tcap_refute.proofs.codes.Codes.add.Goals as goal
 
 pub returns-in_ok-insert-in-Global : goal.returns-in_ok-insert-in-Global

@@ -1,10 +1,11 @@
-use Rattle.std.proofs.Common.{sym, ◌∙◌, rules}
+use Rattle.std.proofs.Common.{◌∙◌, rules}
 use Rattle.std.specs.List.{list_any}
 use Rattle.std.proofs.lemmas.Map.Lookups.{exact_signed}
 use Rattle.tcap_parts.specs.Meaning.{component_of, components_left}
 use Rattle.tcap_refute.specs.Facts.{shows}
 use Rattle.tcap_refute.specs.Kept.{tells}
-use Rattle.tcap_refute.proofs.SetLaws.{or_none, told_at}
+use Rattle.tcap_refute.proofs.TestLaws.{or_none}
+use Rattle.tcap_refute.proofs.SetLaws.{told_at}
 use Rattle.tcap_refute.proofs.IdLaws.{one_more}
 use Rattle.tcap_refute.proofs.from_id.FromId.note_components.Goals as goal
 

@@ -1,4 +1,4 @@
-use Rattle.std.proofs.Common.{option_copied, sym, ◌∙◌}
+use Rattle.std.proofs.Common.{option_copied}
 use Rattle.tcap_refute.proofs.AskLaws.{kind_asked}
 use Rattle.tcap_refute.proofs.notes.Notes.kind_of.Goals as goal
 

@@ -1,4 +1,3 @@
-use Rattle.std.proofs.Common.{None, ◌≡◌}
 use Rattle.tcap_refute.proofs.ItemLaws.{is_refuted, passes}
 use Rattle.tcap_refute.proofs.notes.Notes.take_message.Goals as goal
 
@@ -9,5 +8,5 @@ returns-in-Some g c = λ items are.
 
 pub returns : goal.returns
 returns g c = λ items are.
-    passes c.args.side (g.M.MessageParts.meaning c.args.message.now) c.args.table.now items c.args.self.now c.note.new.self are
-    c.kind_of.result c.kind_of.ensures c.in_default.is c.in_ok-note.ensures
+    passes c.args.side (g.M.MessageParts.meaning c.args.message.now) c.args.table.now items c.args.self.now
+    c.note.new.self are c.kind_of.result c.kind_of.ensures c.in_default.is c.in_ok-note.ensures

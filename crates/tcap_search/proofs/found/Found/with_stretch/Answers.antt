@@ -1,5 +1,4 @@
-use Rattle.std.proofs.Common.{◌≡◌, ℕ, List, length, arith, subst, sym, ◌∙◌}
-use Rattle.std.specs.List.{AllByRecursion}
+use Rattle.std.proofs.Common.{arith, ◌∙◌}
 use Rattle.tcap_check.specs.CertificateText.{ClosingFits, ExpiryFits, FateFits}
 use Rattle.tcap_check.proofs.ListLaws.{all_both}
 use Rattle.tcap_search.proofs.LimitLaws.{closings_fit, closings_small, expiries_fit, expiries_small, fates_fit, fates_small}

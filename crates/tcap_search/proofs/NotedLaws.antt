@@ -1,0 +1,101 @@
+-- What a least number tells, once one more is noted; and tests of lines.
+use Rattle.std.proofs.Common.{◌≡◌, ℕ, ◌==◌, ◌&&◌, ◌||◌, Bool, true, false, cond, List, [], ◌∷◌, ◌++◌, Option, Some, None, refl, sym, ap, ◌∙◌, arith}
+use Rattle.std.specs.Prelude.{nat_le, nat_lt}
+use Rattle.std.specs.List.{list_any}
+use Rattle.std.proofs.lemmas.Bool.{eq-eqb, eqb-false, eqb-true, ne_eqb}
+use Rattle.std.proofs.lemmas.Bool.Decides.{nat_tests}
+use Rattle.std.proofs.lemmas.List.Folds.{list_any-append}
+use Rattle.tcap_record.specs.declared.entry.End.{End as Side}
+use Rattle.tcap_record.specs.declared.entry.Entry.{Entry}
+use Rattle.tcap_check.specs.World.{other}
+use Rattle.tcap_search.specs.Leasts.{is_below, is_transaction, is_within, lesser}
+use Rattle.tcap_search.specs.Lines.{Line, are_of_one_end, is_end, is_of_peer, share_transaction}
+
+-- ---- numbers that are noted
+
+pub below_lesser : (limit number : ℕ) (o : Option ℕ)
+    → is_below limit (lesser number o) ≡ (is_below limit o || nat_lt number limit)
+below_lesser limit number None = refl
+below_lesser limit number (Some least) = grind (arith, nat_tests)
+
+pub within_lesser : (limit number : ℕ) (o : Option ℕ)
+    → is_within limit (lesser number o) ≡ (is_within limit o || nat_le number limit)
+within_lesser limit number None = refl
+within_lesser limit number (Some least) = grind (arith, nat_tests)
+
+pub eqb_turned : (m n : ℕ) → (m == n) ≡ (n == m)
+eqb_turned m n = by (m == n) refl
+  where
+    by : (b : Bool) → (m == n) ≡ b → b ≡ (n == m)
+    by true is = sym (eq-eqb n m (sym (eqb-true m n is)))
+    by false is = sym (ne_eqb n m (λ same. eqb-false m n is (sym same)))
+
+pub or_none : (b : Bool) → (b || false) ≡ b
+or_none true = refl
+or_none false = refl
+
+-- What a test says where a number is noted for a half, or not.
+pub test_noted : (test : Option ℕ → Bool) (first second number : Bool) (new old : Option ℕ) (least : Option ℕ)
+    → test least ≡ (test old || number) → new ≡ cond (first && second) least old
+    → test new ≡ (test old || (number && first && second))
+test_noted test true true true new old least more is = ap test is ∙ more
+test_noted test true true false new old least more is = ap test is ∙ more
+test_noted test true false true new old least more is = ap test is ∙ sym (or_none (test old))
+test_noted test true false false new old least more is = ap test is ∙ sym (or_none (test old))
+test_noted test false second true new old least more is = ap test is ∙ sym (or_none (test old))
+test_noted test false second false new old least more is = ap test is ∙ sym (or_none (test old))
+
+pub any_push : {A : Type 0} (test : A → Bool) (xs : List A) (x : A)
+    → list_any test (xs ++ x ∷ []) ≡ (list_any test xs || test x)
+any_push {A} test xs x = list_any-append test xs (x ∷ []) ∙ ap (λ (b : Bool). list_any test xs || b) (or_none (test x))
+
+-- ---- tests of lines
+
+pub of_peer : (e f : Entry) (side : Side) → e.side ≡ Some side → is_of_peer e f ≡ is_end (other side) f.side
+of_peer e f side has = ap (λ (s : Option Side). is_of_peer (record e { side = s }) f) has
+
+pub of_one_end : (e f : Entry) (side : Side) → e.side ≡ Some side → are_of_one_end e f ≡ is_end side f.side
+of_one_end e f side has = ap (λ (s : Option Side). are_of_one_end (record e { side = s }) f) has
+
+pub shares : (x y : Line) (transaction : ℕ) → x.transaction ≡ Some transaction
+    → share_transaction x y ≡ is_transaction transaction y.transaction
+shares x y transaction has =
+    ap (λ (t : Option ℕ). share_transaction (record x { transaction = t }) y) has ∙ by y.transaction
+  where
+    by : (o : Option ℕ)
+        → share_transaction (record x { transaction = Some transaction }) (record y { transaction = o })
+        ≡ is_transaction transaction o
+    by None = refl
+    by (Some other) = refl
+
+pub and_true : (b : Bool) → (b && true) ≡ b
+and_true true = refl
+and_true false = refl
+
+pub and_none : (b : Bool) → (b && false) ≡ false
+and_none true = refl
+and_none false = refl
+
+-- Three tests, each as another, and a fourth that passes.
+pub same_tests : (a b c d x y z : Bool) → a ≡ x → b ≡ y → c ≡ z → d ≡ true → (a && b && c && d) ≡ (x && y && z)
+same_tests a b c d x y z is_x is_y is_z is_true =
+    ap (λ (v : Bool). v && b && c && d) is_x
+    ∙ (ap (λ (v : Bool). x && v && c && d) is_y
+    ∙ (ap (λ (v : Bool). x && y && v && d) is_z
+    ∙ (ap (λ (v : Bool). x && y && z && v) is_true ∙ and_true (x && y && z))))
+
+-- The same, where the last of four stands first.
+pub turned_tests : (a b c d x y z : Bool) → a ≡ x → b ≡ y → c ≡ true → d ≡ z → (a && b && c && d) ≡ (z && x && y)
+turned_tests a b c d x y z is_x is_y is_true is_z =
+    ap (λ (v : Bool). v && b && c && d) is_x
+    ∙ (ap (λ (v : Bool). x && v && c && d) is_y
+    ∙ (ap (λ (v : Bool). x && y && v && d) is_true
+    ∙ (ap (λ (v : Bool). x && y && true && v) is_z ∙ by x y z)))
+  where
+    by : (x y z : Bool) → (x && y && true && z) ≡ (z && x && y)
+    by true true true = refl
+    by true true false = refl
+    by true false true = refl
+    by true false false = refl
+    by false y true = refl
+    by false y false = refl
