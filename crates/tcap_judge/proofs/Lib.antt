@@ -9,3 +9,4 @@ pub mod ShowLaws
 pub mod JudgeLaws
 pub mod LawfulLaws
 pub mod VerdictLaws
+pub mod JudgeCases

@@ -1,5 +1,5 @@
 -- What words ask for, from the subcommand and the value that clap's words name.
-use Rattle.std.proofs.Common.{◌≡◌, ◌∙◌, ℕ, List, [], ◌∷◌, is_some, Option, inl, inr, subst, ap₂, Some, None, Result, Ok, Err, ap, sym, arith, codes, slice_index, true, refl}
+use Rattle.std.proofs.Common.{◌≡◌, ◌∙◌, Bool, List, [], ◌∷◌, is_some, Option, inl, inr, subst, ap₂, Some, None, Result, Ok, Err, ap, sym, codes, true, refl}
 use Rattle.std.specs.Prelude.{IfErr, IfOk, IsErrAnd, MatchResult, option_and_then, option_map}
 use Rattle.std.specs.Borrow.{Bor}
 use Rattle.clap.proofs.WalkLemmas.{first_value-rows}
@@ -9,76 +9,67 @@ use Rattle.clap.specs.Simple.{subcommand_of, subcommand_rows_of}
 use Rattle.clap.specs.declared.parser.matches.ArgMatches.{ArgMatches}
 use Rattle.clap.specs.declared.parser.matches.ArgMatches.TheViews.{out-ArgMatches}
 use Rattle.clap.specs.declared.parser.matches.Found.{Found}
-use Rattle.tcap_judge.proofs.Tool.{IsKnown, fused, named, paths_there}
+use Rattle.tcap_judge.proofs.Tool.{IsKnown, apart, fused, named, needed_there}
 use Rattle.clap.specs.Takes.{takes}
 use Rattle.clap.specs.Walk.{Row, Text, first_of, rows_of}
-use Rattle.tcap_judge.specs.Words.{Asks, IsCheck, IsFaultOf, IsMemory, IsPack, IsShow, checked_paths, named_with, named_with_paths, path_text, tool}
+use Rattle.tcap_judge.specs.Words.{Asks, IsCheck, IsFaultOf, IsJudge, IsMemory, IsPack, IsShow, checked_paths, is_set, judged_paths, named_with, named_with_flag, named_with_paths, path_text, tool}
 use Rattle.clap.specs.declared.error.kind.ErrorKind.{ErrorKind}
 use Rattle.tcap_judge.specs.declared.asked.Request.{Request}
-use Rattle.tcap_judge.specs.declared.asked.Request.TheVariants.{Show, Pack, Check}
+use Rattle.tcap_judge.specs.declared.asked.Request.TheVariants.{Show, Pack, Check, Judge}
 use Rattle.tcap_judge.specs.declared.words.WordsFault.{WordsFault}
 
 some_same : {X : Type 0} (a b : X) → Some a ≡ Some b → a ≡ b
 some_same a b e = cc
 
-abbrev name_in : Option (Text × Option Text) → Option Text
-name_in = option_map (λ p. p.0)
+-- what the words name, and what that gives of its rows
+abbrev naming : {X : Type 0} → (List Row → X) → List Text → Option (Text × X)
+naming {X} reads words = option_map (λ p. (p.0, reads p.1)) (subcommand_of tool words)
 
-abbrev value_in : Option (Text × Option Text) → Option (Option Text)
-value_in = option_map (λ p. p.1)
+abbrev name_in : {X : Type 0} → Option (Text × X) → Option Text
+name_in {X} = option_map (λ p. p.0)
 
--- the name does not hang on the argument that is asked for
-abbrev with_value : Text → Option (Text × List Row) → Option (Text × Option Text)
-with_value id = option_map (λ p. (p.0, first_of id p.1))
+abbrev value_in : {X : Type 0} → Option (Text × X) → Option X
+value_in {X} = option_map (λ p. p.1)
 
-one_name : (id other : Text) (o : Option (Text × List Row)) → name_in (with_value id o) ≡ name_in (with_value other o)
-one_name id other None = refl
-one_name id other (Some p) = refl
+-- the name does not hang on what is asked of the rows
+one_name : {X Y : Type 0} (reads : List Row → X) (others : List Row → Y) (o : Option (Text × List Row))
+    → name_in (option_map (λ p. (p.0, reads p.1)) o) ≡ name_in (option_map (λ p. (p.0, others p.1)) o)
+one_name reads others None = refl
+one_name reads others (Some p) = refl
 
-pub differ : codes "show" ≡ codes "pack" → ⊥
-differ e = let bad : ◌≡◌ {A = ℕ} 115 112 = ap (λ (t : Text). slice_index t 0) e in absurd (omega (arith, bad))
-
-not_show : codes "check" ≡ codes "show" → ⊥
-not_show e = let bad : ◌≡◌ {A = ℕ} 99 115 = ap (λ (t : Text). slice_index t 0) e in absurd (omega (arith, bad))
-
-not_pack : codes "check" ≡ codes "pack" → ⊥
-not_pack e = let bad : ◌≡◌ {A = ℕ} 99 112 = ap (λ (t : Text). slice_index t 0) e in absurd (omega (arith, bad))
-
--- nor on the arguments of `check`
-abbrev with_paths : Option (Text × List Row) → Option (Text × (Option Text × Option Text × Option Text))
-with_paths = option_map (λ p. (p.0, checked_paths p.1))
-
-abbrev paths_name : Option (Text × (Option Text × Option Text × Option Text)) → Option Text
-paths_name = option_map (λ p. p.0)
-
-same_name : (id : Text) (o : Option (Text × List Row)) → paths_name (with_paths o) ≡ name_in (with_value id o)
-same_name id None = refl
-same_name id (Some p) = refl
-
--- words that name `check` name nothing else
-one_word : (id name : Text) (text : Option Text) (three : Option Text × Option Text × Option Text) (words : List Text)
-    → named_with id words ≡ Some (name, text) → named_with_paths words ≡ Some (codes "check", three)
-    → codes "check" ≡ name
-one_word id name text three words is check =
-    some_same _ _ (sym (ap paths_name check) ∙ same_name id (subcommand_of tool words) ∙ ap name_in is)
+-- words name one subcommand
+one_word : {X Y : Type 0} (reads : List Row → X) (others : List Row → Y) (words : List Text) (name other : Text) (x : X)
+    (y : Y) → naming reads words ≡ Some (name, x) → naming others words ≡ Some (other, y) → name ≡ other
+one_word {X} {Y} reads others words name other x y is at =
+    some_same _ _ (sym (ap name_in is) ∙ one_name reads others (subcommand_of tool words) ∙ ap name_in at)
 
 show_only : (words : List Text) (text : Option Text) (r : Request)
     → named_with (codes "RECORD") words ≡ Some (codes "show", text)
     → Asks words r → IsShow text r
 show_only words text (Show path) is asks = some_same _ _ (ap value_in (sym asks ∙ is))
 show_only words text (Pack path) is asks =
-    differ (some_same _ _ (sym (ap name_in is) ∙ one_name (codes "RECORD") (codes "LINES") (subcommand_of tool words)
-    ∙ ap name_in asks))
-show_only words text (Check x y z) is asks = absurd (not_show (one_word (codes "RECORD") _ _ _ words is asks))
+    apart (codes "show") (codes "pack") refl refl
+    (one_word (first_of (codes "RECORD")) (first_of (codes "LINES")) words _ _ _ _ is asks)
+show_only words text (Check x y z) is asks =
+    apart (codes "show") (codes "check") refl refl
+    (one_word (first_of (codes "RECORD")) checked_paths words _ _ _ _ is asks)
+show_only words text (Judge x y b) is asks =
+    apart (codes "show") (codes "judge") refl refl
+    (one_word (first_of (codes "RECORD")) judged_paths words _ _ _ _ is asks)
 
 pack_only : (words : List Text) (text : Option Text) (r : Request)
     → named_with (codes "LINES") words ≡ Some (codes "pack", text)
     → Asks words r → IsPack text r
 pack_only words text (Pack path) is asks = some_same _ _ (ap value_in (sym asks ∙ is))
 pack_only words text (Show path) is asks =
-    differ (some_same _ _ (sym (ap name_in asks) ∙ one_name (codes "RECORD") (codes "LINES") (subcommand_of tool words)
-    ∙ ap name_in is))
-pack_only words text (Check x y z) is asks = absurd (not_pack (one_word (codes "LINES") _ _ _ words is asks))
+    apart (codes "pack") (codes "show") refl refl
+    (one_word (first_of (codes "LINES")) (first_of (codes "RECORD")) words _ _ _ _ is asks)
+pack_only words text (Check x y z) is asks =
+    apart (codes "pack") (codes "check") refl refl
+    (one_word (first_of (codes "LINES")) checked_paths words _ _ _ _ is asks)
+pack_only words text (Judge x y b) is asks =
+    apart (codes "pack") (codes "judge") refl refl
+    (one_word (first_of (codes "LINES")) judged_paths words _ _ _ _ is asks)
 
 -- the three paths of `check`
 abbrev three : Text → Text → Text → Option (Text × (Option Text × Option Text × Option Text))
@@ -95,8 +86,39 @@ check_only : (words : List Text) (x y z : Text) (r : Request)
     → named_with_paths words ≡ Some (codes "check", (Some x, Some y, Some z))
     → Asks words r → IsCheck x y z r
 check_only words x y z (Check a b c) is asks = three_same a.now b.now c.now x y z (sym asks ∙ is)
-check_only words x y z (Show path) is asks = not_show (one_word (codes "RECORD") _ _ _ words asks is)
-check_only words x y z (Pack path) is asks = not_pack (one_word (codes "LINES") _ _ _ words asks is)
+check_only words x y z (Show path) is asks =
+    apart (codes "check") (codes "show") refl refl
+    (one_word checked_paths (first_of (codes "RECORD")) words _ _ _ _ is asks)
+check_only words x y z (Pack path) is asks =
+    apart (codes "check") (codes "pack") refl refl
+    (one_word checked_paths (first_of (codes "LINES")) words _ _ _ _ is asks)
+check_only words x y z (Judge a b c) is asks =
+    apart (codes "check") (codes "judge") refl refl (one_word checked_paths judged_paths words _ _ _ _ is asks)
+
+-- the two paths of `judge`, and its flag
+abbrev two : Text → Text → Bool → Option (Text × (Option Text × Option Text × Bool))
+two x y b = Some (codes "judge", (Some x, Some y, b))
+
+two_same : (a b : Text) (set : Bool) (x y : Text) (flag : Bool) → two a b set ≡ two x y flag
+    → (a ≡ x) × (b ≡ y) × (set ≡ flag)
+two_same a b set x y flag e = (
+  some_same _ _ (ap (option_and_then (λ (p : Text × (Option Text × Option Text × Bool)). p.1.0)) e),
+  some_same _ _ (ap (option_and_then (λ (p : Text × (Option Text × Option Text × Bool)). p.1.1)) e),
+  some_same _ _ (ap (option_map (λ (p : Text × (Option Text × Option Text × Bool)). p.1.2)) e),
+)
+
+judge_only : (words : List Text) (x y : Text) (flag : Bool) (r : Request)
+    → named_with_flag words ≡ Some (codes "judge", (Some x, Some y, flag))
+    → Asks words r → IsJudge x y flag r
+judge_only words x y flag (Judge a b set) is asks = two_same a.now b.now set x y flag (sym asks ∙ is)
+judge_only words x y flag (Show path) is asks =
+    apart (codes "judge") (codes "show") refl refl
+    (one_word judged_paths (first_of (codes "RECORD")) words _ _ _ _ is asks)
+judge_only words x y flag (Pack path) is asks =
+    apart (codes "judge") (codes "pack") refl refl
+    (one_word judged_paths (first_of (codes "LINES")) words _ _ _ _ is asks)
+judge_only words x y flag (Check a b c) is asks =
+    apart (codes "judge") (codes "check") refl refl (one_word judged_paths checked_paths words _ _ _ _ is asks)
 
 -- words that are taken, and name this, ask for that and nothing else
 pub show_asked : (words known : List Text) (text : Option Text) (r : Result Request WordsFault) → words ≡ known
@@ -125,6 +147,15 @@ pub check_asked : (words known : List Text) (x y z : Text) (r : Result Request W
 check_asked words known x y z (Ok a) is taken named asks memory =
     check_only words x y z a (ap named_with_paths is ∙ named) asks
 check_asked words known x y z (Err e) is taken named asks memory = memory (ap (takes tool) is ∙ taken)
+
+pub judge_asked : (words known : List Text) (x y : Text) (flag : Bool) (r : Result Request WordsFault) → words ≡ known
+    → takes tool known ≡ true
+    → named_with_flag known ≡ Some (codes "judge", (Some x, Some y, flag)) → IfOk r (Asks words)
+    → (takes tool words ≡ true → IfErr r IsMemory)
+    → MatchResult r (IsJudge x y flag) IsMemory
+judge_asked words known x y flag (Ok a) is taken named asks memory =
+    judge_only words x y flag a (ap named_with_flag is ∙ named) asks
+judge_asked words known x y flag (Err e) is taken named asks memory = memory (ap (takes tool) is ∙ taken)
 
 -- words with a fault are refused by it
 pub refused_by : (words known : List Text) (k : ErrorKind) (r : Result Request WordsFault) → words ≡ known
@@ -161,13 +192,13 @@ pub asked_of : (m : ArgMatches) (words : List Text) (id name known : Text) (f : 
     → Some (rows_of f) ≡ option_map (λ p. p.1) (subcommand_rows_of m) → name ≡ known → path_text r ≡ first_value f id
     → named_with id words ≡ Some (known, path_text r)
 asked_of m words id name known f r same is_name is_rows is_known value =
-    ap (with_value id) (entered_as m words name f same is_name is_rows)
+    ap (option_map (λ p. (p.0, first_of id p.1))) (entered_as m words name f same is_name is_rows)
     ∙ ap₂ (λ (n : Text) (v : Option Text). pair n v) is_known (sym (value ∙ first_value-rows f id))
   where
     pair : Text → Option Text → Option (Text × Option Text)
     pair n v = Some (n, v)
 
--- matches of words with no fault have one of the two names
+-- matches of words with no fault have a known name
 pub has_name : (m : ArgMatches) (words : List Text) → subcommand_rows_of m ≡ subcommand_of tool words
     → fault_of tool words ≡ []
     → IsKnown (subcommand_name_of m)
@@ -178,38 +209,54 @@ has_name m words same clear =
 pub no_name : (o : Option Text) → IsKnown o → None ≡ o → ⊥
 no_name o (inl is) none = let bad : None ≡ Some (codes "show") = none ∙ is in cc
 no_name o (inr (inl is)) none = let bad : None ≡ Some (codes "pack") = none ∙ is in cc
-no_name o (inr (inr is)) none = let bad : None ≡ Some (codes "check") = none ∙ is in cc
+no_name o (inr (inr (inl is))) none = let bad : None ≡ Some (codes "check") = none ∙ is in cc
+no_name o (inr (inr (inr is))) none = let bad : None ≡ Some (codes "judge") = none ∙ is in cc
 
 pub other_name : (o : Option Text) (name : Text) → IsKnown o → Some name ≡ o → (name ≡ codes "show" → ⊥)
-    → (name ≡ codes "pack" → ⊥) → (name ≡ codes "check" → ⊥) → ⊥
-other_name o name (inl is) at not_show not_pack not_check = not_show (some_same _ _ (at ∙ is))
-other_name o name (inr (inl is)) at not_show not_pack not_check = not_pack (some_same _ _ (at ∙ is))
-other_name o name (inr (inr is)) at not_show not_pack not_check = not_check (some_same _ _ (at ∙ is))
+    → (name ≡ codes "pack" → ⊥) → (name ≡ codes "check" → ⊥) → (name ≡ codes "judge" → ⊥) → ⊥
+other_name o name (inl is) at not_show not_pack not_check not_judge = not_show (some_same _ _ (at ∙ is))
+other_name o name (inr (inl is)) at not_show not_pack not_check not_judge = not_pack (some_same _ _ (at ∙ is))
+other_name o name (inr (inr (inl is))) at not_show not_pack not_check not_judge = not_check (some_same _ _ (at ∙ is))
+other_name o name (inr (inr (inr is))) at not_show not_pack not_check not_judge = not_judge (some_same _ _ (at ∙ is))
 
--- ---- the matches of `check`
+-- ---- the matches of `check` and `judge`
 
--- the rows of the subcommand `check` that the matches have
-checked_as : (m : ArgMatches) (words : List Text) (name : Text) (f : Found)
+-- the rows of the subcommand of that name, which the matches have
+entered_at : (m : ArgMatches) (words : List Text) (name known : Text) (f : Found)
     → subcommand_rows_of m ≡ subcommand_of tool words
     → Some name ≡ subcommand_name_of m
-    → Some (rows_of f) ≡ option_map (λ p. p.1) (subcommand_rows_of m) → name ≡ codes "check"
-    → subcommand_of tool words ≡ Some (codes "check", rows_of f)
-checked_as m words name f same is_name is_rows is_check =
-    entered_as m words name f same is_name is_rows ∙ ap (λ (n : Text). Some (n, rows_of f)) is_check
+    → Some (rows_of f) ≡ option_map (λ p. p.1) (subcommand_rows_of m) → name ≡ known
+    → subcommand_of tool words ≡ Some (known, rows_of f)
+entered_at m words name known f same is_name is_rows is_known =
+    entered_as m words name f same is_name is_rows ∙ ap (λ (n : Text). Some (n, rows_of f)) is_known
 
 -- the paths that they give are there
-pub values_there : (m : ArgMatches) (words : List Text) (name : Text) (f : Found)
+pub check_there : (m : ArgMatches) (words : List Text) (name : Text) (f : Found)
     → subcommand_rows_of m ≡ subcommand_of tool words
     → fault_of tool words ≡ []
     → Some name ≡ subcommand_name_of m
     → Some (rows_of f) ≡ option_map (λ p. p.1) (subcommand_rows_of m) → name ≡ codes "check"
     → (is_some (first_value f (codes "RECORD")) ≡ true) × (is_some (first_value f (codes "TABLE")) ≡ true)
     × (is_some (first_value f (codes "CERT")) ≡ true)
-values_there m words name f same clear is_name is_rows is_check =
-    let there = paths_there words (rows_of f) clear (checked_as m words name f same is_name is_rows is_check) in (
+check_there m words name f same clear is_name is_rows is_check =
+    let there = (needed_there words (codes "check", rows_of f) clear
+    (entered_at m words name (codes "check") f same is_name is_rows is_check)).0 refl in (
+      ap is_some (first_value-rows f (codes "RECORD")) ∙ there.1.0,
+      ap is_some (first_value-rows f (codes "TABLE")) ∙ there.1.1,
+      ap is_some (first_value-rows f (codes "CERT")) ∙ there.0,
+    )
+
+pub judge_there : (m : ArgMatches) (words : List Text) (name : Text) (f : Found)
+    → subcommand_rows_of m ≡ subcommand_of tool words
+    → fault_of tool words ≡ []
+    → Some name ≡ subcommand_name_of m
+    → Some (rows_of f) ≡ option_map (λ p. p.1) (subcommand_rows_of m) → name ≡ codes "judge"
+    → (is_some (first_value f (codes "RECORD")) ≡ true) × (is_some (first_value f (codes "TABLE")) ≡ true)
+judge_there m words name f same clear is_name is_rows is_judge =
+    let there = (needed_there words (codes "judge", rows_of f) clear
+    (entered_at m words name (codes "judge") f same is_name is_rows is_judge)).1 refl in (
       ap is_some (first_value-rows f (codes "RECORD")) ∙ there.0,
       ap is_some (first_value-rows f (codes "TABLE")) ∙ there.1,
-      ap is_some (first_value-rows f (codes "CERT")) ∙ there.2,
     )
 
 -- and they are what the words ask for
@@ -221,7 +268,8 @@ pub check_asked_of : (m : ArgMatches) (words : List Text) (name : Text) (f : Fou
     → Some z ≡ first_value f (codes "CERT")
     → named_with_paths words ≡ Some (codes "check", (Some x, Some y, Some z))
 check_asked_of m words name f x y z same is_name is_rows is_check is_x is_y is_z =
-    ap with_paths (checked_as m words name f same is_name is_rows is_check)
+    ap (option_map (λ p. (p.0, checked_paths p.1)))
+    (entered_at m words name (codes "check") f same is_name is_rows is_check)
     ∙ ap (λ (o : Option Text). some_three o (first_of (codes "TABLE") rows) (first_of (codes "CERT") rows))
     (sym (is_x ∙ first_value-rows f (codes "RECORD")))
     ∙ ap (λ (o : Option Text). some_three (Some x) o (first_of (codes "CERT") rows))
@@ -233,3 +281,25 @@ check_asked_of m words name f x y z same is_name is_rows is_check is_x is_y is_z
 
     some_three : Option Text → Option Text → Option Text → Option (Text × (Option Text × Option Text × Option Text))
     some_three a b c = Some (codes "check", (a, b, c))
+
+pub judge_asked_of : (m : ArgMatches) (words : List Text) (name : Text) (f : Found) (x y : Text) (flag : Bool)
+    → subcommand_rows_of m ≡ subcommand_of tool words
+    → Some name ≡ subcommand_name_of m
+    → Some (rows_of f) ≡ option_map (λ p. p.1) (subcommand_rows_of m) → name ≡ codes "judge"
+    → Some x ≡ first_value f (codes "RECORD") → Some y ≡ first_value f (codes "TABLE")
+    → flag ≡ is_set (first_value f (codes "cert"))
+    → named_with_flag words ≡ Some (codes "judge", (Some x, Some y, flag))
+judge_asked_of m words name f x y flag same is_name is_rows is_judge is_x is_y is_flag =
+    ap (option_map (λ p. (p.0, judged_paths p.1)))
+    (entered_at m words name (codes "judge") f same is_name is_rows is_judge)
+    ∙ ap (λ (o : Option Text). some_two o (first_of (codes "TABLE") rows) (is_set (first_of (codes "cert") rows)))
+    (sym (is_x ∙ first_value-rows f (codes "RECORD")))
+    ∙ ap (λ (o : Option Text). some_two (Some x) o (is_set (first_of (codes "cert") rows)))
+    (sym (is_y ∙ first_value-rows f (codes "TABLE")))
+    ∙ ap (λ (b : Bool). some_two (Some x) (Some y) b) (sym (is_flag ∙ ap is_set (first_value-rows f (codes "cert"))))
+  where
+    rows : List Row
+    rows = rows_of f
+
+    some_two : Option Text → Option Text → Bool → Option (Text × (Option Text × Option Text × Bool))
+    some_two a b flag = Some (codes "judge", (a, b, flag))

@@ -1,5 +1,5 @@
 -- What follows from words at which the command line has no fault.
-use Rattle.std.proofs.Common.{◌≡◌, ◌⊎◌, ℕ, ap, arith, slice_index, subst, Bool, true, false, List, [], ◌∷◌, Option, Some, None, is_some, inl, inr, refl, codes}
+use Rattle.std.proofs.Common.{◌≡◌, ◌⊎◌, ◌∙◌, ap, sym, subst, Bool, true, false, List, [], ◌∷◌, Option, Some, None, is_some, inl, inr, refl, codes}
 use Rattle.std.specs.Prelude.{option_map, drop}
 use Rattle.std.specs.Str.{bytes_eq}
 use Rattle.std.proofs.lemmas.Slice.Eq.{bytes_eq-Decides}
@@ -12,11 +12,11 @@ use Rattle.clap.specs.Values.{kind_of}
 use Rattle.clap.specs.Walk.{Row, Text, finished, first_of, nothing_held, rows_after, settled, walk, walk_from}
 use Rattle.clap.specs.declared.error.Error.{Error}
 use Rattle.clap.specs.declared.error.kind.ErrorKind.TheVariants as kind
-use Rattle.tcap_judge.specs.Words.{Becomes, IsFaultOf, IsMemory, check_shape, tool, with_path}
+use Rattle.tcap_judge.specs.Words.{Becomes, IsFaultOf, IsMemory, check_shape, judge_shape, tool, with_path}
 use Rattle.tcap_judge.specs.declared.words.WordsFault.{WordsFault}
 use Rattle.tcap_judge.specs.declared.words.WordsFault.TheVariants.{Words, Memory}
 use Rattle.tcap_judge.proofs.Help.{NotHelp, or_empty, walk_not}
-use Rattle.tcap_judge.proofs.Valued.{AllGood, end_valued, first_there}
+use Rattle.tcap_judge.proofs.Valued.{AllGood, Valued, end_valued, first_there}
 
 pub tool_simple : is_simple_and_free tool ≡ true
 unfolding tool clap_on_literals
@@ -55,9 +55,14 @@ level_clear s names words has below e =
     let f = or_empty (defaults_fault (settled s.rules end).rows s.rules) _ d.1 in
     (a.0, f.1)
 
--- the subcommand is one of the three
+-- texts that differ
+pub apart : (a b : Text) → bytes_eq a a ≡ true → bytes_eq a b ≡ false → a ≡ b → ⊥
+apart a b same other e = let bad : true ≡ false = sym same ∙ ap (bytes_eq a) e ∙ other in cc
+
+-- the subcommand is one of the four
 abbrev pub IsKnown : Option Text → Type 0
-IsKnown name = (name ≡ Some (codes "show")) ⊎ ((name ≡ Some (codes "pack")) ⊎ (name ≡ Some (codes "check")))
+IsKnown name = (name ≡ Some (codes "show"))
+    ⊎ ((name ≡ Some (codes "pack")) ⊎ ((name ≡ Some (codes "check")) ⊎ (name ≡ Some (codes "judge"))))
 
 abbrev name_of : Option (Text × List Row) → Option Text
 name_of = option_map (λ p. p.0)
@@ -74,19 +79,24 @@ named words e =
     go stop (finished top.rules (walk top.rules names nothing_held args).held)
     (walk_not top names (walk_from nothing_held) args refl tt clear.0) clear.1
   where
-    at : (p : Text × List Text) (rows : List Row) (show pack check help : Bool) → bytes_eq (codes "show") p.0 ≡ show
+    at : (p : Text × List Text) (rows : List Row) (show pack check judge help : Bool)
+        → bytes_eq (codes "show") p.0 ≡ show
         → bytes_eq (codes "pack") p.0 ≡ pack
         → bytes_eq (codes "check") p.0 ≡ check
+        → bytes_eq (codes "judge") p.0 ≡ judge
         → bytes_eq (codes "help") p.0 ≡ help → help ≡ false
         → check_fault (built tool).top rows (is_some (entered (built tool) (Some p))) ≡ []
         → IsKnown (name_of (entered (built tool) (Some p)))
-    at p rows true pack check help is_show is_pack is_check is_help off e = inl (rw is_show refl)
-    at p rows false true check help is_show is_pack is_check is_help off e = inr (inl (rw (is_show, is_pack) refl))
-    at p rows false false true help is_show is_pack is_check is_help off e =
-        inr (inr (rw (is_show, is_pack, is_check) refl))
-    at p rows false false false true is_show is_pack is_check is_help off e = cc
-    at p rows false false false false is_show is_pack is_check is_help off e =
-        let bad : kind.MissingSubcommand ∷ [] ≡ [] = rw (is_show, is_pack, is_check, is_help) at e in cc
+    at p rows true pack check judge help is_show is_pack is_check is_judge is_help off e = inl (rw is_show refl)
+    at p rows false true check judge help is_show is_pack is_check is_judge is_help off e =
+        inr (inl (rw (is_show, is_pack) refl))
+    at p rows false false true judge help is_show is_pack is_check is_judge is_help off e =
+        inr (inr (inl (rw (is_show, is_pack, is_check) refl)))
+    at p rows false false false true help is_show is_pack is_check is_judge is_help off e =
+        inr (inr (inr (rw (is_show, is_pack, is_check, is_judge) refl)))
+    at p rows false false false false true is_show is_pack is_check is_judge is_help off e = cc
+    at p rows false false false false false is_show is_pack is_check is_judge is_help off e =
+        let bad : kind.MissingSubcommand ∷ [] ≡ [] = rw (is_show, is_pack, is_check, is_judge, is_help) at e in cc
 
     differs : (p : Text × List Text) → NotHelp (Some p) → (help : Bool) → bytes_eq (codes "help") p.0 ≡ help
         → help ≡ false
@@ -102,23 +112,30 @@ named words e =
     go None rows not_help e = let bad : kind.MissingSubcommand ∷ [] ≡ [] = e in cc
     go (Some p) rows not_help e =
         at p rows (bytes_eq (codes "show") p.0) (bytes_eq (codes "pack") p.0) (bytes_eq (codes "check") p.0)
-        (bytes_eq (codes "help") p.0) refl refl refl refl
+        (bytes_eq (codes "judge") p.0) (bytes_eq (codes "help") p.0) refl refl refl refl refl
         (differs p not_help (bytes_eq (codes "help") p.0) refl) e
 
--- ---- the paths of `check`
+-- ---- the paths of `check` and `judge`
 
 -- a subcommand, as a parse builds it
 abbrev pub sub_built : Shape → Shape
 sub_built s = built_leaf (inherited (on_top with_leaf_noted (on_top marked_built tool)).top s)
 
--- the subcommand `check`, as a parse builds it
+-- these two, as a parse builds them
 abbrev pub check_built : Shape
 check_built = sub_built check_shape
 
--- the three paths are there
+abbrev pub judge_built : Shape
+judge_built = sub_built judge_shape
+
+-- the paths that both need are there
+abbrev pub HasTwoPaths : List Row → Type 0
+HasTwoPaths rows = (is_some (first_of (codes "RECORD") rows) ≡ true)
+    × (is_some (first_of (codes "TABLE") rows) ≡ true)
+
+-- and that of a certificate, which `check` needs too
 abbrev pub HasPaths : List Row → Type 0
-HasPaths rows = (is_some (first_of (codes "RECORD") rows) ≡ true) × (is_some (first_of (codes "TABLE") rows) ≡ true)
-    × (is_some (first_of (codes "CERT") rows) ≡ true)
+HasPaths rows = (is_some (first_of (codes "CERT") rows) ≡ true) × HasTwoPaths rows
 
 all_given : (rows : List Row) (x y z : Bool) → is_given (codes "RECORD") rows ≡ x → is_given (codes "TABLE") rows ≡ y
     → is_given (codes "CERT") rows ≡ z → check_fault check_built rows false ≡ []
@@ -132,42 +149,73 @@ all_given rows true false z is_x is_y is_z e =
 all_given rows true true false is_x is_y is_z e =
     let bad : kind.MissingRequiredArgument ∷ [] ≡ [] = rw (is_x, is_y, is_z) at e in cc
 
-all_good : AllGood check_built.rules
+both_given : (rows : List Row) (x y : Bool) → is_given (codes "RECORD") rows ≡ x → is_given (codes "TABLE") rows ≡ y
+    → check_fault judge_built rows false ≡ []
+    → (x ≡ true) × (y ≡ true)
 unfolding tool
-all_good = (inl refl, (inl refl, (inl refl, (inr refl, tt))))
+both_given rows true true is_x is_y e = (refl, refl)
+both_given rows false y is_x is_y e =
+    let bad : kind.MissingRequiredArgument ∷ [] ≡ [] = rw is_x at e in cc
+both_given rows true false is_x is_y e =
+    let bad : kind.MissingRequiredArgument ∷ [] ≡ [] = rw (is_x, is_y) at e in cc
 
--- behind words at which `check` has no fault, its paths are there
-level_paths : (words : List Text) → level_fault check_built [] nothing_held words false [] ≡ []
-    → HasPaths (rows_after check_built.rules [] words)
-level_paths words e =
-    let s = check_built in
+check_good : AllGood check_built.rules
+unfolding tool
+check_good = (inl refl, (inl refl, (inl refl, (inr (inl refl), tt))))
+
+judge_good : AllGood judge_built.rules
+unfolding tool
+judge_good = (inl refl, (inl refl, (inr (inr refl), (inr (inl refl), tt))))
+
+-- behind words at which a subcommand has no fault, its rows have values, and its last checks find nothing
+level_valued : (s : Shape) → AllGood s.rules → (words : List Text) → level_fault s [] nothing_held words false [] ≡ []
+    → Valued (rows_after s.rules [] words) × (check_fault s (rows_after s.rules [] words) false ≡ [])
+level_valued s good words e =
     let end = (walk s.rules [] nothing_held words).held in
     let a = or_empty (walk_fault s [] (walk_from nothing_held) words) _ e in
     let d = or_empty (settle_fault s.rules s.args_override_self end) _ a.1 in
     let f = or_empty (defaults_fault (settled s.rules end).rows s.rules) _ d.1 in
-    let rows = finished s.rules end in
-    let valued = end_valued s [] all_good (walk_from nothing_held) words a.0 d.0 tt in
-    let given = all_given rows _ _ _ refl refl refl f.1 in (
-      first_there (codes "RECORD") rows valued given.0,
-      first_there (codes "TABLE") rows valued given.1,
-      first_there (codes "CERT") rows valued given.2,
+    (end_valued s [] good (walk_from nothing_held) words a.0 d.0 tt, f.1)
+
+-- its paths are there
+check_paths : (words : List Text) → level_fault check_built [] nothing_held words false [] ≡ []
+    → HasPaths (rows_after check_built.rules [] words)
+check_paths words e =
+    let rows = rows_after check_built.rules [] words in
+    let level = level_valued check_built check_good words e in
+    let given = all_given rows _ _ _ refl refl refl level.1 in (
+      first_there (codes "CERT") rows level.0 given.2,
+      (first_there (codes "RECORD") rows level.0 given.0, first_there (codes "TABLE") rows level.0 given.1),
     )
 
-some_pair : {X Y : Type 0} (p q : X × Y) → Some p ≡ Some q → (p.0 ≡ q.0) × (p.1 ≡ q.1)
-some_pair {X} {Y} p q e =
-    let same : p ≡ q = cc in (ap (λ (r : X × Y). r.0) same, ap (λ (r : X × Y). r.1) same)
+judge_paths : (words : List Text) → level_fault judge_built [] nothing_held words false [] ≡ []
+    → HasTwoPaths (rows_after judge_built.rules [] words)
+judge_paths words e =
+    let rows = rows_after judge_built.rules [] words in
+    let level = level_valued judge_built judge_good words e in
+    let given = both_given rows _ _ refl refl level.1 in
+    (first_there (codes "RECORD") rows level.0 given.0, first_there (codes "TABLE") rows level.0 given.1)
+
+same_some : {X : Type 0} (x y : X) → Some x ≡ Some y → x ≡ y
+same_some x y e = cc
 
 not_some : {X : Type 0} (x : X) → None ≡ Some x → ⊥
 not_some x e = cc
 
-first_letter : (a b : Text) → a ≡ b → slice_index a 0 ≡ slice_index b 0
-first_letter a b e = ap (λ (t : Text). slice_index t 0) e
+-- what the subcommand of that name needs is there
+abbrev pub HasNeeded : Text × List Row → Type 0
+HasNeeded found = (found.0 ≡ codes "check" → HasPaths found.1) × (found.0 ≡ codes "judge" → HasTwoPaths found.1)
 
--- words with no fault that name `check` name its paths
-pub paths_there : (words : List Text) (rows : List Row) → fault_of tool words ≡ []
-    → subcommand_of tool words ≡ Some (codes "check", rows) → HasPaths rows
+-- another subcommand needs nothing
+needs_nothing : (found : Text × List Row) → (found.0 ≡ codes "check" → ⊥) → (found.0 ≡ codes "judge" → ⊥)
+    → HasNeeded found
+needs_nothing found not_check not_judge = (λ e. absurd (not_check e), λ e. absurd (not_judge e))
+
+-- words with no fault give what the subcommand needs
+pub needed_there : (words : List Text) (found : Text × List Row) → fault_of tool words ≡ []
+    → subcommand_of tool words ≡ Some found → HasNeeded found
 unfolding tool
-paths_there words rows e is =
+needed_there words found e is =
     let top = (built tool).top in
     let names = names_of (built tool) in
     let args = drop 1 words in
@@ -176,36 +224,49 @@ paths_there words rows e is =
     let b = or_empty (entered_fault (built tool) stop) _ a.1 in
     go stop b.0 is
   where
-    at : (p : Text × List Text) (show pack check help : Bool) → bytes_eq (codes "show") p.0 ≡ show
+    at : (p : Text × List Text) (show pack check judge help : Bool) → bytes_eq (codes "show") p.0 ≡ show
         → bytes_eq (codes "pack") p.0 ≡ pack
         → bytes_eq (codes "check") p.0 ≡ check
+        → bytes_eq (codes "judge") p.0 ≡ judge
         → bytes_eq (codes "help") p.0 ≡ help
         → entered_fault (built tool) (Some p) ≡ []
-        → entered (built tool) (Some p) ≡ Some (codes "check", rows) → HasPaths rows
-    at p true pack check help is_show is_pack is_check is_help e is =
-        let it : Some (rows_at (sub_built (with_path (codes "show") (codes "RECORD"))) p.1)
-        ≡ Some (codes "check", rows) =
-        rw is_show at is in
-        let bad : ◌≡◌ {A = ℕ} 115 99 = first_letter _ _ (some_pair _ _ it).0 in absurd (omega (arith, bad))
-    at p false true check help is_show is_pack is_check is_help e is =
-        let it : Some (rows_at (sub_built (with_path (codes "pack") (codes "LINES"))) p.1)
-        ≡ Some (codes "check", rows) =
-        rw (is_show, is_pack) at is in
-        let bad : ◌≡◌ {A = ℕ} 112 99 = first_letter _ _ (some_pair _ _ it).0 in absurd (omega (arith, bad))
-    at p false false true help is_show is_pack is_check is_help e is =
-        let it : Some (rows_at check_built p.1) ≡ Some (codes "check", rows) = rw (is_show, is_pack, is_check) at is in
-        let clear : level_fault check_built [] nothing_held p.1 false [] ≡ [] = rw (is_show, is_pack, is_check) at e in
-        subst HasPaths (some_pair _ _ it).1 (level_paths p.1 clear)
-    at p false false false true is_show is_pack is_check is_help e is =
-        let it : Some (rows_at (sub_built help_shape) p.1) ≡ Some (codes "check", rows) =
-        rw (is_show, is_pack, is_check, is_help) at is in
-        let bad : ◌≡◌ {A = ℕ} 104 99 = first_letter _ _ (some_pair _ _ it).0 in absurd (omega (arith, bad))
-    at p false false false false is_show is_pack is_check is_help e is =
-        absurd (not_some (codes "check", rows) (rw (is_show, is_pack, is_check, is_help) at is))
+        → entered (built tool) (Some p) ≡ Some found → HasNeeded found
+    at p true pack check judge help is_show is_pack is_check is_judge is_help e is =
+        let rows = rows_at (sub_built (with_path (codes "show") (codes "RECORD"))) p.1 in
+        let it : Some rows ≡ Some found = rw is_show at is in
+        subst HasNeeded (same_some rows found it)
+        (needs_nothing rows (apart (codes "show") (codes "check") refl refl)
+        (apart (codes "show") (codes "judge") refl refl))
+    at p false true check judge help is_show is_pack is_check is_judge is_help e is =
+        let rows = rows_at (sub_built (with_path (codes "pack") (codes "LINES"))) p.1 in
+        let it : Some rows ≡ Some found = rw (is_show, is_pack) at is in
+        subst HasNeeded (same_some rows found it)
+        (needs_nothing rows (apart (codes "pack") (codes "check") refl refl)
+        (apart (codes "pack") (codes "judge") refl refl))
+    at p false false true judge help is_show is_pack is_check is_judge is_help e is =
+        let it : Some (rows_at check_built p.1) ≡ Some found = rw (is_show, is_pack, is_check) at is in
+        let clear : level_fault check_built [] nothing_held p.1 false [] ≡ [] =
+        rw (is_show, is_pack, is_check) at e in
+        subst HasNeeded (same_some _ _ it)
+        (λ e. check_paths p.1 clear, λ e. absurd (apart (codes "check") (codes "judge") refl refl e))
+    at p false false false true help is_show is_pack is_check is_judge is_help e is =
+        let it : Some (rows_at judge_built p.1) ≡ Some found = rw (is_show, is_pack, is_check, is_judge) at is in
+        let clear : level_fault judge_built [] nothing_held p.1 false [] ≡ [] =
+        rw (is_show, is_pack, is_check, is_judge) at e in
+        subst HasNeeded (same_some _ _ it)
+        (λ e. absurd (apart (codes "judge") (codes "check") refl refl e), λ e. judge_paths p.1 clear)
+    at p false false false false true is_show is_pack is_check is_judge is_help e is =
+        let rows = rows_at (sub_built help_shape) p.1 in
+        let it : Some rows ≡ Some found = rw (is_show, is_pack, is_check, is_judge, is_help) at is in
+        subst HasNeeded (same_some rows found it)
+        (needs_nothing rows (apart (codes "help") (codes "check") refl refl)
+        (apart (codes "help") (codes "judge") refl refl))
+    at p false false false false false is_show is_pack is_check is_judge is_help e is =
+        absurd (not_some found (rw (is_show, is_pack, is_check, is_judge, is_help) at is))
 
     go : (stop : Option (Text × List Text)) → entered_fault (built tool) stop ≡ []
-        → entered (built tool) stop ≡ Some (codes "check", rows) → HasPaths rows
-    go None e is = absurd (not_some (codes "check", rows) is)
+        → entered (built tool) stop ≡ Some found → HasNeeded found
+    go None e is = absurd (not_some found is)
     go (Some p) e is =
         at p (bytes_eq (codes "show") p.0) (bytes_eq (codes "pack") p.0) (bytes_eq (codes "check") p.0)
-        (bytes_eq (codes "help") p.0) refl refl refl refl e is
+        (bytes_eq (codes "judge") p.0) (bytes_eq (codes "help") p.0) refl refl refl refl refl e is

@@ -30,7 +30,8 @@ Valued (r ∷ rs) = (has_one r.values ≡ true) × Valued rs
 
 -- a use of the argument has a value, or makes no row
 abbrev Good : Rule → Type 0
-Good a = (nat_lt 0 (unwrap_or_range a.range).start_inclusive ≡ true) ⊎ (is_request (action_of a) ≡ true)
+Good a = (nat_lt 0 (unwrap_or_range a.range).start_inclusive ≡ true)
+    ⊎ ((is_request (action_of a) ≡ true) ⊎ (has_one a.missing ≡ true))
 
 abbrev pub AllGood : List Rule → Type 0
 AllGood [] = ⊤
@@ -106,11 +107,17 @@ request_valued HelpShort id how vs rows is ok = ok
 request_valued HelpLong id how vs rows is ok = ok
 request_valued Version id how vs rows is ok = ok
 
+missing_valued : (a : Rule) (vs : List Text) (rows : List Row) → has_one vs ≡ true → Valued rows
+    → Valued (used_as (action_of a) a.id (reading_by a) vs rows)
+missing_valued a [] rows stands ok = cc
+missing_valued a (v ∷ vs) rows stands ok = used_valued (action_of a) a.id (reading_by a) v vs rows ok
+
 use_valued : (again : Bool) (a : Rule) (values : List Text) (rows : List Row) → Good a
     → use_fault again a values rows ≡ []
     → Valued rows → Valued (used a values rows)
 use_valued again a (v ∷ vs) rows good e ok = used_valued (action_of a) a.id (reading_by a) v vs rows ok
-use_valued again a [] rows (inr is) e ok = request_valued (action_of a) a.id (reading_by a) a.missing rows is ok
+use_valued again a [] rows (inr (inl is)) e ok = request_valued (action_of a) a.id (reading_by a) a.missing rows is ok
+use_valued again a [] rows (inr (inr stands)) e ok = missing_valued a a.missing rows stands ok
 use_valued again a [] rows (inl least) e ok =
     let none : range_kinds (unwrap_or_range a.range).start_inclusive (most_values a) 0 ≡ [] = (or_empty _ _ e).0 in
     let bad : kind.InvalidValue ∷ [] ≡ [] = rw least at none in cc

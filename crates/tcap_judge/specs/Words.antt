@@ -1,15 +1,16 @@
 -- The command line of `tcapjudge`.
-use Rattle.std.specs.Prelude.{◌≡◌, ◌≢◌, ◌==◌, Bool, true, false, List, [], ◌∷◌, ℕ, Option, Some, codes, option_map, if◌then◌else◌}
+use Rattle.std.specs.Prelude.{◌≡◌, ◌≢◌, ◌==◌, Bool, true, false, List, [], ◌∷◌, ℕ, Option, Some, None, codes, option_map, if◌then◌else◌}
 use Rattle.std.specs.Borrow.{Bor}
+use Rattle.std.specs.Str.{bytes_eq}
 use Rattle.clap.specs.Words.{App, Kinds, IsAmong, Row, Rule, Shape, Text, first_of, kind_of, new_app, new_rule}
 use Rattle.clap.specs.Words.{subcommand_of, with_subcommand}
 use Rattle.clap.specs.Simple.{new_shape, on_top}
-use Rattle.clap.specs.declared.builder.action.ArgAction.TheVariants.{Set}
+use Rattle.clap.specs.declared.builder.action.ArgAction.TheVariants.{Set, SetTrue}
 use Rattle.clap.specs.declared.error.kind.ErrorKind.{ErrorKind}
 use Rattle.clap.specs.declared.error.kind.ErrorKind.TheVariants as kind
 use Rattle.clap.specs.declared.error.Error.{Error}
 use Rattle.tcap_judge.specs.declared.asked.Request.{Request}
-use Rattle.tcap_judge.specs.declared.asked.Request.TheVariants.{Show, Pack, Check}
+use Rattle.tcap_judge.specs.declared.asked.Request.TheVariants.{Show, Pack, Check, Judge}
 use Rattle.tcap_judge.specs.declared.words.WordsFault.{WordsFault}
 use Rattle.tcap_judge.specs.declared.words.WordsFault.TheVariants.{Words, Memory}
 
@@ -26,17 +27,28 @@ with_path name id =
 abbrev pub needed_rule : Text → Rule
 needed_rule id = record (new_rule id) { action = Some Set; required = true }
 
+-- a flag of this name
+abbrev pub flag_rule : Text → Rule
+flag_rule name = record (new_rule name) { long = Some name; action = Some SetTrue }
+
 -- the subcommand of three paths
 abbrev pub check_shape : Shape
 check_shape = record (new_shape (codes "check")) {
   rules = needed_rule (codes "RECORD") ∷ needed_rule (codes "TABLE") ∷ needed_rule (codes "CERT") ∷ [];
 }
 
+-- the subcommand of two paths and a flag
+abbrev pub judge_shape : Shape
+judge_shape = record (new_shape (codes "judge")) {
+  rules = needed_rule (codes "RECORD") ∷ needed_rule (codes "TABLE") ∷ flag_rule (codes "cert") ∷ [];
+}
+
 -- the program with its subcommands
 unfoldable pub tool : App
-tool = with_subcommand (with_subcommand (with_subcommand bare_tool (with_path (codes "show") (codes "RECORD")))
-    (with_path (codes "pack") (codes "LINES")))
-    check_shape
+tool = with_subcommand (with_subcommand (with_subcommand
+    (with_subcommand bare_tool (with_path (codes "show") (codes "RECORD"))) (with_path (codes "pack") (codes "LINES")))
+    check_shape)
+    judge_shape
 
 -- the subcommand that the words name, and the first value of its argument `id`
 abbrev pub named_with : Text → List Text → Option (Text × Option Text)
@@ -50,6 +62,20 @@ checked_paths rows = (first_of (codes "RECORD") rows, first_of (codes "TABLE") r
 abbrev pub named_with_paths : List Text → Option (Text × (Option Text × Option Text × Option Text))
 named_with_paths words = option_map (λ p. (p.0, checked_paths p.1)) (subcommand_of tool words)
 
+-- whether a flag is set: its value is the word `true`
+abbrev pub is_set : Option Text → Bool
+is_set None = false
+is_set (Some value) = bytes_eq value (codes "true")
+
+-- the first values of the arguments of `judge`, and whether its flag is set
+abbrev pub judged_paths : List Row → Option Text × Option Text × Bool
+judged_paths rows =
+    (first_of (codes "RECORD") rows, first_of (codes "TABLE") rows, is_set (first_of (codes "cert") rows))
+
+-- the subcommand that the words name, and these
+abbrev pub named_with_flag : List Text → Option (Text × (Option Text × Option Text × Bool))
+named_with_flag words = option_map (λ p. (p.0, judged_paths p.1)) (subcommand_of tool words)
+
 -- the text of a path
 abbrev pub path_text : Option (Bor Text) → Option Text
 path_text = option_map (λ s. s.now)
@@ -62,6 +88,8 @@ Asks words (Pack path) =
     named_with (codes "LINES") words ≡ Some (codes "pack", path_text path)
 Asks words (Check taken table cert) =
     named_with_paths words ≡ Some (codes "check", (Some taken.now, Some table.now, Some cert.now))
+Asks words (Judge taken table with_certificate) =
+    named_with_flag words ≡ Some (codes "judge", (Some taken.now, Some table.now, with_certificate))
 
 -- to show what this path names
 abbrev pub IsShow : Option Text → Request → Type 0
@@ -77,6 +105,11 @@ IsPack text _ = ⊥
 abbrev pub IsCheck : Text → Text → Text → Request → Type 0
 IsCheck x y z (Check taken table cert) = (taken.now ≡ x) × (table.now ≡ y) × (cert.now ≡ z)
 IsCheck x y z _ = ⊥
+
+-- to judge: the record and the table that these paths name, with the certificate or without
+abbrev pub IsJudge : Text → Text → Bool → Request → Type 0
+IsJudge x y b (Judge taken table with_certificate) = (taken.now ≡ x) × (table.now ≡ y) × (with_certificate ≡ b)
+IsJudge x y b _ = ⊥
 
 -- the word begins with a hyphen (45), so that it may be no path
 abbrev pub begins_with_hyphen : Text → Bool

@@ -9,4 +9,6 @@ pub enum Request<'a> {
     Pack(Option<&'a str>),
     /// Replay a certificate for a record: the paths of the record, of the operation table and of the certificate.
     Check(&'a str, &'a str, &'a str),
+    /// Judge a record: the paths of the record and of the operation table, and whether the certificate is printed too.
+    Judge(&'a str, &'a str, bool),
 }

@@ -5,7 +5,8 @@ ghost use Rattle.clap.specs.Words.{app_of, fault_of, first_value, found_of, rule
 ghost use Rattle.clap.specs.Walk.{Text, texts};
 ghost use Rattle.clap.specs.declared.builder.command.Command.TheViews.{out-Command};
 ghost use Rattle.clap.specs.declared.error.kind.ErrorKind.TheVariants.{DisplayVersion, MissingRequiredArgument};
-ghost use Rattle.tcap_judge.specs.Words.{Asks, Becomes, IsCheck, IsFaultOf, IsMemory, IsPack, IsShow, begins_with_hyphen, check_shape, is_printed, needed_rule, tool, words_status};
+ghost use Rattle.tcap_judge.specs.Words.{Asks, Becomes, IsCheck, IsFaultOf, IsJudge, IsMemory, IsPack, IsShow, begins_with_hyphen};
+ghost use Rattle.tcap_judge.specs.Words.{check_shape, flag_rule, is_printed, is_set, judge_shape, needed_rule, tool, words_status};
 
 use crate::asked::Request;
 use clap::error::ErrorKind;
@@ -93,6 +94,17 @@ fn needed_arg<'a>(alloc: Global, id: &'a str, text: &'a str) -> Arg<'a>
         .help(text)
 }
 
+/// A flag of this name.
+fn flag_arg<'a>(alloc: Global, name: &'a str, text: &'a str) -> Arg<'a>
+    ensures rule { rule_of result ≡ flag_rule name.entry.now }
+    ensures local { result.global ≡ false }
+{
+    Arg::new(alloc, name)
+        .long(name)
+        .action(ArgAction::SetTrue)
+        .help(text)
+}
+
 /// The subcommand `check`.
 fn check_command<'a>(alloc: Global) -> Result<Command<'a>, AllocError>
     ensures { IfOk result (λ c. (shape_of c ≡ check_shape) × ((out-Command c).has_globals ≡ false)) }
@@ -102,6 +114,20 @@ fn check_command<'a>(alloc: Global) -> Result<Command<'a>, AllocError>
     let cert = needed_arg(alloc, "CERT", "The file of the certificate");
     Command::new(alloc, "check")
         .about("Replays a certificate for a record")
+        .arg(record)?
+        .arg(table)?
+        .arg(cert)
+}
+
+/// The subcommand `judge`.
+fn judge_command<'a>(alloc: Global) -> Result<Command<'a>, AllocError>
+    ensures { IfOk result (λ c. (shape_of c ≡ judge_shape) × ((out-Command c).has_globals ≡ false)) }
+{
+    let record = needed_arg(alloc, "RECORD", "The file of the record");
+    let table = needed_arg(alloc, "TABLE", "The file of the operation table");
+    let cert = flag_arg(alloc, "cert", "Prints the certificate behind LAWFUL");
+    Command::new(alloc, "judge")
+        .about("Judges a record")
         .arg(record)?
         .arg(table)?
         .arg(cert)
@@ -124,13 +150,15 @@ fn command<'a>(alloc: Global) -> Result<Command<'a>, AllocError>
         .about("Makes a record of lines of hex digits")
         .arg(lines)?;
     let check = check_command(alloc)?;
+    let judge = judge_command(alloc)?;
     Command::new(alloc, "tcapjudge")
         .about("Judges records of TCAP messages")
         .version("0.1.0")
         .subcommand_required(true)
         .subcommand(show)?
         .subcommand(pack)?
-        .subcommand(check)
+        .subcommand(check)?
+        .subcommand(judge)
 }
 
 /// The value of the argument `id`, which has one.
@@ -142,6 +170,13 @@ fn needed<'a>(found: &ArgMatches<'a>, id: &str) -> &'a str
         unreachable!()
     };
     value
+}
+
+/// Whether the flag `id` is set.
+fn is_set(found: &ArgMatches, id: &str) -> bool
+    ensures { result ≡ is_set (first_value (found_of found.now) id.now) }
+{
+    matches!(found.get_str(id), Some("true"))
 }
 
 /// What `words` ask for, as clap reads them.
@@ -164,6 +199,11 @@ fn parsed_request<'a>(alloc: Global, words: &'a [&'a str]) -> Result<Request<'a>
             let table = needed(found, "TABLE");
             let cert = needed(found, "CERT");
             Ok(Request::Check(record, table, cert))
+        }
+        "judge" => {
+            let record = needed(found, "RECORD");
+            let table = needed(found, "TABLE");
+            Ok(Request::Judge(record, table, is_set(found, "cert")))
         }
         _ => unreachable!(),
     }
@@ -196,6 +236,19 @@ pub fn request<'a>(alloc: Global, words: &'a [&'a str]) -> Result<Request<'a>, W
         → texts words.entry.now ≡ program ∷ codes "check" ∷ x ∷ y ∷ []
         → begins_with_hyphen x ≡ false → begins_with_hyphen y ≡ false
         → IsErrAnd result (IsFaultOf (MissingRequiredArgument ∷ [])) }
+    ensures judge_paths { (program x y : Text)
+        → texts words.entry.now ≡ program ∷ codes "judge" ∷ x ∷ y ∷ []
+        → begins_with_hyphen x ≡ false → begins_with_hyphen y ≡ false
+        → MatchResult result (IsJudge x y false) IsMemory }
+    ensures judge_cert { (program x y : Text)
+        → texts words.entry.now ≡ program ∷ codes "judge" ∷ x ∷ y ∷ codes "--cert" ∷ []
+        → begins_with_hyphen x ≡ false → begins_with_hyphen y ≡ false
+        → MatchResult result (IsJudge x y true) IsMemory }
+    ensures judge_alone { (program : Text) → texts words.entry.now ≡ program ∷ codes "judge" ∷ []
+        → IsErrAnd result (IsFaultOf (MissingRequiredArgument ∷ [])) }
+    ensures judge_one { (program x : Text)
+        → texts words.entry.now ≡ program ∷ codes "judge" ∷ x ∷ []
+        → begins_with_hyphen x ≡ false → IsErrAnd result (IsFaultOf (MissingRequiredArgument ∷ [])) }
     ensures version { (program : Text) → texts words.entry.now ≡ program ∷ codes "--version" ∷ []
         → IsErrAnd result (IsFaultOf (DisplayVersion ∷ [])) }
     ensures faults { MatchResult result (λ _. fault_of tool (texts words.entry.now) ≡ [])

@@ -7,7 +7,7 @@ use std::process::ExitCode;
 use std::{env, fs, io};
 use tcap_ber::{Counted, Read, Unopened};
 use tcap_judge::{
-    MEMORY_LINE, Request, Status, WordsFault, request, run_check, run_pack, run_show,
+    MEMORY_LINE, Request, Status, WordsFault, request, run_check, run_judge, run_pack, run_show,
 };
 
 /// The exit status where a word of the command is not text, so that it is not for `clap` to say.
@@ -55,6 +55,9 @@ fn answer(rt: &HostRuntime, request: Request) -> io::Result<u8> {
         Request::Show(path) => over_path(rt, Task::Show, path),
         Request::Pack(path) => over_path(rt, Task::Pack, path),
         Request::Check(entries, table, cert) => Ok(check(rt, entries, table, cert)),
+        Request::Judge(entries, table, with_certificate) => {
+            Ok(judge(rt, entries, table, with_certificate))
+        }
     }
 }
 
@@ -143,6 +146,37 @@ fn checked<R: Read, T: Read, C: Read>(
 ) -> u8 {
     let mut writer = Counted::new(io::writer(rt));
     match run_check(rt.alloc(), entries, table, certificate, &mut writer) {
+        Ok(status) => status.number(),
+        Err(_) => Status::Fault.number(),
+    }
+}
+
+/// Judges the record of that path by the operation table of that path. The table is opened first, since it is read
+/// first.
+fn judge(rt: &HostRuntime, entries: &str, table: &str, with_certificate: bool) -> u8 {
+    match fs::open(rt, table) {
+        Ok(file) => judge_by(rt, entries, &mut Counted::new(file), with_certificate),
+        Err(_) => judge_by(rt, entries, &mut Unopened::new(), with_certificate),
+    }
+}
+
+/// The same, by the operation table that `table` tells.
+fn judge_by<T: Read>(rt: &HostRuntime, entries: &str, table: &mut T, with_certificate: bool) -> u8 {
+    match fs::open(rt, entries) {
+        Ok(file) => judged(rt, &mut Counted::new(file), table, with_certificate),
+        Err(_) => judged(rt, &mut Unopened::new(), table, with_certificate),
+    }
+}
+
+/// The same, where both readers are there. What is printed goes out at once.
+fn judged<R: Read, T: Read>(
+    rt: &HostRuntime,
+    entries: &mut R,
+    table: &mut T,
+    with_certificate: bool,
+) -> u8 {
+    let mut writer = Counted::new(io::writer(rt));
+    match run_judge(rt.alloc(), entries, table, with_certificate, &mut writer) {
         Ok(status) => status.number(),
         Err(_) => Status::Fault.number(),
     }

@@ -58,5 +58,7 @@ returns c =
     let check_is = c.in_ok-check.ensures in
     let with_show = c.in_ok-subcommand.ensures.shape show_local ∙ ap₂ with_subcommand bare_is show_is in
     let with_pack = c.in_ok-subcommand-2.ensures.shape pack_local ∙ ap₂ with_subcommand with_show pack_is in
-    IfOk-weaker c.subcommand-3.result _ _ (λ r h. h.shape check_is.1 ∙ ap₂ with_subcommand with_pack check_is.0)
-    c.subcommand-3.ensures
+    let with_check = c.in_ok-subcommand-3.ensures.shape check_is.1 ∙ ap₂ with_subcommand with_pack check_is.0 in
+    let judge_is = c.in_ok-judge.ensures in
+    IfOk-weaker c.subcommand-4.result _ _ (λ r h. h.shape judge_is.1 ∙ ap₂ with_subcommand with_check judge_is.0)
+    c.subcommand-4.ensures

@@ -8,7 +8,7 @@ use Rattle.clap.specs.Simple.{HasMatchesOf, subcommand_of, subcommand_rows_of}
 use Rattle.clap.specs.declared.builder.command.Command.{Command}
 use Rattle.clap.specs.declared.parser.matches.ArgMatches.{ArgMatches}
 use Rattle.tcap_judge.specs.Words.{tool}
-use Rattle.tcap_judge.proofs.Requests.{asked_of, check_asked_of, has_name, no_name, other_name, values_there}
+use Rattle.tcap_judge.proofs.Requests.{asked_of, check_asked_of, check_there, has_name, judge_asked_of, judge_there, no_name, other_name}
 use Rattle.tcap_judge.proofs.Tool.{IsKnown, as_fault, became_memory, tool_simple, tool_is_simple}
 use Rattle.tcap_judge.proofs.words.parsed_request.Goals as goal
 
@@ -52,6 +52,7 @@ unreachable-requires-in_default-name c =
     other_name _ c.in-Some.name.now
     (known c.in_ok-command.command (texts c.args.words.now) c.in_ok-matches.matches c.in_ok-command.ensures met.matches met.kinds)
     c.in-Some.ensures.name c.in_default-name.not-show c.in_default-name.not-pack c.in_default-name.not-check
+    c.in_default-name.not-judge
 
 pub returns-in-show-clause-asks : goal.returns-in-show-clause-asks
 returns-in-show-clause-asks c =
@@ -85,7 +86,7 @@ pub needed-record-requires : goal.needed-record-requires
 needed-record-requires c =
     let words = texts c.args.words.now in
     let m = c.in_ok-matches.matches in
-    (values_there m words c.in-Some.name.now (found_of c.in-Some.found.now)
+    (check_there m words c.in-Some.name.now (found_of c.in-Some.found.now)
     (rows c.in_ok-command.command words m c.in_ok-command.ensures c.in_ok-matches.ensures.matches)
     (clear c.in_ok-command.command words c.in_ok-command.ensures c.in_ok-matches.ensures.kinds)
     c.in-Some.ensures.name c.in-Some.ensures.rows c.in-check.is).0
@@ -94,7 +95,7 @@ pub needed-table-requires : goal.needed-table-requires
 needed-table-requires c =
     let words = texts c.args.words.now in
     let m = c.in_ok-matches.matches in
-    (values_there m words c.in-Some.name.now (found_of c.in-Some.found.now)
+    (check_there m words c.in-Some.name.now (found_of c.in-Some.found.now)
     (rows c.in_ok-command.command words m c.in_ok-command.ensures c.in_ok-matches.ensures.matches)
     (clear c.in_ok-command.command words c.in_ok-command.ensures c.in_ok-matches.ensures.kinds)
     c.in-Some.ensures.name c.in-Some.ensures.rows c.in-check.is).1
@@ -103,7 +104,7 @@ pub needed-cert-requires : goal.needed-cert-requires
 needed-cert-requires c =
     let words = texts c.args.words.now in
     let m = c.in_ok-matches.matches in
-    (values_there m words c.in-Some.name.now (found_of c.in-Some.found.now)
+    (check_there m words c.in-Some.name.now (found_of c.in-Some.found.now)
     (rows c.in_ok-command.command words m c.in_ok-command.ensures c.in_ok-matches.ensures.matches)
     (clear c.in_ok-command.command words c.in_ok-command.ensures c.in_ok-matches.ensures.kinds)
     c.in-Some.ensures.name c.in-Some.ensures.rows c.in-check.is).2
@@ -117,3 +118,35 @@ returns-in-check-clause-asks c =
     (rows c.in_ok-command.command words m c.in_ok-command.ensures c.in_ok-matches.ensures.matches)
     c.in-Some.ensures.name c.in-Some.ensures.rows c.in-check.is c.needed-record.ensures c.needed-table.ensures
     c.needed-cert.ensures
+
+pub returns-in-judge-clause-faults : goal.returns-in-judge-clause-faults
+returns-in-judge-clause-faults c =
+    clear c.in_ok-command.command (texts c.args.words.now) c.in_ok-command.ensures c.in_ok-matches.ensures.kinds
+
+pub needed-record-requires-in-judge : goal.needed-record-requires-in-judge
+needed-record-requires-in-judge c =
+    let words = texts c.args.words.now in
+    let m = c.in_ok-matches.matches in
+    (judge_there m words c.in-Some.name.now (found_of c.in-Some.found.now)
+    (rows c.in_ok-command.command words m c.in_ok-command.ensures c.in_ok-matches.ensures.matches)
+    (clear c.in_ok-command.command words c.in_ok-command.ensures c.in_ok-matches.ensures.kinds)
+    c.in-Some.ensures.name c.in-Some.ensures.rows c.in-judge.is).0
+
+pub needed-table-requires-in-judge : goal.needed-table-requires-in-judge
+needed-table-requires-in-judge c =
+    let words = texts c.args.words.now in
+    let m = c.in_ok-matches.matches in
+    (judge_there m words c.in-Some.name.now (found_of c.in-Some.found.now)
+    (rows c.in_ok-command.command words m c.in_ok-command.ensures c.in_ok-matches.ensures.matches)
+    (clear c.in_ok-command.command words c.in_ok-command.ensures c.in_ok-matches.ensures.kinds)
+    c.in-Some.ensures.name c.in-Some.ensures.rows c.in-judge.is).1
+
+pub returns-in-judge-clause-asks : goal.returns-in-judge-clause-asks
+returns-in-judge-clause-asks c =
+    let words = texts c.args.words.now in
+    let m = c.in_ok-matches.matches in
+    judge_asked_of m words c.in-Some.name.now (found_of c.in-Some.found.now) c.needed-record-in-judge.result.now
+    c.needed-table-in-judge.result.now c.is_set.result
+    (rows c.in_ok-command.command words m c.in_ok-command.ensures c.in_ok-matches.ensures.matches)
+    c.in-Some.ensures.name c.in-Some.ensures.rows c.in-judge.is c.needed-record-in-judge.ensures
+    c.needed-table-in-judge.ensures c.is_set.ensures

@@ -1,7 +1,8 @@
-use Rattle.std.proofs.Common.{Some, None}
+use Rattle.std.proofs.Common.{Some, None, true, false}
 use Rattle.clap.specs.Walk.{texts}
-use Rattle.tcap_judge.proofs.Requests.{check_asked, pack_asked, refused_by, show_asked}
+use Rattle.tcap_judge.proofs.Requests.{check_asked, judge_asked, pack_asked, refused_by, show_asked}
 use Rattle.tcap_judge.proofs.Cases.{check_alone_missing, check_named, check_one_missing, check_taken, check_two_missing, long_version, pack_named, pack_path_named, pack_path_taken, pack_taken, show_named, show_path_named, show_path_taken, show_taken}
+use Rattle.tcap_judge.proofs.JudgeCases.{judge_alone_missing, judge_cert_named, judge_cert_taken, judge_named, judge_one_missing, judge_taken}
 use Rattle.clap.specs.declared.error.kind.ErrorKind.TheVariants.{DisplayVersion, MissingRequiredArgument}
 use Rattle.tcap_judge.proofs.words.request.Goals as goal
 
@@ -45,6 +46,27 @@ returns-clause-check_two c program x y is plain_x plain_y =
     refused_by (texts c.args.words.now) _ MissingRequiredArgument c.parsed_request.result is
     (check_two_missing program x y plain_x plain_y)
     c.parsed_request.ensures.faults
+
+pub returns-clause-judge_paths : goal.returns-clause-judge_paths
+returns-clause-judge_paths c program x y is plain_x plain_y =
+    judge_asked (texts c.args.words.now) _ x y false c.parsed_request.result is (judge_taken program x y plain_x plain_y)
+    (judge_named program x y plain_x plain_y) c.parsed_request.ensures.asks c.parsed_request.ensures.taken
+
+pub returns-clause-judge_cert : goal.returns-clause-judge_cert
+returns-clause-judge_cert c program x y is plain_x plain_y =
+    judge_asked (texts c.args.words.now) _ x y true c.parsed_request.result is
+    (judge_cert_taken program x y plain_x plain_y)
+    (judge_cert_named program x y plain_x plain_y) c.parsed_request.ensures.asks c.parsed_request.ensures.taken
+
+pub returns-clause-judge_alone : goal.returns-clause-judge_alone
+returns-clause-judge_alone c program is =
+    refused_by (texts c.args.words.now) _ MissingRequiredArgument c.parsed_request.result is (judge_alone_missing program)
+    c.parsed_request.ensures.faults
+
+pub returns-clause-judge_one : goal.returns-clause-judge_one
+returns-clause-judge_one c program x is plain_x =
+    refused_by (texts c.args.words.now) _ MissingRequiredArgument c.parsed_request.result is
+    (judge_one_missing program x plain_x) c.parsed_request.ensures.faults
 
 pub returns-clause-version : goal.returns-clause-version
 returns-clause-version c program is =
