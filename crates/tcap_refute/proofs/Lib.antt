@@ -64,3 +64,6 @@ pub mod EndLaws
 pub mod AskLaws
 pub mod ItemLaws
 pub mod BlamedLaws
+pub mod WholeTurns
+pub mod WholeViews
+pub mod WholeLaws

@@ -14,6 +14,7 @@ mod kind;
 pub mod laws;
 mod notes;
 mod refuting;
+pub mod whole;
 pub mod worked;
 
 pub use kind::{Kind, Refutation};
