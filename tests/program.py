@@ -4,6 +4,8 @@ import subprocess
 import sys
 import tempfile
 
+import judged
+
 PROGRAM = "crates/tcapjudge/out/tcapjudge"
 BEGIN = bytes.fromhex("416203480101")
 LINE = b"0 A Begin otid=01\n"
@@ -71,6 +73,19 @@ ROWS = [
     (["check", "DIALOGUE", "LONG_TABLE", "CERT"], b"", b"FAULT 30 0\n", b"", 3),
     (["check", "DIALOGUE", "TABLE", "LONG_CERT"], b"", b"FAULT 60 0\n", b"", 3),
     (["check", "DIALOGUE", "/dev/zero", "CERT"], b"", b"FAULT 30 0\n", b"", 3),
+    # Without a certificate: a fault of one of the two, and the certificate that is proposed where it is asked for.
+    (["judge", "DIALOGUE", "TABLE"], b"", b"LAWFUL 2\n", b"", 0),
+    (["judge", "DIALOGUE", "TABLE", "--cert"], b"", b"LAWFUL 2\n" + CERT + b"\n", b"", 0),
+    (["judge", "--cert", "DIALOGUE", "TABLE"], b"", b"LAWFUL 2\n" + CERT + b"\n", b"", 0),
+    (["judge", "DIALOGUE", "BROKEN"], b"", b"FAULT 30 0\n", b"", 3),
+    (["judge", "CUT", "TABLE"], b"", b"FAULT 21 28\n", b"", 3),
+    (["judge", "CUT", "BROKEN"], b"", b"FAULT 30 0\n", b"", 3),
+    (["judge", NONE, "TABLE"], b"", b"FAULT 23 0\n", b"", 3),
+    (["judge", "DIALOGUE", NONE], b"", b"FAULT 23 0\n", b"", 3),
+    (["judge", NONE, "BROKEN"], b"", b"FAULT 30 0\n", b"", 3),
+    (["judge", "DIALOGUE"], b"", b"", SOME, 4),
+    (["judge", "DIALOGUE", "TABLE", "x"], b"", b"", SOME, 4),
+    (["judge", "--help"], b"", SOME, b"", 0),
     (["check", "DIALOGUE", "TABLE"], b"", b"", SOME, 4),
     (["check", "DIALOGUE", "TABLE", "CERT", "x"], b"", b"", SOME, 4),
     (["--version"], b"", b"tcapjudge 0.1.0\n", b"", 0),
@@ -89,6 +104,7 @@ FULL = [
     (["show"], BEGIN * 2000, 3),
     (["check", "DIALOGUE", "TABLE", "CERT"], b"", 3),
     (["check", "DIALOGUE", "TABLE", "LATE"], b"", 3),
+    (["judge", "DIALOGUE", "TABLE", "--cert"], b"", 3),
     (["--help"], b"", 3),
     (["--version"], b"", 3),
     (["shew"], b"", 4),
@@ -128,13 +144,28 @@ def wrong_in(folder):
     return wrong
 
 
+def misjudged_in(folder):
+    """How many rows of judged.py are not as they are wanted, each of which is printed."""
+    wrong = 0
+    for number, (record, table, printed, status) in enumerate(judged.rows()):
+        for name, octets in ("judged", record), ("judged.table", table):
+            with open(f"{folder}/{name}", "wb") as file:
+                file.write(octets)
+        words = ["judge", f"{folder}/judged", f"{folder}/judged.table", "--cert"]
+        run = subprocess.run([PROGRAM, *words], input=b"", capture_output=True, check=False)
+        if run.stdout != printed or run.stderr != b"" or run.returncode != status:
+            wrong += 1
+            print(f"row {number} of judged.py: {run.returncode} {run.stdout} {run.stderr}")
+    return wrong
+
+
 def main():
     with tempfile.TemporaryDirectory() as folder:
         for name, octets in FILES.items():
             with open(f"{folder}/{name}", "wb") as file:
                 file.write(octets)
-        wrong = wrong_in(folder)
-    print(f"{len(ROWS) + len(FULL) + 1 - wrong} passed, {wrong} failed")
+        wrong = wrong_in(folder) + misjudged_in(folder)
+    print(f"{len(ROWS) + len(FULL) + 1 + len(judged.ROWS) - wrong} passed, {wrong} failed")
     return int(wrong != 0)
 
 

@@ -1,5 +1,6 @@
-"""What `make demo` runs: makes records of the lines of examples/ by `pack`, shows them by `show`, and checks those that have an operation
-table and a certificate by `check`. It is the program as `rt try` runs it, compiled but not proved."""
+"""What `make demo` runs: makes records of the lines of examples/ by `pack`, shows them by `show`, checks those that have an
+operation table and a certificate by `check`, and judges those of JUDGED by `judge`. It is the program as `rt try` runs it,
+compiled but not proved."""
 
 import concurrent.futures
 import glob
@@ -9,6 +10,19 @@ import shutil
 import subprocess
 import sys
 import tempfile
+
+# The examples that are judged, by the table of examples/operations.json.
+JUDGED = [
+    "crossing",
+    "late_result",
+    "no_message",
+    "unknown_transaction",
+    "reused_id",
+    "after_end",
+    "answers_nothing",
+    "wrong_operation",
+    "misplaced_dialogue",
+]
 
 
 def run(flags, words, statuses):
@@ -34,8 +48,15 @@ def checked(name, record):
     return f"== check {name}\n".encode() + run(flags, ["check", *files], [0, 2, 3])
 
 
+def judged(name, record):
+    """What `judge` prints of the record of that example, which stands in that file."""
+    files = {"record": record, "table": "examples/operations.json"}
+    flags = [word for file, path in files.items() for word in ("--data", f"{file}={os.path.abspath(path)}")]
+    return f"== judge {name}\n".encode() + run(flags, ["judge", *files], [0, 1, 2])
+
+
 def main():
-    print("This run proves nothing and takes two minutes; `make program` proves and builds the program.", flush=True)
+    print("This run proves nothing and takes some minutes; `make program` proves and builds the program.", flush=True)
     with tempfile.TemporaryDirectory() as folder, concurrent.futures.ThreadPoolExecutor(os.cpu_count()) as lanes:
         lines, records = f"{folder}/lines", f"{folder}/records"
         os.mkdir(lines)
@@ -50,7 +71,8 @@ def main():
         shown = lanes.submit(run_each, "show", records)
         names = sorted(os.path.basename(path).removesuffix(".cert.json") for path in glob.glob("examples/*.cert.json"))
         checks = [lanes.submit(checked, name, f"{records}/{name}") for name in names]
-        for said in [shown, *checks]:
+        verdicts = [lanes.submit(judged, name, f"{records}/{name}") for name in JUDGED]
+        for said in [shown, *checks, *verdicts]:
             sys.stdout.buffer.write(said.result())
             sys.stdout.buffer.flush()
 
