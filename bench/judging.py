@@ -1,7 +1,7 @@
-"""Shows that `tcapjudge check` takes time linear in the entries of a record, and how long it takes beside `tcapjudge show`
-of the same record: prints, for records of several shapes, the time for 100,000 entries, how many times that of `show` it is,
-the ratios of the times for 25,000, 50,000 and 100,000 entries, and the peak of memory beside the greatest count of messages
-that wait. `make bench` builds the program first."""
+"""Shows that `tcapjudge check` and `tcapjudge judge` take time linear in the entries of a record, and how long they take beside
+`tcapjudge show` of the same record: prints, for records of several shapes, the time for 100,000 entries, how many times that
+of `show` it is, the ratios of the times for 25,000, 50,000 and 100,000 entries, and, of `check`, the peak of memory beside the
+greatest count of messages that wait. `make bench` builds the program first."""
 
 import json
 import os
@@ -148,7 +148,12 @@ def rejected(count):
     return entries
 
 
-JUDGED = [short, many_open, one_dialogue, refused, rejected]
+def refuted_at_last(count):
+    """Many short dialogues, and an End to an ID that was never asked from."""
+    return short(count)[:-1] + [B + end(999_999_999)]
+
+
+JUDGED = [short, many_open, one_dialogue, refused, rejected, refuted_at_last]
 
 # ---- measures
 
@@ -207,7 +212,7 @@ def main():
                 f" {line}; {peak(command)} kB where {waiting} wait",
                 flush=True,
             )
-        for shape in JUDGED if "judge" in sys.argv[1:] else []:
+        for shape in JUDGED:
             times = []
             for count in COUNTS:
                 entries = shape(count)
