@@ -22,6 +22,11 @@ check;=x y z;,tcapjudge,check,x,y,z
 check;=show pack check;,tcapjudge,check,show,pack,check
 check;=x -y z;,tcapjudge,check,x,--,-y,z
 wrong;requires a subcommand;
+judge;=x y false;,tcapjudge,judge,x,y
+judge;=x y true;,tcapjudge,judge,x,y,--cert
+judge;=x y true;,tcapjudge,judge,--cert,x,y
+wrong;<TABLE>;,tcapjudge,judge,x
+wrong;unexpected argument 'z';,tcapjudge,judge,x,y,z
 wrong;requires a subcommand;,tcapjudge
 wrong;unrecognized subcommand 'shew';,tcapjudge,shew
 wrong;unexpected argument 'y';,tcapjudge,show,x,y
@@ -59,6 +64,10 @@ fn is_answered<'a>(
             let files = format!(in alloc; "{record} {table} {cert}")?;
             Ok(kind == "check" && Some(files.as_str()) == wanted.strip_prefix("="))
         }
+        Ok(Request::Judge(record, table, with_certificate)) => {
+            let files = format!(in alloc; "{record} {table} {with_certificate}")?;
+            Ok(kind == "judge" && Some(files.as_str()) == wanted.strip_prefix("="))
+        }
         Err(fault) => {
             let said = format!(in alloc; "{fault}")?;
             let is_kind = kind
@@ -89,6 +98,6 @@ impl Row for WordsRow {
 
 #[test]
 fn words(rt: HostRuntime) -> Result<(), Fail> {
-    assert_eq!(rt; each_row::<WordsRow>(rt.alloc(), WORDS)?, 35);
+    assert_eq!(rt; each_row::<WordsRow>(rt.alloc(), WORDS)?, 40);
     Ok(())
 }
