@@ -22,9 +22,9 @@ check;=x y z;,tcapjudge,check,x,y,z
 check;=show pack check;,tcapjudge,check,show,pack,check
 check;=x -y z;,tcapjudge,check,x,--,-y,z
 wrong;requires a subcommand;
-judge;=x y false;,tcapjudge,judge,x,y
-judge;=x y true;,tcapjudge,judge,x,y,--cert
-judge;=x y true;,tcapjudge,judge,--cert,x,y
+judge;=x y;,tcapjudge,judge,x,y
+certify;=x y;,tcapjudge,judge,x,y,--cert
+certify;=x y;,tcapjudge,judge,--cert,x,y
 wrong;<TABLE>;,tcapjudge,judge,x
 wrong;unexpected argument 'z';,tcapjudge,judge,x,y,z
 wrong;requires a subcommand;,tcapjudge
@@ -65,8 +65,9 @@ fn is_answered<'a>(
             Ok(kind == "check" && Some(files.as_str()) == wanted.strip_prefix("="))
         }
         Ok(Request::Judge(record, table, with_certificate)) => {
-            let files = format!(in alloc; "{record} {table} {with_certificate}")?;
-            Ok(kind == "judge" && Some(files.as_str()) == wanted.strip_prefix("="))
+            let word = if with_certificate { "certify" } else { "judge" };
+            let files = format!(in alloc; "{record} {table}")?;
+            Ok(kind == word && Some(files.as_str()) == wanted.strip_prefix("="))
         }
         Err(fault) => {
             let said = format!(in alloc; "{fault}")?;
