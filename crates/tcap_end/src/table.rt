@@ -140,8 +140,8 @@ impl Table {
         self.operation(code).is_some()
     }
 
-    /// Whether the second operation may be linked to the first.
-    pub(crate) fn links(&self, code: CodeView, linked: CodeView) -> bool
+    /// Whether the second operation may be linked to the first (Q.771 3.1.2); to one that the table lacks none may.
+    pub fn links(&self, code: CodeView, linked: CodeView) -> bool
         ensures { result ≡ links self.now (code_of code.entry) (code_of linked.entry) }
     {
         match self.operation(code) {
@@ -150,8 +150,8 @@ impl Table {
         }
     }
 
-    /// Whether any operation may be linked to this one.
-    pub(crate) fn links_some(&self, code: CodeView) -> bool
+    /// Whether any operation may be linked to this one (Q.771 3.1.2).
+    pub fn links_some(&self, code: CodeView) -> bool
         ensures { result ≡ is_linked (linked_of self.now (code_of code.entry)) }
     {
         match self.operation(code) {
@@ -160,13 +160,20 @@ impl Table {
         }
     }
 
-    /// Whether an invocation of the operation may end unseen.
-    pub(crate) fn expires(&self, code: CodeView) -> bool
+    /// Whether an invocation of the operation may end unseen: by its timer, or as its user cancels it (Q.774 3.2).
+    pub fn expires(&self, code: CodeView) -> bool
         ensures { result ≡ expires_of self.now (code_of code.entry) }
     {
         match self.operation(code) {
             Some(operation) => operation.expires,
             None => false,
         }
+    }
+
+    /// Whether transactions may end by prearrangement, unseen (Q.774 3.3).
+    pub fn prearranged(&self) -> bool
+        ensures { result ≡ self.now.prearranged }
+    {
+        self.prearranged
     }
 }
