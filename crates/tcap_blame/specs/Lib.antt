@@ -1,0 +1,5 @@
+pub mod Tallied
+pub mod Tallies
+pub mod History
+pub mod Spoken
+pub mod Searching
