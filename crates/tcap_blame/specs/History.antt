@@ -89,10 +89,6 @@ of_user ms = filter (λ m. is_none (cause_in m)) ms
 abbrev pub goes_on_from_other : List ℕ → Message → Bool
 goes_on_from_other own m = is_a forms.Continue m && not (is_id own (otid_in m))
 
--- the ID that is kept, as octets
-abbrev pub octets_of : Option (List ℕ) → Option (List ℕ)
-octets_of id = id
-
 -- whether there is an ID, and it is another
 abbrev pub is_another : List ℕ → Option (List ℕ) → Bool
 is_another own None = false

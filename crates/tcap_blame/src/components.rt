@@ -1,6 +1,6 @@
 //! Components that the half over which they would be sent does not allow (Q.774 3.2; Q.771 3.1.2).
 
-ghost use Rattle.std.specs.Prelude.{◌≡◌, [], ◌++◌, IfOk};
+ghost use Rattle.std.specs.Prelude.{◌≡◌, [], ◌++◌, false, IfOk};
 ghost use Rattle.std.specs.List.{list_any};
 ghost use Rattle.tcap_parts.specs.Meaning.{components_left};
 ghost use Rattle.tcap_refute.specs.Speaker.{Speaker as Speaking};
@@ -53,7 +53,8 @@ pub(crate) fn first_faults(
 ) -> Result<ComponentFaults, AllocError>
     ensures { IfOk result (λ f.
         (f.busy ≡ has_component invokes_again [] [] (components_left components.entry))
-        × (f.badly_linked ≡ list_any is_linked (components_left components.entry))) }
+        × (f.badly_linked ≡ list_any is_linked (components_left components.entry))
+        × (f.answered_already ≡ false) × (f.wrongly_rejected ≡ false)) }
 {
     Err(AllocError)
 }
