@@ -1,0 +1,2 @@
+pub mod KindFinds
+pub mod FewLaws

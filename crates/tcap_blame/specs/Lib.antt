@@ -3,3 +3,4 @@ pub mod Tallies
 pub mod History
 pub mod Spoken
 pub mod Searching
+pub mod Finding
