@@ -4,7 +4,7 @@ word for word, the file crates/tcap_uses/src/NAME.rt without its `ghost use` lin
 import re
 import sys
 
-LIBRARIES = ["ber", "parts", "msg", "record", "end", "check", "refute", "search", "judge"]
+LIBRARIES = ["ber", "parts", "msg", "record", "end", "check", "refute", "blame", "search", "judge"]
 BLOCK = re.compile(r"^```rust\n(.*?)^```$", re.DOTALL | re.MULTILINE)
 
 

@@ -3,6 +3,7 @@
 #![tactic(auto)]
 
 mod ber;
+mod blame;
 mod check;
 mod end;
 mod judge;
