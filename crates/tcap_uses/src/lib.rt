@@ -14,6 +14,7 @@ mod refute;
 mod search;
 
 pub use ber::integer_content;
+pub use blame::fault_of;
 pub use check::all_taken;
 pub use end::first_sent;
 pub use judge::shown;
