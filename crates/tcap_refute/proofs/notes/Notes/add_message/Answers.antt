@@ -1,6 +1,6 @@
 use Rattle.std.proofs.lemmas.Result.{on_ok_weaker}
 use Rattle.tcap_refute.proofs.ItemLaws.{noted}
-use Rattle.tcap_refute.proofs.noting.Notes.add_message.Goals as goal
+use Rattle.tcap_refute.proofs.notes.Notes.add_message.Goals as goal
 
 pub returns : goal.returns
 returns g c = λ items are. on_ok_weaker c.note.result

@@ -1,6 +1,6 @@
 use Rattle.std.proofs.Common.{◌∙◌}
 use Rattle.tcap_refute.proofs.AskLaws.{kind_noted}
-use Rattle.tcap_refute.proofs.noting.Notes.lowest_kind.Goals as goal
+use Rattle.tcap_refute.proofs.notes.Notes.lowest_kind.Goals as goal
 
 pub returns : goal.returns
 returns g c = λ items are. c.kind_of.ensures
