@@ -1,6 +1,6 @@
 -- What is kept of what an end sent, and of what was sent to it, since the last quiet mark, by transaction IDs: of which
 -- messages each part is.
-use Rattle.std.specs.Prelude.{◌≡◌, ◌≤◌, ℕ, ◌^◌, Bool, true, false, List, [], ◌∷◌, length, filter, Option, Some, None, is_some, is_none, ◌&&◌, not, nat_le, cond}
+use Rattle.std.specs.Prelude.{◌≡◌, ⊤, ◌≤◌, ℕ, ◌^◌, Bool, true, false, List, [], ◌∷◌, length, filter, Option, Some, None, is_some, is_none, ◌&&◌, not, nat_le, cond}
 use Rattle.std.specs.Map.{lookup}
 use Rattle.std.specs.BTreeMap.{is_at}
 use Rattle.std.specs.BTreeSet as set
@@ -15,7 +15,7 @@ use Rattle.tcap_end.specs.Table.{Table, octets_cmp}
 use Rattle.tcap_check.specs.World.{Item, other}
 use Rattle.tcap_check.specs.Run.{then_so}
 use Rattle.tcap_check.specs.Since.{ended_by}
-use Rattle.tcap_refute.specs.Before.{asked, components_of, has_a, is_a, sent_by}
+use Rattle.tcap_refute.specs.Before.{asked as asked_from, components_of, has_a, is_a, sent_by}
 use Rattle.tcap_refute.specs.Counts.{count}
 use Rattle.tcap_refute.specs.Kind.{is_begin_with_request}
 use Rattle.tcap_refute.specs.Speaker.{accepts_to, ends_to, goes_on_to, is_cause, is_nothing}
@@ -131,9 +131,9 @@ IsOwnAt table ms (Some kept) = (is_nothing ms ≡ false) × IsOwn table ms kept
 
 -- Of what that end sent, and what was sent to it, in these items.
 pub record IsHistory (table : Table) (side : Side) (items : List Item) (h : History) : Type 0 where
-  pub asked : (id : List ℕ) → IsAskedAt table (asked side id items) (lookup (is_at (octets_cmp id)) h.asked.entries)
+  pub asked : (id : List ℕ) → IsAskedAt table (asked_from side id items) (lookup (is_at (octets_cmp id)) h.asked.entries)
   pub told : (id : List ℕ) → IsToldAt table (sent_to side id items) (lookup (is_at (octets_cmp id)) h.told.entries)
-  pub own : (id : List ℕ) → IsOwnAt table (asked (other side) id items) (lookup (is_at (octets_cmp id)) h.own.entries)
+  pub own : (id : List ℕ) → IsOwnAt table (asked_from (other side) id items) (lookup (is_at (octets_cmp id)) h.own.entries)
   pub ended : (id : List ℕ) → set.contains octets_cmp h.ended id ≡ list_any (λ m. is_id id (ended_by m)) (sent_by side items)
   pub silenced : (id : List ℕ) → set.contains octets_cmp h.silenced id ≡ list_any (ends_to id) (sent_by (other side) items)
   pub closed : (id : List ℕ) → set.contains octets_cmp h.closed id ≡ was_closed_behind side id [] items
