@@ -24,7 +24,7 @@ weight_more : (m : Message) (ms : List Message) → weight (m ∷ ms) ≡ length
 weight_more m ms = length-append (components_in m) (components_of ms)
 
 pub weight_both : (xs ys : List Message) → weight (xs ++ ys) ≡ weight xs + weight ys
-weight_both [] ys = refl
+weight_both [] ys = omega arith
 weight_both (x ∷ xs) ys =
     let e = weight_more x (xs ++ ys) in let f = weight_both xs ys in let g = weight_more x xs in omega arith
 
@@ -35,12 +35,12 @@ weight_cond false m ms = omega arith
 -- Two parts of messages that have nothing in common.
 apart : (p q : Message → Bool) (xs : List Message) → ((m : Message) → p m ≡ true → q m ≡ true → ⊥)
     → weight (filter p xs) + weight (filter q xs) ≤ weight xs
-apart p q [] no = omega arith
-apart p q (x ∷ xs) no = by (p x) (q x) refl refl (apart p q xs no)
+apart p q [] never = omega arith
+apart p q (x ∷ xs) never = by (p x) (q x) refl refl (apart p q xs never)
   where
     by : (a b : Bool) → p x ≡ a → q x ≡ b → weight (filter p xs) + weight (filter q xs) ≤ weight xs
         → weight (cond a (x ∷ filter p xs) (filter p xs)) + weight (cond b (x ∷ filter q xs) (filter q xs)) ≤ weight (x ∷ xs)
-    by true true is_p is_q rest = absurd (no x is_p is_q)
+    by true true is_p is_q rest = absurd (never x is_p is_q)
     by true false is_p is_q rest =
         let e = weight_more x (filter p xs) in let f = weight_more x xs in omega (arith, rest)
     by false true is_p is_q rest =
@@ -48,7 +48,7 @@ apart p q (x ∷ xs) no = by (p x) (q x) refl refl (apart p q xs no)
     by false false is_p is_q rest = let f = weight_more x xs in omega (arith, rest)
 
 part : (p : Message → Bool) (xs : List Message) → weight (filter p xs) ≤ weight xs
-part p xs = let e = apart p (λ m. false) xs (λ m is no. cc) in omega (arith, e)
+part p xs = let e = apart p (λ m. false) xs (λ m is other. cc) in omega (arith, e)
 
 -- ---- what an end sent
 

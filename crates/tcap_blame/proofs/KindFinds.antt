@@ -19,7 +19,7 @@ use Rattle.tcap_refute.specs.Speaker.{Speaker, speaker}
 use Rattle.tcap_refute.specs.HalfKinds.{is_wrong_dialogue, is_wrong_half}
 use Rattle.tcap_refute.specs.ComponentKinds.{answers_again, has_component, invokes_again, invokes_busy, is_linked, links_badly, rejects_wrongly}
 use Rattle.tcap_refute.specs.Blame.{further_kinds, is_fault, is_of_first_kind, is_of_further_kind, is_of_half_kind, is_of_reply_kind, is_wrong_reply}
-use Rattle.tcap_blame.specs.Finding.{kind_of_components}
+use Rattle.tcap_blame.specs.Finding.{kind_of_components, kind_over_half}
 
 -- what kind a message has, by its destination ID and its cause
 abbrev by_cause : Table → Side → List ℕ → List Item → Message → Option ℕ → Kind → Bool
@@ -91,13 +91,7 @@ reply_found table side items m id n there once is = once_found table side items 
 pub half_found : (table : Table) (side : Side) (items : List Item) (m : Message) (id : List ℕ)
     → dtid_in m ≡ Some id → nat_le 2 (count (is_a forms.Begin) (asked side id items)) ≡ false → cause_in m ≡ None
     → find (is_of_further_kind table side items m) further_kinds
-    ≡ (let s = speaker side id items m in
-    cond (is_wrong_half side id items m s) (Some kinds.WrongHalf)
-    (cond (is_wrong_dialogue side id items m s) (Some kinds.WrongDialogue)
-    (kind_of_components (has_component (invokes_busy table s) [] s.sent (components_in m))
-    (has_component (links_badly table s) [] s.sent (components_in m))
-    (has_component (answers_again table s) [] s.sent (components_in m))
-    (has_component (rejects_wrongly table s) [] s.sent (components_in m)))))
+    ≡ kind_over_half table side id items m
 half_found table side items m id there once is = once_found table side items m id None there once is
 
 -- ---- all kinds

@@ -1,2 +1,3 @@
 pub mod KindFinds
 pub mod FewLaws
+pub mod KeptLaws

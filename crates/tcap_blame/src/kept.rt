@@ -1,13 +1,15 @@
 //! What is kept of the entries of a record, for a search over one end, and what the next entry is.
 
-ghost use Rattle.std.specs.Prelude.{◌≡◌, [], ◌∷◌, ◌++◌, List, IfOk, OnOk};
+ghost use Rattle.std.specs.Prelude.{◌≡◌, ◌≤◌, ◌^◌, [], ◌∷◌, ◌++◌, List, Some, None, Ok, length, cond, IfOk, OnOk};
 ghost use Rattle.std.specs.List.{find};
 ghost use Rattle.tcap_end.specs.Table.{Table};
 ghost use Rattle.tcap_record.specs.declared.entry.End.{End as Side};
 ghost use Rattle.tcap_check.specs.World.{Item, Sent};
 ghost use Rattle.tcap_check.specs.Entries.{item_of};
 ghost use Rattle.tcap_refute.specs.Before.{since_quiet};
-ghost use Rattle.tcap_refute.specs.Blame.{further_kinds, is_of_further_kind, lowest_fault};
+ghost use Rattle.tcap_refute.specs.declared.kind.Kind.TheVariants.{WrongReply};
+ghost use Rattle.tcap_refute.specs.Blame.{further_kinds, is_of_further_kind, is_wrong_reply, lowest_fault};
+ghost use Rattle.tcap_blame.specs.Finding.{kind_of_components, kind_over_half};
 ghost use Rattle.tcap_blame.specs.History.{IsHistory};
 ghost use Rattle.tcap_blame.specs.Searching.{AreRoomy, IsKept, Takes};
 
@@ -39,7 +41,9 @@ pub(crate) enum Taken {
 }
 
 /// The lowest of the kinds of components.
-fn kind_of_faults(faults: ComponentFaults) -> Option<Kind> {
+fn kind_of_faults(faults: ComponentFaults) -> Option<Kind>
+    ensures { result ≡ kind_of_components faults.busy faults.badly_linked faults.answered_already faults.wrongly_rejected }
+{
     if faults.busy {
         Some(Kind::InvokeIdBusy)
     } else if faults.badly_linked {
@@ -62,6 +66,10 @@ impl History {
         dtid: TransactionIdView,
         message: &M,
     ) -> Result<Option<Kind>, AllocError>
+        ensures { (side : Side) (items : List Item) → IsHistory table.now side items self.now
+            → AreRoomy (items ++ Sent side (M.meaning message.now) ∷ [])
+            → IfOk result (λ kind. kind
+            ≡ kind_over_half table.now side dtid.entry.octets.now items (M.meaning message.now)) }
     {
         let half = self.speaker(alloc, dtid, message)?;
         if self.is_wrong_half(dtid, message, &half) {
@@ -75,7 +83,11 @@ impl History {
     }
 
     /// That of an Abort of the provider to that ID, with that cause.
-    fn reply_kind(&self, table: &Table, dtid: TransactionIdView, cause: SmallView) -> Option<Kind> {
+    fn reply_kind(&self, table: &Table, dtid: TransactionIdView, cause: SmallView) -> Option<Kind>
+        ensures { (side : Side) (items : List Item) → IsHistory table.now side items self.now → length items ≤ 2 ^ 63
+            → result ≡ cond (is_wrong_reply table.now side dtid.entry.octets.now items cause.number)
+            (Some WrongReply) None }
+    {
         if self.is_wrong_reply(table, dtid, cause) {
             Some(Kind::WrongReply)
         } else {

@@ -29,7 +29,7 @@ module _ (side : Side) (m : Message) where
   quiet_kept [] = refl
   quiet_kept (item ∷ xs) = ap (cond (is_quiet item) true) (quiet_kept xs)
 
-  since_more : (xs : List Item) → since_quiet (xs ++ Sent side m ∷ []) ≡ since_quiet xs ++ Sent side m ∷ []
+  pub since_more : (xs : List Item) → since_quiet (xs ++ Sent side m ∷ []) ≡ since_quiet xs ++ Sent side m ∷ []
   since_more [] = refl
   since_more (item ∷ xs) =
       ap (λ b. cond b (since_quiet (xs ++ Sent side m ∷ [])) (item ∷ xs ++ Sent side m ∷ [])) (quiet_kept (item ∷ xs))
@@ -105,7 +105,7 @@ quiet_last (item ∷ xs) = by (is_quiet item) (quiet_last xs)
     by true rest = refl
     by false rest = rest
 
-since_mark : (xs : List Item) → since_quiet (xs ++ Item.Quiet ∷ []) ≡ []
+pub since_mark : (xs : List Item) → since_quiet (xs ++ Item.Quiet ∷ []) ≡ []
 since_mark [] = refl
 since_mark (item ∷ xs) =
     ap (λ b. cond b (since_quiet (xs ++ Item.Quiet ∷ [])) (item ∷ xs ++ Item.Quiet ∷ [])) (quiet_last (item ∷ xs))
