@@ -39,7 +39,8 @@ is_of_class table classes.Two code = has_class table 2 code
 is_of_class table classes.Three code = has_class table 3 code
 is_of_class table classes.Four code = has_class table 4 code
 
-abbrev not_expiring : Table → Class → Code → Bool
+-- whether one is, and does not expire
+abbrev pub not_expiring : Table → Class → Code → Bool
 not_expiring table class code = not (expires_of table code) && is_of_class table class code
 
 -- whether a component of that invoke ID is of that sort

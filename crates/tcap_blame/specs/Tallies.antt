@@ -3,6 +3,7 @@ use Rattle.std.specs.Prelude.{◌≡◌, ℕ, ℤ, ◌==◌, Bool, false, List, 
 use Rattle.std.specs.Cmp.Lexicographic.{slice_cmp}
 use Rattle.std.specs.Ordering.{int_cmp, nat_cmp}
 use Rattle.std.specs.List.{list_any}
+use Rattle.std.specs.Global.{Box}
 use Rattle.std.specs.Map.{lookup}
 use Rattle.std.specs.BTreeMap.{is_at}
 use Rattle.tcap_parts.specs.declared.code.Code.{Code}
@@ -15,7 +16,6 @@ use Rattle.tcap_blame.specs.declared.sort.Sort.{Sort}
 use Rattle.tcap_blame.specs.declared.sort.Sort.TheVariants as sorts
 use Rattle.tcap_blame.specs.declared.code_counts.CodeCounts.{CodeCounts}
 use Rattle.tcap_blame.specs.declared.by_class.ByClass.{ByClass}
-use Rattle.tcap_blame.specs.declared.of_id.Linking.{Linking}
 use Rattle.tcap_blame.specs.declared.of_id.OfId.{OfId}
 use Rattle.tcap_blame.specs.declared.tally.Tally.{Tally}
 use Rattle.tcap_blame.specs.Tallied.{AreFew, Tallied, both_tallied, nothing_tallied, tallied}
@@ -55,19 +55,20 @@ count_in sorts.MistypedResults kept = kept.mistyped_results
 count_in sorts.ErrorRejects kept = kept.error_rejects
 count_in sorts.MistypedErrors kept = kept.mistyped_errors
 
-abbrev pub links_so : (ℤ → Code → Bool) → Linking → Bool
-links_so passes l = passes l.linked l.code
+-- whether one of the operations of a linked ID passes a test with it
+abbrev pub links_at : (ℤ → Code → Bool) → ℤ × CodeCounts → Bool
+links_at passes (linked, kept) = list_any (passes linked) kept.codes.items
 
 -- ---- of all of them
 
 -- what is kept of that ID
-abbrev pub kept_of : ℤ → Tally → Option OfId
+abbrev pub kept_of : ℤ → Tally → Option (Box OfId)
 kept_of id tally = lookup (is_at (int_cmp id)) tally.ids.entries
 
 -- something of what is kept, or what there is of nothing
-abbrev pub of_kept : {A : Type 0} → A → (OfId → A) → Option OfId → A
+abbrev pub of_kept : {A : Type 0} → A → (OfId → A) → Option (Box OfId) → A
 of_kept nothing f None = nothing
-of_kept nothing f (Some kept) = f kept
+of_kept nothing f (Some kept) = f kept.value
 
 -- what a tally says
 abbrev pub tally_of : Tally → Tallied
@@ -76,7 +77,7 @@ tally_of tally = record {
   invokes_of = λ id code. of_kept 0 (λ kept. count_of code kept.operations) (kept_of id tally);
   results_of = λ id code. of_kept 0 (λ kept. count_of code kept.named) (kept_of id tally);
   has_operation = λ id passes. of_kept false (λ kept. list_any passes kept.operations.codes.items) (kept_of id tally);
-  has_link = λ id passes. of_kept false (λ kept. list_any (links_so passes) kept.links.items) (kept_of id tally);
+  has_link = λ id passes. of_kept false (λ kept. list_any (links_at passes) kept.by_link.entries) (kept_of id tally);
 }
 
 -- A tally is of these components: where they are few it says what is counted of them.

@@ -1,36 +1,49 @@
 //! Several tallies, taken together.
 
-ghost use Rattle.std.specs.Prelude.{◌≡◌, ◌&&◌, not, ℤ, map};
-ghost use Rattle.tcap_parts.specs.declared.code.Code.{Code};
+ghost use Rattle.std.specs.Prelude.{◌≡◌, ◌&&◌, not, map};
+ghost use Rattle.std.specs.List.{list_any};
 ghost use Rattle.tcap_parts.specs.Meaning.{code_of};
 ghost use Rattle.tcap_end.specs.Component.{links};
 ghost use Rattle.tcap_refute.specs.ComponentKinds.{lists_nothing};
-ghost use Rattle.tcap_blame.specs.Tallies.{tallies_of};
+ghost use Rattle.tcap_blame.specs.Tallies.{tallies_of, tally_of};
 
 use crate::sort::Sort;
+use crate::sums::more;
 use crate::tally::Tally;
 use tcap_end::Table;
-use tcap_parts::CodeView;
+use tcap_parts::{Code, CodeView};
 
 /// How many of that invoke ID are of a sort.
 pub(crate) fn count(tallies: &[&Tally], id: i8, sort: Sort) -> u128
     ensures { result ≡ (tallies_of (map (λ b. b.now) tallies.now)).count id sort }
 {
-    0
+    let mut all = 0;
+    for tally in tallies {
+        all = more(all, tally.count(id, sort));
+    }
+    all
 }
 
 /// How many Invokes of that ID are of an operation.
 pub(crate) fn invokes_of(tallies: &[&Tally], id: i8, code: CodeView) -> u128
     ensures { result ≡ (tallies_of (map (λ b. b.now) tallies.now)).invokes_of id (code_of code.entry) }
 {
-    0
+    let mut all = 0;
+    for tally in tallies {
+        all = more(all, tally.invokes_of(id, code));
+    }
+    all
 }
 
 /// How many last Return Results of that ID name an operation.
 pub(crate) fn results_of(tallies: &[&Tally], id: i8, code: CodeView) -> u128
     ensures { result ≡ (tallies_of (map (λ b. b.now) tallies.now)).results_of id (code_of code.entry) }
 {
-    0
+    let mut all = 0;
+    for tally in tallies {
+        all = more(all, tally.results_of(id, code));
+    }
+    all
 }
 
 /// Whether an Invoke of that ID is of an operation to which that one may be linked (Q.771 3.1.2).
@@ -38,6 +51,82 @@ pub(crate) fn lists(tallies: &[&Tally], table: &Table, id: i8, code: CodeView) -
     ensures { result ≡ (tallies_of (map (λ b. b.now) tallies.now)).has_operation id
         (λ to. links table.now to (code_of code.entry)) }
 {
+    for tally in tallies {
+        if tally.lists(table, id, code) {
+            return true;
+        }
+    }
+    false
+}
+
+/// Whether one is of an operation to which none may be linked.
+fn lists_nothing(tallies: &[&Tally], table: &Table, id: i8) -> bool
+    ensures { result ≡ (tallies_of (map (λ b. b.now) tallies.now)).has_operation id (lists_nothing table.now) }
+{
+    for tally in tallies {
+        if tally.lists_nothing(table, id) {
+            return true;
+        }
+    }
+    false
+}
+
+/// Whether one is of an operation to which others may be linked, but not that one.
+fn lists_others(tallies: &[&Tally], table: &Table, id: i8, code: CodeView) -> bool
+    ensures { result ≡ (tallies_of (map (λ b. b.now) tallies.now)).has_operation id
+        (λ to. not (lists_nothing table.now to) && not (links table.now to (code_of code.entry))) }
+{
+    for tally in tallies {
+        if tally.lists_others(table, id, code) {
+            return true;
+        }
+    }
+    false
+}
+
+/// Whether others, but not one of these operations, may be linked to an operation of that ID.
+fn one_is_other(codes: &[Code], invoked: &[&Tally], table: &Table, id: i8) -> bool
+    ensures { result ≡ list_any (λ code. (tallies_of (map (λ b. b.now) invoked.now)).has_operation id
+        (λ to. not (lists_nothing table.now to) && not (links table.now to code))) codes.now }
+{
+    for code in codes {
+        if lists_others(invoked, table, id, code.view()) {
+            return true;
+        }
+    }
+    false
+}
+
+/// Whether a linked Invoke of that ID names an invocation of an operation to which none may be linked.
+fn links_to_none(heard: &Tally, invoked: &[&Tally], table: &Table, id: i8) -> bool
+    ensures { result ≡ (tally_of heard.now).has_link id
+        (λ linked code. (tallies_of (map (λ b. b.now) invoked.now)).has_operation linked (lists_nothing table.now)) }
+{
+    let Some(kept) = heard.of_id(id) else {
+        return false;
+    };
+    for (linked, counts) in &kept.by_link {
+        if !counts.codes.is_empty() && lists_nothing(invoked, table, *linked) {
+            return true;
+        }
+    }
+    false
+}
+
+/// Whether one names an invocation of an operation to which others may be linked, but not its own.
+fn links_to_other(heard: &Tally, invoked: &[&Tally], table: &Table, id: i8) -> bool
+    ensures { result ≡ (tally_of heard.now).has_link id
+        (λ linked code. (tallies_of (map (λ b. b.now) invoked.now)).has_operation linked
+        (λ to. not (lists_nothing table.now to) && not (links table.now to code))) }
+{
+    let Some(kept) = heard.of_id(id) else {
+        return false;
+    };
+    for (linked, counts) in &kept.by_link {
+        if one_is_other(&counts.codes, invoked, table, *linked) {
+            return true;
+        }
+    }
     false
 }
 
@@ -47,6 +136,11 @@ pub(crate) fn is_linked_to_none(heard: &[&Tally], invoked: &[&Tally], table: &Ta
     ensures { result ≡ (tallies_of (map (λ b. b.now) heard.now)).has_link id
         (λ linked code. (tallies_of (map (λ b. b.now) invoked.now)).has_operation linked (lists_nothing table.now)) }
 {
+    for tally in heard {
+        if links_to_none(tally, invoked, table, id) {
+            return true;
+        }
+    }
     false
 }
 
@@ -56,5 +150,10 @@ pub(crate) fn is_linked_to_other(heard: &[&Tally], invoked: &[&Tally], table: &T
         (λ linked code. (tallies_of (map (λ b. b.now) invoked.now)).has_operation linked
         (λ to. not (lists_nothing table.now to) && not (links table.now to code))) }
 {
+    for tally in heard {
+        if links_to_other(tally, invoked, table, id) {
+            return true;
+        }
+    }
     false
 }
