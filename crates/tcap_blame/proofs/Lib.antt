@@ -1,2 +1,9 @@
 pub mod KindFinds
 pub mod FewLaws
+pub mod SumLaws
+pub mod CodeLaws
+pub mod FoundLaws
+pub mod LinkLaws
+pub mod SortLaws
+pub mod NotedLaws
+pub mod TallyLaws

@@ -42,23 +42,39 @@ abbrev pub is_its_id : ℤ → Option ℤ → Bool
 is_its_id id None = false
 is_its_id id (Some other) = is_invoke_id id other
 
--- whether it is of a sort
+-- whether an Invoke, a Return Result, a Return Error or a Reject is of a sort
+abbrev pub invoke_has : Table → Option ℤ → Code → Sort → Bool
+invoke_has table linked code (sorts.Invokes class) = is_of_class table class code
+invoke_has table linked code (sorts.Lasting class) = not_expiring table class code
+invoke_has table linked code sorts.Linked = is_some linked
+invoke_has table linked code _ = false
+
+abbrev pub result_has : Bool → Sort → Bool
+result_has last sorts.Results = true
+result_has last sorts.LastResults = last
+result_has last sorts.NotLasts = not last
+result_has last _ = false
+
+abbrev pub error_has : Sort → Bool
+error_has sorts.Errors = true
+error_has _ = false
+
+abbrev pub reject_has : Problem → Sort → Bool
+reject_has (problems.General n) sort = false
+reject_has (problems.Invoke n) sorts.InvokeRejects = true
+reject_has (problems.Invoke n) sorts.DuplicateRejects = is_problem 0 n
+reject_has (problems.Invoke n) sorts.LinkRejects = is_of_link n
+reject_has (problems.ReturnResult n) sorts.ResultRejects = true
+reject_has (problems.ReturnResult n) sorts.MistypedResults = nat_le 2 n
+reject_has (problems.ReturnError n) sorts.ErrorRejects = true
+reject_has (problems.ReturnError n) sorts.MistypedErrors = nat_le 2 n
+reject_has _ _ = false
+
 abbrev pub has_sort : Table → Sort → Component → Bool
-has_sort table (sorts.Invokes class) (Invoke id linked code parameter) = is_of_class table class code
-has_sort table (sorts.Lasting class) (Invoke id linked code parameter) = not_expiring table class code
-has_sort table sorts.Linked (Invoke id linked code parameter) = is_some linked
-has_sort table sorts.Results (ReturnResult last id body) = true
-has_sort table sorts.LastResults (ReturnResult last id body) = last
-has_sort table sorts.NotLasts (ReturnResult last id body) = not last
-has_sort table sorts.Errors (ReturnError id code parameter) = true
-has_sort table sorts.InvokeRejects (Reject id (problems.Invoke n)) = true
-has_sort table sorts.DuplicateRejects (Reject id (problems.Invoke n)) = is_problem 0 n
-has_sort table sorts.LinkRejects (Reject id (problems.Invoke n)) = is_of_link n
-has_sort table sorts.ResultRejects (Reject id (problems.ReturnResult n)) = true
-has_sort table sorts.MistypedResults (Reject id (problems.ReturnResult n)) = nat_le 2 n
-has_sort table sorts.ErrorRejects (Reject id (problems.ReturnError n)) = true
-has_sort table sorts.MistypedErrors (Reject id (problems.ReturnError n)) = nat_le 2 n
-has_sort table _ _ = false
+has_sort table sort (Invoke id linked code parameter) = invoke_has table linked code sort
+has_sort table sort (ReturnResult last id body) = result_has last sort
+has_sort table sort (ReturnError id code parameter) = error_has sort
+has_sort table sort (Reject id problem) = reject_has problem sort
 
 -- whether it is an Invoke whose operation passes a test
 abbrev pub invokes_by : (Code → Bool) → Component → Bool
