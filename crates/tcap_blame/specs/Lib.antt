@@ -2,6 +2,7 @@ pub mod Listed
 pub mod Tallied
 pub mod Tallies
 pub mod Noted
+pub mod Linking
 pub mod History
 pub mod Spoken
 pub mod Searching
