@@ -1,5 +1,5 @@
 -- What is counted behind one component more.
-use Rattle.std.proofs.Common.{◌≡◌, ℕ, ℤ, Bool, true, false, cond, ◌&&◌, ◌||◌, List, [], ◌∷◌, ◌++◌, length, Option, Some, None, int_cmp, refl, sym, ap, ◌∙◌, arith}
+use Rattle.std.proofs.Common.{◌≡◌, ℕ, ℤ, Bool, true, false, cond, ◌&&◌, ◌||◌, List, [], ◌∷◌, ◌++◌, length, Option, Some, None, option_map, int_cmp, refl, sym, ap, ◌∙◌, arith}
 use Rattle.std.proofs.Math.Path.{fun_ext}
 use Rattle.std.specs.BTreeMap.{is_at}
 use Rattle.std.specs.Global.{Box}
@@ -51,7 +51,7 @@ same_tallied a b counts invokes results operations links =
 -- ---- a component of an ID
 
 -- What is kept of its ID is a step further than what was kept, if anything.
-pub record AreSteps (table : Table) (c : Component) (old : Option (Box OfId)) (new : OfId) : Type 0 where
+pub record AreSteps (table : Table) (c : Component) (old : Option OfId) (new : OfId) : Type 0 where
   pub counts : (sort : Sort) → count_in sort new ≡ more_if (has_sort table sort c) (of_kept 0 (count_in sort) old)
   pub invokes : (code : Code)
       → count_of code new.operations
@@ -65,8 +65,8 @@ pub record AreSteps (table : Table) (c : Component) (old : Option (Box OfId)) (n
       → list_any (links_at passes) new.by_link.entries
       ≡ (of_kept false (λ kept. list_any (links_at passes) kept.by_link.entries) old || links_so passes c)
 
-module _ (table : Table) (c : Component) (old : Option (Box OfId)) (new : OfId) where
-  pub steps_on : (was : Box OfId) → Some was ≡ old → IsNoted table c was.value new → AreSteps table c old new
+module _ (table : Table) (c : Component) (old : Option OfId) (new : OfId) where
+  pub steps_on : (was : OfId) → Some was ≡ old → IsNoted table c was new → AreSteps table c old new
   steps_on was there noted = rw (← there) (record {
     counts = noted.counts;
     invokes = noted.invokes;
@@ -104,27 +104,32 @@ module _ (c : Component) (id q : ℤ) (its : invoke_id c ≡ Some id) (so has : 
       by true = refl
       by false = or_none found
 
-pub tally_noted : (table : Table) (c : Component) (id : ℤ) → invoke_id c ≡ Some id → (old new : Tally) (s : Box OfId)
-    → Puts id s old.ids.entries new.ids.entries → AreSteps table c (kept_of id old) s.value
-    → tally_of new ≡ one_tallied table c (tally_of old)
-tally_noted table c id its old new s puts steps =
-    same_tallied (tally_of new) (one_tallied table c (tally_of old))
-    (λ q sort. read_put (of_kept 0 (count_in sort)) (more_if (has_sort table sort c)) id s old.ids.entries
-    new.ids.entries puts (steps.counts sort) q
-    ∙ counted_at c id q its (is_sort table q sort c) (has_sort table sort c) (its_sort table q sort c) _)
-    (λ q code. read_put (of_kept 0 (λ kept. count_of code kept.operations)) (more_if (invokes_by (is_code code) c)) id
-    s old.ids.entries new.ids.entries puts (steps.invokes code) q
-    ∙ counted_at c id q its (invokes_so q (is_code code) c) (invokes_by (is_code code) c)
-    (its_operation q (is_code code) c) _)
-    (λ q code. read_put (of_kept 0 (λ kept. count_of code kept.named)) (more_if (names_code code c)) id s
-    old.ids.entries new.ids.entries puts (steps.results code) q
-    ∙ counted_at c id q its (is_result_of q code c) (names_code code c) (its_name q code c) _)
-    (λ q passes. read_put (of_kept false (λ kept. list_any passes kept.operations.codes.items))
-    (λ b. b || invokes_by passes c) id s old.ids.entries new.ids.entries puts (steps.operations passes) q
-    ∙ found_at c id q its (invokes_so q passes c) (invokes_by passes c) (its_operation q passes c) _)
-    (λ q passes. read_put (of_kept false (λ kept. list_any (links_at passes) kept.by_link.entries))
-    (λ b. b || links_so passes c) id s old.ids.entries new.ids.entries puts (steps.links passes) q
-    ∙ found_at c id q its (invokes_link q passes c) (links_so passes c) (its_link q passes c) _)
+module _ (table : Table) (c : Component) (id : ℤ) (its : invoke_id c ≡ Some id) (old new : Tally) (s : Box OfId)
+    (puts : Puts id s old.ids.entries new.ids.entries) (steps : AreSteps table c (kept_of id old) s.value) where
+  read_at : {A : Type 0} (nothing : A) (f : OfId → A) (step : A → A) → f s.value ≡ step (of_kept nothing f (kept_of id old))
+      → (q : ℤ) → of_kept nothing f (kept_of q new)
+      ≡ cond (is_at (int_cmp id) q) (step (of_kept nothing f (kept_of q old))) (of_kept nothing f (kept_of q old))
+  read_at nothing f step is q =
+      read_put (λ o. of_kept nothing f (option_map (λ kept. kept.value) o)) step id s old.ids.entries new.ids.entries
+      puts is q
+
+  pub tally_noted : tally_of new ≡ one_tallied table c (tally_of old)
+  tally_noted =
+      same_tallied (tally_of new) (one_tallied table c (tally_of old))
+      (λ q sort. read_at 0 (count_in sort) (more_if (has_sort table sort c)) (steps.counts sort) q
+      ∙ counted_at c id q its (is_sort table q sort c) (has_sort table sort c) (its_sort table q sort c) _)
+      (λ q code. read_at 0 (λ kept. count_of code kept.operations) (more_if (invokes_by (is_code code) c))
+      (steps.invokes code) q
+      ∙ counted_at c id q its (invokes_so q (is_code code) c) (invokes_by (is_code code) c)
+      (its_operation q (is_code code) c) _)
+      (λ q code. read_at 0 (λ kept. count_of code kept.named) (more_if (names_code code c)) (steps.results code) q
+      ∙ counted_at c id q its (is_result_of q code c) (names_code code c) (its_name q code c) _)
+      (λ q passes. read_at false (λ kept. list_any passes kept.operations.codes.items) (λ b. b || invokes_by passes c)
+      (steps.operations passes) q
+      ∙ found_at c id q its (invokes_so q passes c) (invokes_by passes c) (its_operation q passes c) _)
+      (λ q passes. read_at false (λ kept. list_any (links_at passes) kept.by_link.entries) (λ b. b || links_so passes c)
+      (steps.links passes) q
+      ∙ found_at c id q its (invokes_link q passes c) (links_so passes c) (its_link q passes c) _)
 
 -- ---- a component of none
 

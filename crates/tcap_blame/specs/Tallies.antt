@@ -1,9 +1,8 @@
 -- What tallies say of components.
-use Rattle.std.specs.Prelude.{◌≡◌, ℕ, ℤ, ◌==◌, Bool, false, List, [], ◌∷◌, Option, Some, None, ◌||◌, cond}
+use Rattle.std.specs.Prelude.{◌≡◌, ℕ, ℤ, Bool, false, List, [], ◌∷◌, Option, Some, None, option_map}
 use Rattle.std.specs.Cmp.Lexicographic.{slice_cmp}
 use Rattle.std.specs.Ordering.{int_cmp, nat_cmp}
 use Rattle.std.specs.List.{list_any}
-use Rattle.std.specs.Global.{Box}
 use Rattle.std.specs.Map.{lookup}
 use Rattle.std.specs.BTreeMap.{is_at}
 use Rattle.tcap_parts.specs.declared.code.Code.{Code}
@@ -62,13 +61,13 @@ links_at passes (linked, kept) = list_any (passes linked) kept.codes.items
 -- ---- of all of them
 
 -- what is kept of that ID
-abbrev pub kept_of : ℤ → Tally → Option (Box OfId)
-kept_of id tally = lookup (is_at (int_cmp id)) tally.ids.entries
+abbrev pub kept_of : ℤ → Tally → Option OfId
+kept_of id tally = option_map (λ kept. kept.value) (lookup (is_at (int_cmp id)) tally.ids.entries)
 
 -- something of what is kept, or what there is of nothing
-abbrev pub of_kept : {A : Type 0} → A → (OfId → A) → Option (Box OfId) → A
+abbrev pub of_kept : {A : Type 0} → A → (OfId → A) → Option OfId → A
 of_kept nothing f None = nothing
-of_kept nothing f (Some kept) = f kept.value
+of_kept nothing f (Some kept) = f kept
 
 -- what a tally says
 abbrev pub tally_of : Tally → Tallied

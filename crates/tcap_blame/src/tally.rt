@@ -1,6 +1,6 @@
 //! Components that are counted, by their invoke IDs.
 
-ghost use Rattle.std.specs.Prelude.{◌≡◌, ◌&&◌, not, [], ◌∷◌, ◌++◌, List, OnOk, Some, option_copied, option_map};
+ghost use Rattle.std.specs.Prelude.{◌≡◌, ◌&&◌, not, [], ◌∷◌, ◌++◌, List, OnOk, Some, option_copied};
 ghost use Rattle.tcap_parts.specs.declared.component.Component.{Component};
 ghost use Rattle.tcap_parts.specs.Meaning.{code_of, component_of, components_left};
 ghost use Rattle.tcap_end.specs.Component.{links};
@@ -99,7 +99,7 @@ impl Tally {
 
     /// What is kept of that invoke ID.
     pub(crate) fn of_id(&self, id: i8) -> Option<&OfId>
-        ensures { option_copied result ≡ option_map (λ kept. kept.value) (kept_of id self.now) }
+        ensures { option_copied result ≡ kept_of id self.now }
     {
         match self.ids.get(&id) {
             Some(kept) => Some(kept),
