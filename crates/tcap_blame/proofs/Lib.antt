@@ -7,3 +7,4 @@ pub mod LinkLaws
 pub mod SortLaws
 pub mod NotedLaws
 pub mod TallyLaws
+pub mod TalliesLaws

@@ -12,7 +12,7 @@ use Rattle.tcap_blame.specs.declared.sort.Sort.{Sort}
 use Rattle.tcap_blame.specs.declared.sort.Sort.TheVariants as sorts
 use Rattle.tcap_blame.specs.declared.of_id.OfId.{OfId}
 use Rattle.tcap_blame.specs.Tallied.{more_if, sum}
-use Rattle.tcap_blame.specs.Tallies.{count_in, count_of, links_at}
+use Rattle.tcap_blame.specs.Tallies.{count_in, count_of, invokes_in, links_at, links_in}
 use Rattle.tcap_blame.specs.Noted.{IsAnswered, IsInvoked, IsNoted, has_sort, reject_has, rejected}
 
 module _ (table : Table) (id : ℤ) (old new : OfId) where
@@ -44,8 +44,8 @@ module _ (table : Table) (id : ℤ) (old new : OfId) where
       counts = result_counts;
       invokes = λ other. ap (λ kept. count_of other kept.operations) is.others;
       results = is.named;
-      operations = λ passes. ap (λ kept. list_any passes kept.operations.codes.items) is.others ∙ or_none _;
-      links = λ passes. ap (λ kept. list_any (links_at passes) kept.by_link.entries) is.others ∙ or_none _;
+      operations = λ passes. ap (invokes_in passes) is.others ∙ or_none _;
+      links = λ passes. ap (links_in passes) is.others ∙ or_none _;
     }
 
   module _ (code : Code) (parameter : Option (List ℕ)) (is : new ≡ record old { errors = sum old.errors 1 }) where
@@ -59,8 +59,8 @@ module _ (table : Table) (id : ℤ) (old new : OfId) where
       counts = error_counts;
       invokes = λ other. ap (λ kept. count_of other kept.operations) is;
       results = λ other. ap (λ kept. count_of other kept.named) is;
-      operations = λ passes. ap (λ kept. list_any passes kept.operations.codes.items) is ∙ or_none _;
-      links = λ passes. ap (λ kept. list_any (links_at passes) kept.by_link.entries) is ∙ or_none _;
+      operations = λ passes. ap (invokes_in passes) is ∙ or_none _;
+      links = λ passes. ap (links_in passes) is ∙ or_none _;
     }
 
 -- Of a Reject: what it leaves as it is,
@@ -90,8 +90,8 @@ reject_noted table id problem old new is =
       counts = λ sort. ap (count_in sort) is ∙ reject_counts problem old sort;
       invokes = λ code. ap (λ now. count_of code now.operations) is ∙ ap (count_of code) kept.0;
       results = λ code. ap (λ now. count_of code now.named) is ∙ ap (count_of code) kept.1;
-      operations = λ passes. ap (λ now. list_any passes now.operations.codes.items) is
+      operations = λ passes. ap (invokes_in passes) is
           ∙ (ap (λ now. list_any passes now.codes.items) kept.0 ∙ or_none _);
-      links = λ passes. ap (λ now. list_any (links_at passes) now.by_link.entries) is
+      links = λ passes. ap (links_in passes) is
           ∙ (ap (λ now. list_any (links_at passes) now.entries) kept.2 ∙ or_none _);
     }

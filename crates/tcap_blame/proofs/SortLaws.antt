@@ -48,8 +48,14 @@ module _ (table : Table) (id : ℤ) where
   no_sort problem (sorts.Invokes class) = refl
   no_sort problem sort = refl
 
+  general_sort : (n : ℤ) (k : ℕ) (sort : Sort)
+      → is_sort table id sort (Reject (Some n) (problems.General k)) ≡ (is_invoke_id id n && false)
+  general_sort n k (sorts.Invokes class) = sym (and_false _)
+  general_sort n k sort = sym (and_false _)
+
   reject_sort : (n : ℤ) (problem : Problem) (sort : Sort)
       → is_sort table id sort (Reject (Some n) problem) ≡ (is_invoke_id id n && reject_has problem sort)
+  reject_sort n (problems.General k) sort = general_sort n k sort
   reject_sort n (problems.Invoke k) sorts.InvokeRejects = refl
   reject_sort n (problems.Invoke k) sorts.DuplicateRejects = refl
   reject_sort n (problems.Invoke k) sorts.LinkRejects = refl

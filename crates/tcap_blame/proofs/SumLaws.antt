@@ -16,6 +16,13 @@ sum_few a b few = grind (arith, nat_tests)
 pub sum_below : (a b : ℕ) → sum a b < 2 ^ 128
 sum_below a b = grind (arith, nat_tests)
 
+-- Nothing adds nothing, before a count or behind it.
+pub first : (n : ℕ) → n < 2 ^ 128 → sum 0 n ≡ n
+first n few = sum_few 0 n (omega arith) ∙ omega arith
+
+pub last : (n : ℕ) → n < 2 ^ 128 → sum n 0 ≡ n
+last n few = sum_few n 0 (omega arith) ∙ omega arith
+
 -- A count of a list, and one more where the next passes, is the count of both.
 pub count_one_more : {A : Type 0} (p : A → Bool) (xs : List A) (x : A) → length (xs ++ x ∷ []) ≤ 2 ^ 126
     → more_if (p x) (count p xs) ≡ count p (xs ++ x ∷ [])

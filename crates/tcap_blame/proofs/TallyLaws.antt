@@ -18,7 +18,7 @@ use Rattle.tcap_blame.specs.declared.sort.Sort.{Sort}
 use Rattle.tcap_blame.specs.declared.of_id.OfId.{OfId}
 use Rattle.tcap_blame.specs.declared.tally.Tally.{Tally}
 use Rattle.tcap_blame.specs.Tallied.{AreFew, Tallied, invokes_link, is_sort, more_if, tallied}
-use Rattle.tcap_blame.specs.Tallies.{IsTally, count_in, count_of, kept_of, links_at, of_kept, tally_of}
+use Rattle.tcap_blame.specs.Tallies.{IsTally, count_in, count_of, invokes_in, kept_of, links_in, of_kept, tally_of}
 use Rattle.tcap_blame.specs.Noted.{IsNoted, IsNothing, has_sort, invoke_id, invokes_by, is_its_id, links_so, names_code, one_tallied}
 use Rattle.tcap_blame.proofs.FoundLaws.{Puts, read_put}
 use Rattle.tcap_blame.proofs.SortLaws.{its_link, its_name, its_operation, its_sort}
@@ -26,7 +26,7 @@ use Rattle.tcap_blame.proofs.SumLaws.{count_one_more}
 
 -- ---- what is counted, part by part
 
-made : (ℤ → Sort → ℕ) → (ℤ → Code → ℕ) → (ℤ → Code → ℕ) → (ℤ → (Code → Bool) → Bool)
+abbrev made : (ℤ → Sort → ℕ) → (ℤ → Code → ℕ) → (ℤ → Code → ℕ) → (ℤ → (Code → Bool) → Bool)
     → (ℤ → (ℤ → Code → Bool) → Bool) → Tallied
 made counts invokes results operations links = record {
   count = counts;
@@ -59,11 +59,11 @@ pub record AreSteps (table : Table) (c : Component) (old : Option OfId) (new : O
   pub results : (code : Code)
       → count_of code new.named ≡ more_if (names_code code c) (of_kept 0 (λ kept. count_of code kept.named) old)
   pub operations : (passes : Code → Bool)
-      → list_any passes new.operations.codes.items
-      ≡ (of_kept false (λ kept. list_any passes kept.operations.codes.items) old || invokes_by passes c)
+      → invokes_in passes new
+      ≡ (of_kept false (invokes_in passes) old || invokes_by passes c)
   pub links : (passes : ℤ → Code → Bool)
-      → list_any (links_at passes) new.by_link.entries
-      ≡ (of_kept false (λ kept. list_any (links_at passes) kept.by_link.entries) old || links_so passes c)
+      → links_in passes new
+      ≡ (of_kept false (links_in passes) old || links_so passes c)
 
 module _ (table : Table) (c : Component) (old : Option OfId) (new : OfId) where
   pub steps_on : (was : OfId) → Some was ≡ old → IsNoted table c was new → AreSteps table c old new
@@ -124,10 +124,10 @@ module _ (table : Table) (c : Component) (id : ℤ) (its : invoke_id c ≡ Some 
       (its_operation q (is_code code) c) _)
       (λ q code. read_at 0 (λ kept. count_of code kept.named) (more_if (names_code code c)) (steps.results code) q
       ∙ counted_at c id q its (is_result_of q code c) (names_code code c) (its_name q code c) _)
-      (λ q passes. read_at false (λ kept. list_any passes kept.operations.codes.items) (λ b. b || invokes_by passes c)
+      (λ q passes. read_at false (invokes_in passes) (λ b. b || invokes_by passes c)
       (steps.operations passes) q
       ∙ found_at c id q its (invokes_so q passes c) (invokes_by passes c) (its_operation q passes c) _)
-      (λ q passes. read_at false (λ kept. list_any (links_at passes) kept.by_link.entries) (λ b. b || links_so passes c)
+      (λ q passes. read_at false (links_in passes) (λ b. b || links_so passes c)
       (steps.links passes) q
       ∙ found_at c id q its (invokes_link q passes c) (links_so passes c) (its_link q passes c) _)
 

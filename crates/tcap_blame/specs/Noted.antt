@@ -1,6 +1,5 @@
 -- What one component more does to what is counted: to what is kept of its invoke ID, and to all of it.
 use Rattle.std.specs.Prelude.{◌≡◌, ℕ, ℤ, Bool, true, false, List, Option, Some, None, is_some, ◌&&◌, ◌||◌, not, nat_le, ◌==◌}
-use Rattle.std.specs.List.{list_any}
 use Rattle.tcap_parts.specs.declared.code.Code.{Code}
 use Rattle.tcap_parts.specs.declared.problem.Problem.{Problem}
 use Rattle.tcap_parts.specs.declared.problem.Problem.TheVariants as problems
@@ -18,7 +17,7 @@ use Rattle.tcap_blame.specs.declared.sort.Sort.{Sort}
 use Rattle.tcap_blame.specs.declared.sort.Sort.TheVariants as sorts
 use Rattle.tcap_blame.specs.declared.of_id.OfId.{OfId}
 use Rattle.tcap_blame.specs.Tallied.{Tallied, invokes_link, is_of_class, is_sort, more_if, not_expiring, sum}
-use Rattle.tcap_blame.specs.Tallies.{count_in, count_of, count_of_class, links_at}
+use Rattle.tcap_blame.specs.Tallies.{count_in, count_of, count_of_class, invokes_in, links_in}
 
 -- whether an operation of that class in the table, or of none, is of a class
 abbrev pub is_of : Class → Option ℕ → Bool
@@ -108,8 +107,8 @@ pub record IsNothing (kept : OfId) : Type 0 where
   pub counts : (sort : Sort) → count_in sort kept ≡ 0
   pub invokes : (code : Code) → count_of code kept.operations ≡ 0
   pub results : (code : Code) → count_of code kept.named ≡ 0
-  pub operations : (passes : Code → Bool) → list_any passes kept.operations.codes.items ≡ false
-  pub links : (passes : ℤ → Code → Bool) → list_any (links_at passes) kept.by_link.entries ≡ false
+  pub operations : (passes : Code → Bool) → invokes_in passes kept ≡ false
+  pub links : (passes : ℤ → Code → Bool) → links_in passes kept ≡ false
 
 -- A component more is kept.
 pub record IsNoted (table : Table) (c : Component) (old new : OfId) : Type 0 where
@@ -118,10 +117,10 @@ pub record IsNoted (table : Table) (c : Component) (old new : OfId) : Type 0 whe
       → count_of code new.operations ≡ more_if (invokes_by (is_code code) c) (count_of code old.operations)
   pub results : (code : Code) → count_of code new.named ≡ more_if (names_code code c) (count_of code old.named)
   pub operations : (passes : Code → Bool)
-      → list_any passes new.operations.codes.items ≡ list_any passes old.operations.codes.items || invokes_by passes c
+      → invokes_in passes new ≡ invokes_in passes old || invokes_by passes c
   pub links : (passes : ℤ → Code → Bool)
-      → list_any (links_at passes) new.by_link.entries
-      ≡ list_any (links_at passes) old.by_link.entries || links_so passes c
+      → links_in passes new
+      ≡ links_in passes old || links_so passes c
 
 -- An Invoke more is.
 pub record IsInvoked (table : Table) (linked : Option ℤ) (code : Code) (old new : OfId) : Type 0 where
@@ -133,10 +132,10 @@ pub record IsInvoked (table : Table) (linked : Option ℤ) (code : Code) (old ne
   pub counts : (other : Code)
       → count_of other new.operations ≡ more_if (is_code other code) (count_of other old.operations)
   pub operations : (passes : Code → Bool)
-      → list_any passes new.operations.codes.items ≡ list_any passes old.operations.codes.items || passes code
+      → invokes_in passes new ≡ invokes_in passes old || passes code
   pub links : (passes : ℤ → Code → Bool)
-      → list_any (links_at passes) new.by_link.entries
-      ≡ list_any (links_at passes) old.by_link.entries || links_by passes linked code
+      → links_in passes new
+      ≡ links_in passes old || links_by passes linked code
   pub others : new ≡ record old {
     invokes = new.invokes;
     lasting = new.lasting;

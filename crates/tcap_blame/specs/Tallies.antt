@@ -58,6 +58,14 @@ count_in sorts.MistypedErrors kept = kept.mistyped_errors
 abbrev pub links_at : (ℤ → Code → Bool) → ℤ × CodeCounts → Bool
 links_at passes (linked, kept) = list_any (passes linked) kept.codes.items
 
+-- whether the operation of an Invoke passes a test
+abbrev pub invokes_in : (Code → Bool) → OfId → Bool
+invokes_in passes kept = list_any passes kept.operations.codes.items
+
+-- whether the linked ID of a linked one does, with its operation
+abbrev pub links_in : (ℤ → Code → Bool) → OfId → Bool
+links_in passes kept = list_any (links_at passes) kept.by_link.entries
+
 -- ---- of all of them
 
 -- what is kept of that ID
@@ -75,8 +83,8 @@ tally_of tally = record {
   count = λ id sort. of_kept 0 (count_in sort) (kept_of id tally);
   invokes_of = λ id code. of_kept 0 (λ kept. count_of code kept.operations) (kept_of id tally);
   results_of = λ id code. of_kept 0 (λ kept. count_of code kept.named) (kept_of id tally);
-  has_operation = λ id passes. of_kept false (λ kept. list_any passes kept.operations.codes.items) (kept_of id tally);
-  has_link = λ id passes. of_kept false (λ kept. list_any (links_at passes) kept.by_link.entries) (kept_of id tally);
+  has_operation = λ id passes. of_kept false (invokes_in passes) (kept_of id tally);
+  has_link = λ id passes. of_kept false (links_in passes) (kept_of id tally);
 }
 
 -- A tally is of these components: where they are few it says what is counted of them.

@@ -4,7 +4,7 @@ ghost use Rattle.std.specs.Prelude.{◌≡◌, ◌||◌, ℤ, Bool, OnOk, option
 ghost use Rattle.std.specs.List.{list_any};
 ghost use Rattle.tcap_parts.specs.declared.code.Code.{Code as Coded};
 ghost use Rattle.tcap_parts.specs.Meaning.{body_of, code_of, component_of, problem_of};
-ghost use Rattle.tcap_blame.specs.Tallies.{count_in, count_of, links_at};
+ghost use Rattle.tcap_blame.specs.Tallies.{count_in, links_at};
 ghost use Rattle.tcap_blame.specs.Noted.{IsAnswered, IsInvoked, IsNoted, IsNothing, invoke_rejected, rejected};
 
 use crate::by_class::ByClass;

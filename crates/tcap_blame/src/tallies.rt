@@ -5,11 +5,14 @@ ghost use Rattle.std.specs.List.{list_any};
 ghost use Rattle.tcap_parts.specs.Meaning.{code_of};
 ghost use Rattle.tcap_end.specs.Component.{links};
 ghost use Rattle.tcap_refute.specs.ComponentKinds.{lists_nothing};
-ghost use Rattle.tcap_blame.specs.Tallies.{tallies_of, tally_of};
+ghost use Rattle.tcap_blame.specs.Linking.{names_none, names_other};
+ghost use Rattle.tcap_blame.specs.Tallies.{links_at, tallies_of, tally_of};
 
+use crate::code_counts::CodeCounts;
 use crate::sort::Sort;
 use crate::sums::more;
 use crate::tally::Tally;
+use std::collections::BTreeMap;
 use tcap_end::Table;
 use tcap_parts::{Code, CodeView};
 
@@ -86,8 +89,7 @@ fn lists_others(tallies: &[&Tally], table: &Table, id: i8, code: CodeView) -> bo
 
 /// Whether others, but not one of these operations, may be linked to an operation of that ID.
 fn one_is_other(codes: &[Code], invoked: &[&Tally], table: &Table, id: i8) -> bool
-    ensures { result ≡ list_any (λ code. (tallies_of (map (λ b. b.now) invoked.now)).has_operation id
-        (λ to. not (lists_nothing table.now to) && not (links table.now to code))) codes.now }
+    ensures { result ≡ list_any (names_other table.now (tallies_of (map (λ b. b.now) invoked.now)) id) codes.now }
 {
     for code in codes {
         if lists_others(invoked, table, id, code.view()) {
@@ -97,15 +99,16 @@ fn one_is_other(codes: &[Code], invoked: &[&Tally], table: &Table, id: i8) -> bo
     false
 }
 
-/// Whether a linked Invoke of that ID names an invocation of an operation to which none may be linked.
-fn links_to_none(heard: &Tally, invoked: &[&Tally], table: &Table, id: i8) -> bool
-    ensures { result ≡ (tally_of heard.now).has_link id
-        (λ linked code. (tallies_of (map (λ b. b.now) invoked.now)).has_operation linked (lists_nothing table.now)) }
+/// Whether a linked ID is that of an invocation of an operation to which none may be linked.
+fn one_to_none(
+    by_link: &BTreeMap<i8, CodeCounts>,
+    invoked: &[&Tally],
+    table: &Table,
+) -> bool
+    ensures { result ≡ list_any (links_at (names_none table.now (tallies_of (map (λ b. b.now) invoked.now))))
+        by_link.now.entries }
 {
-    let Some(kept) = heard.of_id(id) else {
-        return false;
-    };
-    for (linked, counts) in &kept.by_link {
+    for (linked, counts) in by_link {
         if !counts.codes.is_empty() && lists_nothing(invoked, table, *linked) {
             return true;
         }
@@ -113,21 +116,43 @@ fn links_to_none(heard: &Tally, invoked: &[&Tally], table: &Table, id: i8) -> bo
     false
 }
 
-/// Whether one names an invocation of an operation to which others may be linked, but not its own.
-fn links_to_other(heard: &Tally, invoked: &[&Tally], table: &Table, id: i8) -> bool
-    ensures { result ≡ (tally_of heard.now).has_link id
-        (λ linked code. (tallies_of (map (λ b. b.now) invoked.now)).has_operation linked
-        (λ to. not (lists_nothing table.now to) && not (links table.now to code))) }
+/// Whether one is that of an invocation of an operation to which others may be linked, but not one that has the linked ID.
+fn one_to_other(
+    by_link: &BTreeMap<i8, CodeCounts>,
+    invoked: &[&Tally],
+    table: &Table,
+) -> bool
+    ensures { result ≡ list_any (links_at (names_other table.now (tallies_of (map (λ b. b.now) invoked.now))))
+        by_link.now.entries }
 {
-    let Some(kept) = heard.of_id(id) else {
-        return false;
-    };
-    for (linked, counts) in &kept.by_link {
+    for (linked, counts) in by_link {
         if one_is_other(&counts.codes, invoked, table, *linked) {
             return true;
         }
     }
     false
+}
+
+/// Whether a linked Invoke of that ID names an invocation of an operation to which none may be linked.
+fn links_to_none(heard: &Tally, invoked: &[&Tally], table: &Table, id: i8) -> bool
+    ensures { result ≡ (tally_of heard.now).has_link id
+        (names_none table.now (tallies_of (map (λ b. b.now) invoked.now))) }
+{
+    match heard.of_id(id) {
+        Some(kept) => one_to_none(&kept.by_link, invoked, table),
+        None => false,
+    }
+}
+
+/// Whether one names an invocation of an operation to which others may be linked, but not its own.
+fn links_to_other(heard: &Tally, invoked: &[&Tally], table: &Table, id: i8) -> bool
+    ensures { result ≡ (tally_of heard.now).has_link id
+        (names_other table.now (tallies_of (map (λ b. b.now) invoked.now))) }
+{
+    match heard.of_id(id) {
+        Some(kept) => one_to_other(&kept.by_link, invoked, table),
+        None => false,
+    }
 }
 
 /// Whether a linked Invoke of that ID, among those heard, names an invocation, among those invoked, of an operation to which none
