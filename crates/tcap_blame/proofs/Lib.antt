@@ -8,3 +8,4 @@ pub mod SortLaws
 pub mod NotedLaws
 pub mod TallyLaws
 pub mod TalliesLaws
+pub mod GlobalLaws

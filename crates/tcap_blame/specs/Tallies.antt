@@ -1,12 +1,10 @@
 -- What tallies say of components.
 use Rattle.std.specs.Prelude.{◌≡◌, ℕ, ℤ, Bool, false, List, [], ◌∷◌, Option, Some, None, option_map}
-use Rattle.std.specs.Cmp.Lexicographic.{slice_cmp}
-use Rattle.std.specs.Ordering.{int_cmp, nat_cmp}
+use Rattle.std.specs.Ordering.{int_cmp}
 use Rattle.std.specs.List.{list_any}
 use Rattle.std.specs.Map.{lookup}
 use Rattle.std.specs.BTreeMap.{is_at}
 use Rattle.tcap_parts.specs.declared.code.Code.{Code}
-use Rattle.tcap_parts.specs.declared.code.Code.TheVariants.{Local, Global}
 use Rattle.tcap_parts.specs.declared.component.Component.{Component}
 use Rattle.tcap_end.specs.Table.{Table}
 use Rattle.tcap_blame.specs.declared.sort.Class.{Class}
@@ -17,6 +15,7 @@ use Rattle.tcap_blame.specs.declared.code_counts.CodeCounts.{CodeCounts}
 use Rattle.tcap_blame.specs.declared.by_class.ByClass.{ByClass}
 use Rattle.tcap_blame.specs.declared.of_id.OfId.{OfId}
 use Rattle.tcap_blame.specs.declared.tally.Tally.{Tally}
+use Rattle.tcap_blame.specs.Listed.{counted}
 use Rattle.tcap_blame.specs.Tallied.{AreFew, Tallied, both_tallied, nothing_tallied, tallied}
 
 -- a count that is kept, or 0
@@ -26,8 +25,7 @@ or_zero (Some n) = n
 
 -- how often a code was counted
 abbrev pub count_of : Code → CodeCounts → ℕ
-count_of (Local n) kept = or_zero (lookup (is_at (int_cmp n)) kept.locals.entries)
-count_of (Global octets) kept = or_zero (lookup (λ k. is_at (slice_cmp nat_cmp octets) k.items) kept.globals.entries)
+count_of code kept = or_zero (counted kept.locals.entries kept.globals.entries code)
 
 abbrev pub count_of_class : Class → ByClass → ℕ
 count_of_class classes.Any kept = kept.all

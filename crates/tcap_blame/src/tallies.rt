@@ -87,6 +87,13 @@ fn lists_others(tallies: &[&Tally], table: &Table, id: i8, code: CodeView) -> bo
     false
 }
 
+/// Whether there is one of these operations, and none may be linked to an operation of that ID.
+fn one_is_none(codes: &[Code], invoked: &[&Tally], table: &Table, id: i8) -> bool
+    ensures { result ≡ list_any (names_none table.now (tallies_of (map (λ b. b.now) invoked.now)) id) codes.now }
+{
+    !codes.is_empty() && lists_nothing(invoked, table, id)
+}
+
 /// Whether others, but not one of these operations, may be linked to an operation of that ID.
 fn one_is_other(codes: &[Code], invoked: &[&Tally], table: &Table, id: i8) -> bool
     ensures { result ≡ list_any (names_other table.now (tallies_of (map (λ b. b.now) invoked.now)) id) codes.now }
@@ -109,7 +116,7 @@ fn one_to_none(
         by_link.now.entries }
 {
     for (linked, counts) in by_link {
-        if !counts.codes.is_empty() && lists_nothing(invoked, table, *linked) {
+        if one_is_none(&counts.codes, invoked, table, *linked) {
             return true;
         }
     }
