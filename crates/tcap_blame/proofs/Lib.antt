@@ -5,7 +5,6 @@ pub mod CodeLaws
 pub mod FoundLaws
 pub mod LinkLaws
 pub mod SortLaws
-pub mod NotedLaws
 pub mod TallyLaws
 pub mod TalliesLaws
 pub mod GlobalLaws
