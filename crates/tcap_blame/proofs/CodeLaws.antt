@@ -26,7 +26,7 @@ listed_passes : (code : Code) (passes : Code → Bool) (codes : List Code) → l
 listed_passes code passes [] there so = there
 listed_passes code passes (first ∷ more) there so =
     elim (or_cases (is_code code first) (list_any (is_code code) more) there) [
-      inl is ↦ or_left (passes first) _ (rw (← code_same code first is) so)
+      | inl is ↦ or_left (passes first) _ (rw (← code_same code first is) so)
       | inr later ↦ or_right (passes first) _ (listed_passes code passes more later so)
     ]
 

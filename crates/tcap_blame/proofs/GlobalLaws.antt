@@ -1,5 +1,5 @@
 -- Global codes that are counted by their octets: their counts, and which are listed, behind one more.
-use Rattle.std.proofs.Common.{◌≡◌, ℕ, ℤ, Bool, true, false, cond, ◌||◌, List, [], ◌∷◌, ◌++◌, Option, Some, None, is_some, Result, Ok, Err, OnOk, OnErr, Ordering, Less, Equal, Greater, nat_cmp, refl, sym, ap, ◌∙◌}
+use Rattle.std.proofs.Common.{◌≡◌, ℕ, ℤ, Bool, true, false, cond, List, [], ◌∷◌, ◌++◌, Option, Some, None, is_some, Result, Ok, Err, OnOk, OnErr, Ordering, Less, Equal, Greater, nat_cmp, refl, sym, ap, ◌∙◌}
 use Rattle.std.specs.BTreeMap.{insert_entry, is_at}
 use Rattle.std.specs.Cmp.Lexicographic.{slice_cmp}
 use Rattle.std.specs.Global.{Vec}
@@ -40,7 +40,8 @@ abbrev pub IsPut : List ℕ → ℕ → List (Vec ℕ × ℕ) → List (Vec ℕ 
 IsPut octets n old new = (q : List ℕ) → lookup (at q) new ≡ cond (same q octets) (Some n) (lookup (at q) old)
 
 passed : (octets q : List ℕ) → same octets q ≡ false → same q octets ≡ true → ⊥
-passed octets q apart is = let e : q ≡ octets = one q octets is in let f : same octets q ≡ true = rw e (itself octets) in cc
+passed octets q apart is =
+    let e : q ≡ octets = one q octets is in let f : same octets q ≡ true = rw e (itself octets) in cc
 
 swapped : {A : Type 0} (a b : Bool) (x y : A) (rest : Option A) → (a ≡ true → b ≡ true → ⊥)
     → cond a (Some x) (cond b (Some y) rest) ≡ cond b (Some y) (cond a (Some x) rest)
@@ -73,7 +74,8 @@ is_set octets n (e ∷ es) there q = by (at octets e.0) refl (λ left. is_set oc
 pub is_inserted : (key : Vec ℕ) (n : ℕ) (es : List (Vec ℕ × ℕ)) → None ≡ lookup (at key.items) es
     → IsPut key.items n es (insert_entry (λ a b. slice_cmp nat_cmp a.items b.items) es key n)
 is_inserted key n [] none q = refl
-is_inserted key n (e ∷ es) none q = by (slice_cmp nat_cmp key.items e.0.items) refl (λ left. is_inserted key n es left q)
+is_inserted key n (e ∷ es) none q =
+    by (slice_cmp nat_cmp key.items e.0.items) refl (λ left. is_inserted key n es left q)
   where
     by : (r : Ordering) → slice_cmp nat_cmp key.items e.0.items ≡ r
         → (None ≡ lookup (at key.items) es
@@ -95,7 +97,8 @@ is_inserted key n (e ∷ es) none q = by (slice_cmp nat_cmp key.items e.0.items)
 
 -- ---- what is counted and listed
 
-module _ (octets : List ℕ) (locals : List (ℤ × ℕ)) (old new : List (Vec ℕ × ℕ)) (n : ℕ) (put : IsPut octets n old new) where
+module _ (octets : List ℕ) (locals : List (ℤ × ℕ)) (old new : List (Vec ℕ × ℕ)) (n : ℕ)
+    (put : IsPut octets n old new) where
   pub counts_one_more : n ≡ sum (or_zero (lookup (at octets) old)) 1 → (code : Code)
       → or_zero (counted locals new code)
       ≡ more_if (is_code code (Global octets)) (or_zero (counted locals old code))
@@ -116,7 +119,8 @@ module _ (octets : List ℕ) (locals : List (ℤ × ℕ)) (old new : List (Vec �
     where
       by : (b : Bool) → same q octets ≡ b → list_any (is_code (Global q)) codes ≡ true
       by true is = let e : q ≡ octets = one q octets is in rw e here
-      by false is = listed (Global q) (sym (ap is_some (put q ∙ ap (λ b. cond b (Some n) (lookup (at q) old)) is)) ∙ there)
+      by false is =
+          listed (Global q) (sym (ap is_some (put q ∙ ap (λ b. cond b (Some n) (lookup (at q) old)) is)) ∙ there)
 
 -- Where one more is listed, all are listed that were.
 pub listed_before : (locals : List (ℤ × ℕ)) (globals : List (Vec ℕ × ℕ)) (codes : List Code) (code : Code)

@@ -1,5 +1,5 @@
 -- What a component of an invoke ID is, is what it is whatever its ID, where that is its ID.
-use Rattle.std.proofs.Common.{◌≡◌, ℕ, ℤ, Bool, true, false, ◌&&◌, List, Option, Some, None, not, refl, sym, ap, ◌∙◌}
+use Rattle.std.proofs.Common.{◌≡◌, ℕ, ℤ, Bool, true, false, ◌&&◌, List, Option, Some, None, not, refl, sym}
 use Rattle.tcap_parts.specs.declared.code.Code.{Code}
 use Rattle.tcap_parts.specs.declared.problem.Problem.{Problem}
 use Rattle.tcap_parts.specs.declared.problem.Problem.TheVariants as problems

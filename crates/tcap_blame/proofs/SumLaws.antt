@@ -1,5 +1,5 @@
 -- Sums of counts, and counts of few components.
-use Rattle.std.proofs.Common.{◌≡◌, ℕ, ◌+◌, ◌^◌, ◌<◌, ◌≤◌, Bool, true, false, List, [], ◌∷◌, ◌++◌, length, refl, sym, ap, ◌∙◌, arith}
+use Rattle.std.proofs.Common.{◌≡◌, ℕ, ◌+◌, ◌^◌, ◌<◌, ◌≤◌, Bool, true, false, List, [], ◌∷◌, ◌++◌, length, refl, sym, ◌∙◌, arith}
 use Rattle.std.proofs.lemmas.Bool.Decides.{nat_tests}
 use Rattle.std.proofs.lemmas.List.{length-append}
 use Rattle.std.proofs.lemmas.List.Sums.{count_by-le-length, length-filter}
@@ -31,6 +31,8 @@ count_one_more p xs x few = by (p x) refl
     by : (b : Bool) → p x ≡ b → more_if b (count p xs) ≡ count p (xs ++ x ∷ [])
     by true is =
         let last : count p (xs ++ x ∷ []) ≡ count p xs + 1 = rw is at (count_last p xs x) in
-        sum_few (count p xs) 1 (omega (arith, length-filter p xs, count_by-le-length p xs, length-append xs (x ∷ []))) ∙ sym last
+        sum_few (count p xs) 1
+        (omega (arith, length-filter p xs, count_by-le-length p xs, length-append xs (x ∷ [])))
+        ∙ sym last
     by false is =
         let last : count p (xs ++ x ∷ []) ≡ count p xs + 0 = rw is at (count_last p xs x) in omega (arith, last)

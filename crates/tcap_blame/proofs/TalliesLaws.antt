@@ -29,8 +29,8 @@ counted_all f all i tallies none few past is =
     sym (last all few) ∙ (ap (sum all) (sym (at_drop_all f tallies i past ∙ none)) ∙ is)
 
 -- Where the next one is so, one of all is.
-pub found_next : (f : List (Bor Tally) → Bool) (p : Tally → Bool) (i : ℕ) (tallies : List (Bor Tally)) (tally : Bor Tally)
-    → ((t : Bor Tally) (more : List (Bor Tally)) → f (t ∷ more) ≡ (p t.now || f more)) → i < length tallies
+pub found_next : (f : List (Bor Tally) → Bool) (p : Tally → Bool) (i : ℕ) (tallies : List (Bor Tally))
+    (tally : Bor Tally) → ((t : Bor Tally) (more : List (Bor Tally)) → f (t ∷ more) ≡ (p t.now || f more)) → i < length tallies
     → tally ≡ get_or tallies i tally → p tally.now ≡ true → f (drop i tallies) ≡ f tallies → true ≡ f tallies
 found_next f p i tallies tally step within is so left =
     let here : p (get_or tallies i tally).now ≡ true = rw (← is) so in

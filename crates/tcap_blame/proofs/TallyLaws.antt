@@ -1,10 +1,9 @@
 -- What is counted behind one component more.
-use Rattle.std.proofs.Common.{◌≡◌, ℕ, ℤ, Bool, true, false, cond, ◌&&◌, ◌||◌, List, [], ◌∷◌, ◌++◌, length, Option, Some, None, option_map, int_cmp, refl, sym, ap, ◌∙◌, arith}
+use Rattle.std.proofs.Common.{◌≡◌, ℕ, ℤ, Bool, true, false, cond, ◌&&◌, ◌||◌, List, [], ◌∷◌, ◌++◌, Option, Some, None, option_map, int_cmp, refl, sym, ap, ◌∙◌, arith}
 use Rattle.std.proofs.Math.Path.{fun_ext}
 use Rattle.std.specs.BTreeMap.{is_at}
 use Rattle.std.specs.Global.{Box}
 use Rattle.std.specs.List.{list_any}
-use Rattle.std.specs.Map.{lookup}
 use Rattle.std.proofs.lemmas.Cmp.{eq_by_cmp_equiv, int_cmp_total}
 use Rattle.std.proofs.lemmas.List.{length-append}
 use Rattle.std.proofs.lemmas.List.Folds.{list_any-append}
@@ -106,8 +105,8 @@ module _ (c : Component) (id q : ℤ) (its : invoke_id c ≡ Some id) (so has : 
 
 module _ (table : Table) (c : Component) (id : ℤ) (its : invoke_id c ≡ Some id) (old new : Tally) (s : Box OfId)
     (puts : Puts id s old.ids.entries new.ids.entries) (steps : AreSteps table c (kept_of id old) s.value) where
-  read_at : {A : Type 0} (nothing : A) (f : OfId → A) (step : A → A) → f s.value ≡ step (of_kept nothing f (kept_of id old))
-      → (q : ℤ) → of_kept nothing f (kept_of q new)
+  read_at : {A : Type 0} (nothing : A) (f : OfId → A) (step : A → A)
+      → f s.value ≡ step (of_kept nothing f (kept_of id old)) → (q : ℤ) → of_kept nothing f (kept_of q new)
       ≡ cond (is_at (int_cmp id) q) (step (of_kept nothing f (kept_of q old))) (of_kept nothing f (kept_of q old))
   read_at nothing f step is q =
       read_put (λ o. of_kept nothing f (option_map (λ kept. kept.value) o)) step id s old.ids.entries new.ids.entries

@@ -1,4 +1,4 @@
--- Operations by what may be linked to them (Q.771 3.1.2), and linked Invokes by what the invocations are that they name.
+-- Operations by what may be linked to them (Q.771 3.1.2), and linked Invokes by the invocations that they name.
 use Rattle.std.specs.Prelude.{ℤ, Bool, ◌&&◌, not}
 use Rattle.tcap_parts.specs.declared.code.Code.{Code}
 use Rattle.tcap_end.specs.Component.{links}

@@ -107,11 +107,7 @@ fn one_is_other(codes: &[Code], invoked: &[&Tally], table: &Table, id: i8) -> bo
 }
 
 /// Whether a linked ID is that of an invocation of an operation to which none may be linked.
-fn one_to_none(
-    by_link: &BTreeMap<i8, CodeCounts>,
-    invoked: &[&Tally],
-    table: &Table,
-) -> bool
+fn one_to_none(by_link: &BTreeMap<i8, CodeCounts>, invoked: &[&Tally], table: &Table) -> bool
     ensures { result ≡ list_any (links_at (names_none table.now (tallies_of (map (λ b. b.now) invoked.now))))
         by_link.now.entries }
 {
@@ -123,12 +119,8 @@ fn one_to_none(
     false
 }
 
-/// Whether one is that of an invocation of an operation to which others may be linked, but not one that has the linked ID.
-fn one_to_other(
-    by_link: &BTreeMap<i8, CodeCounts>,
-    invoked: &[&Tally],
-    table: &Table,
-) -> bool
+/// Whether one is that of an invocation of an operation to which others may be linked, but not one of its own.
+fn one_to_other(by_link: &BTreeMap<i8, CodeCounts>, invoked: &[&Tally], table: &Table) -> bool
     ensures { result ≡ list_any (links_at (names_other table.now (tallies_of (map (λ b. b.now) invoked.now))))
         by_link.now.entries }
 {
@@ -162,8 +154,8 @@ fn links_to_other(heard: &Tally, invoked: &[&Tally], table: &Table, id: i8) -> b
     }
 }
 
-/// Whether a linked Invoke of that ID, among those heard, names an invocation, among those invoked, of an operation to which none
-/// may be linked.
+/// Whether a linked Invoke of that ID, among those heard, names an invocation, among those invoked, of an operation to
+/// which none may be linked.
 pub(crate) fn is_linked_to_none(heard: &[&Tally], invoked: &[&Tally], table: &Table, id: i8) -> bool
     ensures { result ≡ (tallies_of (map (λ b. b.now) heard.now)).has_link id
         (λ linked code. (tallies_of (map (λ b. b.now) invoked.now)).has_operation linked (lists_nothing table.now)) }
@@ -177,7 +169,12 @@ pub(crate) fn is_linked_to_none(heard: &[&Tally], invoked: &[&Tally], table: &Ta
 }
 
 /// Whether one names an invocation of an operation to which others may be linked, but not its own.
-pub(crate) fn is_linked_to_other(heard: &[&Tally], invoked: &[&Tally], table: &Table, id: i8) -> bool
+pub(crate) fn is_linked_to_other(
+    heard: &[&Tally],
+    invoked: &[&Tally],
+    table: &Table,
+    id: i8,
+) -> bool
     ensures { result ≡ (tallies_of (map (λ b. b.now) heard.now)).has_link id
         (λ linked code. (tallies_of (map (λ b. b.now) invoked.now)).has_operation linked
         (λ to. not (lists_nothing table.now to) && not (links table.now to code))) }

@@ -6,7 +6,8 @@ use Rattle.tcap_blame.proofs.tallies.count.Goals as goal
 
 pub loop-tally-init : goal.loop-tally-init
 loop-tally-init c = record {
-  sum_is = rw (to_z-of_z c.ranges.id) (first _ (count_below c.args.id c.args.sort (map (λ b. b.now) c.args.tallies.now)));
+  sum_is = rw (to_z-of_z c.ranges.id)
+      (first _ (count_below c.args.id c.args.sort (map (λ b. b.now) c.args.tallies.now)));
   fits = search rules;
 }
 

@@ -7,7 +7,8 @@ use Rattle.tcap_blame.proofs.tallies.invokes_of.Goals as goal
 
 pub loop-tally-init : goal.loop-tally-init
 loop-tally-init c = record {
-  sum_is = rw (to_z-of_z c.ranges.id) (first _ (invokes_below c.args.id (code_of c.args.code) (map (λ b. b.now) c.args.tallies.now)));
+  sum_is = rw (to_z-of_z c.ranges.id)
+      (first _ (invokes_below c.args.id (code_of c.args.code) (map (λ b. b.now) c.args.tallies.now)));
   fits = search rules;
 }
 

@@ -11,6 +11,6 @@ returns-then-lists c =
     (λ ts. (tallies_of (map (λ b. b.now) ts)).has_operation c.args.id
     (λ to. links c.args.table.now to (code_of c.args.code)))
     (λ t. (tally_of t).has_operation c.args.id (λ to. links c.args.table.now to (code_of c.args.code)))
-    c.loop-tally.tally-index c.args.tallies.now c.tally-item.result (λ t more. refl) c.loop-tally-test.true c.tally-item.is
-    (rw (to_z-of_z c.ranges.id) at (sym c.lists.ensures ∙ c.if-lists.true))
+    c.loop-tally.tally-index c.args.tallies.now c.tally-item.result (λ t more. refl) c.loop-tally-test.true
+    c.tally-item.is (rw (to_z-of_z c.ranges.id) at (sym c.lists.ensures ∙ c.if-lists.true))
     (rw (to_z-of_z c.ranges.id) at c.loop-tally.invariant)

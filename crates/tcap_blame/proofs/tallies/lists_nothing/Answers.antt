@@ -10,6 +10,6 @@ returns-then-lists_nothing c =
     (λ ts. (tallies_of (map (λ b. b.now) ts)).has_operation c.args.id
     (lists_nothing c.args.table.now))
     (λ t. (tally_of t).has_operation c.args.id (lists_nothing c.args.table.now))
-    c.loop-tally.tally-index c.args.tallies.now c.tally-item.result (λ t more. refl) c.loop-tally-test.true c.tally-item.is
-    (rw (to_z-of_z c.ranges.id) at (sym c.lists_nothing.ensures ∙ c.if-lists_nothing.true))
+    c.loop-tally.tally-index c.args.tallies.now c.tally-item.result (λ t more. refl) c.loop-tally-test.true
+    c.tally-item.is (rw (to_z-of_z c.ranges.id) at (sym c.lists_nothing.ensures ∙ c.if-lists_nothing.true))
     (rw (to_z-of_z c.ranges.id) at c.loop-tally.invariant)

@@ -14,4 +14,6 @@ returns-in-Some c = λ cs was.
 pub returns-in-None : goal.returns-in-None
 returns-in-None c = λ cs was.
     is_more c.args.table.now cs (component_of c.args.component) c.args.self.now c.args.self.now
-    (none_tallied c.args.table.now (component_of c.args.component) (tally_of c.args.self.now) (sym c.in-None.ensures)) was
+    (none_tallied c.args.table.now (component_of c.args.component) (tally_of c.args.self.now)
+    (sym c.in-None.ensures))
+    was
