@@ -1,3 +1,11 @@
 pub mod KindFinds
 pub mod FewLaws
 pub mod KeptLaws
+pub mod SumLaws
+pub mod CodeLaws
+pub mod FoundLaws
+pub mod LinkLaws
+pub mod SortLaws
+pub mod TallyLaws
+pub mod TalliesLaws
+pub mod GlobalLaws

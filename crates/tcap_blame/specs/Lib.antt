@@ -1,5 +1,8 @@
+pub mod Listed
 pub mod Tallied
 pub mod Tallies
+pub mod Noted
+pub mod Linking
 pub mod History
 pub mod Spoken
 pub mod Searching

@@ -1,13 +1,13 @@
--- Components as they are counted, by their invoke IDs (Q.773 4.2.2). No count is kept above the greatest; where there are few
--- components, each count is how many there are.
-use Rattle.std.specs.Prelude.{◌≡◌, ℕ, ℤ, ◌+◌, ◌^◌, ◌≤◌, Bool, true, false, List, [], ◌∷◌, length, Option, Some, None, ◌&&◌, ◌||◌, not, nat_lt, nat_le, cond}
+-- Components as they are counted, by their invoke IDs (Q.773 4.2.2). No count is kept above the greatest; where there
+-- are few components, each count is how many there are.
+use Rattle.std.specs.Prelude.{ℕ, ℤ, ◌+◌, ◌^◌, ◌≤◌, Bool, true, false, List, length, Some, ◌&&◌, ◌||◌, not, nat_lt, nat_le, cond}
 use Rattle.std.specs.List.{list_any}
 use Rattle.tcap_parts.specs.declared.code.Code.{Code}
 use Rattle.tcap_parts.specs.declared.component.Component.{Component}
-use Rattle.tcap_parts.specs.declared.component.Component.TheVariants.{Invoke, ReturnResult, ReturnError, Reject}
+use Rattle.tcap_parts.specs.declared.component.Component.TheVariants.{Invoke}
 use Rattle.tcap_end.specs.Component.{is_code}
 use Rattle.tcap_end.specs.Table.{Table, expires_of}
-use Rattle.tcap_refute.specs.Before.{invokes, is_invoke_id}
+use Rattle.tcap_refute.specs.Before.{is_invoke_id}
 use Rattle.tcap_refute.specs.Counts.{any_problem, count, has_class, invokes_linked, invokes_so, is_error, is_last_result, is_not_last, is_result, is_result_of, rejects_error, rejects_invoke, rejects_result}
 use Rattle.tcap_refute.specs.ComponentKinds.{is_of_link, is_problem}
 use Rattle.tcap_blame.specs.declared.sort.Class.{Class}
@@ -39,7 +39,8 @@ is_of_class table classes.Two code = has_class table 2 code
 is_of_class table classes.Three code = has_class table 3 code
 is_of_class table classes.Four code = has_class table 4 code
 
-abbrev not_expiring : Table → Class → Code → Bool
+-- whether one is, and does not expire
+abbrev pub not_expiring : Table → Class → Code → Bool
 not_expiring table class code = not (expires_of table code) && is_of_class table class code
 
 -- whether a component of that invoke ID is of that sort

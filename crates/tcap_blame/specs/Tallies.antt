@@ -1,12 +1,10 @@
 -- What tallies say of components.
-use Rattle.std.specs.Prelude.{◌≡◌, ℕ, ℤ, ◌==◌, Bool, false, List, [], ◌∷◌, Option, Some, None, ◌||◌, cond}
-use Rattle.std.specs.Cmp.Lexicographic.{slice_cmp}
-use Rattle.std.specs.Ordering.{int_cmp, nat_cmp}
+use Rattle.std.specs.Prelude.{◌≡◌, ℕ, ℤ, Bool, false, List, [], ◌∷◌, Option, Some, None, option_map}
+use Rattle.std.specs.Ordering.{int_cmp}
 use Rattle.std.specs.List.{list_any}
 use Rattle.std.specs.Map.{lookup}
 use Rattle.std.specs.BTreeMap.{is_at}
 use Rattle.tcap_parts.specs.declared.code.Code.{Code}
-use Rattle.tcap_parts.specs.declared.code.Code.TheVariants.{Local, Global}
 use Rattle.tcap_parts.specs.declared.component.Component.{Component}
 use Rattle.tcap_end.specs.Table.{Table}
 use Rattle.tcap_blame.specs.declared.sort.Class.{Class}
@@ -15,9 +13,9 @@ use Rattle.tcap_blame.specs.declared.sort.Sort.{Sort}
 use Rattle.tcap_blame.specs.declared.sort.Sort.TheVariants as sorts
 use Rattle.tcap_blame.specs.declared.code_counts.CodeCounts.{CodeCounts}
 use Rattle.tcap_blame.specs.declared.by_class.ByClass.{ByClass}
-use Rattle.tcap_blame.specs.declared.of_id.Linking.{Linking}
 use Rattle.tcap_blame.specs.declared.of_id.OfId.{OfId}
 use Rattle.tcap_blame.specs.declared.tally.Tally.{Tally}
+use Rattle.tcap_blame.specs.Listed.{counted}
 use Rattle.tcap_blame.specs.Tallied.{AreFew, Tallied, both_tallied, nothing_tallied, tallied}
 
 -- a count that is kept, or 0
@@ -27,8 +25,7 @@ or_zero (Some n) = n
 
 -- how often a code was counted
 abbrev pub count_of : Code → CodeCounts → ℕ
-count_of (Local n) kept = or_zero (lookup (is_at (int_cmp n)) kept.locals.entries)
-count_of (Global octets) kept = or_zero (lookup (λ k. is_at (slice_cmp nat_cmp octets) k.items) kept.globals.entries)
+count_of code kept = or_zero (counted kept.locals.entries kept.globals.entries code)
 
 abbrev pub count_of_class : Class → ByClass → ℕ
 count_of_class classes.Any kept = kept.all
@@ -55,14 +52,23 @@ count_in sorts.MistypedResults kept = kept.mistyped_results
 count_in sorts.ErrorRejects kept = kept.error_rejects
 count_in sorts.MistypedErrors kept = kept.mistyped_errors
 
-abbrev pub links_so : (ℤ → Code → Bool) → Linking → Bool
-links_so passes l = passes l.linked l.code
+-- whether one of the operations of a linked ID passes a test with it
+abbrev pub links_at : (ℤ → Code → Bool) → ℤ × CodeCounts → Bool
+links_at passes (linked, kept) = list_any (passes linked) kept.codes.items
+
+-- whether the operation of an Invoke passes a test
+abbrev pub invokes_in : (Code → Bool) → OfId → Bool
+invokes_in passes kept = list_any passes kept.operations.codes.items
+
+-- whether the linked ID of a linked one does, with its operation
+abbrev pub links_in : (ℤ → Code → Bool) → OfId → Bool
+links_in passes kept = list_any (links_at passes) kept.by_link.entries
 
 -- ---- of all of them
 
 -- what is kept of that ID
 abbrev pub kept_of : ℤ → Tally → Option OfId
-kept_of id tally = lookup (is_at (int_cmp id)) tally.ids.entries
+kept_of id tally = option_map (λ kept. kept.value) (lookup (is_at (int_cmp id)) tally.ids.entries)
 
 -- something of what is kept, or what there is of nothing
 abbrev pub of_kept : {A : Type 0} → A → (OfId → A) → Option OfId → A
@@ -75,8 +81,8 @@ tally_of tally = record {
   count = λ id sort. of_kept 0 (count_in sort) (kept_of id tally);
   invokes_of = λ id code. of_kept 0 (λ kept. count_of code kept.operations) (kept_of id tally);
   results_of = λ id code. of_kept 0 (λ kept. count_of code kept.named) (kept_of id tally);
-  has_operation = λ id passes. of_kept false (λ kept. list_any passes kept.operations.codes.items) (kept_of id tally);
-  has_link = λ id passes. of_kept false (λ kept. list_any (links_so passes) kept.links.items) (kept_of id tally);
+  has_operation = λ id passes. of_kept false (invokes_in passes) (kept_of id tally);
+  has_link = λ id passes. of_kept false (links_in passes) (kept_of id tally);
 }
 
 -- A tally is of these components: where they are few it says what is counted of them.

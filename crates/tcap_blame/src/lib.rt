@@ -15,6 +15,7 @@ mod own;
 mod replies;
 mod sort;
 mod speaker;
+mod sums;
 mod tallies;
 mod tally;
 mod told;
