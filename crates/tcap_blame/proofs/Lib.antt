@@ -1,2 +1,7 @@
 pub mod KindFinds
 pub mod FewLaws
+pub mod SumLaws
+pub mod InvokeSums
+pub mod AnswerSums
+pub mod RejectSums
+pub mod FoundLaws
