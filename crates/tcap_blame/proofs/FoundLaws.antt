@@ -1,5 +1,5 @@
 -- What is found of the components of a message, one after the other, is what is so of one of them.
-use Rattle.std.proofs.Common.{◌≡◌, ℤ, arith, Bool, true, false, List, [], ◌∷◌, ◌++◌, Option, Some, None, length, length-append, int_cmp, refl, sym, ap, ◌∙◌}
+use Rattle.std.proofs.Common.{◌≡◌, ℤ, arith, Bool, true, false, List, [], ◌∷◌, ◌++◌, Option, Some, None, length, length-append, int_cmp, refl, sym, ap, ap₂, ◌∙◌}
 use Rattle.std.specs.Prelude.{◌||◌, map, option_map, option_to_list}
 use Rattle.std.specs.BTreeMap.{is_at}
 use Rattle.std.specs.BTreeSet.{BTreeSet, contains}
@@ -13,14 +13,13 @@ use Rattle.tcap_refute.specs.Before.{invokes}
 use Rattle.tcap_refute.specs.ComponentKinds.{answers_again, has_component, invokes_again, invokes_busy, is_linked, links_badly, rejects_wrongly}
 use Rattle.tcap_refute.specs.Speaker.{Speaker as Speaking}
 use Rattle.tcap_refute.proofs.TestLaws.{or_none}
-use Rattle.tcap_blame.specs.declared.before.Before.{Before}
 use Rattle.tcap_blame.specs.declared.components.ComponentFaults.{ComponentFaults}
 use Rattle.tcap_blame.specs.declared.speaker.Speaker.{Speaker}
 use Rattle.tcap_blame.specs.declared.tally.Tally.{Tally}
 use Rattle.tcap_blame.specs.Tallied.{AreFew, both_tallied, tallied}
 use Rattle.tcap_blame.specs.Tallies.{IsTally, tallies_of, tally_of}
 use Rattle.tcap_blame.specs.Spoken.{IsSpeaker}
-use Rattle.tcap_blame.specs.ByTallies.{answers_again_by, counted, invokes_busy_by, links_badly_by, rejects_wrongly_by}
+use Rattle.tcap_blame.specs.ByTallies.{answers_again_by, counted_by, invokes_busy_by, links_badly_by, rejects_wrongly_by}
 use Rattle.tcap_blame.specs.Found.{IsFaultless, IsFirstNoted, IsWith, invokes_one_of}
 use Rattle.tcap_blame.proofs.SumLaws.{tallied_both}
 use Rattle.tcap_blame.proofs.InvokeSums.{counted_of, invokes_busy_same, links_badly_same}
@@ -48,10 +47,10 @@ or_assoc false b c = refl
 -- ---- what is counted
 
 -- Where a half and the components of its message before one are kept, they are counted.
-module _ (table : Table) (s : Speaking) (before : Before) (own : List Component)
-    (is : IsSpeaker table s before.half.now) (is_own : IsTally table own before.own.now) where
+module _ (table : Table) (s : Speaking) (half : Speaker) (tally : Tally) (own : List Component)
+    (is : IsSpeaker table s half) (is_own : IsTally table own tally) where
   counted_same : AreFew s.heard → AreFew s.invoked → AreFew (s.sent ++ own)
-      → counted before ≡ counted_of table s (s.sent ++ own) own
+      → counted_by half tally ≡ counted_of table s (s.sent ++ own) own
   counted_same few_heard few_invoked few = λ i. record {
     heard = is.heard few_heard i;
     invoked = is.invoked few_invoked i;
@@ -60,12 +59,12 @@ module _ (table : Table) (s : Speaking) (before : Before) (own : List Component)
     own = all_own i;
   }
     where
-      all_own : tally_of before.own.now ≡ tallied table own
+      all_own : tally_of tally ≡ tallied table own
       all_own = is_own (few_behind s.sent own few)
 
-      all_sent : both_tallied (tallies_of (map (λ b. b.now) before.half.now.sent.items)) (tally_of before.own.now)
+      all_sent : both_tallied (tallies_of (map (λ b. b.now) half.sent.items)) (tally_of tally)
           ≡ tallied table (s.sent ++ own)
-      all_sent = rw (is.sent (few_front s.sent own few), all_own) (tallied_both table s.sent own few)
+      all_sent = ap₂ both_tallied (is.sent (few_front s.sent own few)) all_own ∙ tallied_both table s.sent own few
 
 -- ---- over a half
 
@@ -112,16 +111,16 @@ one_found : (is_so : List Component → List Component → Component → Bool) (
 one_found is_so sent own left c old new whole now is_new is_now is =
     rw (is_new, is_now, ← append_assoc sent own (c ∷ [])) (or_assoc old (is_so own (sent ++ own) c) _ ∙ is)
 
-module _ (table : Table) (s : Speaking) (before : Before) (speaks : IsSpeaker table s before.half.now)
+module _ (table : Table) (s : Speaking) (half : Speaker) (tally : Tally) (speaks : IsSpeaker table s half)
     (few_heard : AreFew s.heard) (few_invoked : AreFew s.invoked) (all own left : List Component) (c : Component)
-    (noted : IsTally table own before.own.now) (few : AreFew ((s.sent ++ own) ++ c ∷ left)) where
+    (noted : IsTally table own tally) (few : AreFew ((s.sent ++ own) ++ c ∷ left)) where
   few_own : AreFew (s.sent ++ own)
   few_own = few_front (s.sent ++ own) (c ∷ left) few
 
-  same : counted before ≡ counted_of table s (s.sent ++ own) own
-  same = counted_same table s before own speaks noted few_heard few_invoked few_own
+  same : counted_by half tally ≡ counted_of table s (s.sent ++ own) own
+  same = counted_same table s half tally own speaks noted few_heard few_invoked few_own
 
-  one_more_found : (old new : ComponentFaults) → IsWith table (counted before) c old new
+  one_more_found : (old new : ComponentFaults) → IsWith table (counted_by half tally) c old new
       → IsSoFar table s all own (c ∷ left) old → IsSoFar table s all (own ++ c ∷ []) left new
   one_more_found old new is so_far = record {
     busy = one_found (invokes_busy table s) s.sent own left c _ _ _ _ is.busy
@@ -142,19 +141,26 @@ module _ (table : Table) (s : Speaking) (before : Before) (speaks : IsSpeaker ta
   }
 
 -- One component more is looked at.
-pub one_reached : (table : Table) (before : Before) (all left : List Component) (last : Option Component) (c : Component)
-    (was : Tally) (old new : ComponentFaults) (reached : IsReached table before.half.now all (c ∷ left) last was old)
-    → IsTally table (reached.done ++ option_to_list last) before.own.now → IsWith table (counted before) c old new
-    → IsReached table before.half.now all left (Some c) before.own.now new
-one_reached table before all left last c was old new reached noted is = record {
-  done = reached.done ++ option_to_list last;
+pub one_reached : (table : Table) (half : Speaker) (tally : Tally) (all here left : List Component)
+    (last : Option Component) (c : Component) (was : Tally) (old new : ComponentFaults)
+    (reached : IsReached table half all here last was old) → here ≡ c ∷ left
+    → IsTally table (reached.done ++ option_to_list last) tally → IsWith table (counted_by half tally) c old new
+    → IsReached table half all left (Some c) tally new
+one_reached table half tally all here left last c was old new reached next noted is = record {
+  done = own;
   noted = noted;
-  whole = append_assoc (reached.done ++ option_to_list last) (c ∷ []) left ∙ reached.whole;
+  whole = append_assoc own (c ∷ []) left ∙ whole;
   so_far = λ s speaks few_heard few_invoked few.
-      one_more_found table s before speaks few_heard few_invoked all (reached.done ++ option_to_list last) left c noted
-      (few_split s.sent (reached.done ++ option_to_list last) (c ∷ left) all reached.whole few) old new is
-      (reached.so_far s speaks few_heard few_invoked few);
+      one_more_found table s half tally speaks few_heard few_invoked all own left c noted
+      (few_split s.sent own (c ∷ left) all whole few) old new is
+      (rw next at reached.so_far s speaks few_heard few_invoked few);
 }
+  where
+    own : List Component
+    own = reached.done ++ option_to_list last
+
+    whole : own ++ c ∷ left ≡ all
+    whole = ap (λ list. own ++ list) (sym next) ∙ reached.whole
 
 -- All are.
 pub all_found : (table : Table) (half : Speaker) (all : List Component) (last : Option Component) (own : Tally)
@@ -171,9 +177,9 @@ all_found table half all last own found reached s speaks few_heard few_invoked f
 -- ---- a message without destination ID
 
 -- What is found behind some components, whose Invokes have these IDs.
-pub record IsFirstSoFar (all left : List Component) (ids : BTreeSet ℤ) (found : ComponentFaults) : Type 0 where
+pub record IsFirstSoFar (all left : List Component) (seen : BTreeSet ℤ) (found : ComponentFaults) : Type 0 where
   pub done : List Component
-  pub ids : (id : ℤ) → contains int_cmp ids id ≡ list_any (invokes id) done
+  pub ids : (id : ℤ) → contains int_cmp seen id ≡ list_any (invokes id) done
   pub busy : (found.busy || has_component invokes_again done done left) ≡ has_component invokes_again [] [] all
   pub badly_linked : (found.badly_linked || list_any is_linked left) ≡ list_any is_linked all
   pub answered_already : found.answered_already ≡ false
@@ -212,5 +218,5 @@ first_one all left c ids behind old new is so_far = record {
   where
     one_behind : (id : ℤ) → (list_any (invokes id) so_far.done || invokes id c)
         ≡ list_any (invokes id) (so_far.done ++ c ∷ [])
-    one_behind id = ap (λ b. list_any (invokes id) so_far.done || b) (sym (or_none (invokes id c)))
+    one_behind id = ap (λ b. list_any (invokes id) so_far.done || b) (or_none (invokes id c))
         ∙ sym (list_any-append (invokes id) so_far.done (c ∷ []))

@@ -1,5 +1,6 @@
 pub mod KindFinds
 pub mod FewLaws
+pub mod CodeLaws
 pub mod SumLaws
 pub mod InvokeSums
 pub mod AnswerSums

@@ -118,7 +118,7 @@ answer_same is_all most problem answers not_lasts rejects mistyped suited known 
 module _ (table : Table) (s : Speaker) (before own : List Component) (few_heard : AreFew s.heard)
     (few_invoked : AreFew s.invoked) (few : AreFew before) (id : ℤ) where
   -- so many own invocations are of class 1 or of that class
-  suited : ℕ → ℕ
+  abbrev suited : ℕ → ℕ
   suited class = count_class table id 1 s.invoked + count_class table id class s.invoked
 
   few_suited : (class : ℕ) → suited class ≤ 2 ^ 126 + 2 ^ 126

@@ -3,7 +3,7 @@ use Rattle.std.proofs.Common.{◌≡◌, ℕ, ℤ, ◌+◌, ◌^◌, ◌≤◌, 
 use Rattle.std.specs.Prelude.{◌||◌, ◌&&◌, nat_lt}
 use Rattle.std.specs.List.{list_any}
 use Rattle.std.proofs.Math.Path.{fun_ext}
-use Rattle.std.proofs.lemmas.Bool.{cond-true, lt-ltb, le-ltb}
+use Rattle.std.proofs.lemmas.Bool.{both_ways, cond-true, lt-ltb, ltb-false, ltb-true}
 use Rattle.std.proofs.lemmas.List.Folds.{list_any-append}
 use Rattle.tcap_parts.specs.declared.code.Code.{Code}
 use Rattle.tcap_parts.specs.declared.component.Component.{Component}
@@ -50,11 +50,13 @@ any_same p q xs same = ap (λ t. list_any t xs) (fun_ext same)
 
 -- One is found where some are counted.
 pub any_counted : {A : Type 0} (p : A → Bool) (xs : List A) → nat_lt 0 (count p xs) ≡ list_any p xs
-any_counted p xs = by (list_any p xs) refl
+any_counted p xs = by (list_any p xs) (nat_lt 0 (count p xs)) refl refl
   where
-    by : (b : Bool) → list_any p xs ≡ b → nat_lt 0 (count p xs) ≡ list_any p xs
-    by true is = lt-ltb 0 (count p xs) (any_counts p xs is) ∙ sym is
-    by false is = ?
+    by : (found counted : Bool) → list_any p xs ≡ found → nat_lt 0 (count p xs) ≡ counted → counted ≡ found
+    by true true is one = refl
+    by true false is none = absurd (omega (arith, any_counts p xs is, ltb-false 0 (count p xs) none))
+    by false true is one = absurd (both_ways _ is (counts_any p xs (ltb-true 0 (count p xs) one)))
+    by false false is none = refl
 
 -- ---- Invokes
 

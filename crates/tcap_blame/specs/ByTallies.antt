@@ -14,6 +14,8 @@ use Rattle.tcap_blame.specs.declared.sort.Class.TheVariants as classes
 use Rattle.tcap_blame.specs.declared.sort.Sort.{Sort}
 use Rattle.tcap_blame.specs.declared.sort.Sort.TheVariants as sorts
 use Rattle.tcap_blame.specs.declared.before.Before.{Before}
+use Rattle.tcap_blame.specs.declared.speaker.Speaker.{Speaker}
+use Rattle.tcap_blame.specs.declared.tally.Tally.{Tally}
 use Rattle.tcap_blame.specs.Tallied.{Tallied, both_tallied, sum}
 use Rattle.tcap_blame.specs.Tallies.{tallies_of, tally_of}
 
@@ -30,15 +32,18 @@ pub record Counted : Type 0 where
   -- these components
   pub own : Tallied
 
--- what is counted where that is kept
-abbrev pub counted : Before → Counted
-counted before = record {
-  heard = tallies_of (map (λ b. b.now) before.half.now.heard.items);
-  invoked = tallies_of (map (λ b. b.now) before.half.now.invoked.items);
-  is_all = before.half.now.is_all;
-  sent = both_tallied (tallies_of (map (λ b. b.now) before.half.now.sent.items)) (tally_of before.own.now);
-  own = tally_of before.own.now;
+-- what is counted where a half, and the components of the message, are kept
+abbrev pub counted_by : Speaker → Tally → Counted
+counted_by half own = record {
+  heard = tallies_of (map (λ b. b.now) half.heard.items);
+  invoked = tallies_of (map (λ b. b.now) half.invoked.items);
+  is_all = half.is_all;
+  sent = both_tallied (tallies_of (map (λ b. b.now) half.sent.items)) (tally_of own);
+  own = tally_of own;
 }
+
+abbrev pub counted : Before → Counted
+counted before = counted_by before.half.now before.own.now
 
 -- how many Invokes of an ID there are, of a class or of any
 abbrev pub invokes_in : Tallied → ℤ → Class → ℕ

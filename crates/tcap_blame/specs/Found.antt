@@ -30,9 +30,9 @@ invokes_one_of ids (Invoke id linked code parameter) = contains int_cmp ids id
 invokes_one_of ids _ = false
 
 -- That of one more of a message without destination ID, and the IDs with its own.
-pub record IsFirstNoted (ids behind : BTreeSet ℤ) (c : Component) (old new : ComponentFaults) : Type 0 where
-  pub ids : (id : ℤ) → contains int_cmp behind id ≡ contains int_cmp ids id || invokes id c
-  pub busy : new.busy ≡ old.busy || invokes_one_of ids c
+pub record IsFirstNoted (before behind : BTreeSet ℤ) (c : Component) (old new : ComponentFaults) : Type 0 where
+  pub ids : (id : ℤ) → contains int_cmp behind id ≡ contains int_cmp before id || invokes id c
+  pub busy : new.busy ≡ old.busy || invokes_one_of before c
   pub badly_linked : new.badly_linked ≡ old.badly_linked || is_linked c
   pub answered_already : new.answered_already ≡ old.answered_already
   pub wrongly_rejected : new.wrongly_rejected ≡ old.wrongly_rejected

@@ -1,11 +1,13 @@
 //! Answers to invocations that were answered already (Q.774 3.2; Q.771, operation classes).
 
-ghost use Rattle.std.specs.Prelude.{◌≡◌, option_map};
-ghost use Rattle.tcap_parts.specs.Meaning.{body_of, component_of};
+ghost use Rattle.std.specs.Prelude.{◌≡◌, Some, option_map};
+ghost use Rattle.tcap_parts.specs.Meaning.{body_of, component_of, problem_of};
+ghost use Rattle.tcap_parts.specs.declared.component.Component.TheVariants.{Reject};
 ghost use Rattle.tcap_blame.specs.ByTallies.{answers_again_by, counted, is_operation_overspent_by, is_overspent_by, more_answered_by};
 
 use crate::before::Before;
 use crate::sort::{Class, Sort};
+use crate::sums::more;
 use crate::tallies::{invokes_of, results_of};
 use tcap_parts::{ComponentView, ProblemView, ResultBodyView};
 
@@ -17,11 +19,11 @@ impl Before<'_> {
         let of_1 = self.heard(id, Sort::Invokes(Class::One));
         let of_2 = self.heard(id, Sort::Invokes(Class::Two));
         let of_3 = self.heard(id, Sort::Invokes(Class::Three));
-        let answers = results.saturating_add(errors);
-        of_1.saturating_add(of_3) < results
-            || of_1.saturating_add(of_2) < errors
-            || of_1.saturating_add(of_2).saturating_add(of_3) < answers
-            || self.heard(id, Sort::Invokes(Class::Any)) < answers.saturating_add(rejects)
+        let answers = more(results, errors);
+        more(of_1, of_3) < results
+            || more(of_1, of_2) < errors
+            || more(more(of_1, of_2), of_3) < answers
+            || self.heard(id, Sort::Invokes(Class::Any)) < more(answers, rejects)
     }
 
     /// Whether those that were sent are, with so many more.
@@ -30,9 +32,9 @@ impl Before<'_> {
     {
         self.is_more_answered(
             id,
-            self.sent(id, Sort::LastResults).saturating_add(results),
-            self.sent(id, Sort::Errors).saturating_add(errors),
-            self.sent(id, Sort::InvokeRejects).saturating_add(rejects),
+            more(self.sent(id, Sort::LastResults), results),
+            more(self.sent(id, Sort::Errors), errors),
+            more(self.sent(id, Sort::InvokeRejects), rejects),
         )
     }
 
@@ -42,11 +44,21 @@ impl Before<'_> {
     {
         match body {
             Some(body) => {
-                let results = results_of(&self.half.sent, id, body.code);
-                invokes_of(&self.half.heard, id, body.code)
-                    <= results.saturating_add(self.own.results_of(id, body.code))
+                let sent = results_of(&self.half.sent, id, body.code);
+                let own = self.own.results_of(id, body.code);
+                invokes_of(&self.half.heard, id, body.code) <= more(sent, own)
             }
             None => false,
+        }
+    }
+
+    /// Whether a Reject of that ID, with that problem, rejects an invocation that was answered already.
+    fn rejects_again(&self, id: i8, problem: ProblemView) -> bool
+        ensures { result ≡ answers_again_by (counted self.now) (Reject (Some id) (problem_of problem)) }
+    {
+        match problem {
+            ProblemView::Invoke(_) => self.is_overspent(id, 0, 0, 1),
+            _ => false,
         }
     }
 
@@ -61,8 +73,8 @@ impl Before<'_> {
             ComponentView::ReturnError { id, .. } => self.is_overspent(id, 0, 1, 0),
             ComponentView::Reject {
                 id: Some(id),
-                problem: ProblemView::Invoke(_),
-            } => self.is_overspent(id, 0, 0, 1),
+                problem,
+            } => self.rejects_again(id, problem),
             _ => false,
         }
     }

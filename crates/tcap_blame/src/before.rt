@@ -5,6 +5,7 @@ ghost use Rattle.tcap_blame.specs.ByTallies.{counted};
 
 use crate::sort::Sort;
 use crate::speaker::Speaker;
+use crate::sums::more;
 use crate::tallies::count;
 use crate::tally::Tally;
 
@@ -35,6 +36,6 @@ impl Before<'_> {
     pub(crate) fn sent(&self, id: i8, sort: Sort) -> u128
         ensures { result ≡ (counted self.now).sent.count id sort }
     {
-        count(&self.half.sent, id, sort).saturating_add(self.own.count(id, sort))
+        more(count(&self.half.sent, id, sort), self.own.count(id, sort))
     }
 }

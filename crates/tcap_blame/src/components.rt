@@ -48,7 +48,7 @@ impl ComponentFaults {
 
     /// With what is so of one component more.
     fn with(self, table: &Table, before: Before, component: ComponentView) -> ComponentFaults
-        ensures { IsWith table.now (counted before) (component_of component.entry) self result }
+        ensures { IsWith table.now (counted before.entry) (component_of component.entry) self result }
     {
         ComponentFaults {
             busy: self.busy || before.invokes_busy(component),
@@ -112,7 +112,7 @@ pub(crate) fn faults_of(
     let mut faults = ComponentFaults::none();
     for component in components {
         note_last(&mut own, alloc, table, last)?;
-        faults = faults.with(table, Before { half, own: &own }, component);
+        faults = faults.with(table, Before { half: &*half, own: &own }, component);
         last = Some(component);
     }
     Ok(faults)

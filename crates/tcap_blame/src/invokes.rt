@@ -2,14 +2,37 @@
 
 ghost use Rattle.std.specs.Prelude.{◌≡◌};
 ghost use Rattle.tcap_parts.specs.Meaning.{code_of, component_of};
-ghost use Rattle.tcap_blame.specs.Tallied.{sum};
-ghost use Rattle.tcap_blame.specs.ByTallies.{counted, invokes_busy_by, is_badly_linked_by, is_busy_by, links_badly_by, taken_by};
+ghost use Rattle.tcap_blame.specs.ByTallies.{counted, invokes_busy_by, is_badly_linked_by, is_busy_by, links_badly_by, more_last_by, taken_by};
 
 use crate::before::Before;
 use crate::sort::{Class, Sort};
+use crate::sums::more;
 use crate::tallies::lists;
 use tcap_end::Table;
 use tcap_parts::{CodeView, ComponentView};
+
+/// Answers and Rejects that end own invocations of an ID.
+#[derive(Clone, Copy, Debug)]
+struct Ended {
+    /// Last Return Results.
+    results: u128,
+    /// Return Errors.
+    errors: u128,
+    /// Rejects with an invoke problem.
+    rejects: u128,
+}
+
+impl Ended {
+    /// Whether they are fewer than the invocations that last, of all classes, or of class 2, 3 and 4.
+    fn is_less(&self, all: u128, of_2: u128, of_3: u128, of_4: u128) -> bool
+        ensures { result ≡ more_last_by all of_2 of_3 of_4 self.now.results self.now.errors self.now.rejects }
+    {
+        more(more(self.results, self.errors), self.rejects) < all
+            || self.rejects < of_4
+            || more(self.rejects, self.errors) < more(of_2, of_4)
+            || more(self.rejects, self.results) < more(of_3, of_4)
+    }
+}
 
 impl Before<'_> {
     /// Whether an own invocation of that ID lasts.
@@ -20,16 +43,15 @@ impl Before<'_> {
         if all == 0 {
             return false;
         }
+        let ended = Ended {
+            results: self.heard(id, Sort::LastResults),
+            errors: self.heard(id, Sort::Errors),
+            rejects: self.heard(id, Sort::InvokeRejects),
+        };
         let of_2 = self.invoked(id, Sort::Lasting(Class::Two));
         let of_3 = self.invoked(id, Sort::Lasting(Class::Three));
         let of_4 = self.invoked(id, Sort::Lasting(Class::Four));
-        let results = self.heard(id, Sort::LastResults);
-        let errors = self.heard(id, Sort::Errors);
-        let rejects = self.heard(id, Sort::InvokeRejects);
-        results.saturating_add(errors).saturating_add(rejects) < all
-            || rejects < of_4
-            || rejects.saturating_add(errors) < of_2.saturating_add(of_4)
-            || rejects.saturating_add(results) < of_3.saturating_add(of_4)
+        ended.is_less(all, of_2, of_3, of_4)
     }
 
     /// Whether a component is an Invoke of an ID that is in use.
@@ -51,7 +73,7 @@ impl Before<'_> {
         let results = self.sent(id, Sort::LastResults);
         let errors = self.sent(id, Sort::Errors);
         let rejects = self.sent(id, Sort::InvokeRejects);
-        results.saturating_add(errors).saturating_add(rejects)
+        more(more(results, errors), rejects)
     }
 
     /// Whether all invocations of that ID are taken, or none of them lists the operation.

@@ -19,6 +19,7 @@ mod rejects;
 mod replies;
 mod sort;
 mod speaker;
+mod sums;
 mod tallies;
 mod tally;
 mod told;

@@ -6,6 +6,7 @@ ghost use Rattle.tcap_blame.specs.ByTallies.{answers_of, counted, is_answer_reje
 
 use crate::before::Before;
 use crate::sort::{Class, Sort};
+use crate::sums::more;
 use crate::tallies::{is_linked_to_none, is_linked_to_other};
 use tcap_end::Table;
 use tcap_parts::{ComponentView, ProblemView};
@@ -62,11 +63,11 @@ impl Before<'_> {
         match problem {
             0 => {
                 self.heard(id, Sort::Invokes(Class::Any))
-                    <= self.sent(id, Sort::DuplicateRejects).saturating_add(1)
+                    <= more(self.sent(id, Sort::DuplicateRejects), 1)
             }
             5..=7 => {
                 self.heard(id, Sort::Linked)
-                    < self.sent(id, Sort::LinkRejects).saturating_add(1)
+                    < more(self.sent(id, Sort::LinkRejects), 1)
                     || self.half.is_all && self.is_link_fine(table, id, problem)
             }
             _ => 7 < problem,
@@ -79,7 +80,7 @@ impl Before<'_> {
     {
         let class = if is_result { Class::Three } else { Class::Two };
         let of_1 = self.invoked(id, Sort::Invokes(Class::One));
-        of_1.saturating_add(self.invoked(id, Sort::Invokes(class)))
+        more(of_1, self.invoked(id, Sort::Invokes(class)))
     }
 
     /// How many such answers were heard that are not the last.
@@ -103,8 +104,8 @@ impl Before<'_> {
             _ => {
                 let suited = self.suited(is_result, id);
                 suited == 0
-                    || suited.saturating_add(self.not_lasts(is_result, id))
-                        < self.sent(id, mistyped_of(is_result)).saturating_add(1)
+                    || more(suited, self.not_lasts(is_result, id))
+                        < more(self.sent(id, mistyped_of(is_result)), 1)
             }
         }
     }
@@ -115,7 +116,7 @@ impl Before<'_> {
     {
         let greatest = if is_result { 2 } else { 4 };
         self.heard(id, answers_of(is_result))
-            < self.sent(id, rejects_of(is_result)).saturating_add(1)
+            < more(self.sent(id, rejects_of(is_result)), 1)
             || greatest < problem
             || self.half.is_all && self.is_known_wrong(is_result, id, problem)
     }
