@@ -17,7 +17,7 @@ use Rattle.tcap_blame.specs.declared.sort.Class.TheVariants as classes
 use Rattle.tcap_blame.specs.declared.sort.Sort.TheVariants as sorts
 use Rattle.tcap_blame.specs.Tallied.{AreFew, is_sort, sum, tallied}
 use Rattle.tcap_blame.specs.ByTallies.{answers_again_by, is_operation_overspent_by, is_overspent_by, more_answered_by}
-use Rattle.tcap_blame.proofs.SumLaws.{count_invokes, count_within, sum_exact, sum_three}
+use Rattle.tcap_blame.proofs.FewSums.{count_invokes, count_within, sum_exact, sum_three}
 use Rattle.tcap_blame.proofs.InvokeSums.{counted_of}
 
 -- Sums of counts that are few are exact.

@@ -19,7 +19,7 @@ use Rattle.tcap_blame.specs.declared.sort.Class.TheVariants as classes
 use Rattle.tcap_blame.specs.declared.sort.Sort.TheVariants as sorts
 use Rattle.tcap_blame.specs.Tallied.{AreFew, is_of_class, is_sort, sum, tallied}
 use Rattle.tcap_blame.specs.ByTallies.{Counted, invokes_busy_by, is_badly_linked_by, is_busy_by, links_badly_by, more_last_by, taken_by}
-use Rattle.tcap_blame.proofs.SumLaws.{any_counted, count_invokes, count_within, sum_exact, sum_three}
+use Rattle.tcap_blame.proofs.FewSums.{any_counted, count_invokes, count_within, sum_exact, sum_three}
 
 -- what is counted of what a half heard and invoked, of what it sent before and of the components of the message
 abbrev pub counted_of : Table → Speaker → List Component → List Component → Counted

@@ -1,8 +1,8 @@
 pub mod KindFinds
 pub mod FewLaws
-pub mod CodeLaws
-pub mod SumLaws
+pub mod CountTests
+pub mod FewSums
 pub mod InvokeSums
 pub mod AnswerSums
 pub mod RejectSums
-pub mod FoundLaws
+pub mod FaultLaws

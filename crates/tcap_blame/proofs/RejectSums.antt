@@ -18,7 +18,7 @@ use Rattle.tcap_blame.specs.declared.sort.Class.TheVariants as classes
 use Rattle.tcap_blame.specs.declared.sort.Sort.TheVariants as sorts
 use Rattle.tcap_blame.specs.Tallied.{AreFew, invokes_link, is_sort, sum}
 use Rattle.tcap_blame.specs.ByTallies.{is_answer_reject_wrong_by, is_invoke_reject_wrong_by, is_link_fine_by, rejects_wrongly_by}
-use Rattle.tcap_blame.proofs.SumLaws.{any_same, count_invokes, count_within, sum_exact, sum_three}
+use Rattle.tcap_blame.proofs.FewSums.{any_same, count_invokes, count_within, sum_exact, sum_three}
 use Rattle.tcap_blame.proofs.InvokeSums.{counted_of}
 
 -- ---- tests

@@ -3,6 +3,6 @@ pub mod Tallies
 pub mod History
 pub mod Spoken
 pub mod ByTallies
-pub mod Found
+pub mod Faults
 pub mod Searching
 pub mod Finding

@@ -10,7 +10,7 @@ ghost use Rattle.tcap_blame.specs.Tallied.{AreFew};
 ghost use Rattle.tcap_blame.specs.Tallies.{IsTally};
 ghost use Rattle.tcap_blame.specs.Spoken.{IsSpeaker};
 ghost use Rattle.tcap_blame.specs.ByTallies.{counted};
-ghost use Rattle.tcap_blame.specs.Found.{IsFaultless, IsFirstNoted, IsWith};
+ghost use Rattle.tcap_blame.specs.Faults.{IsFaultless, IsFirstNoted, IsWith};
 
 use crate::before::Before;
 use crate::speaker::Speaker;
@@ -59,7 +59,11 @@ impl ComponentFaults {
     }
 
     /// With what is so of one more of a message without destination ID, behind Invokes of these IDs.
-    fn note_first(&mut self, ids: &mut BTreeSet<i8>, component: ComponentView) -> Result<(), AllocError>
+    fn note_first(
+        &mut self,
+        ids: &mut BTreeSet<i8>,
+        component: ComponentView,
+    ) -> Result<(), AllocError>
         ensures { OnOk result (IsFirstNoted ids.old ids.new (component_of component.entry) self.old self.new) }
     {
         if let ComponentView::Invoke { id, linked, .. } = component {
@@ -100,19 +104,26 @@ pub(crate) fn faults_of(
     ensures { (s : Speaking) → IsSpeaker table.now s half.now → AreFew s.heard → AreFew s.invoked
         → AreFew (s.sent ++ components_left components.entry)
         → IfOk result (λ f.
-            (f.busy ≡ has_component (invokes_busy table.now s) [] s.sent (components_left components.entry))
-            × (f.badly_linked ≡ has_component (links_badly table.now s) [] s.sent (components_left components.entry))
-            × (f.answered_already
-                ≡ has_component (answers_again table.now s) [] s.sent (components_left components.entry))
-            × (f.wrongly_rejected
-                ≡ has_component (rejects_wrongly table.now s) [] s.sent (components_left components.entry))) }
+        (f.busy ≡ has_component (invokes_busy table.now s) [] s.sent (components_left components.entry))
+        × (f.badly_linked ≡ has_component (links_badly table.now s) [] s.sent (components_left components.entry))
+        × (f.answered_already
+        ≡ has_component (answers_again table.now s) [] s.sent (components_left components.entry))
+        × (f.wrongly_rejected
+        ≡ has_component (rejects_wrongly table.now s) [] s.sent (components_left components.entry))) }
 {
     let mut own = Tally::new(alloc);
     let mut last = None;
     let mut faults = ComponentFaults::none();
     for component in components {
         note_last(&mut own, alloc, table, last)?;
-        faults = faults.with(table, Before { half: &*half, own: &own }, component);
+        faults = faults.with(
+            table,
+            Before {
+                half: &*half,
+                own: &own,
+            },
+            component,
+        );
         last = Some(component);
     }
     Ok(faults)

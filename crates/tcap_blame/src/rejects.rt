@@ -66,8 +66,7 @@ impl Before<'_> {
                     <= more(self.sent(id, Sort::DuplicateRejects), 1)
             }
             5..=7 => {
-                self.heard(id, Sort::Linked)
-                    < more(self.sent(id, Sort::LinkRejects), 1)
+                self.heard(id, Sort::Linked) < more(self.sent(id, Sort::LinkRejects), 1)
                     || self.half.is_all && self.is_link_fine(table, id, problem)
             }
             _ => 7 < problem,
@@ -115,8 +114,7 @@ impl Before<'_> {
         ensures { result ≡ is_answer_reject_wrong_by (counted self.now) is_result id problem }
     {
         let greatest = if is_result { 2 } else { 4 };
-        self.heard(id, answers_of(is_result))
-            < more(self.sent(id, rejects_of(is_result)), 1)
+        self.heard(id, answers_of(is_result)) < more(self.sent(id, rejects_of(is_result)), 1)
             || greatest < problem
             || self.half.is_all && self.is_known_wrong(is_result, id, problem)
     }

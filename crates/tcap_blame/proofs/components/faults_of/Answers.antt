@@ -1,6 +1,6 @@
 use Rattle.std.specs.Prelude.{option_map}
 use Rattle.tcap_parts.specs.Meaning.{component_of, components_left}
-use Rattle.tcap_blame.proofs.FoundLaws.{none_found, one_reached}
+use Rattle.tcap_blame.proofs.FaultLaws.{none_found, one_reached}
 use Rattle.tcap_blame.proofs.components.faults_of.Goals as goal
 
 pub loop-component-init : goal.loop-component-init

@@ -1,7 +1,7 @@
 -- What was found behind the components so far.
 use Rattle.std.specs.Prelude.{option_map}
 use Rattle.tcap_parts.specs.Meaning.{component_of, components_left}
-use Rattle.tcap_blame.proofs.FoundLaws.{IsReached}
+use Rattle.tcap_blame.proofs.FaultLaws.{IsReached}
 use Rattle.tcap_blame.proofs.components.faults_of.Given as goal
 
 abbrev pub invariant-loop-component : goal.invariant-loop-component

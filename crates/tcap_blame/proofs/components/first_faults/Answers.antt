@@ -1,5 +1,5 @@
 use Rattle.tcap_parts.specs.Meaning.{component_of, components_left}
-use Rattle.tcap_blame.proofs.FoundLaws.{first_one}
+use Rattle.tcap_blame.proofs.FaultLaws.{first_one}
 use Rattle.tcap_blame.proofs.components.first_faults.Goals as goal
 
 pub loop-component-preserved : goal.loop-component-preserved

@@ -1,6 +1,6 @@
 use Rattle.std.proofs.Common.{SFits, rules, to_z-of_z, w8}
 use Rattle.tcap_blame.specs.ByTallies.{counted, is_busy_by}
-use Rattle.tcap_blame.proofs.CodeLaws.{seen_before}
+use Rattle.tcap_blame.proofs.CountTests.{seen_before}
 use Rattle.tcap_blame.proofs.before.Before.invokes_busy.Goals as goal
 
 pub returns-then-count-gt0 : goal.returns-then-count-gt0

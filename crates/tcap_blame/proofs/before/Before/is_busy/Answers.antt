@@ -1,5 +1,5 @@
 use Rattle.std.proofs.Common.{to_z-of_z}
-use Rattle.tcap_blame.proofs.CodeLaws.{some_last}
+use Rattle.tcap_blame.proofs.CountTests.{some_last}
 use Rattle.tcap_blame.proofs.before.Before.is_busy.Goals as goal
 
 pub returns : goal.returns

@@ -1,6 +1,6 @@
 use Rattle.std.proofs.Common.{arith, to_z-of_z, ap, ◌∙◌}
 use Rattle.tcap_blame.specs.Tallied.{sum}
-use Rattle.tcap_blame.proofs.CodeLaws.{link_fine}
+use Rattle.tcap_blame.proofs.CountTests.{link_fine}
 use Rattle.tcap_blame.proofs.before.Before.is_invoke_reject_wrong.Goals as goal
 
 pub returns-then-self : goal.returns-then-self

@@ -20,8 +20,8 @@ use Rattle.tcap_blame.specs.Tallied.{AreFew, both_tallied, tallied}
 use Rattle.tcap_blame.specs.Tallies.{IsTally, tallies_of, tally_of}
 use Rattle.tcap_blame.specs.Spoken.{IsSpeaker}
 use Rattle.tcap_blame.specs.ByTallies.{answers_again_by, counted_by, invokes_busy_by, links_badly_by, rejects_wrongly_by}
-use Rattle.tcap_blame.specs.Found.{IsFaultless, IsFirstNoted, IsWith, invokes_one_of}
-use Rattle.tcap_blame.proofs.SumLaws.{tallied_both}
+use Rattle.tcap_blame.specs.Faults.{IsFaultless, IsFirstNoted, IsWith, invokes_one_of}
+use Rattle.tcap_blame.proofs.FewSums.{tallied_both}
 use Rattle.tcap_blame.proofs.InvokeSums.{counted_of, invokes_busy_same, links_badly_same}
 use Rattle.tcap_blame.proofs.AnswerSums.{answers_again_same}
 use Rattle.tcap_blame.proofs.RejectSums.{rejects_wrongly_same}
