@@ -1,12 +1,11 @@
 -- Answers to invocations that were answered already, where few components are counted (Q.774 3.2, Q.771 3.1.2).
-use Rattle.std.proofs.Common.{◌≡◌, ℕ, ℤ, ◌+◌, ◌^◌, ◌≤◌, ◌<◌, arith, Bool, true, false, ltb, List, [], ◌∷◌, ◌++◌, Option, Some, None, length, refl, sym, ap, ap₂, ◌∙◌}
+use Rattle.std.proofs.Common.{◌≡◌, ℕ, ℤ, ◌+◌, ◌^◌, ◌≤◌, ◌<◌, arith, Bool, true, false, ltb, List, [], ◌∷◌, ◌++◌, Option, Some, None, refl, ap, ap₂, ◌∙◌}
 use Rattle.std.specs.Prelude.{◌||◌, ◌&&◌}
 use Rattle.tcap_parts.specs.declared.problem.Problem.TheVariants as problems
 use Rattle.tcap_parts.specs.declared.component.ResultBody.{ResultBody}
 use Rattle.tcap_parts.specs.declared.component.Component.{Component}
 use Rattle.tcap_parts.specs.declared.component.Component.TheVariants.{Invoke, ReturnResult, ReturnError, Reject}
 use Rattle.tcap_end.specs.Table.{Table}
-use Rattle.tcap_refute.specs.Before.{invokes, is_invoke_id}
 use Rattle.tcap_refute.specs.Counts.{any_problem, count, is_error, is_last_result, rejects_invoke}
 use Rattle.tcap_refute.specs.ComponentKinds.{answers_again, is_operation_overspent, is_overspent, more_answered}
 use Rattle.tcap_refute.specs.Speaker.{Speaker}
@@ -17,7 +16,7 @@ use Rattle.tcap_blame.specs.declared.sort.Class.TheVariants as classes
 use Rattle.tcap_blame.specs.declared.sort.Sort.TheVariants as sorts
 use Rattle.tcap_blame.specs.Tallied.{AreFew, is_sort, sum, tallied}
 use Rattle.tcap_blame.specs.ByTallies.{answers_again_by, is_operation_overspent_by, is_overspent_by, more_answered_by}
-use Rattle.tcap_blame.proofs.FewSums.{count_invokes, count_within, sum_exact, sum_three}
+use Rattle.tcap_blame.proofs.FewSums.{count_invokes, count_within, sum_exact}
 use Rattle.tcap_blame.proofs.InvokeSums.{counted_of}
 
 -- Sums of counts that are few are exact.

@@ -1,7 +1,6 @@
 -- What is found of the components of a message, one after the other, is what is so of one of them.
-use Rattle.std.proofs.Common.{◌≡◌, ℤ, arith, Bool, true, false, List, [], ◌∷◌, ◌++◌, Option, Some, None, length, length-append, int_cmp, refl, sym, ap, ap₂, ◌∙◌}
-use Rattle.std.specs.Prelude.{◌||◌, map, option_map, option_to_list}
-use Rattle.std.specs.BTreeMap.{is_at}
+use Rattle.std.proofs.Common.{◌≡◌, ℤ, arith, Bool, true, false, List, [], ◌∷◌, ◌++◌, Option, Some, None, length-append, int_cmp, refl, sym, ap, ap₂, ◌∙◌}
+use Rattle.std.specs.Prelude.{◌||◌, map, option_to_list}
 use Rattle.std.specs.BTreeSet.{BTreeSet, contains}
 use Rattle.std.specs.List.{list_any}
 use Rattle.std.proofs.lemmas.List.Folds.{list_any-append}

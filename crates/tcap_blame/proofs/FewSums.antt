@@ -1,21 +1,18 @@
 -- What is counted of few components: no sum of these counts is above the greatest.
-use Rattle.std.proofs.Common.{◌≡◌, ℕ, ℤ, ◌+◌, ◌^◌, ◌≤◌, ◌<◌, arith, Bool, true, false, cond, ltb, List, [], ◌∷◌, ◌++◌, length, length-append, refl, sym, ap, ◌∙◌}
-use Rattle.std.specs.Prelude.{◌||◌, ◌&&◌, nat_lt}
+use Rattle.std.proofs.Common.{◌≡◌, ℕ, ℤ, ◌+◌, ◌^◌, ◌≤◌, ◌<◌, arith, Bool, true, false, ltb, List, [], ◌∷◌, ◌++◌, length, length-append, refl, sym, ap, ◌∙◌}
+use Rattle.std.specs.Prelude.{◌&&◌, nat_lt}
 use Rattle.std.specs.List.{list_any}
 use Rattle.std.proofs.Math.Path.{fun_ext}
 use Rattle.std.proofs.lemmas.Bool.{both_ways, cond-true, lt-ltb, ltb-false, ltb-true}
 use Rattle.std.proofs.lemmas.List.Folds.{list_any-append}
-use Rattle.tcap_parts.specs.declared.code.Code.{Code}
 use Rattle.tcap_parts.specs.declared.component.Component.{Component}
 use Rattle.tcap_parts.specs.declared.component.Component.TheVariants.{Invoke, ReturnResult, ReturnError, Reject}
 use Rattle.tcap_end.specs.Component.{is_code}
 use Rattle.tcap_end.specs.Table.{Table}
 use Rattle.tcap_refute.specs.Before.{invokes, is_invoke_id}
-use Rattle.tcap_refute.specs.Counts.{any_problem, count, invokes_so, is_error, is_last_result, is_result_of, rejects_invoke, takes}
-use Rattle.tcap_refute.proofs.LedLawsAnswered.{count_takes, count_takes_all}
+use Rattle.tcap_refute.specs.Counts.{count, invokes_so, is_result_of}
 use Rattle.tcap_refute.proofs.LedLawsCounts.{any_counts, count_both, count_more, counts_any, one}
 use Rattle.tcap_blame.specs.declared.sort.Class.TheVariants as classes
-use Rattle.tcap_blame.specs.declared.sort.Sort.{Sort}
 use Rattle.tcap_blame.specs.declared.sort.Sort.TheVariants as sorts
 use Rattle.tcap_blame.specs.Tallied.{AreFew, both_tallied, greatest, invokes_link, is_sort, sum, tallied}
 

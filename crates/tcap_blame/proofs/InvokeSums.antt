@@ -1,24 +1,23 @@
 -- Invokes that a half does not allow, where few components are counted (Q.774 3.2, Q.771 3.1.2).
-use Rattle.std.proofs.Common.{◌≡◌, ℕ, ℤ, ◌+◌, ◌^◌, ◌≤◌, ◌<◌, arith, Bool, true, false, ltb, eqb, List, Option, Some, None, not, length, refl, sym, ap, ap₂, ◌∙◌}
+use Rattle.std.proofs.Common.{◌≡◌, ℕ, ℤ, ◌+◌, ◌^◌, ◌≤◌, arith, Bool, true, false, ltb, List, Some, None, not, refl, sym, ap, ap₂, ◌∙◌}
 use Rattle.std.specs.Prelude.{◌||◌, ◌&&◌, ◌==◌, nat_le}
 use Rattle.std.specs.List.{list_any}
-use Rattle.std.proofs.lemmas.Bool.{and_parts, eqb-true, le-ltb, or_from}
-use Rattle.tcap_parts.specs.declared.code.Code.{Code}
+use Rattle.std.proofs.lemmas.Bool.{eqb-true, le-ltb, or_from}
 use Rattle.tcap_parts.specs.declared.component.Component.{Component}
 use Rattle.tcap_parts.specs.declared.component.Component.TheVariants.{Invoke, ReturnResult, ReturnError, Reject}
 use Rattle.tcap_end.specs.Component.{links}
 use Rattle.tcap_end.specs.Table.{Table, expires_of}
 use Rattle.tcap_refute.specs.Before.{invokes, is_invoke_id}
 use Rattle.tcap_refute.specs.Counts.{any_problem, count, invokes_so, is_error, is_last_result, rejects_invoke, takes}
-use Rattle.tcap_refute.specs.ComponentKinds.{invokes_busy, is_badly_linked, is_busy, links_badly, more_last}
+use Rattle.tcap_refute.specs.ComponentKinds.{invokes_busy, is_busy, links_badly, more_last}
 use Rattle.tcap_refute.specs.Speaker.{Speaker}
 use Rattle.tcap_refute.proofs.LedLawsAnswered.{count_takes, count_takes_all}
 use Rattle.tcap_refute.proofs.LedLawsCounts.{count_weaker}
 use Rattle.tcap_blame.specs.declared.sort.Class.{Class}
 use Rattle.tcap_blame.specs.declared.sort.Class.TheVariants as classes
 use Rattle.tcap_blame.specs.declared.sort.Sort.TheVariants as sorts
-use Rattle.tcap_blame.specs.Tallied.{AreFew, is_of_class, is_sort, sum, tallied}
-use Rattle.tcap_blame.specs.ByTallies.{Counted, invokes_busy_by, is_badly_linked_by, is_busy_by, links_badly_by, more_last_by, taken_by}
+use Rattle.tcap_blame.specs.Tallied.{AreFew, is_of_class, is_sort, tallied}
+use Rattle.tcap_blame.specs.ByTallies.{Counted, invokes_busy_by, is_busy_by, links_badly_by, more_last_by, taken_by}
 use Rattle.tcap_blame.proofs.FewSums.{any_counted, count_invokes, count_within, sum_exact, sum_three}
 
 -- what is counted of what a half heard and invoked, of what it sent before and of the components of the message

@@ -1,5 +1,5 @@
 -- Rejects with a problem that nothing has, where few components are counted (Q.774 3.2, Q.773 4.2.2).
-use Rattle.std.proofs.Common.{◌≡◌, ℕ, ℤ, ◌+◌, ◌^◌, ◌≤◌, ◌<◌, arith, Bool, true, false, cond, ltb, leb, eqb, List, [], ◌∷◌, ◌++◌, Option, Some, None, not, length, refl, sym, ap, ap₂, ◌∙◌}
+use Rattle.std.proofs.Common.{◌≡◌, ℕ, ℤ, ◌+◌, ◌^◌, ◌≤◌, arith, Bool, true, false, List, [], ◌∷◌, ◌++◌, Some, None, not, refl, sym, ap, ap₂, ◌∙◌}
 use Rattle.std.specs.Prelude.{◌||◌, ◌&&◌, ◌==◌, nat_le, nat_lt}
 use Rattle.std.specs.List.{list_any}
 use Rattle.tcap_parts.specs.declared.code.Code.{Code}
@@ -8,9 +8,9 @@ use Rattle.tcap_parts.specs.declared.component.Component.{Component}
 use Rattle.tcap_parts.specs.declared.component.Component.TheVariants.{Invoke, ReturnResult, ReturnError, Reject}
 use Rattle.tcap_end.specs.Component.{links}
 use Rattle.tcap_end.specs.Table.{Table}
-use Rattle.tcap_refute.specs.Before.{invokes, is_invoke_id}
+use Rattle.tcap_refute.specs.Before.{invokes}
 use Rattle.tcap_refute.specs.Counts.{any_problem, count, count_class, has_class, invokes_linked, invokes_so, is_error, is_not_last, is_result, rejects_error, rejects_invoke, rejects_result}
-use Rattle.tcap_refute.specs.ComponentKinds.{count_suited, is_answer_reject_wrong, is_invoke_reject_wrong, is_link_fine, is_linked_to, is_of_link, is_problem, is_reject_wrong, lists_nothing, rejects_wrongly}
+use Rattle.tcap_refute.specs.ComponentKinds.{is_invoke_reject_wrong, is_link_fine, is_linked_to, is_of_link, is_problem, is_reject_wrong, lists_nothing, rejects_wrongly}
 use Rattle.tcap_refute.specs.Speaker.{Speaker}
 use Rattle.tcap_refute.proofs.LedLawsCounts.{count_last, one}
 use Rattle.tcap_refute.proofs.LedLawsLists.{id_itself}

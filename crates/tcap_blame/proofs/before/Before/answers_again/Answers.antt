@@ -1,4 +1,4 @@
-use Rattle.std.proofs.Common.{SFits, refl, rules, to_z-of_z, w8}
+use Rattle.std.proofs.Common.{SFits, rules, to_z-of_z, w8}
 use Rattle.tcap_blame.proofs.before.Before.answers_again.Goals as goal
 
 pub returns-else-is_overspent : goal.returns-else-is_overspent
