@@ -9,3 +9,9 @@ pub mod SortLaws
 pub mod TallyLaws
 pub mod TalliesLaws
 pub mod GlobalLaws
+pub mod CountTests
+pub mod FewSums
+pub mod InvokeSums
+pub mod AnswerSums
+pub mod RejectSums
+pub mod FaultLaws

@@ -5,5 +5,7 @@ pub mod Noted
 pub mod Linking
 pub mod History
 pub mod Spoken
+pub mod ByTallies
+pub mod Faults
 pub mod Searching
 pub mod Finding

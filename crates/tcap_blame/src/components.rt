@@ -1,17 +1,24 @@
 //! Components that the half over which they would be sent does not allow (Q.774 3.2; Q.771 3.1.2).
 
-ghost use Rattle.std.specs.Prelude.{◌≡◌, [], ◌++◌, false, IfOk};
+ghost use Rattle.std.specs.Prelude.{◌≡◌, false, List, [], ◌++◌, IfOk, OnOk, option_map, option_to_list};
 ghost use Rattle.std.specs.List.{list_any};
-ghost use Rattle.tcap_parts.specs.Meaning.{components_left};
+ghost use Rattle.tcap_parts.specs.declared.component.Component.{Component};
+ghost use Rattle.tcap_parts.specs.Meaning.{component_of, components_left};
 ghost use Rattle.tcap_refute.specs.Speaker.{Speaker as Speaking};
 ghost use Rattle.tcap_refute.specs.ComponentKinds.{answers_again, has_component, invokes_again, invokes_busy, is_linked, links_badly, rejects_wrongly};
 ghost use Rattle.tcap_blame.specs.Tallied.{AreFew};
+ghost use Rattle.tcap_blame.specs.Tallies.{IsTally};
 ghost use Rattle.tcap_blame.specs.Spoken.{IsSpeaker};
+ghost use Rattle.tcap_blame.specs.ByTallies.{counted};
+ghost use Rattle.tcap_blame.specs.Faults.{IsFaultless, IsFirstNoted, IsWith};
 
+use crate::before::Before;
 use crate::speaker::Speaker;
+use crate::tally::Tally;
 use std::alloc::{AllocError, Global};
+use std::collections::BTreeSet;
 use tcap_end::Table;
-use tcap_parts::Components;
+use tcap_parts::{ComponentView, Components};
 
 /// What is so of one of the components of a message.
 #[derive(Clone, Copy, Debug)]
@@ -26,6 +33,67 @@ pub(crate) struct ComponentFaults {
     pub(crate) wrongly_rejected: bool,
 }
 
+impl ComponentFaults {
+    /// Of no components.
+    fn none() -> ComponentFaults
+        ensures { IsFaultless result }
+    {
+        ComponentFaults {
+            busy: false,
+            badly_linked: false,
+            answered_already: false,
+            wrongly_rejected: false,
+        }
+    }
+
+    /// With what is so of one component more.
+    fn with(self, table: &Table, before: Before, component: ComponentView) -> ComponentFaults
+        ensures { IsWith table.now (counted before.entry) (component_of component.entry) self result }
+    {
+        ComponentFaults {
+            busy: self.busy || before.invokes_busy(component),
+            badly_linked: self.badly_linked || before.links_badly(table, component),
+            answered_already: self.answered_already || before.answers_again(component),
+            wrongly_rejected: self.wrongly_rejected || before.rejects_wrongly(table, component),
+        }
+    }
+
+    /// With what is so of one more of a message without destination ID, behind Invokes of these IDs.
+    fn note_first(
+        &mut self,
+        ids: &mut BTreeSet<i8>,
+        component: ComponentView,
+    ) -> Result<(), AllocError>
+        ensures { OnOk result (IsFirstNoted ids.old ids.new (component_of component.entry) self.old self.new) }
+    {
+        if let ComponentView::Invoke { id, linked, .. } = component {
+            if !ids.insert(id)? {
+                self.busy = true;
+            }
+            if linked.is_some() {
+                self.badly_linked = true;
+            }
+        }
+        Ok(())
+    }
+}
+
+/// A component more, if there is one.
+fn note_last(
+    own: &mut Tally,
+    alloc: Global,
+    table: &Table,
+    last: Option<ComponentView>,
+) -> Result<(), AllocError>
+    ensures { (cs : List Component) → IsTally table.now cs own.old
+        → OnOk result (IsTally table.now (cs ++ option_to_list (option_map component_of last.entry)) own.new) }
+{
+    if let Some(component) = last {
+        own.note(alloc, table, component)?;
+    }
+    Ok(())
+}
+
 /// What is so of the components of a message that goes over a half.
 pub(crate) fn faults_of(
     alloc: Global,
@@ -36,17 +104,33 @@ pub(crate) fn faults_of(
     ensures { (s : Speaking) → IsSpeaker table.now s half.now → AreFew s.heard → AreFew s.invoked
         → AreFew (s.sent ++ components_left components.entry)
         → IfOk result (λ f.
-            (f.busy ≡ has_component (invokes_busy table.now s) [] s.sent (components_left components.entry))
-            × (f.badly_linked ≡ has_component (links_badly table.now s) [] s.sent (components_left components.entry))
-            × (f.answered_already
-                ≡ has_component (answers_again table.now s) [] s.sent (components_left components.entry))
-            × (f.wrongly_rejected
-                ≡ has_component (rejects_wrongly table.now s) [] s.sent (components_left components.entry))) }
+        (f.busy ≡ has_component (invokes_busy table.now s) [] s.sent (components_left components.entry))
+        × (f.badly_linked ≡ has_component (links_badly table.now s) [] s.sent (components_left components.entry))
+        × (f.answered_already
+        ≡ has_component (answers_again table.now s) [] s.sent (components_left components.entry))
+        × (f.wrongly_rejected
+        ≡ has_component (rejects_wrongly table.now s) [] s.sent (components_left components.entry))) }
 {
-    Err(AllocError)
+    let mut own = Tally::new(alloc);
+    let mut last = None;
+    let mut faults = ComponentFaults::none();
+    for component in components {
+        note_last(&mut own, alloc, table, last)?;
+        faults = faults.with(
+            table,
+            Before {
+                half: &*half,
+                own: &own,
+            },
+            component,
+        );
+        last = Some(component);
+    }
+    Ok(faults)
 }
 
-/// What is so of the components of a message without destination ID: whether two Invokes have one ID, and whether one is linked.
+/// What is so of the components of a message without destination ID: whether two Invokes have one ID, and whether one is
+/// linked.
 pub(crate) fn first_faults(
     alloc: Global,
     components: Components,
@@ -56,5 +140,10 @@ pub(crate) fn first_faults(
         × (f.badly_linked ≡ list_any is_linked (components_left components.entry))
         × (f.answered_already ≡ false) × (f.wrongly_rejected ≡ false)) }
 {
-    Err(AllocError)
+    let mut ids = BTreeSet::new(alloc);
+    let mut faults = ComponentFaults::none();
+    for component in components {
+        faults.note_first(&mut ids, component)?;
+    }
+    Ok(faults)
 }

@@ -2,16 +2,20 @@
 //! the rules (Q.771, Q.773, Q.774).
 #![tactic(auto)]
 
+mod answers;
 mod asked;
+mod before;
 mod blaming;
 mod by_class;
 mod code_counts;
 mod components;
 mod halves;
 mod history;
+mod invokes;
 mod kept;
 mod of_id;
 mod own;
+mod rejects;
 mod replies;
 mod sort;
 mod speaker;
