@@ -1,2 +1,9 @@
 pub mod KindFinds
 pub mod FewLaws
+pub mod NotedLists
+pub mod MapLaws
+pub mod AskedLaws
+pub mod ToldLaws
+pub mod OwnLaws
+pub mod OnlyLaws
+pub mod HistoryLaws

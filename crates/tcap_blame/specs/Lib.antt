@@ -4,3 +4,4 @@ pub mod History
 pub mod Spoken
 pub mod Searching
 pub mod Finding
+pub mod Noting
