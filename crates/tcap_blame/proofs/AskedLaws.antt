@@ -6,6 +6,7 @@ use Rattle.std.specs.Map.{lookup}
 use Rattle.std.specs.BTreeMap.{is_at}
 use Rattle.std.proofs.lemmas.List.{append-nil}
 use Rattle.std.proofs.lemmas.Bool.Decides.{nat_tests}
+use Rattle.std.proofs.lemmas.Slice.Eq.{bytes_eq-Decides}
 use Rattle.tcap_msg.specs.declared.kind.Kind.TheVariants as forms
 use Rattle.tcap_msg.specs.declared.message.Message.{Message}
 use Rattle.tcap_msg.specs.declared.message.Message.TheVariants.{Unidirectional, Begin, Continue, End as EndMessage, Abort}
@@ -138,6 +139,9 @@ continue_only (Begin otid dialogue components) is = cc
 continue_only (Unidirectional dialogue components) is = cc
 continue_only (EndMessage dtid dialogue components) is = cc
 continue_only (Abort dtid reason) is = cc
+
+pub goes_there : (to : List ℕ) (m : Message) → is_a forms.Continue m ≡ true → dtid_in m ≡ Some to → goes_on_to to m ≡ true
+goes_there to m goes it = rw (goes, it) ((bytes_eq-Decides to to).1 refl)
 
 -- ---- a message more
 

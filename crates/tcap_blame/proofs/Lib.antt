@@ -1,5 +1,6 @@
 pub mod KindFinds
 pub mod FewLaws
+pub mod KeyLaws
 pub mod NotedLists
 pub mod MapLaws
 pub mod AskedLaws

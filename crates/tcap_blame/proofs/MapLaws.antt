@@ -10,9 +10,9 @@ use Rattle.tcap_msg.specs.declared.message.Message.{Message}
 use Rattle.tcap_end.specs.End.{is_id}
 use Rattle.tcap_end.specs.Table.{Table, octets_cmp}
 use Rattle.tcap_refute.specs.Speaker.{is_nothing}
-use Rattle.tcap_refute.proofs.EndLaws.{at_other}
 use Rattle.tcap_blame.specs.History.{IsAsked, IsAskedAt, IsCame, IsCameAt, IsOwn, IsOwnAt, IsTold, IsToldAt}
 use Rattle.tcap_blame.specs.Noting.{with_more}
+use Rattle.tcap_blame.proofs.KeyLaws.{at_other}
 use Rattle.tcap_blame.proofs.NotedLists.{something}
 
 -- The value at one key became another.
@@ -54,7 +54,7 @@ module _ {X : Type 0} {At : List ℕ → List Message → Option X → Type 0} {
     pub was_kept : (old : List (List ℕ × X)) (was : X) → Some was ≡ lookup (is_at (octets_cmp to)) old
         → ((id : List ℕ) → At id (lists id) (lookup (is_at (octets_cmp id)) old))
         → Is to (lists to) was
-    was_kept old was there are = family.some to (lists to) was (rw (← there) at are to)
+    was_kept old was there are = family.some to (lists to) was (rw (← there) at (are to))
 
     pub noted_written : (old new : BTreeMap (List ℕ) X) (was s : X) → Some was ≡ lookup (is_at (octets_cmp to)) old.entries
         → WritesThrough octets_cmp (octets_cmp to) old s new
@@ -72,7 +72,7 @@ module _ {X : Type 0} {At : List ℕ → List Message → Option X → Type 0} {
         → (id : List ℕ) → At id (with_more id_in m lists id) (lookup (is_at (octets_cmp id)) new.entries)
     noted_made old new s nothing puts are is =
         put old.entries new.entries s puts are
-        (rw (family.none to (lists to) (rw (← nothing) at are to)) is)
+        (rw (family.none to (lists to) (rw (← nothing) at (are to))) is)
 
 -- ---- what is kept of Continues to an ID, and of what was asked, told, and sent from an own ID
 

@@ -1,6 +1,6 @@
 -- The only ID to which Continues go.
-use Rattle.std.proofs.Common.{◌≡◌, ◌≢◌, ℕ, ◌<◌, Bool, true, false, cond, ◌&&◌, ◌||◌, not, List, [], ◌∷◌, length, Option, Some, None, bytes_eq, refl, sym, ap, ◌∙◌}
-use Rattle.std.specs.Prelude.{filter, is_some}
+use Rattle.std.proofs.Common.{◌≡◌, ◌≢◌, ℕ, ◌<◌, Bool, true, false, cond, ◌&&◌, ◌||◌, not, List, [], ◌∷◌, length, Option, Some, None, bytes_eq, refl, sym, ap, ◌∙◌, arith}
+use Rattle.std.specs.Prelude.{filter, is_some, slice_get}
 use Rattle.std.specs.List.{list_any}
 use Rattle.std.specs.Map.{lookup}
 use Rattle.std.specs.BTreeMap.{is_at}
@@ -20,9 +20,9 @@ use Rattle.tcap_end.specs.Table.{Table, octets_cmp}
 use Rattle.tcap_refute.specs.Before.{has_a, is_a}
 use Rattle.tcap_refute.specs.HalfKinds.{all_go_on_to}
 use Rattle.tcap_refute.specs.Speaker.{goes_on_to, is_nothing}
-use Rattle.tcap_refute.proofs.EndLaws.{at_id}
 use Rattle.tcap_blame.specs.declared.asked.Came.{Came}
 use Rattle.tcap_blame.specs.History.{IsCameAt}
+use Rattle.tcap_blame.proofs.KeyLaws.{at_id}
 use Rattle.tcap_blame.proofs.NotedLists.{any_kept}
 
 -- a Continue to another ID
@@ -73,11 +73,12 @@ any_weaker p q weaker (m ∷ ms) is = by (p m) refl is (any_weaker p q weaker ms
 -- Where none goes to any ID there is no Continue.
 none_goes : (ms : List Message) → ((id : List ℕ) → go_to id ms ≡ false) → has_a forms.Continue ms ≡ false
 none_goes [] none = refl
-none_goes (m ∷ ms) none = by (is_a forms.Continue m) refl
+none_goes (m ∷ ms) none = by (is_a forms.Continue m) refl (none_goes ms (λ id. (or_parts _ _ (none id)).1))
   where
-    by : (b : Bool) → is_a forms.Continue m ≡ b → (b || has_a forms.Continue ms) ≡ false
-    by false is = none_goes ms (λ id. (or_parts _ _ (none id)).1)
-    by true is =
+    by : (b : Bool) → is_a forms.Continue m ≡ b → has_a forms.Continue ms ≡ false
+        → (b || has_a forms.Continue ms) ≡ false
+    by false is rest = rest
+    by true is rest =
         let (id, goes) = goes_somewhere m is in
         let bad : true ≡ false = sym goes ∙ (or_parts _ _ (none id)).0 in cc
 
@@ -146,6 +147,16 @@ module _ (table : Table) (ms : List Message) (entries : List (List ℕ × Came))
           sym (and_from _ _ (any_weaker (goes_on_to own) (is_a forms.Continue) (goes_on own) ms (goes own ∙ same))
           (ap not (one_only own ms (elsewhere one))))
       by false apart = sym (only_other id apart (goes id ∙ (bytes_eq-Decides id id).1 refl))
+
+  pub only_first : (id : List ℕ) (kept : Came) → length entries ≡ 1 → slice_get entries 0 ≡ Some (id, kept)
+      → is_id own (Some id) ≡ all_go_on_to own ms
+  only_first id kept one first = by entries refl one first
+    where
+      by : (es : List (List ℕ × Came)) → entries ≡ es → length es ≡ 1 → slice_get es 0 ≡ Some (id, kept)
+          → is_id own (Some id) ≡ all_go_on_to own ms
+      by [] is one first = cc
+      by (e ∷ []) is one first = let same : e ≡ (id, kept) = cc in only_one id kept (is ∙ ap (λ e. e ∷ []) same)
+      by (a ∷ b ∷ more) is one first = absurd (omega arith)
 
   -- it is kept of two
   only_more : (a b : List ℕ × Came) (more : List (List ℕ × Came)) → entries ≡ a ∷ b ∷ more

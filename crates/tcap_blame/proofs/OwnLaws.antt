@@ -22,7 +22,7 @@ use Rattle.tcap_blame.proofs.NotedLists.{first_more}
 
 find_more : {A : Type 0} (p : A → Bool) (xs : List A) (x : A)
     → find p (xs ++ x ∷ []) ≡ or_else (find p xs) (cond (p x) (Some x) None)
-find_more p xs x = find-append p xs (x ∷ []) ∙ by (find p xs)
+find_more {A} p xs x = find-append p xs (x ∷ []) ∙ by (find p xs)
   where
     by : (o : Option A) → option_or o (cond (p x) (Some x) None) ≡ or_else o (cond (p x) (Some x) None)
     by None = refl
@@ -47,7 +47,7 @@ module _ (table : Table) (ms : List Message) (m : Message) (old : Own) (was : Is
       by : (found : Option Message) (kept : Option OwnBegin) → IsOwnBegin table found kept
           → (is_a forms.Begin m ≡ false) ⊎ (is_some kept ≡ true)
           → IsOwnBegin table (or_else found (cond (is_a forms.Begin m) (Some m) None)) kept
-      by None None is (inl no) = rw no tt
+      by None None is (inl none) = rw none tt
       by None None is (inr some) = cc
       by (Some begin) (Some kept) is _ = is
       by None (Some kept) is _ = absurd is
@@ -101,4 +101,4 @@ module _ (table : Table) (ms : List Message) (m : Message) (old : Own) (was : Is
   }
 
   pub own_neither : IsNeither m → IsOwn table (ms ++ m ∷ []) old
-  own_neither (no, not_either) = record { begin = begin_stays (inl no); goes_on_to = no_continue not_either }
+  own_neither (none, not_either) = record { begin = begin_stays (inl none); goes_on_to = no_continue not_either }

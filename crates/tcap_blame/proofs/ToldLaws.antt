@@ -28,7 +28,7 @@ same_octets a b is = by (bytes_eq a b) refl is
   where
     by : (c : Bool) → bytes_eq a b ≡ c → not c ≡ false → a ≡ b
     by true same _ = (bytes_eq-Decides a b).0 same
-    by false apart no = cc
+    by false apart bad = cc
 
 or_itself : (b : Bool) → b ≡ (b || b)
 or_itself true = refl
@@ -75,10 +75,11 @@ goes_on_has (Abort dtid reason) is = cc
 
 -- ---- a message more
 
-module _ (table : Table) (ms : List Message) (m : Message) (old new : Told) (was : IsTold table ms old) where
+module _ (table : Table) (ms : List Message) (m : Message) (old : Told) (was : IsTold table ms old) where
   -- An Abort of the provider says nothing else there.
-  pub told_cause : (cause : ℕ) → cause_in m ≡ Some cause → IsCaused cause old new → IsTold table (ms ++ m ∷ []) new
-  told_cause cause it is = record {
+  pub told_cause : (new : Told) (cause : ℕ) → cause_in m ≡ Some cause → IsCaused cause old new
+      → IsTold table (ms ++ m ∷ []) new
+  told_cause new cause it is = record {
     spoke = rw (is.spoke, same) was.spoke;
     own = rw (is.own, same) was.own;
     elsewhere = λ own. rw (is.several, is.own, same) (was.elsewhere own);
