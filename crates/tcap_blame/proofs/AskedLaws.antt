@@ -1,5 +1,5 @@
 -- What is kept of what was asked from an ID, with a message more.
-use Rattle.std.proofs.Common.{◌≡◌, ◌+◌, ℕ, Bool, true, false, cond, ◌&&◌, ◌||◌, List, [], ◌∷◌, ◌++◌, length, Option, Some, None, refl, sym, ap, ◌∙◌, arith}
+use Rattle.std.proofs.Common.{◌≡◌, ⊥, ◌+◌, ℕ, Bool, true, false, cond, ◌&&◌, ◌||◌, List, [], ◌∷◌, ◌++◌, length, Option, Some, None, refl, sym, ap, ◌∙◌, arith}
 use Rattle.std.specs.Prelude.{filter, nat_le}
 use Rattle.std.specs.List.{list_any}
 use Rattle.std.specs.Map.{lookup}
@@ -7,6 +7,7 @@ use Rattle.std.specs.BTreeMap.{is_at}
 use Rattle.std.proofs.lemmas.List.{append-nil}
 use Rattle.std.proofs.lemmas.Bool.Decides.{nat_tests}
 use Rattle.std.proofs.lemmas.Slice.Eq.{bytes_eq-Decides}
+use Rattle.tcap_msg.specs.declared.kind.Kind.{Kind as Form}
 use Rattle.tcap_msg.specs.declared.kind.Kind.TheVariants as forms
 use Rattle.tcap_msg.specs.declared.message.Message.{Message}
 use Rattle.tcap_msg.specs.declared.message.Message.TheVariants.{Unidirectional, Begin, Continue, End as EndMessage, Abort}
@@ -125,6 +126,15 @@ begin_only (Abort dtid reason) is = cc
 -- neither a Begin nor a Continue
 abbrev pub IsNeither : Message → Type 0
 IsNeither m = (is_a forms.Begin m ≡ false) × (is_a forms.Continue m ≡ false)
+
+-- What is of neither kind is neither.
+pub neither : (kind : Form) (m : Message) → kind ≡ kind_in m → (kind ≡ forms.Begin → ⊥) → (kind ≡ forms.Continue → ⊥)
+    → IsNeither m
+neither kind (Begin otid dialogue components) is no_begin no_continue = absurd (no_begin is)
+neither kind (Continue otid dtid dialogue components) is no_begin no_continue = absurd (no_continue is)
+neither kind (Unidirectional dialogue components) is no_begin no_continue = (refl, refl)
+neither kind (EndMessage dtid dialogue components) is no_begin no_continue = (refl, refl)
+neither kind (Abort dtid reason) is no_begin no_continue = (refl, refl)
 
 no_begin : (m : Message) → is_a forms.Begin m ≡ false → is_begin_with_request m ≡ false
 no_begin (Begin otid dialogue components) is = cc

@@ -7,4 +7,5 @@ pub mod AskedLaws
 pub mod ToldLaws
 pub mod OwnLaws
 pub mod OnlyLaws
+pub mod ClosedLaws
 pub mod HistoryLaws

@@ -1,13 +1,16 @@
 -- What is kept behind a message more.
 use Rattle.std.specs.Prelude.{◌≡◌, ℕ, Bool, false, List, [], ◌∷◌, ◌++◌, Option, Some, None, ◌==◌, ◌||◌, cond}
+use Rattle.std.specs.List.{list_any}
 use Rattle.std.specs.Map.{lookup}
 use Rattle.std.specs.BTreeMap.{BTreeMap, is_at}
 use Rattle.tcap_msg.specs.declared.kind.Kind.TheVariants as forms
 use Rattle.tcap_msg.specs.declared.message.Message.{Message}
 use Rattle.tcap_msg.specs.Parts.{otid_in}
+use Rattle.tcap_record.specs.declared.entry.End.{End as Side}
 use Rattle.tcap_end.specs.End.{is_id}
 use Rattle.tcap_end.specs.Table.{Table, octets_cmp}
-use Rattle.tcap_refute.specs.Before.{is_a}
+use Rattle.tcap_check.specs.World.{Item}
+use Rattle.tcap_refute.specs.Before.{is_a, sent_by}
 use Rattle.tcap_refute.specs.Kind.{or_else}
 use Rattle.tcap_blame.specs.declared.asked.Begins.{Begins}
 use Rattle.tcap_blame.specs.declared.asked.Begins.TheVariants as begins
@@ -35,6 +38,10 @@ AreTold table lists kept = (id : List ℕ) → IsToldAt table (lists id) (lookup
 
 abbrev pub AreOwn : Table → (List ℕ → List Message) → BTreeMap (List ℕ) Own → Type 0
 AreOwn table lists kept = (id : List ℕ) → IsOwnAt table (lists id) (lookup (is_at (octets_cmp id)) kept.entries)
+
+-- whether an end sent a message from that own ID
+abbrev pub spoke_from : Side → List ℕ → List Item → Bool
+spoke_from side own items = list_any (λ m. is_id own (otid_in m)) (sent_by side items)
 
 -- ---- parts of what is kept of an ID
 

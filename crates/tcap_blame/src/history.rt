@@ -1,15 +1,17 @@
 //! What an end sent, and what was sent to it, since the last quiet mark, by transaction IDs.
 
-ghost use Rattle.std.specs.Prelude.{◌≡◌, [], ◌∷◌, ◌++◌, ◌||◌, ℕ, List, OnOk};
+ghost use Rattle.std.specs.Prelude.{◌≡◌, [], ◌∷◌, ◌++◌, ◌&&◌, ◌||◌, ℕ, List, OnOk};
 ghost use Rattle.std.specs.BTreeSet as set;
 ghost use Rattle.tcap_record.specs.declared.entry.End.{End as Side};
 ghost use Rattle.tcap_end.specs.End.{is_id};
 ghost use Rattle.tcap_end.specs.Table.{Table, octets_cmp};
 ghost use Rattle.tcap_check.specs.Since.{ended_by};
 ghost use Rattle.tcap_check.specs.World.{Item, Sent, other};
-ghost use Rattle.tcap_refute.specs.HalfKinds.{shows_closed};
+ghost use Rattle.tcap_refute.specs.Before.{asked};
+ghost use Rattle.tcap_refute.specs.HalfKinds.{all_go_on_to, shows_closed};
 ghost use Rattle.tcap_refute.specs.Speaker.{ends_to};
 ghost use Rattle.tcap_blame.specs.History.{IsHistory};
+ghost use Rattle.tcap_blame.specs.Noting.{spoke_from};
 
 use crate::asked::{Asked, note_asked};
 use crate::own::{Own, note_own};
@@ -17,7 +19,7 @@ use crate::told::{Told, note_told};
 use std::alloc::{AllocError, Global};
 use std::collections::{BTreeMap, BTreeSet};
 use tcap_end::Table;
-use tcap_msg::{Kind as Form, MessageParts, TransactionId};
+use tcap_msg::{Kind as Form, MessageParts, TransactionId, TransactionIdView};
 use tcap_record::End;
 
 /// What an end sent, and what was sent to it.
@@ -83,21 +85,33 @@ impl History {
         }
     }
 
+    /// The own ID that an Abort with cause 1 to that ID shows to be closed: all its Continues went there, and the end spoke from
+    /// there.
+    fn closed_at(&self, dtid: TransactionIdView) -> Option<TransactionId>
+        ensures { (table : Table) (side : Side) (items : List Item) (own : List ℕ) → IsHistory table side items self.now
+            → is_id own result ≡ all_go_on_to own (asked side dtid.entry.octets.now items) && spoke_from side own items }
+    {
+        let Some(asked) = self.asked.get(&dtid.to_transaction_id()) else {
+            return None;
+        };
+        let Some(id) = asked.only_destination() else {
+            return None;
+        };
+        let id = id.to_transaction_id();
+        if self.own.contains_key(&id) {
+            Some(id)
+        } else {
+            None
+        }
+    }
+
     /// The own ID that a message shows to be closed, where the end sends it now.
     fn closed_by<M: MessageParts>(&self, message: &M) -> Option<TransactionId>
         ensures { (table : Table) (side : Side) (items : List Item) (own : List ℕ) → IsHistory table side items self.now
             → is_id own result ≡ shows_closed side own items (Sent side (M.meaning message.now)) }
     {
         match (message.cause(), message.dtid()) {
-            (Some(cause), Some(dtid)) if cause.number == 1 => {
-                let asked = self.asked.get(&dtid.to_transaction_id())?;
-                let id = asked.only_destination()?.to_transaction_id();
-                if self.own.contains_key(&id) {
-                    Some(id)
-                } else {
-                    None
-                }
-            }
+            (Some(cause), Some(dtid)) if cause.number == 1 => self.closed_at(dtid),
             _ => None,
         }
     }

@@ -10,5 +10,5 @@ pub returns : goal.returns
 returns g c = λ ms it was.
     on_ok_weaker c.note_all.result
     (λ begun. asked_begin c.args.table.now ms (g.M.MessageParts.meaning c.args.message.now) c.args.self.now _ was it
-    c.one_more.ensures (rw (c.is_request.ensures, c.dialogue.ensures) refl) begun refl refl)
+    c.one_more-self.ensures (rw (c.is_request.ensures, c.dialogue.ensures) refl) begun refl refl)
     (rw c.components.ensures at (c.note_all.ensures (components_of (filter (is_a forms.Begin) ms)) was.begun))

@@ -8,4 +8,7 @@ returns-then-len-ne1 c = λ table ms own was.
     (λ one. c.if-len-ne1.true (c.len.ensures.len ∙ one)))
 
 pub returns : goal.returns
-returns c = λ table ms own was. ?
+returns c = λ table ms own was.
+    rw c.view.ensures
+    (only_first table ms c.args.self.now.came.entries was.came own c.in_ok-id.id.now _
+    (sym c.len.ensures.len ∙ c.if-len-ne1.false) c.in_ok-id.ensures.first)

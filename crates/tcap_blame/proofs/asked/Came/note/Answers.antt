@@ -14,7 +14,7 @@ returns-then-self g c = λ own ms goes was.
 
 pub returns-else-self : goal.returns-else-self
 returns-else-self g c = λ own ms goes was.
-    on_ok_weaker c.note_all.result
+    on_ok_weaker c.note_all-else-self.result
     (λ sooner. came_sooner own c.args.table.now ms (g.M.MessageParts.meaning c.args.message.now) c.args.self.now _ goes was
     (rw (c.is_response.ensures, c.dialogue.ensures) refl) c.if-self.false refl sooner)
-    (rw c.components.ensures at (c.note_all.ensures (components_of (before_response own ms)) was.sooner))
+    (rw c.components-else-self.ensures at (c.note_all-else-self.ensures (components_of (before_response own ms)) was.sooner))
