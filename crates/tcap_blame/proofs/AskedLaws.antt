@@ -1,5 +1,5 @@
 -- What is kept of what was asked from an ID, with a message more.
-use Rattle.std.proofs.Common.{◌≡◌, ⊥, ◌+◌, ℕ, Bool, true, false, cond, ◌&&◌, ◌||◌, List, [], ◌∷◌, ◌++◌, length, Option, Some, None, refl, sym, ap, ◌∙◌, arith}
+use Rattle.std.proofs.Common.{◌≡◌, ◌+◌, ℕ, Bool, true, false, cond, ◌&&◌, ◌||◌, List, [], ◌∷◌, ◌++◌, length, Option, Some, None, refl, sym, ap, ◌∙◌, arith}
 use Rattle.std.specs.Prelude.{filter, nat_le}
 use Rattle.std.specs.List.{list_any}
 use Rattle.std.specs.Map.{lookup}

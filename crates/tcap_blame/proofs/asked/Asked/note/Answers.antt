@@ -1,4 +1,4 @@
-use Rattle.std.proofs.Common.{◌≡◌, true, refl}
+use Rattle.std.proofs.Common.{◌≡◌, true, refl, rules}
 use Rattle.std.specs.Prelude.{filter}
 use Rattle.std.proofs.lemmas.Result.{on_ok_weaker}
 use Rattle.tcap_msg.specs.declared.kind.Kind.TheVariants as forms
@@ -13,5 +13,5 @@ returns-in-Continue g c = λ ms was.
     rw (← c.in-Continue.ensures) refl in
     on_ok_weaker c.note_came.result
     (λ came. asked_continue c.args.table.now ms (g.M.MessageParts.meaning c.args.message.now) c.args.self.now _ was it
-    refl refl refl {! c.continues.ensures !} came)
+    refl refl refl (search rules) came)
     (c.note_came.ensures (λ own. filter (goes_on_to own) ms) it was.came)
