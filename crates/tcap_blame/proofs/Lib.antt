@@ -15,3 +15,12 @@ pub mod InvokeSums
 pub mod AnswerSums
 pub mod RejectSums
 pub mod FaultLaws
+pub mod KeyLaws
+pub mod NotedLists
+pub mod MapLaws
+pub mod AskedLaws
+pub mod ToldLaws
+pub mod OwnLaws
+pub mod OnlyLaws
+pub mod ClosedLaws
+pub mod HistoryLaws

@@ -9,3 +9,4 @@ pub mod ByTallies
 pub mod Faults
 pub mod Searching
 pub mod Finding
+pub mod Noting
