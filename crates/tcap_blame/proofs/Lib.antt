@@ -1,2 +1,13 @@
 pub mod KindFinds
 pub mod FewLaws
+pub mod ListLaws
+pub mod KeyLaws
+pub mod EntryLaws
+pub mod BackLaws
+pub mod LookupLaws
+pub mod CameLaws
+pub mod OneLaws
+pub mod PartLaws
+pub mod TalliedLaws
+pub mod HeardLaws
+pub mod SpeakerLaws

@@ -3,6 +3,7 @@
 #![tactic(auto)]
 
 mod asked;
+mod back;
 mod blaming;
 mod by_class;
 mod code_counts;
@@ -17,6 +18,7 @@ mod sort;
 mod speaker;
 mod tallies;
 mod tally;
+mod there;
 mod told;
 
 pub use blaming::blame;
