@@ -189,7 +189,7 @@ module _ {table : Table} {side : Side} {id : List ℕ} {items : List Item} {ther
         (came_back_more table [] [] (are_none table) own (filter (goes_on_to own) (asked side id items))
         (begin_from side own items) (Some begin) c (rw (← found) (begin_is is own)) comes))
 
-    heard_known : AreTallies table (components_of (heard_by side id items (Some own)))
+    pub heard_known : AreTallies table (components_of (heard_by side id items (Some own)))
         (heard_over (begin_at own h) a t c)
     heard_known = by (begin_at own h) refl
       where
@@ -204,7 +204,7 @@ module _ {table : Table} {side : Side} {id : List ℕ} {items : List Item} {ther
             sym (begin_there table _ _ (begin_is is own)) ∙ ap is_some found in
             rw begun (heard_begun begin found)
 
-    invoked_known : AreTallies table (components_of (own_begin side items (Some own) ++ told side id items))
+    pub invoked_known : AreTallies table (components_of (own_begin side items (Some own) ++ told side id items))
         (option_to_list (begin_components (begin_at own h)) ++ option_to_list (told_there t))
     invoked_known = by (begin_from side own items) refl (begin_at own h) refl (begin_is is own)
       where

@@ -11,3 +11,4 @@ pub mod PartLaws
 pub mod TalliedLaws
 pub mod HeardLaws
 pub mod SpeakerLaws
+pub mod HalfLaws

@@ -17,7 +17,7 @@ use Rattle.tcap_check.specs.Run.{then_so}
 use Rattle.tcap_refute.specs.Before.{asked, has_a, is_a, sent_by}
 use Rattle.tcap_refute.specs.Counts.{count}
 use Rattle.tcap_refute.specs.Kind.{is_begin_with_request}
-use Rattle.tcap_refute.specs.Speaker.{begin_from, is_cause, is_nothing, told}
+use Rattle.tcap_refute.specs.Speaker.{began, begin_from, is_cause, is_nothing, told}
 use Rattle.tcap_refute.specs.Speaker as speaking
 use Rattle.tcap_blame.specs.declared.asked.Asked.{Asked}
 use Rattle.tcap_blame.specs.declared.told.Told.{Told}
@@ -175,3 +175,9 @@ begin_there table None None is = refl
 begin_there table None (Some kept) is = absurd is
 begin_there table (Some begin) None is = absurd is
 begin_there table (Some begin) (Some kept) is = refl
+
+-- and the end began the ID.
+pub began_is : {table : Table} {side : Side} {items : List Item} {h : History} → IsHistory table side items h
+    → (own : List ℕ) → is_some (begin_at own h) ≡ began side own items
+began_is {table} {side} {items} {h} is own =
+    begin_there table (begin_from side own items) (begin_at own h) (begin_is is own)

@@ -5,12 +5,12 @@ use Rattle.tcap_parts.specs.declared.component.Component.{Component}
 use Rattle.tcap_msg.specs.declared.kind.Kind.TheVariants as forms
 use Rattle.tcap_msg.specs.declared.message.Message.{Message}
 use Rattle.tcap_msg.specs.declared.message.Message.TheVariants.{Unidirectional, Begin, Continue, End as EndMessage, Abort}
-use Rattle.tcap_msg.specs.Parts.{dtid_in, kind_in, otid_in}
+use Rattle.tcap_msg.specs.Parts.{otid_in}
 use Rattle.tcap_record.specs.declared.entry.End.{End as Side}
 use Rattle.tcap_end.specs.Table.{Table}
 use Rattle.tcap_check.specs.World.{Item}
 use Rattle.tcap_check.specs.Run.{then_so}
-use Rattle.tcap_refute.specs.Before.{asked}
+use Rattle.tcap_refute.specs.Before.{asked, is_a}
 use Rattle.tcap_refute.specs.Kind.{or_else}
 use Rattle.tcap_refute.specs.Speaker.{back, began, begin_from, is_nothing, known_own, own_id, speaker_by, told}
 use Rattle.tcap_refute.specs.Speaker as speaking
@@ -57,19 +57,38 @@ module _ {table : Table} {side : Side} {id : List ℕ} {items : List Item} {ther
       (each_of table (asked side id items) a at.asked ordered))
       (keys_apart (comes_back h) (entries_of a) (distinct_of a ordered))))
 
--- That of a message.
-pub own_continue : (side : Side) (id : List ℕ) (items : List Item) (m : Message) (own : List ℕ) → kind_in m ≡ forms.Continue
-    → otid_in m ≡ Some own → Some own ≡ own_id side id items m
-own_continue side id items (Unidirectional dialogue components) own kind from = cc
-own_continue side id items (Begin otid dialogue components) own kind from = cc
-own_continue side id items (Continue otid dtid dialogue components) own kind from = sym from
-own_continue side id items (EndMessage dtid dialogue components) own kind from = cc
-own_continue side id items (Abort dtid reason) own kind from = cc
+-- That of a message: a Continue says it,
+pub own_continue : (side : Side) (id : List ℕ) (items : List Item) (m : Message) → is_a forms.Continue m ≡ true
+    → otid_in m ≡ own_id side id items m
+own_continue side id items (Unidirectional dialogue components) goes = cc
+own_continue side id items (Begin otid dialogue components) goes = cc
+own_continue side id items (Continue otid dtid dialogue components) goes = refl
+own_continue side id items (EndMessage dtid dialogue components) goes = cc
+own_continue side id items (Abort dtid reason) goes = cc
+
+-- and no other.
+pub own_else : (side : Side) (id : List ℕ) (items : List Item) (m : Message) → is_a forms.Continue m ≡ false
+    → known_own side id items ≡ own_id side id items m
+own_else side id items (Unidirectional dialogue components) not_so = refl
+own_else side id items (Begin otid dialogue components) not_so = refl
+own_else side id items (Continue otid dtid dialogue components) not_so = cc
+own_else side id items (EndMessage dtid dialogue components) not_so = refl
+own_else side id items (Abort dtid reason) not_so = refl
+
+pub not_not : (b : Bool) → not (not b) ≡ b
+not_not true = refl
+not_not false = refl
 
 -- ---- the half
 
 module _ {table : Table} {side : Side} {id : List ℕ} {items : List Item} {there : There} {h : History}
     (is : IsHistory table side items h) (at : IsThere table side id items there) (s : Speaker) where
+  abbrev asks : Option Asked
+  asks = option_copied there.asked
+
+  abbrev tells : Option Told
+  tells = option_copied there.told
+
   abbrev heard : List Tally
   heard = map (λ b. b.now) s.heard.items
 
@@ -86,8 +105,8 @@ module _ {table : Table} {side : Side} {id : List ℕ} {items : List Item} {ther
   -- One whose own ID is known.
   pub speaker_known : (own : List ℕ) → s.own ≡ Some own → s.begun ≡ is_some (begin_at own h)
       → s.accepted ≡ not (is_some (begin_at own h)) → s.is_all ≡ true
-      → heard ≡ heard_over (begin_at own h) a t (came_there own a) → sent ≡ option_to_list (told_there t)
-      → invoked ≡ option_to_list (begin_components (begin_at own h)) ++ option_to_list (told_there t)
+      → heard ≡ heard_over (begin_at own h) asks tells (came_there own asks) → sent ≡ option_to_list (told_there tells)
+      → invoked ≡ option_to_list (begin_components (begin_at own h)) ++ option_to_list (told_there tells)
       → IsSpeaker table (speaker_by side id items (Some own)) s
   speaker_known own its begun accepted all hears sends invokes = record {
     own = its;
@@ -103,9 +122,9 @@ module _ {table : Table} {side : Side} {id : List ℕ} {items : List Item} {ther
       there_begun = begin_there table (begin_from side own items) (begin_at own h) (begin_is is own)
 
   -- One whose own ID is not.
-  pub speaker_unknown : AreOrdered a → s.own ≡ None → s.begun ≡ not (may_stand a t)
+  pub speaker_unknown : AreOrdered asks → s.own ≡ None → s.begun ≡ not (may_stand asks tells)
       → s.accepted ≡ is_nothing (back side id items) → s.is_all ≡ is_nothing (back side id items)
-      → heard ≡ heard_somewhere h a t → sent ≡ option_to_list (told_there t) → invoked ≡ option_to_list (told_there t)
+      → heard ≡ heard_somewhere h asks tells → sent ≡ option_to_list (told_there tells) → invoked ≡ option_to_list (told_there tells)
       → IsSpeaker table (speaker_by side id items None) s
   speaker_unknown ordered its begun accepted all hears sends invokes = record {
     own = its;

@@ -1,6 +1,6 @@
 //! Messages that do not fit the half over which they would be sent: its IDs and its phase, and its dialogue (Q.774 3.2, 3.3).
 
-ghost use Rattle.std.specs.Prelude.{◌≡◌, ◌≤◌, ◌^◌, ◌&&◌, ℕ, List, nat_le, not, option_copied, option_map};
+ghost use Rattle.std.specs.Prelude.{◌≡◌, ◌≤◌, ◌^◌, ◌&&◌, ◌||◌, ℕ, List, cond, is_some, nat_le, not, option_copied, option_map};
 ghost use Rattle.std.specs.List.{list_any};
 ghost use Rattle.tcap_parts.specs.DialogueMeaning.{dialogue_of};
 ghost use Rattle.tcap_record.specs.declared.entry.End.{End as Side};
@@ -10,14 +10,14 @@ ghost use Rattle.tcap_msg.specs.declared.kind.Kind.TheVariants as forms;
 ghost use Rattle.tcap_check.specs.World.{Item};
 ghost use Rattle.tcap_refute.specs.Before.{asked, is_a};
 ghost use Rattle.tcap_refute.specs.Counts.{count};
-ghost use Rattle.tcap_refute.specs.Speaker.{Speaker as Speaking, back, is_nothing, may_stand, own_id, speaker};
-ghost use Rattle.tcap_refute.specs.HalfKinds.{fits_no_half, goes_to_begun, has_no_half, has_requested, is_provider_abort, is_wrong_aborting, is_wrong_dialogue, is_wrong_going_on, is_wrong_half, was_closed};
+ghost use Rattle.tcap_refute.specs.Speaker.{Speaker as Speaking, back, began, goes_on_to, is_nothing, may_stand, own_id, speaker};
+ghost use Rattle.tcap_refute.specs.HalfKinds.{fits_no_half, goes_to_begun, has_no_half, has_requested, is_provider_abort, is_wrong_aborting, is_wrong_dialogue, is_wrong_half, was_closed};
 ghost use Rattle.tcap_blame.specs.History.{IsHistory};
-ghost use Rattle.tcap_blame.specs.Lookups.{IsThere};
+ghost use Rattle.tcap_blame.specs.Lookups.{IsThere, was_requested, went_on};
 ghost use Rattle.tcap_blame.specs.Spoken.{IsSpeaker};
 
 use crate::history::History;
-use crate::speaker::Speaker;
+use crate::speaker::{Speaker, goes_on};
 use crate::there::There;
 use tcap_msg::{Kind as Form, MessageParts, TransactionId, TransactionIdView};
 use tcap_parts::DialogueView;
@@ -43,6 +43,37 @@ fn is_provider_abort(dialogue: Option<DialogueView>) -> bool
     matches!(dialogue, Some(DialogueView::Abort { source, .. }) if source.number == 1)
 }
 
+/// Whether it is an ABRT of the user, and goes over a half that began by sending.
+fn is_abort_begun(half: &Speaker, dialogue: Option<DialogueView>) -> bool
+    ensures { result ≡ (is_user_abort (option_map dialogue_of dialogue.entry) && half.now.begun) }
+{
+    is_user_abort(dialogue) && half.begun
+}
+
+impl There<'_> {
+    /// Whether a dialogue portion does not fit in a Continue or an End.
+    fn is_misplaced_going_on(self, half: &Speaker, dialogue: Option<DialogueView>) -> bool
+        ensures { result ≡ ((is_some (option_map dialogue_of dialogue.entry)
+            && (went_on (option_copied self.entry.told) || half.now.begun))
+            || (not (is_response (option_map dialogue_of dialogue.entry)) && not (went_on (option_copied self.entry.told))
+            && half.now.accepted && was_requested (option_copied self.entry.asked))) }
+    {
+        (dialogue.is_some() && (self.went_on() || half.begun))
+            || (!is_response(dialogue) && !self.went_on() && half.accepted && self.was_requested())
+    }
+
+    /// Whether one does not fit in an Abort, whatever its half's own Begin asks for.
+    fn is_misplaced_aborting(self, half: &Speaker, dialogue: Option<DialogueView>) -> bool
+        ensures { result ≡ ((is_response (option_map dialogue_of dialogue.entry)
+            && (went_on (option_copied self.entry.told) || half.now.begun))
+            || (is_user_abort (option_map dialogue_of dialogue.entry) && half.now.accepted
+            && not (was_requested (option_copied self.entry.asked)))) }
+    {
+        (is_response(dialogue) && (self.went_on() || half.begun))
+            || (is_user_abort(dialogue) && half.accepted && !self.was_requested())
+    }
+}
+
 impl History {
     /// Whether the peer began that ID twice or more: what an end does then is no fact.
     pub(crate) fn is_begun_twice(&self, dtid: TransactionIdView) -> bool
@@ -52,30 +83,53 @@ impl History {
         self.there(dtid).was_begun_twice()
     }
 
+    /// Whether the end began that own ID, and no Continue came back to it from there; or did not, and no Begin from there may stand.
+    fn lacks_half(&self, there: There, own: &TransactionId) -> bool
+        ensures { (table : Table) (side : Side) (id : List ℕ) (items : List Item) → IsHistory table side items self.now
+            → IsThere table side id items there.entry
+            → result ≡ cond (began side own.now items) (not (list_any (goes_on_to own.now) (back side id items)))
+            (not (may_stand side id items)) }
+    {
+        if self.began(own) {
+            !self.came_to(there, own)
+        } else {
+            !there.may_stand()
+        }
+    }
+
     /// Whether no half has that own ID and that peer.
     fn has_no_half(&self, there: There, own: &TransactionId) -> bool
         ensures { (table : Table) (side : Side) (id : List ℕ) (items : List Item) → IsHistory table side items self.now
             → IsThere table side id items there.entry → result ≡ has_no_half side id items own.now }
     {
-        let is_none = if self.began(own) {
-            !self.came_to(there, own)
-        } else {
-            !there.may_stand()
-        };
-        is_none || there.goes_from_other(own)
+        self.lacks_half(there, own) || there.goes_from_other(own)
     }
 
-    /// Whether no half can send an End or an Abort there, where that is its dialogue portion.
-    fn has_no_end(&self, there: There, dialogue: Option<DialogueView>) -> bool
+    /// Whether an Abort with that dialogue portion is left open.
+    fn is_left_open(&self, there: There, dialogue: Option<DialogueView>) -> bool
+        ensures { (table : Table) (side : Side) (id : List ℕ) (items : List Item) → IsHistory table side items self.now
+            → IsThere table side id items there.entry
+            → result ≡ (is_provider_abort (option_map dialogue_of dialogue.entry)
+            && list_any (goes_to_begun side items) (asked side id items)) }
+    {
+        is_provider_abort(dialogue) && self.any_to_begun(there)
+    }
+
+    /// Whether no half can send another message there, where that is its dialogue portion.
+    fn has_none_left(&self, there: There, dialogue: Option<DialogueView>) -> bool
         ensures { (table : Table) (side : Side) (id : List ℕ) (items : List Item) → IsHistory table side items self.now
             → IsThere table side id items there.entry
             → result ≡ (not (may_stand side id items) && is_nothing (back side id items)
             && not (is_provider_abort (option_map dialogue_of dialogue.entry)
             && list_any (goes_to_begun side items) (asked side id items))) }
     {
-        !there.may_stand()
-            && !self.any_back(there)
-            && !(is_provider_abort(dialogue) && self.any_to_begun(there))
+        if there.may_stand() {
+            return false;
+        }
+        if self.any_back(there) {
+            return false;
+        }
+        !self.is_left_open(there, dialogue)
     }
 
     /// Whether no half has the IDs for the message.
@@ -90,9 +144,12 @@ impl History {
             → option_copied own.entry ≡ own_id side id items (M.meaning message.now)
             → result ≡ fits_no_half side id items (M.meaning message.now) }
     {
-        match (message.kind(), own) {
-            (Form::Continue, Some(own)) => self.has_no_half(there, own),
-            _ => self.has_no_end(there, message.dialogue()),
+        if !goes_on(message) {
+            return self.has_none_left(there, message.dialogue());
+        }
+        match own {
+            Some(own) => self.has_no_half(there, own),
+            None => false,
         }
     }
 
@@ -136,20 +193,25 @@ impl History {
         }
     }
 
-    /// Whether a dialogue portion does not fit in a Continue or an End.
-    fn is_wrong_going_on(there: There, half: &Speaker, dialogue: Option<DialogueView>) -> bool
-        ensures { (table : Table) (side : Side) (id : List ℕ) (items : List Item) (s : Speaking)
-            → IsThere table side id items there.entry → IsSpeaker table s half.now
-            → result ≡ is_wrong_going_on side id items s (option_map dialogue_of dialogue.entry) }
+    /// Whether an ABRT of the user that goes over a half which began by sending asks for no dialogue.
+    fn asked_for_none(
+        &self,
+        there: There,
+        half: &Speaker,
+        dialogue: Option<DialogueView>,
+    ) -> bool
+        ensures { (table : Table) (side : Side) (id : List ℕ) (items : List Item) → IsHistory table side items self.now
+            → IsThere table side id items there.entry
+            → result ≡ (is_user_abort (option_map dialogue_of dialogue.entry) && half.now.begun
+            && not (has_requested side id items half.now.own)) }
     {
-        (dialogue.is_some() && (there.went_on() || half.begun))
-            || (!is_response(dialogue)
-                && !there.went_on()
-                && half.accepted
-                && there.was_requested())
+        if !is_abort_begun(half, dialogue) {
+            return false;
+        }
+        !self.has_requested(there, half.own.as_ref())
     }
 
-    /// Whether it does not fit in an Abort.
+    /// Whether a dialogue portion does not fit in an Abort.
     fn is_wrong_aborting(
         &self,
         there: There,
@@ -160,11 +222,7 @@ impl History {
             → IsHistory table side items self.now → IsThere table side id items there.entry → IsSpeaker table s half.now
             → result ≡ is_wrong_aborting side id items s (option_map dialogue_of dialogue.entry) }
     {
-        (is_response(dialogue) && (there.went_on() || half.begun))
-            || (is_user_abort(dialogue) && half.accepted && !there.was_requested())
-            || (is_user_abort(dialogue)
-                && half.begun
-                && !self.has_requested(there, half.own.as_ref()))
+        there.is_misplaced_aborting(half, dialogue) || self.asked_for_none(there, half, dialogue)
     }
 
     /// Whether its dialogue portion does not fit the half's dialogue.
@@ -182,7 +240,7 @@ impl History {
         let there = self.there(dtid);
         match message.kind() {
             Form::Abort => self.is_wrong_aborting(there, half, message.dialogue()),
-            _ => History::is_wrong_going_on(there, half, message.dialogue()),
+            _ => there.is_misplaced_going_on(half, message.dialogue()),
         }
     }
 }

@@ -2,9 +2,11 @@
 
 ghost use Rattle.std.specs.Prelude.{◌≡◌, ◌++◌, ℕ, List, Some, None, IfOk, OnOk, map, option_copied};
 ghost use Rattle.std.specs.Option.{option_to_list};
+ghost use Rattle.tcap_msg.specs.declared.kind.Kind.TheVariants as forms;
 ghost use Rattle.tcap_record.specs.declared.entry.End.{End as Side};
 ghost use Rattle.tcap_end.specs.Table.{Table};
 ghost use Rattle.tcap_check.specs.World.{Item};
+ghost use Rattle.tcap_refute.specs.Before.{is_a};
 ghost use Rattle.tcap_refute.specs.Speaker.{known_own, own_id, speaker, speaker_by};
 ghost use Rattle.tcap_blame.specs.History.{IsHistory};
 ghost use Rattle.tcap_blame.specs.Lookups.{AreOrdered, IsThere, came_there, heard_over, heard_somewhere, told_there};
@@ -35,6 +37,13 @@ pub(crate) struct Speaker<'a> {
     pub(crate) sent: Vec<&'a Tally>,
     /// Those, and those of its Begin.
     pub(crate) invoked: Vec<&'a Tally>,
+}
+
+/// Whether a message is a Continue.
+pub(crate) fn goes_on<M: MessageParts>(message: &M) -> bool
+    ensures { result ≡ is_a forms.Continue (M.meaning message.now) }
+{
+    matches!(message.kind(), Form::Continue)
 }
 
 impl<'a> There<'a> {
@@ -87,9 +96,12 @@ impl History {
         if let Some(own) = there.first_own() {
             return Some(own);
         }
+        if there.may_stand() {
+            return None;
+        }
         match there.asked {
-            Some(asked) if !there.may_stand() => self.only_back(asked),
-            _ => None,
+            Some(asked) => self.only_back(asked),
+            None => None,
         }
     }
 
@@ -98,10 +110,11 @@ impl History {
         ensures { (table : Table) (side : Side) (id : List ℕ) (items : List Item) → IsHistory table side items self.now
             → IsThere table side id items there.entry → result ≡ own_id side id items (M.meaning message.now) }
     {
-        match (message.kind(), message.otid()) {
-            (Form::Continue, Some(own)) => Some(own.to_transaction_id()),
-            _ => self.known_own(there),
+        if goes_on(message) {
+            let own = message.otid()?;
+            return Some(own.to_transaction_id());
         }
+        self.known_own(there)
     }
 
     /// The components that a half may have heard whose own ID is not known.
