@@ -5,7 +5,7 @@ use Rattle.tcap_parts.specs.declared.dialogue.Dialogue.{Dialogue}
 use Rattle.tcap_msg.specs.declared.kind.Kind.TheVariants as forms
 use Rattle.tcap_msg.specs.declared.message.Message.{Message}
 use Rattle.tcap_msg.specs.declared.message.Message.TheVariants.{Unidirectional, Begin, Continue, End as EndMessage, Abort}
-use Rattle.tcap_msg.specs.Parts.{dialogue_in, kind_in}
+use Rattle.tcap_msg.specs.Parts.{dialogue_in}
 use Rattle.tcap_record.specs.declared.entry.End.{End as Side}
 use Rattle.tcap_end.specs.Dialogue.{is_response, is_user_abort}
 use Rattle.tcap_end.specs.Table.{Table}
@@ -68,13 +68,14 @@ module _ {table : Table} {side : Side} {id : List ℕ} {items : List Item} {ther
       ) refl
 
 -- By the kind of a message.
-pub wrong_abort : (side : Side) (id : List ℕ) (items : List Item) (m : Message) (s : Speaking) → kind_in m ≡ forms.Abort
+pub wrong_abort : (side : Side) (id : List ℕ) (items : List Item) (m : Message) (s : Speaking)
+    → is_a forms.Abort m ≡ true
     → is_wrong_aborting side id items s (dialogue_in m) ≡ is_wrong_dialogue side id items m s
-wrong_abort side id items (Unidirectional dialogue components) s kind = cc
-wrong_abort side id items (Begin otid dialogue components) s kind = cc
-wrong_abort side id items (Continue otid dtid dialogue components) s kind = cc
-wrong_abort side id items (EndMessage dtid dialogue components) s kind = cc
-wrong_abort side id items (Abort dtid reason) s kind = refl
+wrong_abort side id items (Unidirectional dialogue components) s so = cc
+wrong_abort side id items (Begin otid dialogue components) s so = cc
+wrong_abort side id items (Continue otid dtid dialogue components) s so = cc
+wrong_abort side id items (EndMessage dtid dialogue components) s so = cc
+wrong_abort side id items (Abort dtid reason) s so = refl
 
 pub wrong_else : (side : Side) (id : List ℕ) (items : List Item) (m : Message) (s : Speaking)
     → is_a forms.Abort m ≡ false

@@ -12,3 +12,5 @@ pub mod TalliedLaws
 pub mod HeardLaws
 pub mod SpeakerLaws
 pub mod HalfLaws
+pub mod OpenLaws
+pub mod ReplyLaws

@@ -19,6 +19,7 @@ use Rattle.tcap_refute.specs.Counts.{count}
 use Rattle.tcap_refute.specs.Kind.{is_begin_with_request}
 use Rattle.tcap_refute.specs.Speaker.{began, begin_from, is_cause, is_nothing, told}
 use Rattle.tcap_refute.specs.Speaker as speaking
+use Rattle.tcap_refute.specs.HalfKinds.{is_request_of}
 use Rattle.tcap_blame.specs.declared.asked.Asked.{Asked}
 use Rattle.tcap_blame.specs.declared.told.Told.{Told}
 use Rattle.tcap_blame.specs.declared.own.Own.{Own}
@@ -26,7 +27,7 @@ use Rattle.tcap_blame.specs.declared.own.OwnBegin.{OwnBegin}
 use Rattle.tcap_blame.specs.declared.history.History.{History}
 use Rattle.tcap_blame.specs.declared.there.There.{There}
 use Rattle.tcap_blame.specs.History.{IsAskedAt, IsHistory, IsOwnAt, IsOwnBegin, IsToldAt, goes_on_from_other, is_another, of_user, sent_to}
-use Rattle.tcap_blame.specs.Lookups.{IsThere, begin_at, begin_in, continues_from, first_own, goes_from_other, may_stand, unknown_to, was_begun, was_begun_twice, was_refused, was_requested, was_spoken, went_on}
+use Rattle.tcap_blame.specs.Lookups.{IsThere, begin_at, begin_in, continues_from, first_own, goes_from_other, may_stand, requests, unknown_to, was_begun, was_begun_twice, was_refused, was_requested, was_spoken, went_on}
 use Rattle.tcap_blame.proofs.ListLaws.{and_turned, any_both, filter_both, find_both, find_same}
 
 -- ---- what was asked from an ID
@@ -181,3 +182,14 @@ pub began_is : {table : Table} {side : Side} {items : List Item} {h : History} �
     → (own : List ℕ) → is_some (begin_at own h) ≡ began side own items
 began_is {table} {side} {items} {h} is own =
     begin_there table (begin_from side own items) (begin_at own h) (begin_is is own)
+
+-- or whether its Begin asked for a dialogue.
+pub requests_is : {table : Table} {side : Side} {items : List Item} {h : History} → IsHistory table side items h
+    → (own : List ℕ) → requests (begin_at own h) ≡ is_request_of (begin_from side own items)
+requests_is {table} {side} {items} {h} is own = by (begin_from side own items) (begin_at own h) (begin_is is own)
+  where
+    by : (o : Option Message) (begin : Option OwnBegin) → IsOwnBegin table o begin → requests begin ≡ is_request_of o
+    by None None begins = refl
+    by None (Some begin) begins = absurd begins
+    by (Some m) None begins = absurd begins
+    by (Some m) (Some begin) (asks, components) = asks

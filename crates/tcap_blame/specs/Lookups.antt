@@ -57,6 +57,10 @@ abbrev pub unknown_to : Option Told → ℕ
 unknown_to None = 0
 unknown_to (Some kept) = kept.unknown
 
+-- how many Continues from there were surely received, and not answered by an Abort with cause 1
+abbrev pub received : Option Asked → Option Told → ℕ
+received asked told = cond (was_spoken told && not (may_stand asked told)) 1 0
+
 -- the Continues from there, by their own IDs
 abbrev pub entries_of : Option Asked → List (List ℕ × Came)
 entries_of None = []
@@ -99,6 +103,7 @@ begin_in (Some kept) = kept.begin
 abbrev pub begin_at : List ℕ → History → Option OwnBegin
 begin_at own h = begin_in (lookup (is_at (octets_cmp own)) h.own.entries)
 
+-- whether it asks for a dialogue
 abbrev pub requests : Option OwnBegin → Bool
 requests begin = holds (λ kept. kept.requests) begin
 
@@ -117,9 +122,6 @@ is_open_at table h own = holds (is_open table h own) (lookup (is_at (octets_cmp 
 abbrev pub came_back : Option OwnBegin → Came → Bool
 came_back None came = false
 came_back (Some begin) came = not begin.requests || came.answered
-
-abbrev pub came_to : History → List ℕ → Option Asked → Bool
-came_to h own asked = holds (came_back (begin_at own h)) (came_there own asked)
 
 -- of the Continues to an own ID: whether one came back; whether one did to a dialogue request; whether the end began the ID
 abbrev pub comes_back : History → List ℕ × Came → Bool

@@ -11,7 +11,7 @@ ghost use Rattle.tcap_refute.specs.Before.{asked};
 ghost use Rattle.tcap_refute.specs.Speaker.{back, goes_on_to, is_nothing};
 ghost use Rattle.tcap_refute.specs.HalfKinds.{goes_to_begun, has_requested};
 ghost use Rattle.tcap_blame.specs.History.{IsHistory};
-ghost use Rattle.tcap_blame.specs.Lookups.{IsThere, back_tallies, begin_at, begin_components, came_back, came_tallies, came_to_request, comes_back, comes_to_begun, comes_to_request, keys_back, only_of};
+ghost use Rattle.tcap_blame.specs.Lookups.{IsThere, back_tallies, begin_at, begin_components, came_back, came_tallies, came_to_request, comes_back, comes_to_begun, comes_to_request, keys_back, only_of, requests};
 
 use crate::asked::{Asked, Came};
 use crate::history::History;
@@ -74,6 +74,16 @@ impl History {
         ensures { result ≡ is_some (begin_at own.now self.now) }
     {
         self.begin_of(own).is_some()
+    }
+
+    /// Whether its Begin asks for a dialogue.
+    pub(crate) fn requests(&self, own: &TransactionId) -> bool
+        ensures { result ≡ requests (begin_at own.now self.now) }
+    {
+        match self.begin_of(own) {
+            Some(begin) => begin.requests,
+            None => false,
+        }
     }
 
     /// Whether one of these Continues to an own ID came back to it: the end began it, and where its Begin asks for a dialogue, one of

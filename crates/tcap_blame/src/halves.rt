@@ -22,6 +22,13 @@ use crate::there::There;
 use tcap_msg::{Kind as Form, MessageParts, TransactionId, TransactionIdView};
 use tcap_parts::DialogueView;
 
+/// Whether a message is an Abort.
+fn is_abort<M: MessageParts>(message: &M) -> bool
+    ensures { result ≡ is_a forms.Abort (M.meaning message.now) }
+{
+    matches!(message.kind(), Form::Abort)
+}
+
 /// Whether it is an AARE.
 fn is_response(dialogue: Option<DialogueView>) -> bool
     ensures { result ≡ is_response (option_map dialogue_of dialogue.entry) }
@@ -188,7 +195,7 @@ impl History {
             → result ≡ has_requested side id items (option_copied own.entry) }
     {
         match own {
-            Some(own) => matches!(self.begin_of(own), Some(begin) if begin.requests),
+            Some(own) => self.requests(own),
             None => self.any_to_request(there),
         }
     }
@@ -238,9 +245,10 @@ impl History {
             (speaker side dtid.entry.octets.now items (M.meaning message.now)) }
     {
         let there = self.there(dtid);
-        match message.kind() {
-            Form::Abort => self.is_wrong_aborting(there, half, message.dialogue()),
-            _ => there.is_misplaced_going_on(half, message.dialogue()),
+        if is_abort(message) {
+            self.is_wrong_aborting(there, half, message.dialogue())
+        } else {
+            there.is_misplaced_going_on(half, message.dialogue())
         }
     }
 }

@@ -1,18 +1,17 @@
 //! Aborts of the provider that answer nothing that is left, and halves that are open at a quiet mark (Q.774 3.3).
 
-ghost use Rattle.std.specs.Prelude.{◌≡◌, ◌≤◌, ◌+◌, ◌^◌, ◌&&◌, ◌||◌, ℕ, List, length, nat_lt, not};
+ghost use Rattle.std.specs.Prelude.{◌≡◌, ◌≤◌, ◌+◌, ◌-◌, ◌^◌, ◌||◌, ℕ, List, length, nat_le, nat_lt, not, option_copied};
 ghost use Rattle.std.specs.List.{list_any};
 ghost use Rattle.std.specs.BTreeMap.{IsOrdered};
 ghost use Rattle.tcap_msg.specs.declared.kind.Kind.TheVariants as forms;
 ghost use Rattle.tcap_record.specs.declared.entry.End.{End as Side};
 ghost use Rattle.tcap_end.specs.Table.{Table, octets_cmp};
 ghost use Rattle.tcap_check.specs.World.{Item};
-ghost use Rattle.tcap_refute.specs.Before.{asked, has_a, is_a, sent_by};
+ghost use Rattle.tcap_refute.specs.Before.{asked, is_a, sent_by};
 ghost use Rattle.tcap_refute.specs.Counts.{count};
-ghost use Rattle.tcap_refute.specs.Speaker.{is_nothing, told};
 ghost use Rattle.tcap_refute.specs.Blame.{all_go_to_open, count_received, is_abort_with, is_open_at_mark, is_wrong_reply};
 ghost use Rattle.tcap_blame.specs.History.{IsHistory};
-ghost use Rattle.tcap_blame.specs.Lookups.{IsThere, comes_to_shut, is_open, is_open_at};
+ghost use Rattle.tcap_blame.specs.Lookups.{IsThere, comes_to_shut, continues_from, is_open, is_open_at, received, unknown_to, was_begun, was_refused, was_spoken};
 
 use crate::asked::Asked;
 use crate::history::History;
@@ -21,6 +20,32 @@ use crate::there::There;
 use tcap_ber::SmallView;
 use tcap_end::Table;
 use tcap_msg::{TransactionId, TransactionIdView};
+
+impl There<'_> {
+    /// How many Continues from there were surely received, and not answered by an Abort with cause 1.
+    fn received(self) -> u128
+        ensures { result ≡ received (option_copied self.entry.asked) (option_copied self.entry.told) }
+    {
+        if self.was_spoken() && !self.may_stand() { 1 } else { 0 }
+    }
+
+    /// Whether more of them would be answered or received than were asked.
+    fn answers_too_many(self) -> bool
+        ensures { result ≡ nat_le (continues_from (option_copied self.entry.asked)
+            - received (option_copied self.entry.asked) (option_copied self.entry.told))
+            (unknown_to (option_copied self.entry.told)) }
+    {
+        self.continues().saturating_sub(self.received()) <= self.unknown()
+    }
+
+    /// Whether no Begin from there is left that may be refused.
+    fn refuses_nothing(self) -> bool
+        ensures { result ≡ (not (was_begun (option_copied self.entry.asked))
+            || was_refused (option_copied self.entry.told) || was_spoken (option_copied self.entry.told)) }
+    {
+        !self.was_begun() || self.was_refused() || self.was_spoken()
+    }
+}
 
 impl History {
     /// Whether the half with that own ID, of which that is kept, is open for certain.
@@ -64,30 +89,20 @@ impl History {
             → result ≡ all_go_to_open table.now side items (asked side id items) }
     {
         match there.asked {
-            Some(asked) => !asked.came.is_empty() && !self.comes_to_shut(table, asked),
+            Some(asked) => !self.comes_to_shut(table, asked) && !asked.came.is_empty(),
             None => false,
         }
     }
 
-    /// Whether more Continues from there would be answered or received than were asked.
-    fn answers_too_many(there: There) -> bool
-        ensures { (table : Table) (side : Side) (id : List ℕ) (items : List Item)
-            → IsThere table side id items there.entry → length items ≤ 2 ^ 63
-            → result ≡ nat_lt (count (is_a forms.Continue) (asked side id items))
-            (count (is_abort_with 1 id) (sent_by side items) + 1 + count_received side id items) }
+    /// Whether no Continue from there is left that may be answered.
+    fn answers_nothing(&self, table: &Table, there: There) -> bool
+        ensures { (side : Side) (id : List ℕ) (items : List Item) → IsHistory table.now side items self.now
+            → IsThere table.now side id items there.entry → length items ≤ 2 ^ 63
+            → result ≡ (nat_lt (count (is_a forms.Continue) (asked side id items))
+            (count (is_abort_with 1 id) (sent_by side items) + 1 + count_received side id items)
+            || all_go_to_open table.now side items (asked side id items)) }
     {
-        let received = if there.was_spoken() && !there.may_stand() { 1 } else { 0 };
-        there.continues().saturating_sub(received) <= there.unknown()
-    }
-
-    /// Whether no Begin from there is left that may be refused.
-    fn refuses_nothing(there: There) -> bool
-        ensures { (table : Table) (side : Side) (id : List ℕ) (items : List Item)
-            → IsThere table side id items there.entry
-            → result ≡ (not (has_a forms.Begin (asked side id items)) || list_any (is_abort_with 4 id) (sent_by side items)
-            || not (is_nothing (told side id items))) }
-    {
-        !there.was_begun() || there.was_refused() || there.was_spoken()
+        there.answers_too_many() || self.all_go_to_open(table, there)
     }
 
     /// Whether an Abort of the provider to that ID, with that cause, answers nothing that is left.
@@ -98,8 +113,8 @@ impl History {
     {
         let there = self.there(dtid);
         match cause.number {
-            1 => History::answers_too_many(there) || self.all_go_to_open(table, there),
-            4 => History::refuses_nothing(there),
+            1 => self.answers_nothing(table, there),
+            4 => there.refuses_nothing(),
             _ => false,
         }
     }
