@@ -54,7 +54,7 @@ module _ {table : Table} {side : Side} {id : List ℕ} {items : List Item} {ther
       rw (there_went at, requested_is table (asked side id items) (option_copied there.asked) at.asked, is.begun, is.accepted)
       refl
 
-  pub aborting : ((is_response d && (went_on (option_copied there.told) || kept.begun))
+  aborting : ((is_response d && (went_on (option_copied there.told) || kept.begun))
       || (is_user_abort d && kept.accepted && not (was_requested (option_copied there.asked)))
       || (is_user_abort d && kept.begun && not (has_requested side id items kept.own)))
       ≡ is_wrong_aborting side id items s d
@@ -66,6 +66,21 @@ module _ {table : Table} {side : Side} {id : List ℕ} {items : List Item} {ther
         is.accepted,
         is.own,
       ) refl
+
+  -- whether it is misplaced, whatever the own Begin asks for
+  abbrev misplaced : Bool
+  misplaced = (is_response d && (went_on (option_copied there.told) || kept.begun))
+      || (is_user_abort d && kept.accepted && not (was_requested (option_copied there.asked)))
+
+  pub aborting_sure : misplaced ≡ true → true ≡ is_wrong_aborting side id items s d
+  aborting_sure so = ap (λ b. b || (is_user_abort d && kept.begun && not (has_requested side id items kept.own))) (sym so)
+      ∙ aborting
+
+  pub aborting_else : misplaced ≡ false
+      → (is_user_abort d && kept.begun && not (has_requested side id items kept.own))
+      ≡ is_wrong_aborting side id items s d
+  aborting_else so = ap (λ b. b || (is_user_abort d && kept.begun && not (has_requested side id items kept.own))) (sym so)
+      ∙ aborting
 
 -- By the kind of a message.
 pub wrong_abort : (side : Side) (id : List ℕ) (items : List Item) (m : Message) (s : Speaking)

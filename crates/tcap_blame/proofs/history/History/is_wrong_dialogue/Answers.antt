@@ -1,5 +1,6 @@
-use Rattle.std.proofs.Common.{option_map, sym, ◌∙◌}
+use Rattle.std.proofs.Common.{option_map, sym, ap, ◌∙◌}
 use Rattle.tcap_parts.specs.DialogueMeaning.{dialogue_of}
+use Rattle.tcap_refute.specs.HalfKinds.{is_wrong_going_on}
 use Rattle.tcap_refute.specs.Speaker.{speaker}
 use Rattle.tcap_blame.proofs.HalfLaws.{going_on, wrong_abort, wrong_else}
 use Rattle.tcap_blame.proofs.history.History.is_wrong_dialogue.Goals as goal
@@ -19,5 +20,6 @@ returns-else-is_abort g c = λ table side items is speaks.
     let m = g.M.MessageParts.meaning c.args.message.now in
     let there = c.there-there.ensures table side items is in
     c.is_misplaced_going_on.ensures
-    ∙ (rw c.dialogue-2.ensures at going_on there (speaker side id items m) c.args.half.now speaks (option_map dialogue_of c.dialogue-2.result))
+    ∙ going_on there (speaker side id items m) c.args.half.now speaks (option_map dialogue_of c.dialogue-else-is_abort.result)
+    ∙ ap (is_wrong_going_on side id items (speaker side id items m)) c.dialogue-else-is_abort.ensures
     ∙ wrong_else side id items m (speaker side id items m) (sym c.is_abort.ensures ∙ c.if-is_abort.false)
