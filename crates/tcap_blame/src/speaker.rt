@@ -149,14 +149,15 @@ impl History {
             → IfOk result (IsSpeaker table (speaker_by side id items (Some own))) }
     {
         let begin = self.begin_of(&own);
+        let begun = begin.is_some();
         let heard = there.heard_over(alloc, &own, begin)?;
         let sent = there.with_told(alloc, None)?;
         let invoked = there.with_told(alloc, begin_components(begin))?;
         Ok(Speaker {
-            begun: begin.is_some(),
-            accepted: begin.is_none(),
-            is_all: true,
             own: Some(own),
+            begun,
+            accepted: !begun,
+            is_all: true,
             heard,
             sent,
             invoked,
