@@ -1,5 +1,5 @@
--- The Continues that came back to an own ID, of those that were asked: none where the end did not begin it, all where its Begin
--- asks for no dialogue, else those from the first on that answers.
+-- The Continues that came back to an own ID, of those that were asked: none where the end did not begin it, all where its
+-- Begin asks for no dialogue, else those from the first on that answers.
 use Rattle.std.proofs.Common.{◌≡◌, ℕ, Bool, true, false, cond, not, ◌&&◌, ◌||◌, List, [], ◌∷◌, ◌++◌, Option, Some, None, filter, refl, sym, ap, ◌∙◌}
 use Rattle.std.specs.List.{list_any}
 use Rattle.std.proofs.lemmas.Bool.{and_parts, or_right}

@@ -1,4 +1,4 @@
--- Messages by their keys: what a test finds among them, and how many components they have, is asked of what is kept of each key.
+-- Messages by their keys: what a test finds among them is found by what is kept of each key.
 use Rattle.std.proofs.Common.{◌≡◌, ℕ, Bool, true, false, cond, ◌&&◌, ◌||◌, List, [], ◌∷◌, Option, Some, None, bytes_eq, refl, sym, ap, ap₂, ◌∙◌}
 use Rattle.std.specs.List.{list_any}
 use Rattle.std.proofs.lemmas.Bool.{or_left, or_right}

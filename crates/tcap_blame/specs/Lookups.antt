@@ -123,10 +123,11 @@ abbrev pub came_back : Option OwnBegin → Came → Bool
 came_back None came = false
 came_back (Some begin) came = not begin.requests || came.answered
 
--- of the Continues to an own ID: whether one came back; whether one did to a dialogue request; whether the end began the ID
+-- Of the Continues to an own ID: whether one came back.
 abbrev pub comes_back : History → List ℕ × Came → Bool
 comes_back h e = came_back (begin_at e.0 h) e.1
 
+-- whether one did, and the Begin asks for a dialogue
 abbrev pub came_to_request : Option OwnBegin → Came → Bool
 came_to_request None came = false
 came_to_request (Some begin) came = begin.requests && came.answered
@@ -134,6 +135,7 @@ came_to_request (Some begin) came = begin.requests && came.answered
 abbrev pub comes_to_request : History → List ℕ × Came → Bool
 comes_to_request h e = came_to_request (begin_at e.0 h) e.1
 
+-- whether the end began the ID
 abbrev pub comes_to_begun : History → List ℕ × Came → Bool
 comes_to_begun h e = is_some (begin_at e.0 h)
 

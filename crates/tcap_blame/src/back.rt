@@ -42,7 +42,8 @@ pub(crate) fn begin_components(begin: Option<&OwnBegin>) -> Option<&Tally>
     Some(&begin?.components)
 }
 
-/// The components of Continues to an own ID, if there are any: of all, or of those from the first on that answers a dialogue request.
+/// The components of Continues to an own ID, if there are any: of all, or of those from the first on that answers a
+/// dialogue request.
 pub(crate) fn push_came<'a>(
     tallies: &mut Vec<&'a Tally>,
     came: Option<&'a Came>,
@@ -86,8 +87,8 @@ impl History {
         }
     }
 
-    /// Whether one of these Continues to an own ID came back to it: the end began it, and where its Begin asks for a dialogue, one of
-    /// them answers that.
+    /// Whether one of these Continues to an own ID came back to it: the end began it, and where its Begin asks for a
+    /// dialogue, one of them answers that.
     fn came_back(&self, own: &TransactionId, came: &Came) -> bool
         ensures { result ≡ came_back (begin_at own.now self.now) came.now }
     {

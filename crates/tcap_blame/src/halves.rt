@@ -1,4 +1,5 @@
-//! Messages that do not fit the half over which they would be sent: its IDs and its phase, and its dialogue (Q.774 3.2, 3.3).
+//! Messages that do not fit the half over which they would be sent: its IDs and its phase, and its dialogue (Q.774 3.2,
+//! 3.3).
 
 ghost use Rattle.std.specs.Prelude.{◌≡◌, ◌≤◌, ◌^◌, ◌&&◌, ◌||◌, ℕ, List, cond, is_some, nat_le, not, option_copied, option_map};
 ghost use Rattle.std.specs.List.{list_any};
@@ -90,7 +91,8 @@ impl History {
         self.there(dtid).was_begun_twice()
     }
 
-    /// Whether the end began that own ID, and no Continue came back to it from there; or did not, and no Begin from there may stand.
+    /// Whether the end began that own ID, and no Continue came back to it from there; or did not, and no Begin from there
+    /// may stand.
     fn lacks_half(&self, there: There, own: &TransactionId) -> bool
         ensures { (table : Table) (side : Side) (id : List ℕ) (items : List Item) → IsHistory table side items self.now
             → IsThere table side id items there.entry
@@ -187,8 +189,8 @@ impl History {
         self.fits_no_half(self.there(dtid), message, own) || self.was_closed(own)
     }
 
-    /// Whether the Begin of that own ID asked for a dialogue; where the ID is not known, whether one did to which a Continue came
-    /// back.
+    /// Whether the Begin of that own ID asked for a dialogue; where the ID is not known, whether one did to which a
+    /// Continue came back.
     fn has_requested(&self, there: There, own: Option<&TransactionId>) -> bool
         ensures { (table : Table) (side : Side) (id : List ℕ) (items : List Item) → IsHistory table side items self.now
             → IsThere table side id items there.entry
