@@ -1,5 +1,5 @@
--- The Continues that came back to an own ID, of those that were asked: none where the end did not begin it, all where its
--- Begin asks for no dialogue, else those from the first on that answers.
+-- The Continues that came back to an own ID, of those that were asked: none where the end did not begin it, all where
+-- its Begin asks for no dialogue, else those from the first on that answers.
 use Rattle.std.proofs.Common.{◌≡◌, ℕ, Bool, true, false, cond, not, ◌&&◌, ◌||◌, List, [], ◌∷◌, ◌++◌, Option, Some, None, filter, refl, sym, ap, ◌∙◌}
 use Rattle.std.specs.List.{list_any}
 use Rattle.std.proofs.lemmas.Bool.{and_parts, or_right}
@@ -47,7 +47,8 @@ module _ (side : Side) (items : List Item) (own : List ℕ) where
 
   -- One that goes elsewhere changes nothing,
   elsewhere : (seen ms : List Message) (m : Message) → goes_on_to own m ≡ false
-      → back_seen (begin_from side own items) own (seen ++ m ∷ []) ms ≡ back_seen (begin_from side own items) own seen ms
+      → back_seen (begin_from side own items) own (seen ++ m ∷ []) ms
+      ≡ back_seen (begin_from side own items) own seen ms
   elsewhere seen ms m not_to = by (begin_from side own items)
     where
       same : list_any (accepts_to own) (seen ++ m ∷ []) ≡ list_any (accepts_to own) seen
@@ -83,7 +84,8 @@ module _ (side : Side) (items : List Item) (own : List ℕ) where
       by (Some begin) found same =
           rw (one_back seen m to begin found)
           (of (not (is_begin_with_request begin)) (list_any (accepts_to own) seen) (accepts_to own m)
-          (same ∙ ap (λ b. cond (not (is_begin_with_request begin) || b) ms (from_response own ms)) (seen_more own seen m)))
+          (same
+          ∙ ap (λ b. cond (not (is_begin_with_request begin) || b) ms (from_response own ms)) (seen_more own seen m)))
 
   skipped : (b : Bool) (m : Message) (rest : List Message) → goes_on_to own m ≡ false
       → filter (goes_on_to own) (cond b (m ∷ rest) rest) ≡ filter (goes_on_to own) rest
@@ -150,7 +152,8 @@ behind_continues : (side : Side) (items : List Item) (seen ms : List Message)
     ≡ back_behind side items seen (filter (is_a forms.Continue) ms)
 behind_continues side items seen [] = refl
 behind_continues side items seen (m ∷ ms) =
-    by (is_a forms.Continue m) refl (behind_continues side items seen ms) (behind_continues side items (seen ++ m ∷ []) ms)
+    by (is_a forms.Continue m) refl (behind_continues side items seen ms)
+    (behind_continues side items (seen ++ m ∷ []) ms)
   where
     kept : List Message
     kept = filter (is_a forms.Continue) ms

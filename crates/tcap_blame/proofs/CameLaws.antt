@@ -67,7 +67,8 @@ came_is table own ms (Some message) (Some begin) (Some came) (asks, components) 
 
 -- what is kept of these Continues, by their own IDs
 abbrev pub AreCame : Table → List Message → List (List ℕ × Came) → Type 0
-AreCame table ms es = (own : List ℕ) → IsCameAt table own (filter (goes_on_to own) ms) (lookup (is_at (octets_cmp own)) es)
+AreCame table ms es =
+    (own : List ℕ) → IsCameAt table own (filter (goes_on_to own) ms) (lookup (is_at (octets_cmp own)) es)
 
 pub are_came : (table : Table) (ms : List Message) (a : Option Asked) → IsAskedAt table ms a
     → AreCame table ms (entries_of a)
@@ -192,9 +193,9 @@ module _ {table : Table} {side : Side} {items : List Item} {h : History} (is : I
     pub any_begun_is : list_any (comes_to_begun h) es ≡ list_any (goes_to_begun side items) sent
     any_begun_is =
         sym (
-          any_agree _ _ sent goes
-          ∙ any_by_key (is_a forms.Continue) dtid_in es (λ own. began side own items) sent (came_covers table sent es are)
-          ∙ any_each _ _ es (each_so _ _ so es (each_goes table sent es each))
+        any_agree _ _ sent goes
+        ∙ any_by_key (is_a forms.Continue) dtid_in es (λ own. began side own items) sent (came_covers table sent es are)
+        ∙ any_each _ _ es (each_so _ _ so es (each_goes table sent es each))
         )
       where
         goes : (m : Message)

@@ -83,7 +83,9 @@ keys_apart {X} p (e ∷ es) apart = by (p e) (keys_apart p es (IsDistinct-tail b
   where
     by : (b : Bool) → IsDistinct bytes_eq (map (λ f. f.0) (filter p es))
         → IsDistinct bytes_eq (map (λ f. f.0) (cond b (e ∷ filter p es) (filter p es)))
-    by true rest = IsDistinct-cons bytes_eq e.0 _ (away (λ k. bytes_eq e.0 k ≡ false) p es (IsDistinct-head bytes_eq e.0 (keys_of es) apart)) rest
+    by true rest =
+        IsDistinct-cons bytes_eq e.0 _
+        (away (λ k. bytes_eq e.0 k ≡ false) p es (IsDistinct-head bytes_eq e.0 (keys_of es) apart)) rest
     by false rest = rest
 
 -- ---- a search through all of them, one after the other

@@ -51,8 +51,12 @@ module _ {table : Table} {side : Side} {id : List ℕ} {items : List Item} {ther
       && was_requested (option_copied there.asked)))
       ≡ is_wrong_going_on side id items s d
   going_on =
-      rw (there_went at, requested_is table (asked side id items) (option_copied there.asked) at.asked, is.begun, is.accepted)
-      refl
+      rw (
+        there_went at,
+        requested_is table (asked side id items) (option_copied there.asked) at.asked,
+        is.begun,
+        is.accepted,
+      ) refl
 
   aborting : ((is_response d && (went_on (option_copied there.told) || kept.begun))
       || (is_user_abort d && kept.accepted && not (was_requested (option_copied there.asked)))
@@ -69,18 +73,19 @@ module _ {table : Table} {side : Side} {id : List ℕ} {items : List Item} {ther
 
   -- whether it is misplaced, whatever the own Begin asks for
   abbrev misplaced : Bool
-  misplaced = (is_response d && (went_on (option_copied there.told) || kept.begun))
+  misplaced =
+      (is_response d && (went_on (option_copied there.told) || kept.begun))
       || (is_user_abort d && kept.accepted && not (was_requested (option_copied there.asked)))
 
-  pub aborting_sure : misplaced ≡ true → true ≡ is_wrong_aborting side id items s d
-  aborting_sure so = ap (λ b. b || (is_user_abort d && kept.begun && not (has_requested side id items kept.own))) (sym so)
-      ∙ aborting
+  -- whether its own Begin asks for none
+  abbrev asked_none : Bool
+  asked_none = is_user_abort d && kept.begun && not (has_requested side id items kept.own)
 
-  pub aborting_else : misplaced ≡ false
-      → (is_user_abort d && kept.begun && not (has_requested side id items kept.own))
-      ≡ is_wrong_aborting side id items s d
-  aborting_else so = ap (λ b. b || (is_user_abort d && kept.begun && not (has_requested side id items kept.own))) (sym so)
-      ∙ aborting
+  pub aborting_sure : misplaced ≡ true → true ≡ is_wrong_aborting side id items s d
+  aborting_sure so = ap (λ b. b || asked_none) (sym so) ∙ aborting
+
+  pub aborting_else : misplaced ≡ false → asked_none ≡ is_wrong_aborting side id items s d
+  aborting_else so = ap (λ b. b || asked_none) (sym so) ∙ aborting
 
 -- By the kind of a message.
 pub wrong_abort : (side : Side) (id : List ℕ) (items : List Item) (m : Message) (s : Speaking)

@@ -39,9 +39,6 @@ use Rattle.tcap_blame.proofs.TalliedLaws.{are_counted, are_more, are_none}
 -- ---- before more of them
 
 module _ (table : Table) (ds : List Component) (rest : List Tally) (are : AreTallies table ds rest) where
-  more_same : (cs : List Component) (tallies : List Tally) → cs ≡ [] → tallies ≡ [] → AreTallies table (cs ++ ds) (tallies ++ rest)
-  more_same cs tallies none nothing = rw (none, nothing) are
-
   -- Of all Continues to an own ID,
   came_all : (own : List ℕ) (ms : List Message) (c : Option Came) → IsCameAt table own ms c
       → AreTallies table (components_of ms ++ ds) (came_tallies true c ++ rest)
@@ -156,7 +153,8 @@ module _ {table : Table} {side : Side} {id : List ℕ} {items : List Item} {ther
   pub sent_is : AreTallies table (components_of (told side id items)) (option_to_list (told_there t))
   sent_is =
       rw (← told_is side id items)
-      (at_end table _ (option_to_list (told_there t)) (told_more table [] [] (are_none table) (sent_to side id items) t at.told))
+      (at_end table _ (option_to_list (told_there t))
+      (told_more table [] [] (are_none table) (sent_to side id items) t at.told))
 
   -- Where its own ID is known,
   module _ (own : List ℕ) where
@@ -171,7 +169,8 @@ module _ {table : Table} {side : Side} {id : List ℕ} {items : List Item} {ther
         (heard_over None a t c)
     heard_accepted =
         rw (flat_map-append components_in (heard_begin side id items) (heard_later side id items (Some own)))
-        (begun_more table _ _ (by (has_a forms.Continue (told side id items)) (there_went at)) (asked side id items) a at.asked)
+        (begun_more table _ _ (by (has_a forms.Continue (told side id items)) (there_went at)) (asked side id items) a
+        at.asked)
       where
         by : (b : Bool) → went_on t ≡ b
             → AreTallies table (components_of (cond b (filter (goes_on_to own) (asked side id items)) []))
@@ -222,8 +221,9 @@ module _ {table : Table} {side : Side} {id : List ℕ} {items : List Item} {ther
   -- and where it is not.
   module _ (ordered : AreOrdered a) where
     all_back : AreTallies table (components_of (back side id items)) (back_tallies h (entries_of a))
-    all_back = back_are is id (entries_of a) (are_came table (asked side id items) a at.asked) (each_of table (asked side id items) a at.asked ordered)
-        (distinct_of a ordered)
+    all_back =
+        back_are is id (entries_of a) (are_came table (asked side id items) a at.asked)
+        (each_of table (asked side id items) a at.asked ordered) (distinct_of a ordered)
 
     pub heard_unknown : AreTallies table (components_of (heard_by side id items None)) (heard_somewhere h a t)
     heard_unknown =

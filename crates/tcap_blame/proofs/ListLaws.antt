@@ -120,6 +120,7 @@ pub any_each : {A : Type 0} (p q : A → Bool) (xs : List A) → AllByRecursion 
 any_each p q [] each = refl
 any_each p q (x ∷ xs) (here, rest) = rw (here) (ap (λ b. q x || b) (any_each p q xs rest))
 
-pub any_map : {A B : Type 0} (p : B → Bool) (f : A → B) (xs : List A) → list_any p (map f xs) ≡ list_any (λ x. p (f x)) xs
+pub any_map : {A B : Type 0} (p : B → Bool) (f : A → B) (xs : List A)
+    → list_any p (map f xs) ≡ list_any (λ x. p (f x)) xs
 any_map p f [] = refl
 any_map p f (x ∷ xs) = ap (λ b. p (f x) || b) (any_map p f xs)

@@ -25,7 +25,8 @@ other_behind id more = rw (its_own id) refl
 one_differs : (id k l : List ℕ) (more : List (List ℕ)) → bytes_eq k l ≡ false → has_other id (k ∷ l ∷ more) ≡ true
 one_differs id k l more apart = by (bytes_eq id k) refl (bytes_eq id l) refl
   where
-    by : (a : Bool) → bytes_eq id k ≡ a → (b : Bool) → bytes_eq id l ≡ b → (not a || (not b || has_other id more)) ≡ true
+    by : (a : Bool) → bytes_eq id k ≡ a → (b : Bool) → bytes_eq id l ≡ b
+        → (not a || (not b || has_other id more)) ≡ true
     by false e b f = refl
     by true e false f = refl
     by true e true f =

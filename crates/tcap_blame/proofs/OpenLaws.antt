@@ -97,9 +97,9 @@ module _ {table : Table} {side : Side} {items : List Item} {h : History} (is : I
       → list_any (λ e. is_open table h e.0 e.1) h.own.entries ≡ is_open_at_mark table side items
   open_at_mark ordered =
       sym (
-        any_by_key (is_a forms.Continue) otid_in h.own.entries (is_surely_open table side items) (sent_by side items)
-        sent_covers
-        ∙ any_each _ _ h.own.entries (each_so _ _ so h.own.entries (each_found h.own ordered))
+      any_by_key (is_a forms.Continue) otid_in h.own.entries (is_surely_open table side items) (sent_by side items)
+      sent_covers
+      ∙ any_each _ _ h.own.entries (each_so _ _ so h.own.entries (each_found h.own ordered))
       )
     where
       only : (o : Option (List ℕ)) (own : List ℕ) (b : Bool) → is_some o ≡ b → (open_to own o && b) ≡ open_to own o
@@ -130,7 +130,8 @@ module _ {table : Table} {side : Side} {items : List Item} {h : History} (is : I
 
   -- ---- Continues from an ID
 
-  module _ (ms : List Message) (es : List (List ℕ × Came)) (are : AreCame table ms es) (each : EachCame table ms es) where
+  module _ (ms : List Message) (es : List (List ℕ × Came)) (are : AreCame table ms es)
+      (each : EachCame table ms es) where
     goes_dtid : (q : List ℕ → Bool) (m : Message)
         → (is_a forms.Continue m && not (holds q (dtid_in m)))
         ≡ (is_a forms.Continue m && holds (λ own. not (q own)) (dtid_in m))
@@ -160,11 +161,11 @@ module _ {table : Table} {side : Side} {items : List Item} {h : History} (is : I
         ≡ all_go_to_open table side items ms
     all_open_is =
         sym (
-          ap₂ (λ a b. a && not b)
-          (any_agree _ _ ms goes_any ∙ by_entries (λ own. true) ∙ there es)
-          (any_agree _ _ ms (goes_dtid (is_surely_open table side items))
-          ∙ by_entries (λ own. not (is_surely_open table side items own))
-          ∙ any_agree _ _ es (λ e. ap not (sym (open_is e.0))))
+        ap₂ (λ a b. a && not b)
+        (any_agree _ _ ms goes_any ∙ by_entries (λ own. true) ∙ there es)
+        (any_agree _ _ ms (goes_dtid (is_surely_open table side items))
+        ∙ by_entries (λ own. not (is_surely_open table side items own))
+        ∙ any_agree _ _ es (λ e. ap not (sym (open_is e.0))))
         )
       where
         there : (fs : List (List ℕ × Came)) → list_any (λ e. true) fs ≡ not (is_nothing fs)

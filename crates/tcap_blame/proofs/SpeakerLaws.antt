@@ -124,7 +124,8 @@ module _ {table : Table} {side : Side} {id : List ℕ} {items : List Item} {ther
   -- One whose own ID is not.
   pub speaker_unknown : AreOrdered asks → s.own ≡ None → s.begun ≡ not (may_stand asks tells)
       → s.accepted ≡ is_nothing (back side id items) → s.is_all ≡ is_nothing (back side id items)
-      → heard ≡ heard_somewhere h asks tells → sent ≡ option_to_list (told_there tells) → invoked ≡ option_to_list (told_there tells)
+      → heard ≡ heard_somewhere h asks tells → sent ≡ option_to_list (told_there tells)
+      → invoked ≡ option_to_list (told_there tells)
       → IsSpeaker table (speaker_by side id items None) s
   speaker_unknown ordered its begun accepted all hears sends invokes = record {
     own = its;

@@ -63,8 +63,9 @@ impl There<'_> {
     fn is_misplaced_going_on(self, half: &Speaker, dialogue: Option<DialogueView>) -> bool
         ensures { result ≡ ((is_some (option_map dialogue_of dialogue.entry)
             && (went_on (option_copied self.entry.told) || half.now.begun))
-            || (not (is_response (option_map dialogue_of dialogue.entry)) && not (went_on (option_copied self.entry.told))
-            && half.now.accepted && was_requested (option_copied self.entry.asked))) }
+            || (not (is_response (option_map dialogue_of dialogue.entry))
+            && not (went_on (option_copied self.entry.told)) && half.now.accepted
+            && was_requested (option_copied self.entry.asked))) }
     {
         (dialogue.is_some() && (self.went_on() || half.begun))
             || (!is_response(dialogue) && !self.went_on() && half.accepted && self.was_requested())
@@ -91,8 +92,8 @@ impl History {
         self.there(dtid).was_begun_twice()
     }
 
-    /// Whether the end began that own ID, and no Continue came back to it from there; or did not, and no Begin from there
-    /// may stand.
+    /// Whether the end began that own ID, and no Continue came back to it from there; or it did not, and no Begin from
+    /// there may stand.
     fn lacks_half(&self, there: There, own: &TransactionId) -> bool
         ensures { (table : Table) (side : Side) (id : List ℕ) (items : List Item) → IsHistory table side items self.now
             → IsThere table side id items there.entry
@@ -203,12 +204,7 @@ impl History {
     }
 
     /// Whether an ABRT of the user that goes over a half which began by sending asks for no dialogue.
-    fn asked_for_none(
-        &self,
-        there: There,
-        half: &Speaker,
-        dialogue: Option<DialogueView>,
-    ) -> bool
+    fn asked_for_none(&self, there: There, half: &Speaker, dialogue: Option<DialogueView>) -> bool
         ensures { (table : Table) (side : Side) (id : List ℕ) (items : List Item) → IsHistory table side items self.now
             → IsThere table side id items there.entry
             → result ≡ (is_user_abort (option_map dialogue_of dialogue.entry) && half.now.begun

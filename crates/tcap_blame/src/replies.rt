@@ -26,7 +26,11 @@ impl There<'_> {
     fn received(self) -> u128
         ensures { result ≡ received (option_copied self.entry.asked) (option_copied self.entry.told) }
     {
-        if self.was_spoken() && !self.may_stand() { 1 } else { 0 }
+        if self.was_spoken() && !self.may_stand() {
+            1
+        } else {
+            0
+        }
     }
 
     /// Whether more of them would be answered or received than were asked.
@@ -106,7 +110,12 @@ impl History {
     }
 
     /// Whether an Abort of the provider to that ID, with that cause, answers nothing that is left.
-    pub(crate) fn is_wrong_reply(&self, table: &Table, dtid: TransactionIdView, cause: SmallView) -> bool
+    pub(crate) fn is_wrong_reply(
+        &self,
+        table: &Table,
+        dtid: TransactionIdView,
+        cause: SmallView,
+    ) -> bool
         ensures { (side : Side) (items : List Item) → IsHistory table.now side items self.now
             → length items ≤ 2 ^ 63
             → result ≡ is_wrong_reply table.now side dtid.entry.octets.now items cause.number }

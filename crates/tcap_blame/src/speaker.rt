@@ -54,7 +54,8 @@ impl<'a> There<'a> {
         first: Option<&'a Tally>,
     ) -> Result<Vec<&'a Tally>, AllocError>
         ensures { IfOk result (λ v. map (λ b. b.now) v.items
-            ≡ option_to_list (option_copied first.entry) ++ option_to_list (told_there (option_copied self.entry.told))) }
+            ≡ option_to_list (option_copied first.entry)
+            ++ option_to_list (told_there (option_copied self.entry.told))) }
     {
         let mut tallies = Vec::new(alloc);
         push_some(&mut tallies, first)?;

@@ -4,7 +4,8 @@ use Rattle.tcap_blame.proofs.history.History.answers_nothing.Goals as goal
 
 pub returns-then-answers_too_many : goal.returns-then-answers_too_many
 returns-then-answers_too_many c = λ side id items is there few.
-    rw (sym (too_many there few) ∙ sym c.answers_too_many.ensures ∙ c.if-answers_too_many.true) c.if-answers_too_many.true
+    rw (sym (too_many there few) ∙ sym c.answers_too_many.ensures ∙ c.if-answers_too_many.true)
+    c.if-answers_too_many.true
 
 pub returns-else-answers_too_many : goal.returns-else-answers_too_many
 returns-else-answers_too_many c = λ side id items is there few.

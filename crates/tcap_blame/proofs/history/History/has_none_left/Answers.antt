@@ -13,7 +13,7 @@ returns-then-any_back c = λ table side id items is there.
     rw (
       sym (there_stands there) ∙ sym c.may_stand.ensures ∙ c.if-may_stand.false,
       not-true (is_nothing (back side id items))
-      (sym (c.any_back.ensures table side id items is there) ∙ c.if-any_back.true),
+          (sym (c.any_back.ensures table side id items is there) ∙ c.if-any_back.true),
     ) refl
 
 pub returns : goal.returns
@@ -21,5 +21,5 @@ returns c = λ table side id items is there.
     rw (
       sym (there_stands there) ∙ sym c.may_stand.ensures ∙ c.if-may_stand.false,
       not-false (is_nothing (back side id items))
-      (sym (c.any_back.ensures table side id items is there) ∙ c.if-any_back.false),
+          (sym (c.any_back.ensures table side id items is there) ∙ c.if-any_back.false),
     ) (ap not (c.is_left_open.ensures table side id items is there))

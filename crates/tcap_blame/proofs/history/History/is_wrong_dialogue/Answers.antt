@@ -20,6 +20,7 @@ returns-else-is_abort g c = λ table side items is speaks.
     let m = g.M.MessageParts.meaning c.args.message.now in
     let there = c.there-there.ensures table side items is in
     c.is_misplaced_going_on.ensures
-    ∙ going_on there (speaker side id items m) c.args.half.now speaks (option_map dialogue_of c.dialogue-else-is_abort.result)
+    ∙ going_on there (speaker side id items m) c.args.half.now speaks
+    (option_map dialogue_of c.dialogue-else-is_abort.result)
     ∙ ap (is_wrong_going_on side id items (speaker side id items m)) c.dialogue-else-is_abort.ensures
     ∙ wrong_else side id items m (speaker side id items m) (sym c.is_abort.ensures ∙ c.if-is_abort.false)
