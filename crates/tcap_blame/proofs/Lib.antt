@@ -16,6 +16,7 @@ pub mod AnswerSums
 pub mod RejectSums
 pub mod FaultLaws
 pub mod KeyLaws
+pub mod KeyedLaws
 pub mod NotedLists
 pub mod MapLaws
 pub mod AskedLaws
@@ -24,3 +25,16 @@ pub mod OwnLaws
 pub mod OnlyLaws
 pub mod ClosedLaws
 pub mod HistoryLaws
+pub mod ListLaws
+pub mod EntryLaws
+pub mod BackLaws
+pub mod LookupLaws
+pub mod CameLaws
+pub mod OneLaws
+pub mod PartLaws
+pub mod TalliedLaws
+pub mod HeardLaws
+pub mod SpeakerLaws
+pub mod HalfLaws
+pub mod OpenLaws
+pub mod ReplyLaws

@@ -7,6 +7,7 @@ pub mod History
 pub mod Spoken
 pub mod ByTallies
 pub mod Faults
+pub mod Lookups
 pub mod Searching
 pub mod Finding
 pub mod Noting

@@ -5,6 +5,7 @@
 mod answers;
 mod asked;
 mod before;
+mod back;
 mod blaming;
 mod by_class;
 mod code_counts;
@@ -22,6 +23,7 @@ mod speaker;
 mod sums;
 mod tallies;
 mod tally;
+mod there;
 mod told;
 
 pub use blaming::blame;
