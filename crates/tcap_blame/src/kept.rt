@@ -149,6 +149,25 @@ impl Kept {
         }
     }
 
+    /// The lowest kind of a message that `sender` sent, where that is `end`.
+    fn fault_of<M: MessageParts>(
+        &self,
+        alloc: Global,
+        table: &Table,
+        end: End,
+        sender: End,
+        message: &M,
+    ) -> Result<Option<Kind>, AllocError>
+        ensures { (items : List Item) → IsKept table.now end items self.now
+            → AreRoomy (items ++ Sent sender (M.meaning message.now) ∷ [])
+            → IfOk result (λ kind. kind ≡ lowest_fault table.now end items (Sent sender (M.meaning message.now))) }
+    {
+        match (end, sender) {
+            (End::A, End::A) | (End::B, End::B) => self.kind_of(alloc, table, end, message),
+            _ => Ok(None),
+        }
+    }
+
     /// A message that `sender` sent: whether it is a fault of `end`. Else it is kept.
     fn take_message<M: MessageParts>(
         &mut self,
@@ -163,10 +182,8 @@ impl Kept {
             → IfOk result (λ taken. Takes table.now end items (Some sender) (Ok (Sent sender (M.meaning message.now)))
             taken self.new) }
     {
-        if sender == end {
-            if let Some(kind) = self.kind_of(alloc, table, end, message)? {
-                return Ok(Taken::Faulty(kind));
-            }
+        if let Some(kind) = self.fault_of(alloc, table, end, sender, message)? {
+            return Ok(Taken::Faulty(kind));
         }
         self.notes.add_message(alloc, table, sender, message)?;
         self.history.note(alloc, table, end, sender, message)?;

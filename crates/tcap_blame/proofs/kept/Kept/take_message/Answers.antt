@@ -1,15 +1,13 @@
-use Rattle.tcap_blame.proofs.KeptLaws.{kept_more, of_ok, peer_alone}
+use Rattle.std.proofs.Common.{◌∙◌, sym}
+use Rattle.tcap_blame.proofs.KeptLaws.{kept_more, of_ok}
 use Rattle.tcap_blame.proofs.kept.Kept.take_message.Goals as goal
-use Rattle.tcap_blame.proofs.kept.Kept.take_message.Goals.{then-eq+in_ok-kind+in_default, else-eq}
 
 pub returns : goal.returns
 returns g c = λ items are roomy.
     let m = g.M.MessageParts.meaning c.args.message.now in (
-      elim c.if-eq.branch [
-        | then-eq+in_ok-kind+in_default w ↦ ?
-        | else-eq w ↦ ?
-      ],
+      sym (of_ok _ c.fault_of.result c.in_ok-kind.field-0 c.in_ok-kind.was (c.fault_of.ensures items are roomy))
+          ∙ c.in_default.is,
       kept_more c.args.table.now c.args.end c.args.sender items m _
-          ?
-          ?,
+          (c.in_ok-add_message.ensures tt items are.notes)
+          (c.in_ok-note.ensures tt _ are.history),
     )
