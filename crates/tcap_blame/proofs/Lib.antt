@@ -38,3 +38,4 @@ pub mod SpeakerLaws
 pub mod HalfLaws
 pub mod OpenLaws
 pub mod ReplyLaws
+pub mod SearchLaws

@@ -8,6 +8,6 @@ returns g c = λ items are roomy.
       sym (of_ok _ c.fault_of.result c.in_ok-kind.field-0 c.in_ok-kind.was (c.fault_of.ensures items are roomy))
           ∙ c.in_default.is,
       kept_more c.args.table.now c.args.end c.args.sender items m _
-          (c.in_ok-add_message.ensures tt items are.notes)
-          (c.in_ok-note.ensures tt _ are.history),
+          (c.in_ok-add_message.ensures items are.notes)
+          (c.in_ok-note.ensures _ are.history),
     )
