@@ -1,5 +1,5 @@
 -- What is kept of what was asked from an ID, with a message more.
-use Rattle.std.proofs.Common.{◌≡◌, ◌+◌, ℕ, Bool, true, false, cond, ◌&&◌, ◌||◌, List, [], ◌∷◌, ◌++◌, length, Option, Some, None, refl, sym, ap, ◌∙◌, arith}
+use Rattle.std.proofs.Common.{◌≡◌, ◌+◌, ℕ, Bool, true, false, cond, ◌||◌, List, [], ◌∷◌, ◌++◌, length, Some, refl, sym, ap, ◌∙◌, arith}
 use Rattle.std.specs.Prelude.{filter, nat_le}
 use Rattle.std.specs.List.{list_any}
 use Rattle.std.specs.Map.{lookup}
@@ -13,9 +13,8 @@ use Rattle.tcap_msg.specs.declared.message.Message.{Message}
 use Rattle.tcap_msg.specs.declared.message.Message.TheVariants.{Unidirectional, Begin, Continue, End as EndMessage, Abort}
 use Rattle.tcap_msg.specs.Parts.{components_in, dialogue_in, dtid_in, kind_in}
 use Rattle.tcap_end.specs.Dialogue.{is_request, is_response}
-use Rattle.tcap_end.specs.End.{is_id}
 use Rattle.tcap_end.specs.Table.{Table, octets_cmp}
-use Rattle.tcap_refute.specs.Before.{components_of, has_a, is_a}
+use Rattle.tcap_refute.specs.Before.{components_of, is_a}
 use Rattle.tcap_refute.specs.Counts.{count}
 use Rattle.tcap_refute.specs.Kind.{is_begin_with_request}
 use Rattle.tcap_refute.specs.Speaker.{accepts_to, goes_on_to}
@@ -150,7 +149,8 @@ continue_only (Unidirectional dialogue components) is = cc
 continue_only (EndMessage dtid dialogue components) is = cc
 continue_only (Abort dtid reason) is = cc
 
-pub goes_there : (to : List ℕ) (m : Message) → is_a forms.Continue m ≡ true → dtid_in m ≡ Some to → goes_on_to to m ≡ true
+pub goes_there : (to : List ℕ) (m : Message) → is_a forms.Continue m ≡ true → dtid_in m ≡ Some to
+    → goes_on_to to m ≡ true
 goes_there to m goes it = rw (goes, it) ((bytes_eq-Decides to to).1 refl)
 
 -- ---- a message more

@@ -63,7 +63,8 @@ module _ (table : Table) (side : Side) (items : List Item) (h : History) (was : 
         speaks : own ≡ id → spoke_from side own items ≡ true
         speaks one = rw one (spoke table side items id _ (was.own id) ∙ has)
 
-        by : (b : Bool) → bytes_eq own id ≡ b → b ≡ (all_go_on_to own (asked side to items) && spoke_from side own items)
+        by : (b : Bool) → bytes_eq own id ≡ b
+            → b ≡ (all_go_on_to own (asked side to items) && spoke_from side own items)
         by true same =
             let one : own ≡ id = (bytes_eq-Decides own id).0 same in
             sym (and_from _ _ (sym goes ∙ same) (speaks one))

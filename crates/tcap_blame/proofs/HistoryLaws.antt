@@ -1,9 +1,6 @@
 -- What is kept of an end, with a message more.
-use Rattle.std.proofs.Common.{◌≡◌, ℕ, Bool, true, false, cond, ◌&&◌, ◌||◌, List, [], ◌∷◌, ◌++◌, Option, Some, None, refl, sym, ap, ◌∙◌}
-use Rattle.std.specs.BTreeSet.{BTreeSet}
+use Rattle.std.proofs.Common.{◌≡◌, ℕ, Bool, true, false, ◌||◌, List, [], ◌∷◌, ◌++◌, Option, refl, sym, ◌∙◌}
 use Rattle.std.specs.BTreeSet as set
-use Rattle.std.specs.List.{list_any}
-use Rattle.std.specs.Prelude.{filter}
 use Rattle.std.proofs.lemmas.List.{append-nil, append_assoc}
 use Rattle.tcap_msg.specs.declared.message.Message.{Message}
 use Rattle.tcap_msg.specs.Parts.{dtid_in, otid_in}
@@ -17,7 +14,7 @@ use Rattle.tcap_refute.specs.Before.{asked, sent_by}
 use Rattle.tcap_refute.specs.HalfKinds.{shows_closed, was_closed_behind}
 use Rattle.tcap_refute.specs.Speaker.{ends_to}
 use Rattle.tcap_refute.proofs.HalfLawsLists.{other_is_not, own_same, their_same}
-use Rattle.tcap_refute.proofs.LifeLawsItems.{sent_own, sent_other}
+use Rattle.tcap_refute.proofs.LifeLawsItems.{sent_own}
 use Rattle.tcap_refute.proofs.TestLaws.{or_none}
 use Rattle.tcap_blame.specs.declared.history.History.{History}
 use Rattle.tcap_blame.specs.History.{IsHistory, sent_to}
@@ -71,9 +68,11 @@ module _ (table : Table) (side : Side) (items : List Item) (m : Message) (old ne
     asked = λ id. rw (their_same side m items, asked_same) (was.asked id);
     told = λ id. rw (sent_own side m items, filter_more (λ m. is_id id (dtid_in m)) (sent_by side items) m) (told id);
     own = λ id.
-        rw (twice_own side m items, filter_more (λ m. is_id id (otid_in m)) (sent_by (other (other side)) items) m) (own id);
+        rw (twice_own side m items, filter_more (λ m. is_id id (otid_in m)) (sent_by (other (other side)) items) m)
+        (own id);
     ended = λ id.
-        ended id ∙ rw (sent_own side m items, any_more (λ m. is_id id (ended_by m)) (sent_by side items) m, was.ended id) refl;
+        ended id
+        ∙ rw (sent_own side m items, any_more (λ m. is_id id (ended_by m)) (sent_by side items) m, was.ended id) refl;
     silenced = λ id. rw (their_same side m items, silenced_same) (was.silenced id);
     closed = λ id.
         closes id ∙ rw (closed_more side id [] items (Sent side m), was.closed id, shows id) refl;
@@ -94,7 +93,9 @@ module _ (table : Table) (side : Side) (items : List Item) (m : Message) (old ne
     ended = λ id. rw (own_same side m items, ended_same) (was.ended id);
     silenced = λ id.
         silenced id
-        ∙ rw (sent_own (other side) m items, any_more (ends_to id) (sent_by (other side) items) m, was.silenced id) refl;
+        ∙ rw (sent_own (other side) m items, any_more (ends_to id) (sent_by (other side) items) m, was.silenced id)
+        refl;
     closed = λ id.
-        rw (closed_more side id [] items (Sent (other side) m), other_is_not side, closed_same) (was.closed id ∙ or_none _);
+        rw (closed_more side id [] items (Sent (other side) m), other_is_not side, closed_same)
+        (was.closed id ∙ or_none _);
   }

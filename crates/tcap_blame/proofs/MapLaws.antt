@@ -1,13 +1,11 @@
 -- Maps by transaction IDs, of which each value is of a list of messages, with a message more at an ID of it.
-use Rattle.std.proofs.Common.{◌≡◌, ℕ, Bool, true, false, cond, List, [], ◌∷◌, ◌++◌, Option, Some, None, is_some, bytes_eq, refl, sym, subst, ap, ◌∙◌}
+use Rattle.std.proofs.Common.{◌≡◌, ℕ, Bool, true, false, cond, List, [], ◌∷◌, ◌++◌, Option, Some, None, is_some, refl, sym, ap}
 use Rattle.std.specs.BTreeMap.{BTreeMap, WritesThrough, is_at}
 use Rattle.std.specs.Map.{lookup}
 use Rattle.std.proofs.lemmas.List.{append-nil}
 use Rattle.std.proofs.lemmas.Map.Lookups.{exact_bytes}
 use Rattle.std.proofs.lemmas.Map.Views.{tells_apart}
-use Rattle.std.proofs.lemmas.Slice.Eq.{bytes_eq-Decides}
 use Rattle.tcap_msg.specs.declared.message.Message.{Message}
-use Rattle.tcap_end.specs.End.{is_id}
 use Rattle.tcap_end.specs.Table.{Table, octets_cmp}
 use Rattle.tcap_refute.specs.Speaker.{is_nothing}
 use Rattle.tcap_blame.specs.History.{IsAsked, IsAskedAt, IsCame, IsCameAt, IsOwn, IsOwnAt, IsTold, IsToldAt}
@@ -18,9 +16,11 @@ use Rattle.tcap_blame.proofs.NotedLists.{something}
 -- The value at one key became another.
 abbrev pub Puts : {X : Type 0} → List (List ℕ × X) → List (List ℕ × X) → List ℕ → X → Type 0
 Puts old new id s = (key : List ℕ)
-    → lookup (is_at (octets_cmp key)) new ≡ cond (is_at (octets_cmp id) key) (Some s) (lookup (is_at (octets_cmp key)) old)
+    → lookup (is_at (octets_cmp key)) new
+    ≡ cond (is_at (octets_cmp id) key) (Some s) (lookup (is_at (octets_cmp key)) old)
 
--- What is said of messages at an ID, and what is kept of them, if anything: that they are none, or what is said of both.
+-- What is said of messages at an ID, and of what is kept of them, if anything: that they are none, or what is said of
+-- both.
 pub record IsFamily {X : Type 0} (At : List ℕ → List Message → Option X → Type 0)
     (Is : List ℕ → List Message → X → Type 0) : Type 0 where
   pub none : (id : List ℕ) (ms : List Message) → At id ms None → ms ≡ []
@@ -56,7 +56,8 @@ module _ {X : Type 0} {At : List ℕ → List Message → Option X → Type 0} {
         → Is to (lists to) was
     was_kept old was there are = family.some to (lists to) was (rw (← there) at (are to))
 
-    pub noted_written : (old new : BTreeMap (List ℕ) X) (was s : X) → Some was ≡ lookup (is_at (octets_cmp to)) old.entries
+    pub noted_written : (old new : BTreeMap (List ℕ) X) (was s : X)
+        → Some was ≡ lookup (is_at (octets_cmp to)) old.entries
         → WritesThrough octets_cmp (octets_cmp to) old s new
         → ((id : List ℕ) → At id (lists id) (lookup (is_at (octets_cmp id)) old.entries))
         → Is to (lists to ++ m ∷ []) s
@@ -77,13 +78,17 @@ module _ {X : Type 0} {At : List ℕ → List Message → Option X → Type 0} {
 -- ---- what is kept of Continues to an ID, and of what was asked, told, and sent from an own ID
 
 pub came_family : (table : Table) → IsFamily (IsCameAt table) (IsCame table)
-came_family table = record { none = λ id ms is. is; some = λ id ms kept is. is.1; made = λ id ms kept some is. (some, is) }
+came_family table =
+    record { none = λ id ms is. is; some = λ id ms kept is. is.1; made = λ id ms kept some is. (some, is) }
 
 pub asked_family : (table : Table) → IsFamily (λ id. IsAskedAt table) (λ id. IsAsked table)
-asked_family table = record { none = λ id ms is. is; some = λ id ms kept is. is.1; made = λ id ms kept some is. (some, is) }
+asked_family table =
+    record { none = λ id ms is. is; some = λ id ms kept is. is.1; made = λ id ms kept some is. (some, is) }
 
 pub told_family : (table : Table) → IsFamily (λ id. IsToldAt table) (λ id. IsTold table)
-told_family table = record { none = λ id ms is. is; some = λ id ms kept is. is.1; made = λ id ms kept some is. (some, is) }
+told_family table =
+    record { none = λ id ms is. is; some = λ id ms kept is. is.1; made = λ id ms kept some is. (some, is) }
 
 pub own_family : (table : Table) → IsFamily (λ id. IsOwnAt table) (λ id. IsOwn table)
-own_family table = record { none = λ id ms is. is; some = λ id ms kept is. is.1; made = λ id ms kept some is. (some, is) }
+own_family table =
+    record { none = λ id ms is. is; some = λ id ms kept is. is.1; made = λ id ms kept some is. (some, is) }

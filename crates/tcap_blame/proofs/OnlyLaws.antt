@@ -1,5 +1,5 @@
 -- The only ID to which Continues go.
-use Rattle.std.proofs.Common.{◌≡◌, ◌≢◌, ℕ, ◌<◌, Bool, true, false, cond, ◌&&◌, ◌||◌, not, List, [], ◌∷◌, length, Option, Some, None, bytes_eq, refl, sym, ap, ◌∙◌, arith}
+use Rattle.std.proofs.Common.{◌≡◌, ◌≢◌, ℕ, Bool, true, false, cond, ◌&&◌, ◌||◌, not, List, [], ◌∷◌, length, Option, Some, None, bytes_eq, refl, sym, ap, ◌∙◌, arith}
 use Rattle.std.specs.Prelude.{filter, is_some, slice_get}
 use Rattle.std.specs.List.{list_any}
 use Rattle.std.specs.Map.{lookup}
@@ -167,7 +167,8 @@ module _ (table : Table) (ms : List Message) (entries : List (List ℕ × Came))
       first = is_kept a.0 ∙ rw (is, at_id a.0 a.0, (bytes_eq-Decides a.0 a.0).1 refl) refl
 
       second : go_to b.0 ms ≡ true
-      second = is_kept b.0 ∙ rw (is, at_id b.0 b.0, (bytes_eq-Decides b.0 b.0).1 refl) (found (is_at (octets_cmp b.0) a.0))
+      second = is_kept b.0
+          ∙ rw (is, at_id b.0 b.0, (bytes_eq-Decides b.0 b.0).1 refl) (found (is_at (octets_cmp b.0) a.0))
         where
           found : (c : Bool) → is_some (cond c (Some a.1) (Some b.1)) ≡ true
           found true = refl

@@ -1,5 +1,5 @@
 -- What is kept of what an end sent from an own ID, with a message more.
-use Rattle.std.proofs.Common.{◌≡◌, ◌⊎◌, inl, inr, ℕ, Bool, true, false, cond, List, [], ◌∷◌, ◌++◌, Option, Some, None, refl, sym, ap, ◌∙◌}
+use Rattle.std.proofs.Common.{◌≡◌, ◌⊎◌, inl, inr, ℕ, Bool, true, false, cond, List, [], ◌∷◌, ◌++◌, Option, Some, None, refl, sym, ◌∙◌}
 use Rattle.std.specs.Prelude.{is_some}
 use Rattle.std.specs.List.{find}
 use Rattle.std.specs.Option.{option_or}
@@ -59,7 +59,8 @@ module _ (table : Table) (ms : List Message) (m : Message) (old : Own) (was : Is
   begin_first kept it none is =
       rw (find_more (is_a forms.Begin) ms m, it) (by (find (is_a forms.Begin) ms) (rw none at was.begin))
     where
-      by : (found : Option Message) → IsOwnBegin table found None → IsOwnBegin table (or_else found (Some m)) (Some kept)
+      by : (found : Option Message) → IsOwnBegin table found None
+          → IsOwnBegin table (or_else found (Some m)) (Some kept)
       by None first = is
       by (Some begin) bad = absurd bad
 

@@ -1,6 +1,6 @@
 -- What is kept of what an end told to an ID, with a message more.
-use Rattle.std.proofs.Common.{◌≡◌, ◌≤◌, ◌^◌, ℕ, Bool, true, false, cond, ◌&&◌, ◌||◌, not, List, [], ◌∷◌, ◌++◌, length, Option, Some, None, bytes_eq, refl, sym, ap, ◌∙◌}
-use Rattle.std.specs.Prelude.{filter, is_none, is_some}
+use Rattle.std.proofs.Common.{◌≡◌, ℕ, Bool, true, false, ◌||◌, not, List, [], ◌∷◌, ◌++◌, Option, Some, None, bytes_eq, refl, sym, ◌∙◌}
+use Rattle.std.specs.Prelude.{is_none, is_some}
 use Rattle.std.specs.List.{list_any}
 use Rattle.std.proofs.lemmas.Bool.{or_left, or_parts}
 use Rattle.std.proofs.lemmas.List.{append-nil}
@@ -12,7 +12,7 @@ use Rattle.tcap_msg.specs.Parts.{cause_in, components_in, otid_in}
 use Rattle.tcap_end.specs.Table.{Table}
 use Rattle.tcap_refute.specs.Before.{components_of, is_a}
 use Rattle.tcap_refute.specs.Kind.{or_else}
-use Rattle.tcap_refute.specs.Speaker.{is_cause, is_nothing}
+use Rattle.tcap_refute.specs.Speaker.{is_cause}
 use Rattle.tcap_refute.proofs.TestLaws.{or_none}
 use Rattle.tcap_blame.specs.declared.tally.Tally.{Tally}
 use Rattle.tcap_blame.specs.declared.told.Told.{Told}
@@ -102,8 +102,13 @@ module _ (table : Table) (ms : List Message) (m : Message) (old : Told) (was : I
     own = rw (is.own_id, more, first_more (is_a forms.Continue) otid_in goes_on_has (of_user ms) m, was.own) refl;
     elsewhere = λ own one.
         let apart = or_parts _ _ (sym is.several ∙ one) in
-        rw (is.own_id, more, any_more (goes_on_from_other own) (of_user ms) m, goes_on_other own m,
-        ← was.elsewhere own apart.0) (other_more own old.own (goes_on_from m) apart.1);
+        rw (
+          is.own_id,
+          more,
+          any_more (goes_on_from_other own) (of_user ms) m,
+          goes_on_other own m,
+          ← was.elsewhere own apart.0,
+        ) (other_more own old.own (goes_on_from m) apart.1);
     several = λ own two.
         rw (more, any_more (goes_on_from_other own) (of_user ms) m, goes_on_other own m)
         (by own old.from_several refl (sym is.several ∙ two));

@@ -85,11 +85,12 @@ impl History {
         }
     }
 
-    /// The own ID that an Abort with cause 1 to that ID shows to be closed: all its Continues went there, and the end spoke from
-    /// there.
+    /// The own ID that an Abort with cause 1 to that ID shows to be closed: all its Continues went there, and the end spoke
+    /// from there.
     fn closed_at(&self, dtid: TransactionIdView) -> Option<TransactionId>
         ensures { (table : Table) (side : Side) (items : List Item) (own : List ℕ) → IsHistory table side items self.now
-            → is_id own result ≡ all_go_on_to own (asked side dtid.entry.octets.now items) && spoke_from side own items }
+            → is_id own result
+            ≡ all_go_on_to own (asked side dtid.entry.octets.now items) && spoke_from side own items }
     {
         let Some(asked) = self.asked.get(&dtid.to_transaction_id()) else {
             return None;
@@ -141,7 +142,8 @@ impl History {
         message: &M,
     ) -> Result<(), AllocError>
         ensures { (side : Side) (items : List Item) → IsHistory table.now side items self.old
-            → OnOk result (IsHistory table.now side (items ++ Sent (other side) (M.meaning message.now) ∷ []) self.new) }
+            → OnOk result (IsHistory table.now side (items ++ Sent (other side) (M.meaning message.now) ∷ [])
+            self.new) }
     {
         note_asked(&mut self.asked, alloc, table, message)?;
         note_id(&mut self.silenced, silenced_by(message))

@@ -15,8 +15,8 @@ returns-in-Some-get_mut g c = λ lists goes are.
     (noted_written family dtid_in m lists id (sym c.in-Some.ensures) c.args.came.now
     (c.get_mut.follows.lender c.note.new.self) c.in-Some-get_mut.kept.now c.note.new.self there
     (rw c.to_transaction_id-key.ensures at (c.get_mut.follows.holds c.note.new.self)) are)
-    (c.note.ensures id (lists id) (goes_there id m goes (sym c.in-Some.ensures)) (was_kept family dtid_in m lists id (sym c.in-Some.ensures)
-    c.args.came.now.entries c.in-Some-get_mut.kept.now there are))
+    (c.note.ensures id (lists id) (goes_there id m goes (sym c.in-Some.ensures))
+    (was_kept family dtid_in m lists id (sym c.in-Some.ensures) c.args.came.now.entries c.in-Some-get_mut.kept.now there are))
 
 pub returns : goal.returns
 returns g c = λ lists goes are.

@@ -18,7 +18,8 @@ returns-in_default-only_destination c = λ table side items own was.
 pub returns-then-contains_key : goal.returns-then-contains_key
 returns-then-contains_key c = λ table side items own was.
     rw c.to_transaction_id-id.ensures
-    (closed_here table side items c.args.self.now was own c.args.dtid.octets.now c.in-Some-only_destination.id.octets.now
+    (closed_here table side items c.args.self.now was own c.args.dtid.octets.now
+    c.in-Some-only_destination.id.octets.now
     (c.in-Some-only_destination.ensures table (asked side c.args.dtid.octets.now items) own
     (asked_there table side items c.args.self.now was own c.args.dtid.octets.now c.in-Some.asked.now
     (rw c.to_transaction_id.ensures at c.in-Some.ensures.value)))
@@ -26,7 +27,8 @@ returns-then-contains_key c = λ table side items own was.
 
 pub returns-else-contains_key : goal.returns-else-contains_key
 returns-else-contains_key c = λ table side items own was.
-    closed_silent table side items c.args.self.now was own c.args.dtid.octets.now c.in-Some-only_destination.id.octets.now
+    closed_silent table side items c.args.self.now was own c.args.dtid.octets.now
+    c.in-Some-only_destination.id.octets.now
     (c.in-Some-only_destination.ensures table (asked side c.args.dtid.octets.now items) own
     (asked_there table side items c.args.self.now was own c.args.dtid.octets.now c.in-Some.asked.now
     (rw c.to_transaction_id.ensures at c.in-Some.ensures.value)))
