@@ -73,7 +73,7 @@ still_roomy side items m roomy =
     let f = length-append (since_quiet items) (Sent side m ∷ []) in
     let g = roomy.few in
     let h = roomy.components in
-    record { few = omega (arith, a, b, e, f, g); components = omega (arith, a, c, d, h); }
+    record { few = omega (arith, a, b, e, f, g); components = omega (arith, a, c, d, h) }
 
 -- ---- the lowest of all kinds
 

@@ -51,8 +51,11 @@ roomy_more table side entries number kept so_far few item small =
     let b = so_far.counted in
     let c = so_far.components in
     let d = in_all so_far.items item in
-    record { few = omega (arith, a, b, few); components = bound number (components_in_all so_far.items)
-        (components_in_all (item ∷ [])) _ few c small d; }
+    record {
+      few = omega (arith, a, b, few);
+      components = bound number (components_in_all so_far.items)
+          (components_in_all (item ∷ [])) _ few c small d;
+    }
   where
     bound : (number a b all : ℕ) → number < 2 ^ 63 → a ≤ number * 2 ^ 63 → b < 2 ^ 63 → all ≡ a + b → all ≤ 2 ^ 126
     bound number a b all few is_a is_b is = omega (arith, few, is_a, is_b, is)
@@ -135,7 +138,7 @@ module _ (table : Table) (side : Side) (entries : List Entry) (number : ℕ) (ke
       → Searches table side entries (number + 1) next
   passed count counted small takes =
       let (item, item_is, are, left) =
-          passed_on table side so_far.items number entry (told (drop (number + 1) entries)) next (item_of entry) takes in
+      passed_on table side so_far.items number entry (told (drop (number + 1) entries)) next (item_of entry) takes in
       record {
         items = so_far.items ++ item ∷ [];
         are = are;

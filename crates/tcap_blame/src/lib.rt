@@ -4,8 +4,8 @@
 
 mod answers;
 mod asked;
-mod before;
 mod back;
+mod before;
 mod blaming;
 mod by_class;
 mod code_counts;
