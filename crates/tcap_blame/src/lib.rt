@@ -1,0 +1,6 @@
+//! Stub.
+#![tactic(auto)]
+
+mod blaming;
+
+pub use blaming::blame;
