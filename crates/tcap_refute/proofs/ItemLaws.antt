@@ -71,7 +71,7 @@ module _ (side : Side) (m : Message) where
       ∙ list_any-append (shows_end table fact) (sent_by end (since_quiet items)) (sent_by end (Sent side m ∷ []))
       ∙ ap (λ b. told_by_list table items end fact || b) (sent_last (shows_end table fact) end)
 
-  noted : (table : Table) (items : List Item) (old new : Notes) → AreNotesOf table items old
+  pub noted : (table : Table) (items : List Item) (old new : Notes) → AreNotesOf table items old
       → ((end : Side) (fact : EndFact) → told_by_notes new end fact
       ≡ (told_by_notes old end fact || (is_side end side && shows_end table fact m)))
       → AreNotesOf table (items ++ Sent side m ∷ []) new
@@ -111,16 +111,17 @@ since_mark (item ∷ xs) =
     ap (λ b. cond b (since_quiet (xs ++ Item.Quiet ∷ [])) (item ∷ xs ++ Item.Quiet ∷ [])) (quiet_last (item ∷ xs))
     ∙ since_mark xs
 
+pub noted_mark : (table : Table) (items : List Item) (new : Notes)
+    → ((end : Side) (fact : EndFact) → told_by_notes new end fact ≡ false) → AreNotesOf table (items ++ Item.Quiet ∷ []) new
+noted_mark table items new told = record {
+  told = λ end fact. told end fact
+      ∙ sym (ap (λ xs. list_any (shows_end table fact) (sent_by end xs)) (since_mark items));
+}
+
 pub marked : (table : Table) (items : List Item) (new : Notes)
     → ((end : Side) (fact : EndFact) → told_by_notes new end fact ≡ false)
     → Judges table items (Ok Item.Quiet) Passed new
-marked table items new told = (
-  refl,
-  record {
-    told = λ end fact. told end fact
-        ∙ sym (ap (λ xs. list_any (shows_end table fact) (sent_by end xs)) (since_mark items));
-  },
-)
+marked table items new told = (refl, noted_mark table items new told)
 
 -- ---- a record
 

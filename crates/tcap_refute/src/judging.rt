@@ -28,7 +28,7 @@ pub(crate) enum Judged {
 }
 
 /// Whether a reason is a limit of this profile, and not of the standard.
-fn is_limit(reason: Reason) -> bool
+pub(crate) fn is_limit(reason: Reason) -> bool
     ensures { result ≡ is_limit reason }
 {
     matches!(

@@ -13,9 +13,12 @@ mod judging;
 mod kind;
 pub mod laws;
 mod notes;
+mod noting;
 mod refuting;
 pub mod whole;
 pub mod worked;
 
 pub use kind::{Kind, Refutation};
+pub use notes::Notes;
+pub use noting::kind_of_reason;
 pub use refuting::{SearchFault, refute};

@@ -29,9 +29,9 @@ pub(crate) struct EndNotes {
     pub(crate) ended: BTreeSet<TransactionId>,
 }
 
-/// What two ends sent.
+/// What is noted of the messages that two ends sent since the last quiet mark.
 #[derive(Debug, Drop)]
-pub(crate) struct Notes {
+pub struct Notes {
     pub(crate) a: EndNotes,
     pub(crate) b: EndNotes,
 }
