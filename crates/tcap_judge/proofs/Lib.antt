@@ -10,3 +10,4 @@ pub mod JudgeLaws
 pub mod LawfulLaws
 pub mod VerdictLaws
 pub mod JudgeCases
+pub mod BlameCases
