@@ -11,3 +11,4 @@ pub mod LawfulLaws
 pub mod VerdictLaws
 pub mod JudgeCases
 pub mod BlameCases
+pub mod BlamedLaws

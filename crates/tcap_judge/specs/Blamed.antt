@@ -73,9 +73,9 @@ abbrev pub record_is_blamed : Table → List Entry → Result (Unit {0}) FeedFau
 record_is_blamed table entries (Ok end) = is_blamed table entries
 record_is_blamed table entries (Err fault) = false
 
--- What the reader told is entries and the end behind them; what is said is the verdict on them, and behind it what is said of
--- both ends. What is blamed on an end is at fault: it is no message, or no run in which this end keeps the rules has it there,
--- whatever its peer sends and whatever follows.
+-- What the reader told is entries and the end behind them; what is said is the verdict on them, and behind it what is
+-- said of both ends. What is blamed on an end is at fault: it is no message, or no run in which this end keeps the
+-- rules has it there, whatever its peer sends and whatever follows.
 pub record SaysBlame (table : Table) (d : Device) (outcome : Outcome) (behind : List ℕ) (blames : Bool) : Type 0 where
   pub entries : List Entry
   pub end : Result (Unit {0}) FeedFault
@@ -113,8 +113,8 @@ SaysLines outcome behind blames text status =
     ((text ≡ outcome_line outcome ++ behind) × (status ≡ blame_status blames outcome))
     ⊎ ((text ≡ memory_line) × (status ≡ statuses.Fault))
 
--- What the two readers told gives an outcome and what is said of both ends, and what the writer took is their lines; or that
--- memory ran out.
+-- What the two readers told gives an outcome and what is said of both ends, and what the writer took is their lines;
+-- or that memory ran out.
 pub record PrintsBlame (entries table : Device) (taken taken' : Option (List ℕ)) (status : Status) : Type 0 where
   pub outcome : Outcome
   pub behind : List ℕ

@@ -1,6 +1,6 @@
 //! Judging a record, and saying of each end whether an entry is blamed on it.
 
-ghost use Rattle.std.specs.Prelude.{◌≡◌, ◌⊎◌, [], ◌++◌, ◌≤◌, ℕ, List, length, map, IfOk, OnOk, OnErr};
+ghost use Rattle.std.specs.Prelude.{◌≡◌, ◌⊎◌, [], ◌++◌, ◌≤◌, ℕ, List, false, length, map, IfOk, OnOk, OnErr};
 ghost use Rattle.std.specs.Io.KnownBytes.{Appends};
 ghost use Rattle.std.specs.String.{string_bytes};
 ghost use Rattle.tcap_ber.specs.Device.{one_more};
@@ -169,8 +169,8 @@ fn blame_told<R: Read>(alloc: Global, reader: &mut R, table: &Table) -> Said
     }
 }
 
-/// What is said of a record and a table, each of which a reader tells. Nothing of the record is read before the table is
-/// there.
+/// What is said of a record and a table, each of which a reader tells. Nothing of the record is read before the table
+/// is there.
 fn blame_by<R: Read, T: Read>(alloc: Global, entries: &mut R, table: &mut T) -> Said
     ensures { IsBlamed (record {
       before = R.untold entries.old;
@@ -202,8 +202,8 @@ fn blame_status(blames: bool, outcome: Outcome) -> Status
     }
 }
 
-/// Writes what is said, or that memory ran out where there is none for it, and answers how the run ends. All is there before its
-/// first octet is written.
+/// Writes what is said, or that memory ran out where there is none for it, and answers how the run ends. All is there
+/// before its first octet is written.
 fn write_said<W: Write>(alloc: Global, said: &Said, writer: &mut W) -> Result<Status, WriteFailed>
     ensures text { IfOk result (λ status. (text : List ℕ)
         × SaysLines said.now.outcome (string_bytes said.now.behind) said.now.blames text status
@@ -224,13 +224,14 @@ fn write_said<W: Write>(alloc: Global, said: &Said, writer: &mut W) -> Result<St
     }
 }
 
-/// Judges the record that `entries` tells by the operation table that `table` tells, and writes the line of `judge`; and behind it,
-/// where the record and the table have no fault, a line for each end: `BLAMED END ENTRY KIND`, its lowest entry, or quiet mark, that
-/// no run has in which this end keeps the rules, whatever its peer sends, as far as fifteen kinds tell (Q.771, Q.773, Q.774), with
-/// the lowest kind; or `NOT BLAMED END COUNT`, COUNT being how many entries stand before the first that is no message, or how many
-/// there are. What is blamed stands first, the lower entry before the other; else A stands before B. The status is that of
-/// REFUTED where an entry is blamed on an end, else that of the line of `judge`. All that grows has grown before the first octet is
-/// written. `WriteFailed` where the writer failed.
+/// Judges the record that `entries` tells by the operation table that `table` tells, and writes the line of `judge`;
+/// and behind it, where the record and the table have no fault, a line for each end: `BLAMED END ENTRY KIND`, its
+/// lowest entry, or quiet mark, that no run has in which this end keeps the rules, whatever its peer sends, as far as
+/// fifteen kinds tell (Q.771, Q.773, Q.774), with the lowest kind; or `NOT BLAMED END COUNT`, COUNT being how many
+/// entries stand before the first that is no message, or how many there are. What is blamed stands first, the lower
+/// entry before the other; else A stands before B. The status is that of REFUTED where an entry is blamed on an end,
+/// else that of the line of `judge`. All that grows has grown before the first octet is written. `WriteFailed` where
+/// the writer failed.
 pub fn run_blame<R: Read, T: Read, W: Write>(
     alloc: Global,
     entries: &mut R,
