@@ -4,6 +4,7 @@ import subprocess
 import sys
 import tempfile
 
+import blamed
 import judged
 
 PROGRAM = "crates/tcapjudge/out/tcapjudge"
@@ -86,6 +87,20 @@ ROWS = [
     (["judge", "DIALOGUE"], b"", b"", SOME, 4),
     (["judge", "DIALOGUE", "TABLE", "x"], b"", b"", SOME, 4),
     (["judge", "--help"], b"", SOME, b"", 0),
+    # The same, with what is blamed on each end.
+    (["blame", "DIALOGUE", "TABLE"], b"", b"LAWFUL 2\nNOT BLAMED A 2\nNOT BLAMED B 2\n", b"", 0),
+    (["blame", "DIALOGUE", "BROKEN"], b"", b"FAULT 30 0\n", b"", 3),
+    (["blame", "CUT", "TABLE"], b"", b"FAULT 21 28\n", b"", 3),
+    (["blame", "CUT", "BROKEN"], b"", b"FAULT 30 0\n", b"", 3),
+    (["blame", NONE, "TABLE"], b"", b"FAULT 23 0\n", b"", 3),
+    (["blame", "DIALOGUE", NONE], b"", b"FAULT 23 0\n", b"", 3),
+    (["blame", NONE, "BROKEN"], b"", b"FAULT 30 0\n", b"", 3),
+    (["blame", "TABLE", "DIALOGUE"], b"", b"FAULT 30 0\n", b"", 3),
+    (["blame"], b"", b"", SOME, 4),
+    (["blame", "DIALOGUE"], b"", b"", SOME, 4),
+    (["blame", "DIALOGUE", "TABLE", "x"], b"", b"", SOME, 4),
+    (["blame", "DIALOGUE", "TABLE", "--cert"], b"", b"", SOME, 4),
+    (["blame", "--help"], b"", SOME, b"", 0),
     (["check", "DIALOGUE", "TABLE"], b"", b"", SOME, 4),
     (["check", "DIALOGUE", "TABLE", "CERT", "x"], b"", b"", SOME, 4),
     (["--version"], b"", b"tcapjudge 0.1.0\n", b"", 0),
@@ -105,6 +120,7 @@ FULL = [
     (["check", "DIALOGUE", "TABLE", "CERT"], b"", 3),
     (["check", "DIALOGUE", "TABLE", "LATE"], b"", 3),
     (["judge", "DIALOGUE", "TABLE", "--cert"], b"", 3),
+    (["blame", "DIALOGUE", "TABLE"], b"", 3),
     (["--help"], b"", 3),
     (["--version"], b"", 3),
     (["shew"], b"", 4),
@@ -144,18 +160,45 @@ def wrong_in(folder):
     return wrong
 
 
+def written(folder, record, table):
+    """The paths of the files of a record and its operation table, with these octets."""
+    paths = [f"{folder}/judged", f"{folder}/judged.table"]
+    for path, octets in zip(paths, (record, table)):
+        with open(path, "wb") as file:
+            file.write(octets)
+    return paths
+
+
+def said(words):
+    """What the program prints with these words, and its exit status."""
+    run = subprocess.run([PROGRAM, *words], input=b"", capture_output=True, check=False)
+    return run.stdout, run.stderr, run.returncode
+
+
 def misjudged_in(folder):
-    """How many rows of judged.py are not as they are wanted, each of which is printed."""
+    """How many rows of judged.py and blamed.py are not as they are wanted, each of which is printed."""
     wrong = 0
-    for number, (record, table, printed, status) in enumerate(judged.rows()):
-        for name, octets in ("judged", record), ("judged.table", table):
-            with open(f"{folder}/{name}", "wb") as file:
-                file.write(octets)
-        words = ["judge", f"{folder}/judged", f"{folder}/judged.table", "--cert"]
-        run = subprocess.run([PROGRAM, *words], input=b"", capture_output=True, check=False)
-        if run.stdout != printed or run.stderr != b"" or run.returncode != status:
+    for rows, word, flags in (judged, "judge", ["--cert"]), (blamed, "blame", []):
+        for number, (record, table, printed, status) in enumerate(rows.rows()):
+            found = said([word, *written(folder, record, table), *flags])
+            if found != (printed, b"", status):
+                wrong += 1
+                print(f"row {number} of {rows.__name__}.py: {found}")
+    return wrong
+
+
+def misblamed_in(folder):
+    """How many records of faults.json are not as they are wanted, each of which is printed."""
+    wrong = 0
+    for name, record, table, faults in blamed.faults():
+        paths = written(folder, record, table)
+        line, _, status = said(["judge", *paths])
+        count = blamed.count_of(said(["show", paths[0]])[0])
+        wanted = line + blamed.lines_of(faults, count), b"", 1 if any(faults.values()) else status
+        found = said(["blame", *paths])
+        if found != wanted:
             wrong += 1
-            print(f"row {number} of judged.py: {run.returncode} {run.stdout} {run.stderr}")
+            print(f"{name}: {found}, not {wanted}")
     return wrong
 
 
@@ -164,8 +207,9 @@ def main():
         for name, octets in FILES.items():
             with open(f"{folder}/{name}", "wb") as file:
                 file.write(octets)
-        wrong = wrong_in(folder) + misjudged_in(folder)
-    print(f"{len(ROWS) + len(FULL) + 1 + len(judged.ROWS) - wrong} passed, {wrong} failed")
+        wrong = wrong_in(folder) + misjudged_in(folder) + misblamed_in(folder)
+    count = len(ROWS) + len(FULL) + 1 + len(judged.ROWS) + len(blamed.ROWS) + len(list(blamed.faults()))
+    print(f"{count - wrong} passed, {wrong} failed")
     return int(wrong != 0)
 
 

@@ -1,6 +1,6 @@
 """What `make demo` runs: makes records of the lines of examples/ by `pack`, shows them by `show`, checks those that have an
-operation table and a certificate by `check`, and judges those of JUDGED by `judge`. It is the program as `rt try` runs it,
-compiled but not proved."""
+operation table and a certificate by `check`, judges those of JUDGED by `judge`, and says of those of BLAMED by `blame` which end
+is at fault. It is the program as `rt try` runs it, compiled but not proved."""
 
 import concurrent.futures
 import glob
@@ -11,7 +11,7 @@ import subprocess
 import sys
 import tempfile
 
-# The examples that are judged, by the table of examples/operations.json.
+# The examples that are judged, by the table of examples/operations.json; one_in_three has its operations too.
 JUDGED = [
     "crossing",
     "late_result",
@@ -22,6 +22,19 @@ JUDGED = [
     "answers_nothing",
     "wrong_operation",
     "misplaced_dialogue",
+    "one_in_three",
+]
+# Those of which it is said which end is at fault, by the same table.
+BLAMED = [
+    "wrong_half",
+    "wrong_dialogue",
+    "invoke_id_busy",
+    "bad_link",
+    "answered_already",
+    "reject_not_allowed",
+    "wrong_reply",
+    "open_at_mark",
+    "negative_test",
 ]
 
 
@@ -48,11 +61,11 @@ def checked(name, record):
     return f"== check {name}\n".encode() + run(flags, ["check", *files], [0, 2, 3])
 
 
-def judged(name, record):
-    """What `judge` prints of the record of that example, which stands in that file."""
+def judged(word, name, record):
+    """What the program prints with that word of the record of that example, which stands in that file."""
     files = {"record": record, "table": "examples/operations.json"}
     flags = [word for file, path in files.items() for word in ("--data", f"{file}={os.path.abspath(path)}")]
-    return f"== judge {name}\n".encode() + run(flags, ["judge", *files], [0, 1, 2])
+    return f"== {word} {name}\n".encode() + run(flags, [word, *files], [0, 1, 2])
 
 
 def main():
@@ -71,7 +84,8 @@ def main():
         shown = lanes.submit(run_each, "show", records)
         names = sorted(os.path.basename(path).removesuffix(".cert.json") for path in glob.glob("examples/*.cert.json"))
         checks = [lanes.submit(checked, name, f"{records}/{name}") for name in names]
-        verdicts = [lanes.submit(judged, name, f"{records}/{name}") for name in JUDGED]
+        asked = [("judge", name) for name in JUDGED] + [("blame", name) for name in BLAMED]
+        verdicts = [lanes.submit(judged, word, name, f"{records}/{name}") for word, name in asked]
         for said in [shown, *checks, *verdicts]:
             sys.stdout.buffer.write(said.result())
             sys.stdout.buffer.flush()

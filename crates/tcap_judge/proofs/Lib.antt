@@ -10,3 +10,5 @@ pub mod JudgeLaws
 pub mod LawfulLaws
 pub mod VerdictLaws
 pub mod JudgeCases
+pub mod BlameCases
+pub mod BlamedLaws

@@ -12,10 +12,10 @@ use Rattle.clap.specs.declared.parser.matches.Found.{Found}
 use Rattle.tcap_judge.proofs.Tool.{IsKnown, apart, fused, named, needed_there}
 use Rattle.clap.specs.Takes.{takes}
 use Rattle.clap.specs.Walk.{Row, Text, first_of, rows_of}
-use Rattle.tcap_judge.specs.Words.{Asks, IsCheck, IsFaultOf, IsJudge, IsMemory, IsPack, IsShow, checked_paths, is_set, judged_paths, named_with, named_with_flag, named_with_paths, path_text, tool}
+use Rattle.tcap_judge.specs.Words.{Asks, IsBlame, IsCheck, IsFaultOf, IsJudge, IsMemory, IsPack, IsShow, blamed_paths, checked_paths, is_set, judged_paths, named_with, named_with_flag, named_with_paths, named_with_two, path_text, tool}
 use Rattle.clap.specs.declared.error.kind.ErrorKind.{ErrorKind}
 use Rattle.tcap_judge.specs.declared.asked.Request.{Request}
-use Rattle.tcap_judge.specs.declared.asked.Request.TheVariants.{Show, Pack, Check, Judge}
+use Rattle.tcap_judge.specs.declared.asked.Request.TheVariants.{Show, Pack, Check, Judge, Blame}
 use Rattle.tcap_judge.specs.declared.words.WordsFault.{WordsFault}
 
 some_same : {X : Type 0} (a b : X) → Some a ≡ Some b → a ≡ b
@@ -56,6 +56,9 @@ show_only words text (Check x y z) is asks =
 show_only words text (Judge x y b) is asks =
     apart (codes "show") (codes "judge") refl refl
     (one_word (first_of (codes "RECORD")) judged_paths words _ _ _ _ is asks)
+show_only words text (Blame x y) is asks =
+    apart (codes "show") (codes "blame") refl refl
+    (one_word (first_of (codes "RECORD")) blamed_paths words _ _ _ _ is asks)
 
 pack_only : (words : List Text) (text : Option Text) (r : Request)
     → named_with (codes "LINES") words ≡ Some (codes "pack", text)
@@ -70,6 +73,9 @@ pack_only words text (Check x y z) is asks =
 pack_only words text (Judge x y b) is asks =
     apart (codes "pack") (codes "judge") refl refl
     (one_word (first_of (codes "LINES")) judged_paths words _ _ _ _ is asks)
+pack_only words text (Blame x y) is asks =
+    apart (codes "pack") (codes "blame") refl refl
+    (one_word (first_of (codes "LINES")) blamed_paths words _ _ _ _ is asks)
 
 -- the three paths of `check`
 abbrev three : Text → Text → Text → Option (Text × (Option Text × Option Text × Option Text))
@@ -94,6 +100,8 @@ check_only words x y z (Pack path) is asks =
     (one_word checked_paths (first_of (codes "LINES")) words _ _ _ _ is asks)
 check_only words x y z (Judge a b c) is asks =
     apart (codes "check") (codes "judge") refl refl (one_word checked_paths judged_paths words _ _ _ _ is asks)
+check_only words x y z (Blame a b) is asks =
+    apart (codes "check") (codes "blame") refl refl (one_word checked_paths blamed_paths words _ _ _ _ is asks)
 
 -- the two paths of `judge`, and its flag
 abbrev two : Text → Text → Bool → Option (Text × (Option Text × Option Text × Bool))
@@ -119,6 +127,33 @@ judge_only words x y flag (Pack path) is asks =
     (one_word judged_paths (first_of (codes "LINES")) words _ _ _ _ is asks)
 judge_only words x y flag (Check a b c) is asks =
     apart (codes "judge") (codes "check") refl refl (one_word judged_paths checked_paths words _ _ _ _ is asks)
+judge_only words x y flag (Blame a b) is asks =
+    apart (codes "judge") (codes "blame") refl refl (one_word judged_paths blamed_paths words _ _ _ _ is asks)
+
+-- the two paths of `blame`
+abbrev pair_of : Text → Text → Option (Text × (Option Text × Option Text))
+pair_of x y = Some (codes "blame", (Some x, Some y))
+
+pair_same : (a b x y : Text) → pair_of a b ≡ pair_of x y → (a ≡ x) × (b ≡ y)
+pair_same a b x y e = (
+  some_same _ _ (ap (option_and_then (λ (p : Text × (Option Text × Option Text)). p.1.0)) e),
+  some_same _ _ (ap (option_and_then (λ (p : Text × (Option Text × Option Text)). p.1.1)) e),
+)
+
+blame_only : (words : List Text) (x y : Text) (r : Request)
+    → named_with_two words ≡ Some (codes "blame", (Some x, Some y))
+    → Asks words r → IsBlame x y r
+blame_only words x y (Blame a b) is asks = pair_same a.now b.now x y (sym asks ∙ is)
+blame_only words x y (Show path) is asks =
+    apart (codes "blame") (codes "show") refl refl
+    (one_word blamed_paths (first_of (codes "RECORD")) words _ _ _ _ is asks)
+blame_only words x y (Pack path) is asks =
+    apart (codes "blame") (codes "pack") refl refl
+    (one_word blamed_paths (first_of (codes "LINES")) words _ _ _ _ is asks)
+blame_only words x y (Check a b c) is asks =
+    apart (codes "blame") (codes "check") refl refl (one_word blamed_paths checked_paths words _ _ _ _ is asks)
+blame_only words x y (Judge a b set) is asks =
+    apart (codes "blame") (codes "judge") refl refl (one_word blamed_paths judged_paths words _ _ _ _ is asks)
 
 -- words that are taken, and name this, ask for that and nothing else
 pub show_asked : (words known : List Text) (text : Option Text) (r : Result Request WordsFault) → words ≡ known
@@ -156,6 +191,15 @@ pub judge_asked : (words known : List Text) (x y : Text) (flag : Bool) (r : Resu
 judge_asked words known x y flag (Ok a) is taken named asks memory =
     judge_only words x y flag a (ap named_with_flag is ∙ named) asks
 judge_asked words known x y flag (Err e) is taken named asks memory = memory (ap (takes tool) is ∙ taken)
+
+pub blame_asked : (words known : List Text) (x y : Text) (r : Result Request WordsFault) → words ≡ known
+    → takes tool known ≡ true
+    → named_with_two known ≡ Some (codes "blame", (Some x, Some y)) → IfOk r (Asks words)
+    → (takes tool words ≡ true → IfErr r IsMemory)
+    → MatchResult r (IsBlame x y) IsMemory
+blame_asked words known x y (Ok a) is taken named asks memory =
+    blame_only words x y a (ap named_with_two is ∙ named) asks
+blame_asked words known x y (Err e) is taken named asks memory = memory (ap (takes tool) is ∙ taken)
 
 -- words with a fault are refused by it
 pub refused_by : (words known : List Text) (k : ErrorKind) (r : Result Request WordsFault) → words ≡ known
@@ -210,16 +254,23 @@ pub no_name : (o : Option Text) → IsKnown o → None ≡ o → ⊥
 no_name o (inl is) none = let bad : None ≡ Some (codes "show") = none ∙ is in cc
 no_name o (inr (inl is)) none = let bad : None ≡ Some (codes "pack") = none ∙ is in cc
 no_name o (inr (inr (inl is))) none = let bad : None ≡ Some (codes "check") = none ∙ is in cc
-no_name o (inr (inr (inr is))) none = let bad : None ≡ Some (codes "judge") = none ∙ is in cc
+no_name o (inr (inr (inr (inl is)))) none = let bad : None ≡ Some (codes "judge") = none ∙ is in cc
+no_name o (inr (inr (inr (inr is)))) none = let bad : None ≡ Some (codes "blame") = none ∙ is in cc
 
 pub other_name : (o : Option Text) (name : Text) → IsKnown o → Some name ≡ o → (name ≡ codes "show" → ⊥)
-    → (name ≡ codes "pack" → ⊥) → (name ≡ codes "check" → ⊥) → (name ≡ codes "judge" → ⊥) → ⊥
-other_name o name (inl is) at not_show not_pack not_check not_judge = not_show (some_same _ _ (at ∙ is))
-other_name o name (inr (inl is)) at not_show not_pack not_check not_judge = not_pack (some_same _ _ (at ∙ is))
-other_name o name (inr (inr (inl is))) at not_show not_pack not_check not_judge = not_check (some_same _ _ (at ∙ is))
-other_name o name (inr (inr (inr is))) at not_show not_pack not_check not_judge = not_judge (some_same _ _ (at ∙ is))
+    → (name ≡ codes "pack" → ⊥) → (name ≡ codes "check" → ⊥) → (name ≡ codes "judge" → ⊥)
+    → (name ≡ codes "blame" → ⊥) → ⊥
+other_name o name (inl is) at not_show not_pack not_check not_judge not_blame = not_show (some_same _ _ (at ∙ is))
+other_name o name (inr (inl is)) at not_show not_pack not_check not_judge not_blame =
+    not_pack (some_same _ _ (at ∙ is))
+other_name o name (inr (inr (inl is))) at not_show not_pack not_check not_judge not_blame =
+    not_check (some_same _ _ (at ∙ is))
+other_name o name (inr (inr (inr (inl is)))) at not_show not_pack not_check not_judge not_blame =
+    not_judge (some_same _ _ (at ∙ is))
+other_name o name (inr (inr (inr (inr is)))) at not_show not_pack not_check not_judge not_blame =
+    not_blame (some_same _ _ (at ∙ is))
 
--- ---- the matches of `check` and `judge`
+-- ---- the matches of `check`, `judge` and `blame`
 
 -- the rows of the subcommand of that name, which the matches have
 entered_at : (m : ArgMatches) (words : List Text) (name known : Text) (f : Found)
@@ -255,6 +306,19 @@ pub judge_there : (m : ArgMatches) (words : List Text) (name : Text) (f : Found)
 judge_there m words name f same clear is_name is_rows is_judge =
     let there = (needed_there words (codes "judge", rows_of f) clear
     (entered_at m words name (codes "judge") f same is_name is_rows is_judge)).1 refl in (
+      ap is_some (first_value-rows f (codes "RECORD")) ∙ there.0,
+      ap is_some (first_value-rows f (codes "TABLE")) ∙ there.1,
+    )
+
+pub blame_there : (m : ArgMatches) (words : List Text) (name : Text) (f : Found)
+    → subcommand_rows_of m ≡ subcommand_of tool words
+    → fault_of tool words ≡ []
+    → Some name ≡ subcommand_name_of m
+    → Some (rows_of f) ≡ option_map (λ p. p.1) (subcommand_rows_of m) → name ≡ codes "blame"
+    → (is_some (first_value f (codes "RECORD")) ≡ true) × (is_some (first_value f (codes "TABLE")) ≡ true)
+blame_there m words name f same clear is_name is_rows is_blame =
+    let there = (needed_there words (codes "blame", rows_of f) clear
+    (entered_at m words name (codes "blame") f same is_name is_rows is_blame)).2 refl in (
       ap is_some (first_value-rows f (codes "RECORD")) ∙ there.0,
       ap is_some (first_value-rows f (codes "TABLE")) ∙ there.1,
     )
@@ -303,3 +367,19 @@ judge_asked_of m words name f x y flag same is_name is_rows is_judge is_x is_y i
 
     some_two : Option Text → Option Text → Bool → Option (Text × (Option Text × Option Text × Bool))
     some_two a b flag = Some (codes "judge", (a, b, flag))
+
+pub blame_asked_of : (m : ArgMatches) (words : List Text) (name : Text) (f : Found) (x y : Text)
+    → subcommand_rows_of m ≡ subcommand_of tool words
+    → Some name ≡ subcommand_name_of m
+    → Some (rows_of f) ≡ option_map (λ p. p.1) (subcommand_rows_of m) → name ≡ codes "blame"
+    → Some x ≡ first_value f (codes "RECORD") → Some y ≡ first_value f (codes "TABLE")
+    → named_with_two words ≡ Some (codes "blame", (Some x, Some y))
+blame_asked_of m words name f x y same is_name is_rows is_blame is_x is_y =
+    ap (option_map (λ p. (p.0, blamed_paths p.1)))
+    (entered_at m words name (codes "blame") f same is_name is_rows is_blame)
+    ∙ ap (λ (o : Option Text). both o (first_of (codes "TABLE") (rows_of f)))
+    (sym (is_x ∙ first_value-rows f (codes "RECORD")))
+    ∙ ap (λ (o : Option Text). both (Some x) o) (sym (is_y ∙ first_value-rows f (codes "TABLE")))
+  where
+    both : Option Text → Option Text → Option (Text × (Option Text × Option Text))
+    both a b = Some (codes "blame", (a, b))

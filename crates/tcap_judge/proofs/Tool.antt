@@ -12,7 +12,7 @@ use Rattle.clap.specs.Values.{kind_of}
 use Rattle.clap.specs.Walk.{Row, Text, finished, first_of, nothing_held, rows_after, settled, walk, walk_from}
 use Rattle.clap.specs.declared.error.Error.{Error}
 use Rattle.clap.specs.declared.error.kind.ErrorKind.TheVariants as kind
-use Rattle.tcap_judge.specs.Words.{Becomes, IsFaultOf, IsMemory, check_shape, judge_shape, tool, with_path}
+use Rattle.tcap_judge.specs.Words.{Becomes, IsFaultOf, IsMemory, blame_shape, check_shape, judge_shape, tool, with_path}
 use Rattle.tcap_judge.specs.declared.words.WordsFault.{WordsFault}
 use Rattle.tcap_judge.specs.declared.words.WordsFault.TheVariants.{Words, Memory}
 use Rattle.tcap_judge.proofs.Help.{NotHelp, or_empty, walk_not}
@@ -59,10 +59,11 @@ level_clear s names words has below e =
 pub apart : (a b : Text) → bytes_eq a a ≡ true → bytes_eq a b ≡ false → a ≡ b → ⊥
 apart a b same other e = let bad : true ≡ false = sym same ∙ ap (bytes_eq a) e ∙ other in cc
 
--- the subcommand is one of the four
+-- the subcommand is one of the five
 abbrev pub IsKnown : Option Text → Type 0
 IsKnown name = (name ≡ Some (codes "show"))
-    ⊎ ((name ≡ Some (codes "pack")) ⊎ ((name ≡ Some (codes "check")) ⊎ (name ≡ Some (codes "judge"))))
+    ⊎ ((name ≡ Some (codes "pack"))
+    ⊎ ((name ≡ Some (codes "check")) ⊎ ((name ≡ Some (codes "judge")) ⊎ (name ≡ Some (codes "blame")))))
 
 abbrev name_of : Option (Text × List Row) → Option Text
 name_of = option_map (λ p. p.0)
@@ -79,24 +80,29 @@ named words e =
     go stop (finished top.rules (walk top.rules names nothing_held args).held)
     (walk_not top names (walk_from nothing_held) args refl tt clear.0) clear.1
   where
-    at : (p : Text × List Text) (rows : List Row) (show pack check judge help : Bool)
+    at : (p : Text × List Text) (rows : List Row) (show pack check judge blame help : Bool)
         → bytes_eq (codes "show") p.0 ≡ show
         → bytes_eq (codes "pack") p.0 ≡ pack
         → bytes_eq (codes "check") p.0 ≡ check
         → bytes_eq (codes "judge") p.0 ≡ judge
+        → bytes_eq (codes "blame") p.0 ≡ blame
         → bytes_eq (codes "help") p.0 ≡ help → help ≡ false
         → check_fault (built tool).top rows (is_some (entered (built tool) (Some p))) ≡ []
         → IsKnown (name_of (entered (built tool) (Some p)))
-    at p rows true pack check judge help is_show is_pack is_check is_judge is_help off e = inl (rw is_show refl)
-    at p rows false true check judge help is_show is_pack is_check is_judge is_help off e =
+    at p rows true pack check judge blame help is_show is_pack is_check is_judge is_blame is_help off e =
+        inl (rw is_show refl)
+    at p rows false true check judge blame help is_show is_pack is_check is_judge is_blame is_help off e =
         inr (inl (rw (is_show, is_pack) refl))
-    at p rows false false true judge help is_show is_pack is_check is_judge is_help off e =
+    at p rows false false true judge blame help is_show is_pack is_check is_judge is_blame is_help off e =
         inr (inr (inl (rw (is_show, is_pack, is_check) refl)))
-    at p rows false false false true help is_show is_pack is_check is_judge is_help off e =
-        inr (inr (inr (rw (is_show, is_pack, is_check, is_judge) refl)))
-    at p rows false false false false true is_show is_pack is_check is_judge is_help off e = cc
-    at p rows false false false false false is_show is_pack is_check is_judge is_help off e =
-        let bad : kind.MissingSubcommand ∷ [] ≡ [] = rw (is_show, is_pack, is_check, is_judge, is_help) at e in cc
+    at p rows false false false true blame help is_show is_pack is_check is_judge is_blame is_help off e =
+        inr (inr (inr (inl (rw (is_show, is_pack, is_check, is_judge) refl))))
+    at p rows false false false false true help is_show is_pack is_check is_judge is_blame is_help off e =
+        inr (inr (inr (inr (rw (is_show, is_pack, is_check, is_judge, is_blame) refl))))
+    at p rows false false false false false true is_show is_pack is_check is_judge is_blame is_help off e = cc
+    at p rows false false false false false false is_show is_pack is_check is_judge is_blame is_help off e =
+        let bad : kind.MissingSubcommand ∷ [] ≡ [] =
+        rw (is_show, is_pack, is_check, is_judge, is_blame, is_help) at e in cc
 
     differs : (p : Text × List Text) → NotHelp (Some p) → (help : Bool) → bytes_eq (codes "help") p.0 ≡ help
         → help ≡ false
@@ -112,23 +118,26 @@ named words e =
     go None rows not_help e = let bad : kind.MissingSubcommand ∷ [] ≡ [] = e in cc
     go (Some p) rows not_help e =
         at p rows (bytes_eq (codes "show") p.0) (bytes_eq (codes "pack") p.0) (bytes_eq (codes "check") p.0)
-        (bytes_eq (codes "judge") p.0) (bytes_eq (codes "help") p.0) refl refl refl refl refl
-        (differs p not_help (bytes_eq (codes "help") p.0) refl) e
+        (bytes_eq (codes "judge") p.0) (bytes_eq (codes "blame") p.0) (bytes_eq (codes "help") p.0) refl refl refl refl
+        refl refl (differs p not_help (bytes_eq (codes "help") p.0) refl) e
 
--- ---- the paths of `check` and `judge`
+-- ---- the paths of `check`, `judge` and `blame`
 
 -- a subcommand, as a parse builds it
 abbrev pub sub_built : Shape → Shape
 sub_built s = built_leaf (inherited (on_top with_leaf_noted (on_top marked_built tool)).top s)
 
--- these two, as a parse builds them
+-- these three, as a parse builds them
 abbrev pub check_built : Shape
 check_built = sub_built check_shape
 
 abbrev pub judge_built : Shape
 judge_built = sub_built judge_shape
 
--- the paths that both need are there
+abbrev pub blame_built : Shape
+blame_built = sub_built blame_shape
+
+-- the paths that all need are there
 abbrev pub HasTwoPaths : List Row → Type 0
 HasTwoPaths rows = (is_some (first_of (codes "RECORD") rows) ≡ true)
     × (is_some (first_of (codes "TABLE") rows) ≡ true)
@@ -159,6 +168,16 @@ both_given rows false y is_x is_y e =
 both_given rows true false is_x is_y e =
     let bad : kind.MissingRequiredArgument ∷ [] ≡ [] = rw (is_x, is_y) at e in cc
 
+two_given : (rows : List Row) (x y : Bool) → is_given (codes "RECORD") rows ≡ x → is_given (codes "TABLE") rows ≡ y
+    → check_fault blame_built rows false ≡ []
+    → (x ≡ true) × (y ≡ true)
+unfolding tool
+two_given rows true true is_x is_y e = (refl, refl)
+two_given rows false y is_x is_y e =
+    let bad : kind.MissingRequiredArgument ∷ [] ≡ [] = rw is_x at e in cc
+two_given rows true false is_x is_y e =
+    let bad : kind.MissingRequiredArgument ∷ [] ≡ [] = rw (is_x, is_y) at e in cc
+
 check_good : AllGood check_built.rules
 unfolding tool
 check_good = (inl refl, (inl refl, (inl refl, (inr (inl refl), tt))))
@@ -166,6 +185,10 @@ check_good = (inl refl, (inl refl, (inl refl, (inr (inl refl), tt))))
 judge_good : AllGood judge_built.rules
 unfolding tool
 judge_good = (inl refl, (inl refl, (inr (inr refl), (inr (inl refl), tt))))
+
+blame_good : AllGood blame_built.rules
+unfolding tool
+blame_good = (inl refl, (inl refl, (inr (inl refl), tt)))
 
 -- behind words at which a subcommand has no fault, its rows have values, and its last checks find nothing
 level_valued : (s : Shape) → AllGood s.rules → (words : List Text) → level_fault s [] nothing_held words false [] ≡ []
@@ -196,6 +219,14 @@ judge_paths words e =
     let given = both_given rows _ _ refl refl level.1 in
     (first_there (codes "RECORD") rows level.0 given.0, first_there (codes "TABLE") rows level.0 given.1)
 
+blame_paths : (words : List Text) → level_fault blame_built [] nothing_held words false [] ≡ []
+    → HasTwoPaths (rows_after blame_built.rules [] words)
+blame_paths words e =
+    let rows = rows_after blame_built.rules [] words in
+    let level = level_valued blame_built blame_good words e in
+    let given = two_given rows _ _ refl refl level.1 in
+    (first_there (codes "RECORD") rows level.0 given.0, first_there (codes "TABLE") rows level.0 given.1)
+
 same_some : {X : Type 0} (x y : X) → Some x ≡ Some y → x ≡ y
 same_some x y e = cc
 
@@ -205,11 +236,13 @@ not_some x e = cc
 -- what the subcommand of that name needs is there
 abbrev pub HasNeeded : Text × List Row → Type 0
 HasNeeded found = (found.0 ≡ codes "check" → HasPaths found.1) × (found.0 ≡ codes "judge" → HasTwoPaths found.1)
+    × (found.0 ≡ codes "blame" → HasTwoPaths found.1)
 
 -- another subcommand needs nothing
 needs_nothing : (found : Text × List Row) → (found.0 ≡ codes "check" → ⊥) → (found.0 ≡ codes "judge" → ⊥)
-    → HasNeeded found
-needs_nothing found not_check not_judge = (λ e. absurd (not_check e), λ e. absurd (not_judge e))
+    → (found.0 ≡ codes "blame" → ⊥) → HasNeeded found
+needs_nothing found not_check not_judge not_blame =
+    (λ e. absurd (not_check e), λ e. absurd (not_judge e), λ e. absurd (not_blame e))
 
 -- words with no fault give what the subcommand needs
 pub needed_there : (words : List Text) (found : Text × List Row) → fault_of tool words ≡ []
@@ -224,49 +257,67 @@ needed_there words found e is =
     let b = or_empty (entered_fault (built tool) stop) _ a.1 in
     go stop b.0 is
   where
-    at : (p : Text × List Text) (show pack check judge help : Bool) → bytes_eq (codes "show") p.0 ≡ show
+    at : (p : Text × List Text) (show pack check judge blame help : Bool) → bytes_eq (codes "show") p.0 ≡ show
         → bytes_eq (codes "pack") p.0 ≡ pack
         → bytes_eq (codes "check") p.0 ≡ check
         → bytes_eq (codes "judge") p.0 ≡ judge
+        → bytes_eq (codes "blame") p.0 ≡ blame
         → bytes_eq (codes "help") p.0 ≡ help
         → entered_fault (built tool) (Some p) ≡ []
         → entered (built tool) (Some p) ≡ Some found → HasNeeded found
-    at p true pack check judge help is_show is_pack is_check is_judge is_help e is =
+    at p true pack check judge blame help is_show is_pack is_check is_judge is_blame is_help e is =
         let rows = rows_at (sub_built (with_path (codes "show") (codes "RECORD"))) p.1 in
         let it : Some rows ≡ Some found = rw is_show at is in
         subst HasNeeded (same_some rows found it)
         (needs_nothing rows (apart (codes "show") (codes "check") refl refl)
-        (apart (codes "show") (codes "judge") refl refl))
-    at p false true check judge help is_show is_pack is_check is_judge is_help e is =
+        (apart (codes "show") (codes "judge") refl refl) (apart (codes "show") (codes "blame") refl refl))
+    at p false true check judge blame help is_show is_pack is_check is_judge is_blame is_help e is =
         let rows = rows_at (sub_built (with_path (codes "pack") (codes "LINES"))) p.1 in
         let it : Some rows ≡ Some found = rw (is_show, is_pack) at is in
         subst HasNeeded (same_some rows found it)
         (needs_nothing rows (apart (codes "pack") (codes "check") refl refl)
-        (apart (codes "pack") (codes "judge") refl refl))
-    at p false false true judge help is_show is_pack is_check is_judge is_help e is =
+        (apart (codes "pack") (codes "judge") refl refl) (apart (codes "pack") (codes "blame") refl refl))
+    at p false false true judge blame help is_show is_pack is_check is_judge is_blame is_help e is =
         let it : Some (rows_at check_built p.1) ≡ Some found = rw (is_show, is_pack, is_check) at is in
         let clear : level_fault check_built [] nothing_held p.1 false [] ≡ [] =
         rw (is_show, is_pack, is_check) at e in
-        subst HasNeeded (same_some _ _ it)
-        (λ e. check_paths p.1 clear, λ e. absurd (apart (codes "check") (codes "judge") refl refl e))
-    at p false false false true help is_show is_pack is_check is_judge is_help e is =
+        subst HasNeeded (same_some _ _ it) (
+          λ e. check_paths p.1 clear,
+          λ e. absurd (apart (codes "check") (codes "judge") refl refl e),
+          λ e. absurd (apart (codes "check") (codes "blame") refl refl e),
+        )
+    at p false false false true blame help is_show is_pack is_check is_judge is_blame is_help e is =
         let it : Some (rows_at judge_built p.1) ≡ Some found = rw (is_show, is_pack, is_check, is_judge) at is in
         let clear : level_fault judge_built [] nothing_held p.1 false [] ≡ [] =
         rw (is_show, is_pack, is_check, is_judge) at e in
-        subst HasNeeded (same_some _ _ it)
-        (λ e. absurd (apart (codes "judge") (codes "check") refl refl e), λ e. judge_paths p.1 clear)
-    at p false false false false true is_show is_pack is_check is_judge is_help e is =
+        subst HasNeeded (same_some _ _ it) (
+          λ e. absurd (apart (codes "judge") (codes "check") refl refl e),
+          λ e. judge_paths p.1 clear,
+          λ e. absurd (apart (codes "judge") (codes "blame") refl refl e),
+        )
+    at p false false false false true help is_show is_pack is_check is_judge is_blame is_help e is =
+        let it : Some (rows_at blame_built p.1) ≡ Some found =
+        rw (is_show, is_pack, is_check, is_judge, is_blame) at is in
+        let clear : level_fault blame_built [] nothing_held p.1 false [] ≡ [] =
+        rw (is_show, is_pack, is_check, is_judge, is_blame) at e in
+        subst HasNeeded (same_some _ _ it) (
+          λ e. absurd (apart (codes "blame") (codes "check") refl refl e),
+          λ e. absurd (apart (codes "blame") (codes "judge") refl refl e),
+          λ e. blame_paths p.1 clear,
+        )
+    at p false false false false false true is_show is_pack is_check is_judge is_blame is_help e is =
         let rows = rows_at (sub_built help_shape) p.1 in
-        let it : Some rows ≡ Some found = rw (is_show, is_pack, is_check, is_judge, is_help) at is in
+        let it : Some rows ≡ Some found = rw (is_show, is_pack, is_check, is_judge, is_blame, is_help) at is in
         subst HasNeeded (same_some rows found it)
         (needs_nothing rows (apart (codes "help") (codes "check") refl refl)
-        (apart (codes "help") (codes "judge") refl refl))
-    at p false false false false false is_show is_pack is_check is_judge is_help e is =
-        absurd (not_some found (rw (is_show, is_pack, is_check, is_judge, is_help) at is))
+        (apart (codes "help") (codes "judge") refl refl) (apart (codes "help") (codes "blame") refl refl))
+    at p false false false false false false is_show is_pack is_check is_judge is_blame is_help e is =
+        absurd (not_some found (rw (is_show, is_pack, is_check, is_judge, is_blame, is_help) at is))
 
     go : (stop : Option (Text × List Text)) → entered_fault (built tool) stop ≡ []
         → entered (built tool) stop ≡ Some found → HasNeeded found
     go None e is = absurd (not_some found is)
     go (Some p) e is =
         at p (bytes_eq (codes "show") p.0) (bytes_eq (codes "pack") p.0) (bytes_eq (codes "check") p.0)
-        (bytes_eq (codes "judge") p.0) (bytes_eq (codes "help") p.0) refl refl refl refl refl e is
+        (bytes_eq (codes "judge") p.0) (bytes_eq (codes "blame") p.0) (bytes_eq (codes "help") p.0) refl refl refl refl
+        refl refl e is

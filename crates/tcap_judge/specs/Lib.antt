@@ -8,3 +8,4 @@ pub mod Checked
 pub mod Judging
 pub mod LawfulRecord
 pub mod Verdict
+pub mod Blamed

@@ -10,7 +10,7 @@ use Rattle.clap.specs.declared.error.kind.ErrorKind.{ErrorKind}
 use Rattle.clap.specs.declared.error.kind.ErrorKind.TheVariants as kind
 use Rattle.clap.specs.declared.error.Error.{Error}
 use Rattle.tcap_judge.specs.declared.asked.Request.{Request}
-use Rattle.tcap_judge.specs.declared.asked.Request.TheVariants.{Show, Pack, Check, Judge}
+use Rattle.tcap_judge.specs.declared.asked.Request.TheVariants.{Show, Pack, Check, Judge, Blame}
 use Rattle.tcap_judge.specs.declared.words.WordsFault.{WordsFault}
 use Rattle.tcap_judge.specs.declared.words.WordsFault.TheVariants.{Words, Memory}
 
@@ -43,12 +43,19 @@ judge_shape = record (new_shape (codes "judge")) {
   rules = needed_rule (codes "RECORD") ∷ needed_rule (codes "TABLE") ∷ flag_rule (codes "cert") ∷ [];
 }
 
+-- the subcommand of two paths
+abbrev pub blame_shape : Shape
+blame_shape = record (new_shape (codes "blame")) {
+  rules = needed_rule (codes "RECORD") ∷ needed_rule (codes "TABLE") ∷ [];
+}
+
 -- the program with its subcommands
 unfoldable pub tool : App
-tool = with_subcommand (with_subcommand (with_subcommand
+tool = with_subcommand (with_subcommand (with_subcommand (with_subcommand
     (with_subcommand bare_tool (with_path (codes "show") (codes "RECORD"))) (with_path (codes "pack") (codes "LINES")))
     check_shape)
-    judge_shape
+    judge_shape)
+    blame_shape
 
 -- the subcommand that the words name, and the first value of its argument `id`
 abbrev pub named_with : Text → List Text → Option (Text × Option Text)
@@ -76,6 +83,14 @@ judged_paths rows =
 abbrev pub named_with_flag : List Text → Option (Text × (Option Text × Option Text × Bool))
 named_with_flag words = option_map (λ p. (p.0, judged_paths p.1)) (subcommand_of tool words)
 
+-- the first values of the arguments of `blame`
+abbrev pub blamed_paths : List Row → Option Text × Option Text
+blamed_paths rows = (first_of (codes "RECORD") rows, first_of (codes "TABLE") rows)
+
+-- the subcommand that the words name, and these
+abbrev pub named_with_two : List Text → Option (Text × (Option Text × Option Text))
+named_with_two words = option_map (λ p. (p.0, blamed_paths p.1)) (subcommand_of tool words)
+
 -- the text of a path
 abbrev pub path_text : Option (Bor Text) → Option Text
 path_text = option_map (λ s. s.now)
@@ -90,6 +105,7 @@ Asks words (Check taken table cert) =
     named_with_paths words ≡ Some (codes "check", (Some taken.now, Some table.now, Some cert.now))
 Asks words (Judge taken table with_certificate) =
     named_with_flag words ≡ Some (codes "judge", (Some taken.now, Some table.now, with_certificate))
+Asks words (Blame taken table) = named_with_two words ≡ Some (codes "blame", (Some taken.now, Some table.now))
 
 -- to show what this path names
 abbrev pub IsShow : Option Text → Request → Type 0
@@ -110,6 +126,11 @@ IsCheck x y z _ = ⊥
 abbrev pub IsJudge : Text → Text → Bool → Request → Type 0
 IsJudge x y b (Judge taken table with_certificate) = (taken.now ≡ x) × (table.now ≡ y) × (with_certificate ≡ b)
 IsJudge x y b _ = ⊥
+
+-- to say which end is at fault: the record and the table that these paths name
+abbrev pub IsBlame : Text → Text → Request → Type 0
+IsBlame x y (Blame taken table) = (taken.now ≡ x) × (table.now ≡ y)
+IsBlame x y _ = ⊥
 
 -- the word begins with a hyphen (45), so that it may be no path
 abbrev pub begins_with_hyphen : Text → Bool

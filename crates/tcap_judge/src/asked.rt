@@ -11,4 +11,6 @@ pub enum Request<'a> {
     Check(&'a str, &'a str, &'a str),
     /// Judge a record: the paths of the record and of the operation table, and whether the certificate is printed too.
     Judge(&'a str, &'a str, bool),
+    /// Say which end is at fault: the paths of the record and of the operation table.
+    Blame(&'a str, &'a str),
 }

@@ -22,9 +22,9 @@ use tcap_search::search;
 
 /// What is said of a record, and what stands behind the line of it.
 #[derive(Debug, Drop)]
-struct Said {
-    outcome: Outcome,
-    behind: String,
+pub(crate) struct Said {
+    pub(crate) outcome: Outcome,
+    pub(crate) behind: String,
 }
 
 /// That is said, and nothing stands behind it.
@@ -74,7 +74,7 @@ fn judge_by_search(
 }
 
 /// What is said of a record: that an entry is at fault, or what the certificate that is proposed shows.
-fn judge_record(
+pub(crate) fn judge_record(
     alloc: Global,
     read: &Record,
     table: &Table,

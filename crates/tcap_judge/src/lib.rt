@@ -2,6 +2,7 @@
 #![tactic(auto)]
 
 mod asked;
+mod blaming;
 mod checking;
 mod fault_lines;
 mod judging;
@@ -13,6 +14,7 @@ mod text_reading;
 mod words;
 
 pub use asked::Request;
+pub use blaming::run_blame;
 pub use checking::run_check;
 pub use fault_lines::MEMORY_LINE;
 pub use judging::run_judge;

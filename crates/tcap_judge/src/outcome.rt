@@ -109,7 +109,7 @@ fn push_outcome(text: &mut String, outcome: Outcome) -> Result<(), AllocError>
 }
 
 /// Appends the line of an outcome, and what stands behind it.
-fn push_with(text: &mut String, outcome: Outcome, behind: &str) -> Result<(), AllocError>
+pub(crate) fn push_with(text: &mut String, outcome: Outcome, behind: &str) -> Result<(), AllocError>
     ensures { OnOk result (string_bytes text.new ≡ string_bytes text.old ++ outcome_line outcome ++ behind.now) }
 {
     push_outcome(text, outcome)?;

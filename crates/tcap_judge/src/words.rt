@@ -5,8 +5,8 @@ ghost use Rattle.clap.specs.Words.{app_of, fault_of, first_value, found_of, rule
 ghost use Rattle.clap.specs.Walk.{Text, texts};
 ghost use Rattle.clap.specs.declared.builder.command.Command.TheViews.{out-Command};
 ghost use Rattle.clap.specs.declared.error.kind.ErrorKind.TheVariants.{DisplayVersion, MissingRequiredArgument};
-ghost use Rattle.tcap_judge.specs.Words.{Asks, Becomes, IsCheck, IsFaultOf, IsJudge, IsMemory, IsPack, IsShow, begins_with_hyphen};
-ghost use Rattle.tcap_judge.specs.Words.{check_shape, flag_rule, is_printed, is_set, judge_shape, needed_rule, tool, words_status};
+ghost use Rattle.tcap_judge.specs.Words.{Asks, Becomes, IsBlame, IsCheck, IsFaultOf, IsJudge, IsMemory, IsPack, IsShow, begins_with_hyphen};
+ghost use Rattle.tcap_judge.specs.Words.{blame_shape, check_shape, flag_rule, is_printed, is_set, judge_shape, needed_rule, tool, words_status};
 
 use crate::asked::Request;
 use clap::error::ErrorKind;
@@ -133,6 +133,18 @@ fn judge_command<'a>(alloc: Global) -> Result<Command<'a>, AllocError>
         .arg(cert)
 }
 
+/// The subcommand `blame`.
+fn blame_command<'a>(alloc: Global) -> Result<Command<'a>, AllocError>
+    ensures { IfOk result (λ c. (shape_of c ≡ blame_shape) × ((out-Command c).has_globals ≡ false)) }
+{
+    let record = needed_arg(alloc, "RECORD", "The file of the record");
+    let table = needed_arg(alloc, "TABLE", "The file of the operation table");
+    Command::new(alloc, "blame")
+        .about("Says which end is at fault")
+        .arg(record)?
+        .arg(table)
+}
+
 /// The command line that the program takes.
 fn command<'a>(alloc: Global) -> Result<Command<'a>, AllocError>
     ensures { IfOk result (λ c. app_of c ≡ tool) }
@@ -151,6 +163,7 @@ fn command<'a>(alloc: Global) -> Result<Command<'a>, AllocError>
         .arg(lines)?;
     let check = check_command(alloc)?;
     let judge = judge_command(alloc)?;
+    let blame = blame_command(alloc)?;
     Command::new(alloc, "tcapjudge")
         .about("Judges records of TCAP messages")
         .version("0.1.0")
@@ -158,7 +171,8 @@ fn command<'a>(alloc: Global) -> Result<Command<'a>, AllocError>
         .subcommand(show)?
         .subcommand(pack)?
         .subcommand(check)?
-        .subcommand(judge)
+        .subcommand(judge)?
+        .subcommand(blame)
 }
 
 /// The value of the argument `id`, which has one.
@@ -205,6 +219,11 @@ fn parsed_request<'a>(alloc: Global, words: &'a [&'a str]) -> Result<Request<'a>
             let table = needed(found, "TABLE");
             Ok(Request::Judge(record, table, is_set(found, "cert")))
         }
+        "blame" => {
+            let record = needed(found, "RECORD");
+            let table = needed(found, "TABLE");
+            Ok(Request::Blame(record, table))
+        }
         _ => unreachable!(),
     }
 }
@@ -248,6 +267,15 @@ pub fn request<'a>(alloc: Global, words: &'a [&'a str]) -> Result<Request<'a>, W
         → IsErrAnd result (IsFaultOf (MissingRequiredArgument ∷ [])) }
     ensures judge_one { (program x : Text)
         → texts words.entry.now ≡ program ∷ codes "judge" ∷ x ∷ []
+        → begins_with_hyphen x ≡ false → IsErrAnd result (IsFaultOf (MissingRequiredArgument ∷ [])) }
+    ensures blame_paths { (program x y : Text)
+        → texts words.entry.now ≡ program ∷ codes "blame" ∷ x ∷ y ∷ []
+        → begins_with_hyphen x ≡ false → begins_with_hyphen y ≡ false
+        → MatchResult result (IsBlame x y) IsMemory }
+    ensures blame_alone { (program : Text) → texts words.entry.now ≡ program ∷ codes "blame" ∷ []
+        → IsErrAnd result (IsFaultOf (MissingRequiredArgument ∷ [])) }
+    ensures blame_one { (program x : Text)
+        → texts words.entry.now ≡ program ∷ codes "blame" ∷ x ∷ []
         → begins_with_hyphen x ≡ false → IsErrAnd result (IsFaultOf (MissingRequiredArgument ∷ [])) }
     ensures version { (program : Text) → texts words.entry.now ≡ program ∷ codes "--version" ∷ []
         → IsErrAnd result (IsFaultOf (DisplayVersion ∷ [])) }

@@ -7,7 +7,8 @@ use std::process::ExitCode;
 use std::{env, fs, io};
 use tcap_ber::{Counted, Read, Unopened};
 use tcap_judge::{
-    MEMORY_LINE, Request, Status, WordsFault, request, run_check, run_judge, run_pack, run_show,
+    MEMORY_LINE, Request, Status, WordsFault, request, run_blame, run_check, run_judge, run_pack,
+    run_show,
 };
 
 /// The exit status where a word of the command is not text, so that it is not for `clap` to say.
@@ -20,6 +21,15 @@ enum Task {
     Show,
     /// They are lines of hex digits, of which a record is made.
     Pack,
+}
+
+/// What is asked of a record and an operation table.
+#[derive(Clone, Copy)]
+enum Question {
+    /// The verdict on the record; and the certificate that shows it to be lawful, where that is asked for.
+    Verdict(bool),
+    /// The verdict, and which end is at fault.
+    Blame,
 }
 
 /// Asks what the words behind the program's name ask for, and does it.
@@ -56,8 +66,9 @@ fn answer(rt: &HostRuntime, request: Request) -> io::Result<u8> {
         Request::Pack(path) => over_path(rt, Task::Pack, path),
         Request::Check(entries, table, cert) => Ok(check(rt, entries, table, cert)),
         Request::Judge(entries, table, with_certificate) => {
-            Ok(judge(rt, entries, table, with_certificate))
+            Ok(judge(rt, entries, table, Question::Verdict(with_certificate)))
         }
+        Request::Blame(entries, table) => Ok(judge(rt, entries, table, Question::Blame)),
     }
 }
 
@@ -151,20 +162,20 @@ fn checked<R: Read, T: Read, C: Read>(
     }
 }
 
-/// Judges the record of that path by the operation table of that path. The table is opened first, since it is read
-/// first.
-fn judge(rt: &HostRuntime, entries: &str, table: &str, with_certificate: bool) -> u8 {
+/// Answers what is asked of the record of that path, by the operation table of that path. The table is opened first, since
+/// it is read first.
+fn judge(rt: &HostRuntime, entries: &str, table: &str, question: Question) -> u8 {
     match fs::open(rt, table) {
-        Ok(file) => judge_by(rt, entries, &mut Counted::new(file), with_certificate),
-        Err(_) => judge_by(rt, entries, &mut Unopened::new(), with_certificate),
+        Ok(file) => judge_by(rt, entries, &mut Counted::new(file), question),
+        Err(_) => judge_by(rt, entries, &mut Unopened::new(), question),
     }
 }
 
 /// The same, by the operation table that `table` tells.
-fn judge_by<T: Read>(rt: &HostRuntime, entries: &str, table: &mut T, with_certificate: bool) -> u8 {
+fn judge_by<T: Read>(rt: &HostRuntime, entries: &str, table: &mut T, question: Question) -> u8 {
     match fs::open(rt, entries) {
-        Ok(file) => judged(rt, &mut Counted::new(file), table, with_certificate),
-        Err(_) => judged(rt, &mut Unopened::new(), table, with_certificate),
+        Ok(file) => judged(rt, &mut Counted::new(file), table, question),
+        Err(_) => judged(rt, &mut Unopened::new(), table, question),
     }
 }
 
@@ -173,10 +184,16 @@ fn judged<R: Read, T: Read>(
     rt: &HostRuntime,
     entries: &mut R,
     table: &mut T,
-    with_certificate: bool,
+    question: Question,
 ) -> u8 {
     let mut writer = Counted::new(io::writer(rt));
-    match run_judge(rt.alloc(), entries, table, with_certificate, &mut writer) {
+    let ended = match question {
+        Question::Verdict(with_certificate) => {
+            run_judge(rt.alloc(), entries, table, with_certificate, &mut writer)
+        }
+        Question::Blame => run_blame(rt.alloc(), entries, table, &mut writer),
+    };
+    match ended {
         Ok(status) => status.number(),
         Err(_) => Status::Fault.number(),
     }

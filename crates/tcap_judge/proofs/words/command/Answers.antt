@@ -60,5 +60,7 @@ returns c =
     let with_pack = c.in_ok-subcommand-2.ensures.shape pack_local ∙ ap₂ with_subcommand with_show pack_is in
     let with_check = c.in_ok-subcommand-3.ensures.shape check_is.1 ∙ ap₂ with_subcommand with_pack check_is.0 in
     let judge_is = c.in_ok-judge.ensures in
-    IfOk-weaker c.subcommand-4.result _ _ (λ r h. h.shape judge_is.1 ∙ ap₂ with_subcommand with_check judge_is.0)
-    c.subcommand-4.ensures
+    let with_judge = c.in_ok-subcommand-4.ensures.shape judge_is.1 ∙ ap₂ with_subcommand with_check judge_is.0 in
+    let blame_is = c.in_ok-blame.ensures in
+    IfOk-weaker c.subcommand-5.result _ _ (λ r h. h.shape blame_is.1 ∙ ap₂ with_subcommand with_judge blame_is.0)
+    c.subcommand-5.ensures

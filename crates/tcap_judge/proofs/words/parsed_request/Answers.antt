@@ -8,7 +8,7 @@ use Rattle.clap.specs.Simple.{HasMatchesOf, subcommand_of, subcommand_rows_of}
 use Rattle.clap.specs.declared.builder.command.Command.{Command}
 use Rattle.clap.specs.declared.parser.matches.ArgMatches.{ArgMatches}
 use Rattle.tcap_judge.specs.Words.{tool}
-use Rattle.tcap_judge.proofs.Requests.{asked_of, check_asked_of, check_there, has_name, judge_asked_of, judge_there, no_name, other_name}
+use Rattle.tcap_judge.proofs.Requests.{asked_of, blame_asked_of, blame_there, check_asked_of, check_there, has_name, judge_asked_of, judge_there, no_name, other_name}
 use Rattle.tcap_judge.proofs.Tool.{IsKnown, as_fault, became_memory, tool_simple, tool_is_simple}
 use Rattle.tcap_judge.proofs.words.parsed_request.Goals as goal
 
@@ -52,7 +52,7 @@ unreachable-requires-in_default-name c =
     other_name _ c.in-Some.name.now
     (known c.in_ok-command.command (texts c.args.words.now) c.in_ok-matches.matches c.in_ok-command.ensures met.matches met.kinds)
     c.in-Some.ensures.name c.in_default-name.not-show c.in_default-name.not-pack c.in_default-name.not-check
-    c.in_default-name.not-judge
+    c.in_default-name.not-judge c.in_default-name.not-blame
 
 pub returns-in-show-clause-asks : goal.returns-in-show-clause-asks
 returns-in-show-clause-asks c =
@@ -150,3 +150,35 @@ returns-in-judge-clause-asks c =
     (rows c.in_ok-command.command words m c.in_ok-command.ensures c.in_ok-matches.ensures.matches)
     c.in-Some.ensures.name c.in-Some.ensures.rows c.in-judge.is c.needed-record-in-judge.ensures
     c.needed-table-in-judge.ensures c.is_set.ensures
+
+pub returns-in-blame-clause-faults : goal.returns-in-blame-clause-faults
+returns-in-blame-clause-faults c =
+    clear c.in_ok-command.command (texts c.args.words.now) c.in_ok-command.ensures c.in_ok-matches.ensures.kinds
+
+pub needed-record-requires-in-blame : goal.needed-record-requires-in-blame
+needed-record-requires-in-blame c =
+    let words = texts c.args.words.now in
+    let m = c.in_ok-matches.matches in
+    (blame_there m words c.in-Some.name.now (found_of c.in-Some.found.now)
+    (rows c.in_ok-command.command words m c.in_ok-command.ensures c.in_ok-matches.ensures.matches)
+    (clear c.in_ok-command.command words c.in_ok-command.ensures c.in_ok-matches.ensures.kinds)
+    c.in-Some.ensures.name c.in-Some.ensures.rows c.in-blame.is).0
+
+pub needed-table-requires-in-blame : goal.needed-table-requires-in-blame
+needed-table-requires-in-blame c =
+    let words = texts c.args.words.now in
+    let m = c.in_ok-matches.matches in
+    (blame_there m words c.in-Some.name.now (found_of c.in-Some.found.now)
+    (rows c.in_ok-command.command words m c.in_ok-command.ensures c.in_ok-matches.ensures.matches)
+    (clear c.in_ok-command.command words c.in_ok-command.ensures c.in_ok-matches.ensures.kinds)
+    c.in-Some.ensures.name c.in-Some.ensures.rows c.in-blame.is).1
+
+pub returns-in-blame-clause-asks : goal.returns-in-blame-clause-asks
+returns-in-blame-clause-asks c =
+    let words = texts c.args.words.now in
+    let m = c.in_ok-matches.matches in
+    blame_asked_of m words c.in-Some.name.now (found_of c.in-Some.found.now) c.needed-record-in-blame.result.now
+    c.needed-table-in-blame.result.now
+    (rows c.in_ok-command.command words m c.in_ok-command.ensures c.in_ok-matches.ensures.matches)
+    c.in-Some.ensures.name c.in-Some.ensures.rows c.in-blame.is c.needed-record-in-blame.ensures
+    c.needed-table-in-blame.ensures

@@ -1,7 +1,8 @@
 use Rattle.std.proofs.Common.{Some, None, true, false}
 use Rattle.clap.specs.Walk.{texts}
-use Rattle.tcap_judge.proofs.Requests.{check_asked, judge_asked, pack_asked, refused_by, show_asked}
+use Rattle.tcap_judge.proofs.Requests.{blame_asked, check_asked, judge_asked, pack_asked, refused_by, show_asked}
 use Rattle.tcap_judge.proofs.Cases.{check_alone_missing, check_named, check_one_missing, check_taken, check_two_missing, long_version, pack_named, pack_path_named, pack_path_taken, pack_taken, show_named, show_path_named, show_path_taken, show_taken}
+use Rattle.tcap_judge.proofs.BlameCases.{blame_alone_missing, blame_named, blame_one_missing, blame_taken}
 use Rattle.tcap_judge.proofs.JudgeCases.{judge_alone_missing, judge_cert_named, judge_cert_taken, judge_named, judge_one_missing, judge_taken}
 use Rattle.clap.specs.declared.error.kind.ErrorKind.TheVariants.{DisplayVersion, MissingRequiredArgument}
 use Rattle.tcap_judge.proofs.words.request.Goals as goal
@@ -67,6 +68,21 @@ pub returns-clause-judge_one : goal.returns-clause-judge_one
 returns-clause-judge_one c program x is plain_x =
     refused_by (texts c.args.words.now) _ MissingRequiredArgument c.parsed_request.result is
     (judge_one_missing program x plain_x) c.parsed_request.ensures.faults
+
+pub returns-clause-blame_paths : goal.returns-clause-blame_paths
+returns-clause-blame_paths c program x y is plain_x plain_y =
+    blame_asked (texts c.args.words.now) _ x y c.parsed_request.result is (blame_taken program x y plain_x plain_y)
+    (blame_named program x y plain_x plain_y) c.parsed_request.ensures.asks c.parsed_request.ensures.taken
+
+pub returns-clause-blame_alone : goal.returns-clause-blame_alone
+returns-clause-blame_alone c program is =
+    refused_by (texts c.args.words.now) _ MissingRequiredArgument c.parsed_request.result is (blame_alone_missing program)
+    c.parsed_request.ensures.faults
+
+pub returns-clause-blame_one : goal.returns-clause-blame_one
+returns-clause-blame_one c program x is plain_x =
+    refused_by (texts c.args.words.now) _ MissingRequiredArgument c.parsed_request.result is
+    (blame_one_missing program x plain_x) c.parsed_request.ensures.faults
 
 pub returns-clause-version : goal.returns-clause-version
 returns-clause-version c program is =

@@ -1,0 +1,23 @@
+use Rattle.std.proofs.Common.{ℕ, Ok, Err, ap, ◌∙◌}
+use Rattle.tcap_judge.specs.declared.outcome.Outcome.TheVariants.{Faulty}
+use Rattle.tcap_judge.proofs.BlamedLaws.{gives_blame}
+use Rattle.tcap_judge.proofs.blaming.blame_told.Goals as goal
+
+pub returns-in-Ok-blame_record : goal.returns-in-Ok-blame_record
+returns-in-Ok-blame_record g c =
+    let read = c.in-Ok.ensures in
+    let (told, tells, is_read) = read.told in
+    let said = c.in-Ok-blame_record.ensures in
+    gives_blame c.blamed_is_at_fault.ensures c.args.table.now _ c.in-Ok.read.entries.items (Ok tt) _ _ _
+    (record { told = told; tells = tells; is_read = is_read; ended = read.ended; failed = read.failed })
+    said.0 said.1 said.2
+
+pub returns : goal.returns
+returns g c =
+    let read = c.in-Err.ensures in
+    let (told, tells, (entries, is_read)) = read.told in
+    let fault = c.in-Err.fault in
+    let said = c.alone-in-Err.ensures in
+    gives_blame c.blamed_is_at_fault.ensures c.args.table.now _ entries (Err fault) _ _ _
+    (record { told = told; tells = tells; is_read = is_read; ended = read.ended; failed = read.failed })
+    (said.outcome ∙ ap (λ (n : ℕ). Faulty n fault.place) c.number.ensures) said.behind said.blames

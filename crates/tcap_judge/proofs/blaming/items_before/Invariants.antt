@@ -1,0 +1,11 @@
+-- So many entries were items, and what is left decides.
+use Rattle.std.proofs.Common.{◌≡◌, ◌+◌, map, drop}
+use Rattle.tcap_check.specs.Entries.{item_of}
+use Rattle.tcap_judge.specs.Blamed.{items_before}
+use Rattle.tcap_judge.proofs.blaming.items_before.Given as goal
+
+abbrev pub invariant-loop-entry : goal.invariant-loop-entry
+invariant-loop-entry l = record {
+  counted : l.count ≡ l.entry-index;
+  left : items_before (map item_of l.entries) ≡ l.count + items_before (map item_of (drop l.entry-index l.entries));
+}

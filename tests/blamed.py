@@ -1,0 +1,115 @@
+"""Records, with what `tcapjudge blame RECORD TABLE` prints of them: `tests/program.py` runs them. Those of ROWS are written
+as in judged.py. Of those of faults.json the lines of both ends are made of what is known of these."""
+
+import json
+
+import judged
+from judged import (
+    ACCEPTED,
+    AGAIN,
+    BAD_VERSION,
+    BEGIN,
+    CONTINUE,
+    END,
+    INVOKE,
+    LASTING,
+    LINKED,
+    NO_MESSAGE,
+    REFUSED,
+    REQUEST,
+    RESULT,
+    TABLE,
+    TO_NINE,
+    TWICE,
+    UNEXPECTED,
+    UNRECOGNIZED,
+    WITH_RESULT,
+)
+
+FAULTS = "tests/faults.json"
+
+BACK, OTHER_OWN, UNHEARD = "6506480101490102", "6506480103490102", "6506480101490107"
+BEGIN_7, TWO_RESULTS, DUPLICATE = "6203480107", "640F4901016C0AA203020101A203020101", "640D4901016C08A406020101810100"
+
+# The entries, what is printed, and, where it is not TABLE, the table.
+ROWS = [
+    # Nothing is blamed: a lawful record, and one that no fact decides.
+    ("", ["LAWFUL 0", "NOT BLAMED A 0", "NOT BLAMED B 0"]),
+    (f"A {INVOKE} B {RESULT}", ["LAWFUL 2", "NOT BLAMED A 2", "NOT BLAMED B 2"]),
+    (f"A {REQUEST} B {ACCEPTED} A {END}", ["LAWFUL 3", "NOT BLAMED A 3", "NOT BLAMED B 3"]),
+    ("Q Q", ["LAWFUL 2", "NOT BLAMED A 2", "NOT BLAMED B 2"]),
+    (
+        f"A {INVOKE} B {WITH_RESULT} A {UNRECOGNIZED}",
+        ["UNDECIDED 0 66/51", "NOT BLAMED A 3", "NOT BLAMED B 3"],
+        LASTING,
+    ),
+    (
+        f"A {INVOKE} B {CONTINUE} B {WITH_RESULT} A {AGAIN} A {UNEXPECTED}",
+        ["UNDECIDED 4 65/50", "NOT BLAMED A 5", "NOT BLAMED B 5"],
+    ),
+    # One end, by a kind that refutes.
+    (f"A {INVOKE} B {TO_NINE}", ["REFUTED 1 F2", "BLAMED B 1 F2", "NOT BLAMED A 2"]),
+    (f"A {BEGIN} B {CONTINUE} A {END} A {END}", ["REFUTED 3 F4", "BLAMED A 3 F4", "NOT BLAMED B 4"]),
+    # One end, by a further kind: the record is undecided.
+    (f"A {BEGIN} B {BEGIN_7} A {UNHEARD}", ["UNDECIDED 2 65/42", "BLAMED A 2 F8", "NOT BLAMED B 3"]),
+    (f"A {REQUEST} B {CONTINUE}", ["UNDECIDED 1 65/43", "BLAMED B 1 F9", "NOT BLAMED A 2"]),
+    (f"A {TWICE}", ["UNDECIDED 0 65/45", "BLAMED A 0 F10", "NOT BLAMED B 1"]),
+    (f"A {INVOKE} B {LINKED}", ["UNDECIDED 1 65/49", "BLAMED B 1 F11", "NOT BLAMED A 2"]),
+    (f"A {INVOKE} B {TWO_RESULTS}", ["UNDECIDED 1 65/46", "BLAMED B 1 F12", "NOT BLAMED A 2"]),
+    (f"A {INVOKE} B {DUPLICATE}", ["UNDECIDED 1 65/50", "BLAMED B 1 F13", "NOT BLAMED A 2"]),
+    (f"A {BEGIN} B {REFUSED} B {REFUSED}", ["UNDECIDED 1 64", "BLAMED B 2 F14", "NOT BLAMED A 3"]),
+    (f"A {BEGIN} B {CONTINUE} Q", ["UNDECIDED 2 67", "BLAMED B 2 F15", "NOT BLAMED A 3"]),
+    # An ID is free again, where the invocation may have ended unseen.
+    (f"A {INVOKE} B {CONTINUE} A {AGAIN}", ["LAWFUL 3", "NOT BLAMED A 3", "NOT BLAMED B 3"]),
+    # Both ends: the lower entry stands first, and at one mark A.
+    (f"A {BEGIN} B {TO_NINE} A {TO_NINE}", ["REFUTED 1 F2", "BLAMED B 1 F2", "BLAMED A 2 F2"]),
+    (f"A {TO_NINE} B {TO_NINE}", ["REFUTED 0 F2", "BLAMED A 0 F2", "BLAMED B 1 F2"]),
+    (f"A {BEGIN} B {CONTINUE} A {BACK} Q", ["UNDECIDED 3 67", "BLAMED A 3 F15", "BLAMED B 3 F15"]),
+    # What is refuted stands behind what is blamed first.
+    (f"A {TWICE} B {TO_NINE}", ["REFUTED 1 F2", "BLAMED A 0 F10", "BLAMED B 1 F2"]),
+    # A negative test: B breaks a rule, and A keeps them, or breaks one too.
+    (
+        f"B {BEGIN} A {CONTINUE} B {END} B {BACK} A 67064901014A0101",
+        ["REFUTED 3 F4", "BLAMED B 3 F4", "NOT BLAMED A 5"],
+    ),
+    (
+        f"B {BEGIN} A {CONTINUE} B {END} B {BACK} A 6506480103490101",
+        ["REFUTED 3 F4", "BLAMED B 3 F4", "BLAMED A 4 F8"],
+    ),
+    # Octets that are no message: what is behind them is not looked at, of either end, and is not counted.
+    (f"A {BEGIN} A {NO_MESSAGE} B {TO_NINE}", ["REFUTED 1 F1", "BLAMED A 1 F1", "NOT BLAMED B 1"]),
+    (f"A {BEGIN} B {NO_MESSAGE} B {TO_NINE}", ["REFUTED 1 F1", "BLAMED B 1 F1", "NOT BLAMED A 1"]),
+    (f"A {BEGIN} A {BAD_VERSION} B {TO_NINE}", ["UNDECIDED 1 68/12", "NOT BLAMED A 1", "NOT BLAMED B 1"]),
+]
+
+
+def rows():
+    """Of each row the octets of the record, those of the table, what is to be printed, and the exit status."""
+    for entries, lines, *table in ROWS:
+        is_blamed = any(line.startswith("BLAMED") for line in lines)
+        status = 1 if is_blamed else judged.STATUSES[lines[0].split()[0]]
+        printed = "".join(f"{line}\n" for line in lines).encode()
+        yield judged.octets_of(entries), (table or [TABLE])[0].encode(), printed, status
+
+
+def lines_of(faults, count):
+    """What is printed of both ends, by the entry that is blamed on each and its kinds, where so many entries are looked at."""
+    found = sorted((fault[0], end, fault[1][0]) for end, fault in faults.items() if fault)
+    lines = [f"BLAMED {end} {entry} {kind}\n" for entry, end, kind in found]
+    lines += [f"NOT BLAMED {end} {count}\n" for end, fault in faults.items() if not fault]
+    return "".join(lines).encode()
+
+
+def count_of(shown):
+    """How many entries stand before the first that is no message, or how many there are, by what `show` prints."""
+    entries = [line for line in shown.splitlines() if not line.startswith(b"  ")]
+    return next((number for number, line in enumerate(entries) if b" FAULT " in line), len(entries))
+
+
+def faults():
+    """Of each record of faults.json its name, its octets, those of its table, and what is blamed on its ends."""
+    with open(FAULTS, encoding="utf-8") as file:
+        known = json.load(file)
+    for row in known["records"]:
+        table = json.dumps(known["tables"][row["table"]]).encode()
+        yield row["name"], bytes.fromhex(row["record"]), table, {"A": row["A"], "B": row["B"]}
