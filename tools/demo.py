@@ -1,6 +1,6 @@
-"""What `make demo` runs: makes records of the lines of examples/ by `pack`, shows them by `show`, checks those that have an
-operation table and a certificate by `check`, and judges those of JUDGED by `judge`. It is the program as `rt try` runs it,
-compiled but not proved."""
+"""What `make demo` runs: makes records of the lines of examples/ by `pack`, shows them by `show`, checks those that have
+an operation table and a certificate by `check`, and judges those of JUDGED and TABLES by `judge`. It is the program as
+`rt try` runs it, compiled but not proved."""
 
 import concurrent.futures
 import glob
@@ -23,6 +23,8 @@ JUDGED = [
     "wrong_operation",
     "misplaced_dialogue",
 ]
+# Those that are judged by another table.
+TABLES = {"ussd": "examples/tables/ussd.json"}
 
 
 def run(flags, words, statuses):
@@ -50,7 +52,7 @@ def checked(name, record):
 
 def judged(name, record):
     """What `judge` prints of the record of that example, which stands in that file."""
-    files = {"record": record, "table": "examples/operations.json"}
+    files = {"record": record, "table": TABLES.get(name, "examples/operations.json")}
     flags = [word for file, path in files.items() for word in ("--data", f"{file}={os.path.abspath(path)}")]
     return f"== judge {name}\n".encode() + run(flags, ["judge", *files], [0, 1, 2])
 
@@ -71,7 +73,7 @@ def main():
         shown = lanes.submit(run_each, "show", records)
         names = sorted(os.path.basename(path).removesuffix(".cert.json") for path in glob.glob("examples/*.cert.json"))
         checks = [lanes.submit(checked, name, f"{records}/{name}") for name in names]
-        verdicts = [lanes.submit(judged, name, f"{records}/{name}") for name in JUDGED]
+        verdicts = [lanes.submit(judged, name, f"{records}/{name}") for name in [*JUDGED, *TABLES]]
         for said in [shown, *checks, *verdicts]:
             sys.stdout.buffer.write(said.result())
             sys.stdout.buffer.flush()
