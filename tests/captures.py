@@ -12,14 +12,14 @@ import subprocess
 import sys
 import tempfile
 
-import capture_rows
 import made_captures as made
-import wireshark
 
 sys.path.insert(0, "tools")
 
 import capture_frames
+import capture_rows
 import signalling
+import wireshark
 
 PROGRAM = "crates/tcapjudge/out/tcapjudge"
 TOOL = "tools/lines_of_capture.py"
@@ -187,7 +187,7 @@ def main():
         held += [*examples_come_back(folder), vectors_come_back(folder), is_steady(), words_are_refused(folder)]
         messages = [octets for octets, _ in vectors()]
         messages += [bytes.fromhex(line[2:]) for lines in example_lines() for line in lines]
-        held += wireshark.agreements(PROGRAM, folder, messages)
+        held += [*wireshark.agreements(PROGRAM, folder, messages), wireshark.addresses_agree(folder)]
     print(f"{sum(held)} passed, {len(held) - sum(held)} failed")
     return int(not all(held))
 

@@ -6,6 +6,7 @@ import subprocess
 
 import made_captures as made
 import random_messages
+import signalling
 
 RANDOM = 2000
 # What of a line of `show` is compared with which field of tshark.
@@ -26,6 +27,15 @@ KINDS = {
     "Continue": "tcap.continue_element",
     "Abort": "tcap.abort_element",
 }
+
+# Party addresses of SCCP: with and without a point code, a subsystem number, and each form of a global title, of an even
+# and of an odd count of digits.
+ADDRESSES = (
+    "00 10001204214365 420a 416500 4365000a 06080421436587 06088421436507 0a080021436587 0e08001221436587"
+    " 0e08001121430587 1208001204214365 1208001104214305 136500080011042103"
+).split()
+# An address against which the others are called.
+CALLING = "4208"
 
 
 def dotted(contents):
@@ -54,15 +64,33 @@ def shown(program, messages):
     return said
 
 
+def told_by_tshark(path, capture, fields):
+    """The values of the fields of each frame of a capture."""
+    with open(path, "wb") as file:
+        file.write(capture)
+    words = ["tshark", "-n", "-r", path, "-T", "fields", "-E", "separator=/t"]
+    words += [word for field in fields for word in ("-e", field)]
+    run = subprocess.run(words, capture_output=True, check=False)
+    return [line.split("\t") for line in run.stdout.decode().splitlines()]
+
+
+def addresses_agree(folder):
+    """Whether tshark and the tool read the same in addresses."""
+    called, calling = [bytes.fromhex(one) for one in ADDRESSES], bytes.fromhex(CALLING)
+    capture = made.pcap([made.mtp3(made.udt(b"", one, calling)) for one in called], made.MTP3)
+    fields = ["sccp.called.pc", "sccp.called.ssn", "sccp.called.digits"]
+    theirs = told_by_tshark(f"{folder}/capture", capture, fields)
+    ours = [["" if part is None else str(part) for part in signalling.party(one)[:3]] for one in called]
+    if ours != theirs:
+        print(f"addresses: {ours} {theirs}")
+    return ours == theirs
+
+
 def read_by_tshark(path, messages):
     """What tshark says of each message."""
-    with open(path, "wb") as file:
-        file.write(made.pcap([made.exported(octets) for octets in messages], made.EXPORTED))
-    words = ["tshark", "-n", "-r", path, "-T", "fields", "-E", "separator=/t"]
-    words += [word for field in [*FIELDS.values(), *KINDS.values()] for word in ("-e", field)]
-    lines = subprocess.run(words, capture_output=True, check=False).stdout.decode().splitlines()
-    for line in lines:
-        values = dict(zip([*FIELDS, *KINDS], line.split("\t")))
+    capture = made.pcap([made.exported(octets) for octets in messages], made.EXPORTED)
+    for line in told_by_tshark(path, capture, [*FIELDS.values(), *KINDS.values()]):
+        values = dict(zip([*FIELDS, *KINDS], line))
         kinds = [kind for kind in KINDS if values[kind]]
         yield {"kind": " ".join(kinds)} | {name: values[name] for name in FIELDS}
 
