@@ -13,9 +13,9 @@ Row = collections.namedtuple("Row", "name capture options files status said", de
 BEGIN, RESULT = "A 620d4801016c08a10602010102012d", "B 640a4901016c05a203020101"
 SECOND, OTHER_RESULT = "A 620d4801026c08a10602010102012e", "B 640a4901026c05a203020101"
 GOES_ON, END = "B 6506480107490101", "A 6403490107"
+
 DIALOGUE = [BEGIN, RESULT]
 LONG = "A 6281b64801016c81b0a181ad02010102012d0481a4" + "5a" * 164
-CODES = (101, 202)
 
 
 class Wire:
@@ -210,6 +210,11 @@ def ends():
     yield Row("B begins", over(Wire().all([swapped[0], swapped[1]])), [], [DIALOGUE])
 
 
+def frames_of(*turns):
+    """A capture of lines, each with the ends that send it."""
+    return over([frame for wire, line in turns for frame in wire.frames(line)])
+
+
 def answers():
     asked = Wire(titles=("4917012", "491710001"))
     answering = Wire(titles=("4917012", "491702"), tag=9)
@@ -222,6 +227,14 @@ def answers():
     third = Wire(titles=("4917012", "491710002"), tag=20)
     more = frames + third.frames(SECOND) + answering.frames(OTHER_RESULT)
     yield Row("it answers for two", over(more), ["--join"], [[BEGIN, RESULT, SECOND, OTHER_RESULT]])
+    goes_on = "A 6506480101490107", "B 6403490101"
+    more = frames_of((asked, "A 6203480101"), (answering, GOES_ON), (answering, goes_on[0]), (third, goes_on[1]))
+    yield Row("it answers from three", more, ["--join"], [["A 6203480101", GOES_ON, *goes_on]])
+    yield Row("and may not", more, [], [["A 6203480101"]], 3, ["FAULT answer, frame 2 of capture"])
+    stranger = Wire(((303, 8), (404, 6)), tag=40)
+    more = frames_of((asked, BEGIN), (stranger, RESULT), (asked, RESULT))
+    yield Row("an ID of others", more, [], [DIALOGUE], 3, ["FAULT answer, frame 2 of capture"])
+    yield Row("an ID of others, under way", more, ["--under-way"], [DIALOGUE], 0, ["frame 2, left out: 1"])
     back = Wire(titles=("4917013", "491710001"), tag=30)
     yield Row("the asker's other address", over(asked.frames(BEGIN) + back.frames(RESULT)), ["--join"], [DIALOGUE])
     begun = [GOES_ON, END, BEGIN, RESULT]

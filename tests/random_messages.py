@@ -123,14 +123,13 @@ class Maker:
 
     def message(self):
         """A message of one of the five kinds."""
-        kind = self.random.choice([0x61, 0x62, 0x62, 0x64, 0x64, 0x65, 0x65, 0x67])
+        kind = self.random.choice([0x61, 0x62, 0x62, 0x64, 0x64, 0x65, 0x65, 0x67, 0x67])
         otid = self.transaction(0x48) if kind in (0x62, 0x65) else b""
         dtid = self.transaction(0x49) if kind in (0x64, 0x65, 0x67) else b""
         if kind == 0x61:
             return self.element(kind, self.maybe(self.dialogue, "AUDT"), self.components())
         if kind == 0x67:
-            pdu = self.random.choice(["ABRT", "AARE"])
-            tail = self.random.choice([self.number(0x4A), self.number(0x4A, 4), self.dialogue(pdu), b""])
-            return self.element(kind, dtid, tail)
+            tails = self.number(0x4A), self.number(0x4A, 4), self.dialogue("ABRT"), self.dialogue("AARE"), b""
+            return self.element(kind, dtid, self.random.choice(tails))
         pdu = "AARQ" if kind == 0x62 else "AARE"
         return self.element(kind, otid, dtid, self.maybe(self.dialogue, pdu), self.maybe(self.components))

@@ -106,15 +106,16 @@ class Ends:
         return self.addresses[self.find(end)]
 
 
-def other_asker(message, asked, ends):
+def other_asker(message, asked, ends, is_begun):
     """Who sent the ID that a message goes to, and to whom, where that is not the pair of the message: None where it is,
-    and where nobody sent it."""
+    and where nobody sent it. A capture that had begun in the middle has IDs that others happen to use too."""
     _, _, dtid = signalling.ids_of(message.octets)
-    askers = asked.get(dtid, []) if dtid else []
-    receiver, sender = ends.find(message.receiver), ends.find(message.sender)
-    if not askers or any({ends.find(asker), ends.find(called)} == {receiver, sender} for asker, called in askers):
+    askers = [(ends.find(asker), ends.find(called)) for asker, called in asked.get(dtid, [])] if dtid else []
+    pair = ends.find(message.receiver), ends.find(message.sender)
+    if any(set(one) == set(pair) for one in askers):
         return None
-    return next((one for one in reversed(askers) if ends.find(one[0]) == receiver), askers[-1])
+    near = [one for one in askers if one[0] == pair[0]] or [one for one in askers if one[1] == pair[1]]
+    return (near or ([] if is_begun else askers) or [None])[-1]
 
 
 def with_ends(messages, words):
@@ -129,19 +130,28 @@ def with_ends(messages, words):
             continue
         message = message._replace(sender=sender, receiver=receiver)
         ends.find(sender), ends.find(receiver)
-        if not message.fault and not words.apart and (other := other_asker(message, asked, ends)):
-            if words.join and message.receiver in other:
-                ends.join(sender, other[1])
-            elif words.join and message.sender in other:
-                ends.join(receiver, other[0])
-            else:
-                message = message._replace(fault=Fault(message.place, "answer", answer_text(message, other)))
+        if not message.fault and not words.apart:
+            message = joined(message, other_asker(message, asked, ends, words.under_way), ends, words.join)
         if not message.fault and (otid := signalling.ids_of(message.octets)[1]):
             pair = sender, receiver
             if pair not in asked[otid]:
                 asked[otid].append(pair)
         named_ones.append(message)
     return named_ones, ends, faults
+
+
+def joined(message, other, ends, may_join):
+    """The message, behind the joining of the address that it comes from, or goes to, with the one that was called, or
+    that asked; with its fault where they may not be joined."""
+    if other is None:
+        return message
+    if may_join and other[0] == ends.find(message.receiver):
+        ends.join(message.sender, other[1])
+    elif may_join and other[1] == ends.find(message.sender):
+        ends.join(message.receiver, other[0])
+    else:
+        return message._replace(fault=Fault(message.place, "answer", answer_text(message, other)))
+    return message
 
 
 def answer_text(message, other):
@@ -205,7 +215,7 @@ def first_end(pair, ends, wanted):
         fits = [end for end in pair.ends if any(is_wanted(one, wanted) for one in ends.of(end))]
         if len(fits) == 1:
             return fits[0]
-        place = pair.messages[0].place if pair.messages else (0, 0, 0)
+        place = pair.messages[0].place if pair.messages else pair.fault.place
         pair.fault = Fault(place, "a", f"{'both ends are' if fits else 'no end is'} the one that --a asks for")
         pair.behind, pair.messages = pair.behind + len(pair.messages), []
         return None
