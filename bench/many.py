@@ -17,9 +17,10 @@ PROCESSES = 1, 2, 4
 
 
 def seconds(folder, count, line):
-    """The least time of three runs over the records of a folder by so many processes. Stops where a verdict is another."""
+    """The least time of three runs over the records of a folder, with so many processes side by side. Stops where not all
+    verdicts are that line."""
     paths = b"".join(os.path.join(folder, f"{number}.record").encode() + b"\0" for number in range(RECORDS))
-    words = ["xargs", "-0", "-P", str(count), "-I{}", judging.PROGRAM, "judge", "{}", os.path.join(folder, "table.json")]
+    words = ["xargs", "-0", "-P", str(count), "-I{}", judging.PROGRAM, "judge", "{}", f"{folder}/table.json"]
     times = []
     for _ in range(3):
         start = time.perf_counter()

@@ -28,8 +28,8 @@ KINDS = {
     "Abort": "tcap.abort_element",
 }
 
-# Party addresses of SCCP: with and without a point code, a subsystem number, and each form of a global title, of an even
-# and of an odd count of digits.
+# Party addresses of SCCP: with and without a point code, a subsystem number, and each form of a global title, of an
+# even and of an odd count of digits.
 ADDRESSES = (
     "00 10001204214365 420a 416500 4365000a 06080421436587 06088421436507 0a080021436587 0e08001221436587"
     " 0e08001121430587 1208001204214365 1208001104214305 136500080011042103"

@@ -357,7 +357,12 @@ def main(arguments):
     reader.faults = sorted(reader.faults + faults + (gaps if words.whole else []))
     pairs = pairs_of(messages, reader.faults, ends)
     say(reader, [] if words.whole else gaps, pairs, words.capture)
-    write(pairs, ends, reader, words)
+    try:
+        write(pairs, ends, reader, words)
+        sys.stdout.flush()
+    except OSError as error:
+        print(f"error: {error}", file=sys.stderr)
+        return FAULTY
     return FAULTY if reader.faults or not pairs or any(pair.fault for pair in pairs) else 0
 
 
