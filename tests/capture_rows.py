@@ -92,6 +92,8 @@ def layers():
     yield Row("a dialogue", over(Wire().all(DIALOGUE)), [], [DIALOGUE])
     yield Row("a pcapng", made.pcapng(Wire().all(DIALOGUE)), [], [DIALOGUE])
     yield Row("MTP3", over([Wire().mtp3(line) for line in DIALOGUE], made.MTP3), [], [DIALOGUE])
+    units = [made.mtp2(Wire().mtp3(line), number) for number, line in enumerate(DIALOGUE)]
+    yield Row("MTP2", over(units, made.MTP2), [], [DIALOGUE], 0, ["sent again is not looked for; frames of MTP2: 2"])
     yield Row("alone", over([Wire().alone(line) for line in DIALOGUE], made.EXPORTED), [], [DIALOGUE])
     alone = [made.exported(bytes.fromhex(line[2:]), codes=None) for line in DIALOGUE]
     yield Row("alone, in and out", made.pcapng(alone, made.EXPORTED, [2, 1]), ["--a", "side=near"], [DIALOGUE])

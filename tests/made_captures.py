@@ -3,7 +3,7 @@
 
 import struct
 
-ETHERNET, MTP3, SCCP, EXPORTED = 1, 141, 142, 252
+ETHERNET, MTP2, MTP3, SCCP, EXPORTED = 1, 140, 141, 142, 252
 M3UA_PPID = 3
 START = 1_700_000_000
 
@@ -75,6 +75,11 @@ def m3ua(sccp, opc=101, dpc=202, indicator=3):
 def mtp3(sccp, opc=101, dpc=202):
     """A message signal unit of MTP3: the service information octet, and the routing label of ITU-T."""
     return b"\x83" + struct.pack("<I", dpc | opc << 14 | 5 << 28) + sccp
+
+
+def mtp2(unit, number):
+    """A signal unit of MTP2 (ITU-T Q.703) that carries one of MTP3, without its check bits."""
+    return bytes([0x80 | number, 0x80 | number, min(63, len(unit))]) + unit
 
 
 def address(ssn=None, pc=None, gt=None):

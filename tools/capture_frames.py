@@ -179,7 +179,7 @@ class Reader:
         elif frame["user"] and int(frame["user"], 0) == 3:
             codes = [int(frame[name].split(",")[-1], 0) for name in ("network", "opc", "dpc")]
             if "mtp2" in protocols:
-                self.told["in the files, what MTP2 sent again too: frames of MTP2"] += 1
+                self.told["what MTP2 sent again is not looked for; frames of MTP2"] += 1
             self.take_sccp(signalling.Label(*codes), octets_of(frame), self.place, [self.place[0]])
         elif is_ip and has_data:
             self.take_ip(frame, octets_of(frame))
