@@ -6,8 +6,8 @@
 #                repository; RT_JOBS=N has N go side by side
 # make changed   proves and tests in that copy what changed since the commit BASE, by default origin/main, else HEAD~1
 # make bench     prints how the time grows with the record, with the messages that are read as views, with an element
-#                that is walked, and with the messages of a transaction that an end takes; and how long `check` and `judge`
-#                take beside `show`
+#                that is walked, and with the messages of a transaction that an end takes; how long `check` and `judge`
+#                take beside `show`; and how many records are judged in a second by 1, 2 and 4 processes
 # make memory    lets each allocation of a run fail in turn
 .PHONY: demo program test edits changed bench memory measured needs
 
@@ -34,6 +34,7 @@ changed: needs
 bench: measured
 	@python3 bench/linear.py
 	@python3 bench/judging.py
+	@python3 bench/many.py
 
 memory: measured
 	@python3 bench/memory.py

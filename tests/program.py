@@ -126,6 +126,15 @@ FULL = [
     (["shew"], b"", 4),
 ]
 
+# An example, the table of examples/tables that it is judged by, what is printed, and the exit status.
+TABLES = [
+    ("ussd", "ussd", b"LAWFUL 4\n", 0),
+    ("ussd", "map", b"LAWFUL 4\n", 0),
+    ("password", "map", b"LAWFUL 8\n", 0),
+    ("password", "ussd", b"REFUTED 0 F6\n", 1),
+    ("announcement", "cap", b"LAWFUL 4\n", 0),
+]
+
 
 def is_wanted(found, wanted):
     return found != b"" if wanted is SOME else found == wanted
@@ -202,14 +211,28 @@ def misblamed_in(folder):
     return wrong
 
 
+def unlawful_in(folder):
+    """How many rows of TABLES are not as they are wanted, each of which is printed."""
+    wrong = 0
+    for name, table, printed, status in TABLES:
+        with open(f"{folder}/tabled", "wb") as file:
+            subprocess.run([PROGRAM, "pack", f"examples/{name}.hex"], stdout=file, check=False)
+        words = ["judge", f"{folder}/tabled", f"examples/tables/{table}.json"]
+        run = subprocess.run([PROGRAM, *words], input=b"", capture_output=True, check=False)
+        if run.stdout != printed or run.returncode != status:
+            wrong += 1
+            print(f"{name} by {table}: {run.returncode} {run.stdout} {run.stderr}")
+    return wrong
+
+
 def main():
     with tempfile.TemporaryDirectory() as folder:
         for name, octets in FILES.items():
             with open(f"{folder}/{name}", "wb") as file:
                 file.write(octets)
-        wrong = wrong_in(folder) + misjudged_in(folder) + misblamed_in(folder)
-    count = len(ROWS) + len(FULL) + 1 + len(judged.ROWS) + len(blamed.ROWS) + len(list(blamed.faults()))
-    print(f"{count - wrong} passed, {wrong} failed")
+        wrong = wrong_in(folder) + misjudged_in(folder) + misblamed_in(folder) + unlawful_in(folder)
+    judgements = len(judged.ROWS) + len(blamed.ROWS) + len(list(blamed.faults())) + len(TABLES)
+    print(f"{len(ROWS) + len(FULL) + 1 + judgements - wrong} passed, {wrong} failed")
     return int(wrong != 0)
 
 

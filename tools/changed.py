@@ -73,6 +73,7 @@ def main(names):
             passed.append(copy.step(what, ["rt", "try", "--test"], f"crates/{crate.name}"))
     if is_proved and copy.step("the program is built", ["make", "--silent", "program"]):
         passed.append(copy.step("runs of the program", [sys.executable, "tests/program.py"]))
+        passed.append(copy.step("tests of captures", [sys.executable, "tests/captures.py"]))
     else:
         passed.append(False)
         print("the program was not run", flush=True)

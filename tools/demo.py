@@ -1,6 +1,6 @@
 """What `make demo` runs: makes records of the lines of examples/ by `pack`, shows them by `show`, checks those that have an
-operation table and a certificate by `check`, judges those of JUDGED by `judge`, and says of those of BLAMED by `blame` which end
-is at fault. It is the program as `rt try` runs it, compiled but not proved."""
+operation table and a certificate by `check`, judges those of JUDGED and TABLES by `judge`, and says of those of BLAMED by
+`blame` which end is at fault. It is the program as `rt try` runs it, compiled but not proved."""
 
 import concurrent.futures
 import glob
@@ -36,6 +36,8 @@ BLAMED = [
     "open_at_mark",
     "negative_test",
 ]
+# Those that are judged by another table.
+TABLES = {"ussd": "examples/tables/ussd.json"}
 
 
 def run(flags, words, statuses):
@@ -63,7 +65,7 @@ def checked(name, record):
 
 def judged(word, name, record):
     """What the program prints with that word of the record of that example, which stands in that file."""
-    files = {"record": record, "table": "examples/operations.json"}
+    files = {"record": record, "table": TABLES.get(name, "examples/operations.json")}
     flags = [word for file, path in files.items() for word in ("--data", f"{file}={os.path.abspath(path)}")]
     return f"== {word} {name}\n".encode() + run(flags, [word, *files], [0, 1, 2])
 
@@ -84,7 +86,7 @@ def main():
         shown = lanes.submit(run_each, "show", records)
         names = sorted(os.path.basename(path).removesuffix(".cert.json") for path in glob.glob("examples/*.cert.json"))
         checks = [lanes.submit(checked, name, f"{records}/{name}") for name in names]
-        asked = [("judge", name) for name in JUDGED] + [("blame", name) for name in BLAMED]
+        asked = [("judge", name) for name in [*JUDGED, *TABLES]] + [("blame", name) for name in BLAMED]
         verdicts = [lanes.submit(judged, word, name, f"{records}/{name}") for word, name in asked]
         for said in [shown, *checks, *verdicts]:
             sys.stdout.buffer.write(said.result())

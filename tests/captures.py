@@ -1,0 +1,196 @@
+"""Makes captures (capture_rows.py, made_captures.py), lets tools/lines_of_capture.py make lines of them, packs and
+shows these by the built program, and compares. Then it compares what `tshark` and `tcapjudge show` say of every named
+vector and of random messages (wireshark.py). Where tshark is not installed it says so, and counts nothing."""
+
+import concurrent.futures
+import glob
+import os
+import random
+import re
+import shutil
+import subprocess
+import sys
+import tempfile
+
+import made_captures as made
+
+sys.path.insert(0, "tools")
+
+import capture_frames
+import capture_rows
+import signalling
+import wireshark
+
+PROGRAM = "crates/tcapjudge/out/tcapjudge"
+TOOL = "tools/lines_of_capture.py"
+VECTORS = "crates/tcap_msg_rows/src/vectors.rt"
+DAMAGED = 3000
+
+
+def run(*words, env=None):
+    return subprocess.run(words, capture_output=True, check=False, env=env)
+
+
+def lines_of(folder, capture, options):
+    """What the tool says of a capture, and the entries of each file that it wrote."""
+    path, out = f"{folder}/capture", f"{folder}/lines"
+    shutil.rmtree(out, ignore_errors=True)
+    if capture is not None:
+        with open(path, "wb") as file:
+            file.write(capture)
+    said = run(sys.executable, TOOL, path if capture is not None else f"{folder}/none", out, *options)
+    files = []
+    for number in range(1, 1 + len(os.listdir(out)) if os.path.isdir(out) else 1):
+        with open(f"{out}/pair-{number}.hex", encoding="utf-8") as file:
+            files.append((file.name, [line for line in file.read().splitlines() if not line.startswith("#")]))
+    return said, files
+
+
+def record_of(lines):
+    """The record that lines of digits stand for."""
+    return b"".join(line[:1].encode() + bytes.fromhex(line[2:]) for line in lines)
+
+
+def packed(path):
+    """The record that the program makes of a file of lines, and what it prints of that."""
+    record = run(PROGRAM, "pack", path).stdout
+    shown = subprocess.run([PROGRAM, "show"], input=record, capture_output=True, check=False)
+    return record, shown.stdout
+
+
+def is_as_wanted(row):
+    """Whether the tool and the program do with a row what it wants. Prints what they do else."""
+    with tempfile.TemporaryDirectory() as folder:
+        return is_so(row, *lines_of(folder, row.capture, row.options))
+
+
+def is_so(row, said, files):
+    errors = said.stderr.decode()
+    holds = [lines for _, lines in files] == [list(lines) for lines in row.files] and said.returncode == row.status
+    holds = holds and all(word in errors for word in row.said) and "Traceback" not in errors
+    # What is not foreseen is said by no run.
+    holds = holds and (row.said or not errors)
+    holds = holds and all(packed(path)[0] == record_of(lines) for path, lines in files)
+    if not holds:
+        print(f"{row.name}: {said.returncode}\n{said.stdout.decode()}{errors}{files}")
+    return holds
+
+
+def is_shown_alike(folder, name, entries, frames, link):
+    """Whether the records of examples, each of a pair of ends, come back from one capture, and are shown alike."""
+    said, files = lines_of(folder, made.pcap(frames, link), ["--apart"])
+    found = {record_of(lines): packed(path) for path, lines in files}
+    wanted = [record_of(lines) for lines in entries]
+    holds = said.returncode == 0 and len(files) == len(entries)
+    for record in wanted:
+        shown = subprocess.run([PROGRAM, "show"], input=record, capture_output=True, check=False).stdout
+        holds = holds and found.get(record) == (record, shown)
+    if not holds:
+        print(f"{name}: {said.returncode} {said.stdout.decode()}{said.stderr.decode()}")
+    return holds
+
+
+def example_lines():
+    """The lines of each example, without its quiet marks, which a capture has not."""
+    for path in sorted(glob.glob("examples/*.hex")):
+        with open(path, encoding="utf-8") as file:
+            lines = file.read().splitlines()
+        yield [line[:2] + line[2:].lower() for line in lines if line[:1] in ("A", "B")]
+
+
+def examples_come_back(folder):
+    """How many of three ways, SCCP over M3UA over SCTP, SCCP over MTP3, and TCAP alone, give back the examples."""
+    entries = list(example_lines())
+    numbers = range(1000, 1000 + 2 * len(entries), 2)
+    wires = [capture_rows.Wire(ends=((n, 8), (n + 1, 6)), tag=n) for n in numbers]
+    over = [frame for wire, lines in zip(wires, entries) for line in lines for frame in wire.frames(line)]
+    under = [wire.mtp3(line) for wire, lines in zip(wires, entries) for line in lines]
+    alone = [wire.alone(line) for wire, lines in zip(wires, entries) for line in lines]
+    rows = [("over SCTP", over, made.ETHERNET), ("over MTP3", under, made.MTP3), ("alone", alone, made.EXPORTED)]
+    return [is_shown_alike(folder, name, entries, frames, link) for name, frames, link in rows]
+
+
+def vectors():
+    """The octets of each named vector, and what `show` prints of it."""
+    with open(VECTORS, encoding="utf-8") as file:
+        rows = [line.split(";") for line in file.read().splitlines() if line.count(";") == 3]
+    return [(bytes.fromhex(row[1]), row[3].replace("\\n", "\n")) for row in rows if re.fullmatch("[0-9a-f]+", row[1])]
+
+
+def vectors_come_back(folder):
+    """Whether each named vector, sent by A, comes back from a capture, and is shown as its row says."""
+    wire = capture_rows.Wire()
+    rows = vectors()
+    lines = [f"A {octets.hex()}" for octets, _ in rows]
+    said, files = lines_of(folder, made.pcap([frame for line in lines for frame in wire.frames(line)]), [])
+    wanted = "".join(f"{number}{printed[1:]}" for number, (_, printed) in enumerate(rows))
+    holds = [one for _, one in files] == [lines] and packed(files[0][0])[1].decode() == wanted and len(rows) > 20
+    if not holds:
+        print(f"vectors: {said.returncode} {said.stdout.decode()}{said.stderr.decode()}")
+    return holds
+
+
+def is_steady():
+    """Whether the reader takes damaged packets, and says what is wrong, without an error of its own."""
+    chance, packets = random.Random(7), capture_rows.PACKETS
+    for turn in range(DAMAGED):
+        octets = bytearray(chance.choice(packets))
+        for _ in range(chance.randint(1, 4)):
+            octets[chance.randrange(12, len(octets))] = chance.choice([0, 1, 0x7F, 0x80, 0xFF, chance.randrange(256)])
+        octets = octets[: chance.choice([len(octets), chance.randrange(1, len(octets))])]
+        reader = capture_frames.Reader()
+        frame = {"number": "1", "time": "1.5", "octets": octets.hex(), "ip": "132", "protocols": "ip:data"}
+        try:
+            reader.take(dict.fromkeys(capture_frames.FIELDS, "") | frame)
+            reader.close()
+            for message in reader.messages:
+                signalling.ids_of(message.octets or b"\0")
+        except Exception as error:
+            print(f"damaged packet {turn}: {octets.hex()} {error!r}")
+            return False
+    return True
+
+
+def words_are_refused(folder):
+    """Whether wrong words, a folder with files in it, and a missing tshark end with the statuses that they have."""
+    with open(f"{folder}/capture", "wb") as file:
+        file.write(made.pcap([]))
+    runs = [
+        ([f"{folder}/capture"], None, 4),
+        ([f"{folder}/capture", f"{folder}/new", "--by", "name"], None, 4),
+        ([f"{folder}/capture", f"{folder}/new", "--a", "ssn"], None, 4),
+        ([f"{folder}/capture", f"{folder}/new", "--join", "--apart"], None, 4),
+        ([f"{folder}/capture", folder], None, 4),
+        ([f"{folder}/capture", f"{folder}/capture"], None, 4),
+        ([f"{folder}/capture", f"{folder}/new"], os.environ | {"PATH": "/no/such/folder"}, 2),
+        (["--help"], None, 0),
+    ]
+    wrong = [words for words, env, status in runs if run(sys.executable, TOOL, *words, env=env).returncode != status]
+    if wrong:
+        print(f"wrong statuses of {wrong}")
+    return not wrong
+
+
+def main():
+    if not shutil.which("tshark"):
+        print("tshark is not installed, so the tests of captures were skipped")
+        print("0 passed, 0 failed")
+        return 0
+    if not os.path.exists(PROGRAM):
+        print("there is no program to run: make program")
+        print("0 passed, 1 failed")
+        return 1
+    with tempfile.TemporaryDirectory() as folder:
+        # Most of the time goes into the start of tshark.
+        with concurrent.futures.ThreadPoolExecutor(os.cpu_count()) as lanes:
+            held = list(lanes.map(is_as_wanted, capture_rows.rows()))
+        held += [*examples_come_back(folder), vectors_come_back(folder), is_steady(), words_are_refused(folder)]
+        messages = [octets for octets, _ in vectors()]
+        messages += [bytes.fromhex(line[2:]) for lines in example_lines() for line in lines]
+        held += [*wireshark.agreements(PROGRAM, folder, messages), wireshark.addresses_agree(folder)]
+    print(f"{sum(held)} passed, {len(held) - sum(held)} failed")
+    return int(not all(held))
+
+
+if __name__ == "__main__":
+    sys.exit(main())
