@@ -82,12 +82,10 @@ pub(crate) fn said(alloc: Global, outcome: &Outcome) -> Option<String> {
     };
     let number = status.number();
     let mut said = format!(in alloc; "{number}:").ok()?;
-    let mut before = " ";
     let printed = str::from_utf8(&outcome.printed).ok()?;
-    for line in printed.lines() {
-        said.push_str(before).ok()?;
+    for (index, line) in printed.lines().enumerate() {
+        said.push_str(if index == 0 { " " } else { "|" }).ok()?;
         said.push_str(line).ok()?;
-        before = "|";
     }
     if !printed.is_empty() && !printed.ends_with('\n') {
         said.push_str(", and a line has no end").ok()?;

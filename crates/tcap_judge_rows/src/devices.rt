@@ -1,6 +1,6 @@
 //! Devices that fail behind each count of octets.
 
-use crate::commands::{Command, Outcome, NEVER, outcome_of, said};
+use crate::commands::{Command, NEVER, Outcome, outcome_of, said};
 use std::alloc::Global;
 
 /// Whether a run says that a reader, of this number, failed behind so many octets, and left what stands behind them and all that the

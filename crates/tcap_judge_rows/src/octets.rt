@@ -27,9 +27,10 @@ fn digits_of<'a>(sheet: &'a str, word: &'a str) -> &'a str {
         "A" => "41",
         "B" => "42",
         "Q" => "51",
-        _ => named(sheet, "octets", word)
-            .or_else(|| vector(word))
-            .unwrap_or(word),
+        _ => match named(sheet, "octets", word) {
+            Some(digits) => digits,
+            None => vector(word).unwrap_or(word),
+        },
     }
 }
 

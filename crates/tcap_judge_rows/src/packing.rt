@@ -37,12 +37,7 @@ fn by_library(alloc: Global, lines: &[u8]) -> Option<(String, Vec<u8>)> {
 fn by_run(alloc: Global, lines: &[u8]) -> Option<(String, Vec<u8>)> {
     let mut writer = Counted::new(Vec::new(alloc));
     let mut faults = Counted::new(Vec::new(alloc));
-    let status = run_pack(
-        alloc,
-        &mut Counted::new(lines),
-        &mut writer,
-        &mut faults,
-    );
+    let status = run_pack(alloc, &mut Counted::new(lines), &mut writer, &mut faults);
     let number = status.ok()?.number();
     let fault = faults.into_inner();
     let line = str::from_utf8(&fault).ok()?.trim_end();

@@ -37,12 +37,7 @@ fn take_piece(
 
 /// Takes a record in pieces of so many octets, and says how many octets it held at most, how many messages waited at most, and how many
 /// steps the run has; `None` where there is a fault.
-fn replayed_by(
-    alloc: Global,
-    mut checker: Checker,
-    record: &[u8],
-    len: usize,
-) -> Option<String> {
+fn replayed_by(alloc: Global, mut checker: Checker, record: &[u8], len: usize) -> Option<String> {
     let mut frames = Frames::new(alloc);
     let mut most = Most {
         buffered: 0,

@@ -42,7 +42,10 @@ pub(crate) fn misjudged(alloc: Global, sheet: &str, columns: &str) -> Option<Str
         return None;
     };
     let asked = format!(in alloc; "judge;{record};{table}").ok()?;
-    let said = said(alloc, &outcome_of(alloc, &command_of(alloc, sheet, &asked)?, [NEVER; 4])?)?;
+    let said = said(
+        alloc,
+        &outcome_of(alloc, &command_of(alloc, sheet, &asked)?, [NEVER; 4])?,
+    )?;
     if may_be_said(&said, lower(a, b)) {
         return Some(String::new(alloc));
     }
