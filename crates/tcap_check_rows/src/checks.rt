@@ -4,10 +4,10 @@ use std::alloc::Global;
 use std::fmt::Write;
 use std::test::Fail;
 use tcap_ber::Counted;
-use tcap_check::{Certificate, CheckFault, Checker, Fate, Reason, Report, check};
+use tcap_check::{Certificate, CheckFault, Reason, Report, check};
 use tcap_end::Table;
 use tcap_msg_rows::{Row, each_row, octets_of, vector};
-use tcap_record::{End, Record, read_record};
+use tcap_record::{Record, read_record};
 
 /// The operations: 45 of class 1, 46 of class 2, 47 of class 3, 48 of class 4, and 50 of class 1, to which 48 may be linked.
 const TABLE: &str =
@@ -127,47 +127,5 @@ impl Row for Checks {
 fn each_check(rt: HostRuntime) -> Result<(), Fail> {
     let count = each_row::<Checks>(rt.alloc(), CHECKS)?;
     assert_eq!(rt; count, 21);
-    Ok(())
-}
-
-/// The certificate by which so many messages are each delivered at once.
-fn prompt(alloc: Global, count: u32) -> Result<Certificate, Fail> {
-    let mut fates = Vec::new(alloc);
-    for entry in 0..count {
-        fates.push(Fate::Gap(entry.saturating_add(1)))?;
-    }
-    Ok(Certificate::new(fates, Vec::new(alloc), Vec::new(alloc)).ok_or("within the limits")?)
-}
-
-/// The greatest count of messages that wait behind an entry, and the report, of so many messages that are one.
-fn stepped(
-    alloc: Global,
-    octets: &[u8],
-    table: &Table,
-    certificate: &Certificate,
-    count: u32,
-) -> Result<(usize, u128), Fail> {
-    let (message, _) = tcap_msg::view(octets).map_err(|_| "a message")?;
-    let mut checker = Checker::new(alloc, table, certificate).map_err(|_| "in range")?;
-    let mut most = 0;
-    for _ in 0..count {
-        checker.step(End::A, Ok(&message)).map_err(|_| "a step")?;
-        most = most.max(checker.pending());
-    }
-    Ok((most, checker.finish().map_err(|_| "a run")?.moves))
-}
-
-/// Of 50,000 Unidirectionals that are delivered at once never more than one waits.
-#[test]
-fn one_waits(rt: HostRuntime) -> Result<(), Fail> {
-    let table = Table::from_json(rt.alloc(), TABLE.as_bytes()).map_err(|_| "a table")?;
-    let octets = octets_of(
-        rt.alloc(),
-        vector("unidirectional_with_invoke").ok_or("a vector")?,
-    )?;
-    let certificate = prompt(rt.alloc(), 50_000)?;
-    let (most, moves) = stepped(rt.alloc(), &octets, &table, &certificate, 50_000)?;
-    assert_eq!(rt; most, 1);
-    assert_eq!(rt; moves, 100_000);
     Ok(())
 }

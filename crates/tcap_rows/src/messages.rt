@@ -1,6 +1,6 @@
 //! Messages of each kind: decoded, shown, encoded again, and cut.
 
-use crate::tools::{is_cut_at_each, lines_of, shown};
+use crate::tools::{is_cut_at_each, lines_of};
 use std::alloc::Global;
 use std::test::Fail;
 use tcap_ber::Failing;
@@ -164,30 +164,5 @@ fn respelled_as_vectors(rt: HostRuntime) -> Result<(), Fail> {
 #[test]
 fn each_octet_set_to_each_value(rt: HostRuntime) -> Result<(), Fail> {
     assert_eq!(rt; each_row::<Edited>(rt.alloc(), EDITED)?, 4);
-    Ok(())
-}
-
-/// All vectors in one record, from the ends A and B in turn.
-#[test]
-fn one_record(rt: HostRuntime) -> Result<(), Fail> {
-    let mut record = Vec::new(rt.alloc());
-    let mut wanted = String::new(rt.alloc());
-    let mut count = 0_usize;
-    for row in VECTORS.lines().filter(|row| !row.is_empty()) {
-        let (octet, end) = if count % 2 == 0 {
-            (0x41, "A")
-        } else {
-            (0x42, "B")
-        };
-        record.push(octet)?;
-        let digits = row.split(';').nth(1).ok_or("digits")?;
-        record.extend_from_slice(&octets_of(rt.alloc(), digits)?)?;
-        let lines = text_of(rt.alloc(), row.split(';').nth(3).ok_or("lines")?)?;
-        let rest = lines.as_str().strip_prefix("0 A").ok_or("the first line")?;
-        wanted.push_str(&format!(in rt.alloc(); "{count} {end}{rest}")?)?;
-        count = count.saturating_add(1);
-    }
-    let (printed, status) = shown(rt.alloc(), &record)?;
-    assert!(rt; count == 25 && printed.as_slice() == wanted.as_bytes() && status == 0);
     Ok(())
 }

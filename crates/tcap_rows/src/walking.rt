@@ -1,6 +1,6 @@
 //! Elements of indefinite length: read, shown, written, refused.
 
-use crate::tools::{is_cut_at_each, lines_of, nested, padded, shown};
+use crate::tools::{is_cut_at_each, lines_of, nested, padded};
 use crate::walks::{is_walked_in_pieces, needs_at_each};
 use std::alloc::Global;
 use std::test::Fail;
@@ -215,25 +215,5 @@ fn long_messages(rt: HostRuntime) -> Result<(), Fail> {
     let front = "6282ffff4801016c82fff8a182fff402010102012d0482ffea";
     let wanted = padded(rt.alloc(), front, 65_514, "")?;
     assert!(rt; encoded_again(rt.alloc(), &octets)? == wanted);
-    Ok(())
-}
-
-/// A fault of the record at the 33rd open element of an entry, and a bad entry with one.
-#[test]
-fn nested_entries(rt: HostRuntime) -> Result<(), Fail> {
-    for (front, wanted) in [
-        ("41620348010142", "0 A Begin otid=01\nFAULT 18 71\n"),
-        (
-            "426281934801016c818da1818a02010102012d",
-            "0 B FAULT 18 83\n",
-        ),
-    ] {
-        let octets = nested(rt.alloc(), front, 33, 33)?;
-        let (printed, status) = shown(rt.alloc(), &octets)?;
-        assert!(rt;
-            printed.as_slice() == wanted.as_bytes() && status == 3,
-            "{front}"
-        );
-    }
     Ok(())
 }
