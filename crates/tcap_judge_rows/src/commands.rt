@@ -8,7 +8,8 @@ use tcap_judge::{Status, run_check, run_judge, run_show};
 /// A count of octets that no device reaches.
 pub(crate) const NEVER: usize = 1_000_000_000;
 
-/// A command, and what its readers tell: the texts of a table and of a certificate, empty ones where it takes none, and a record.
+/// A command, and what its readers tell: the texts of a table and of a certificate, empty ones where it takes none, and
+/// a record.
 #[derive(Drop)]
 pub(crate) struct Command<'a> {
     pub(crate) word: &'a str,
@@ -17,8 +18,8 @@ pub(crate) struct Command<'a> {
     pub(crate) record: Vec<u8>,
 }
 
-/// What a run printed, how it ended, `None` where the writer failed, and how many octets of the table, the certificate and the
-/// record it left.
+/// What a run printed, how it ended, `None` where the writer failed, and how many octets of the table, the certificate
+/// and the record it left.
 #[derive(Drop)]
 pub(crate) struct Outcome {
     pub(crate) printed: Vec<u8>,
@@ -44,8 +45,8 @@ pub(crate) fn command_of<'a>(alloc: Global, sheet: &'a str, row: &'a str) -> Opt
     })
 }
 
-/// What comes of a command whose devices fail behind so many octets: the readers of the table, the certificate and the record, and
-/// the writer. `None` where there is no such command.
+/// What comes of a command whose devices fail behind so many octets: the readers of the table, the certificate and the
+/// record, and the writer. `None` where there is no such command.
 pub(crate) fn outcome_of(alloc: Global, command: &Command, limits: [usize; 4]) -> Option<Outcome> {
     let mut table = Failing::new(command.table.as_bytes(), limits[0]);
     let mut certificate = Failing::new(command.certificate.as_bytes(), limits[1]);

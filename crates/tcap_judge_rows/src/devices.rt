@@ -3,8 +3,8 @@
 use crate::commands::{Command, NEVER, Outcome, outcome_of, said};
 use std::alloc::Global;
 
-/// Whether a run says that a reader, of this number, failed behind so many octets, and left what stands behind them and all that the
-/// readers behind it tell.
+/// Whether a run says that a reader, of this number, failed behind so many octets, and left what stands behind them and
+/// all that the readers behind it tell.
 fn is_read_fault(
     alloc: Global,
     found: &Outcome,

@@ -1,6 +1,6 @@
-//! The worked rows of the runs over memory, as data: the program reads rows on standard input, does what each asks for, and prints
-//! the number and what was said of each row of which something else is wanted, and then how many rows there are. `stdin` begins with
-//! what its rows look like.
+//! The worked rows of the runs over memory, as data: the program reads rows on standard input, does what each asks for,
+//! and prints the number and what was said of each row of which something else is wanted, and then how many rows there
+//! are. `stdin` begins with what its rows look like.
 #![tactic(auto)]
 
 mod commands;

@@ -35,8 +35,8 @@ fn take_piece(
     None
 }
 
-/// Takes a record in pieces of so many octets, and says how many octets it held at most, how many messages waited at most, and how many
-/// steps the run has; `None` where there is a fault.
+/// Takes a record in pieces of so many octets, and says how many octets it held at most, how many messages waited at
+/// most, and how many steps the run has; `None` where there is a fault.
 fn replayed_by(alloc: Global, mut checker: Checker, record: &[u8], len: usize) -> Option<String> {
     let mut frames = Frames::new(alloc);
     let mut most = Most {

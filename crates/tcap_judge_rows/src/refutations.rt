@@ -19,8 +19,8 @@ fn lower<'a>(a: &'a str, b: &'a str) -> Option<(usize, &'a str)> {
     }
 }
 
-/// Whether `judge` may say that. Where the lower entry has a kind that `judge` asks for, it says that. Else it refutes no entry up to
-/// that one, and none at all where there is no such entry.
+/// Whether `judge` may say that. Where the lower entry has a kind that `judge` asks for, it says that. Else it refutes
+/// no entry up to that one, and none at all where there is no such entry.
 fn may_be_said(said: &str, lower: Option<(usize, &str)>) -> bool {
     let refuted = match said.strip_prefix("1: REFUTED ") {
         Some(fact) => fact_of(fact),
@@ -33,9 +33,9 @@ fn may_be_said(said: &str, lower: Option<(usize, &str)>) -> bool {
     }
 }
 
-/// What `judge` says of a record where it may not say that, and else nothing. The columns: a name, the record, the table, of either
-/// end its first entry of which a fact holds, with the lowest kind that `judge` asks for and the others, and what is said of that end
-/// alone.
+/// What `judge` says of a record where it may not say that, and else nothing. The columns: a name, the record, the
+/// table, of either end its first entry of which a fact holds, with the lowest kind that `judge` asks for and the
+/// others, and what is said of that end alone.
 pub(crate) fn misjudged(alloc: Global, sheet: &str, columns: &str) -> Option<String> {
     let columns: Vec<&str> = columns.split(';').collect(alloc).ok()?;
     let [_, record, table, a, b, _, _] = columns.as_slice() else {

@@ -43,7 +43,8 @@ fn answer(alloc: Global, sheet: &str, asked: &str) -> Option<String> {
     )
 }
 
-/// What is said of a row where something else is wanted, and else nothing; `None` where the row can't be read, or memory ran out.
+/// What is said of a row where something else is wanted, and else nothing; `None` where the row can't be read, or
+/// memory ran out.
 pub(crate) fn complaint(alloc: Global, sheet: &str, row: &str) -> Option<String> {
     if let Some(columns) = row.strip_prefix("record;") {
         return misjudged(alloc, sheet, columns);
