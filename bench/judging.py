@@ -1,5 +1,5 @@
-"""Shows that `tcapjudge check` and `tcapjudge judge` take time linear in the entries of a record, and how long they take beside
-`tcapjudge show` of the same record: prints, for records of several shapes, the time for 100,000 entries, how many times that
+"""Shows that `tcapjudge check`, `tcapjudge judge` and `tcapjudge blame` take time linear in the entries of a record, and how long
+they take beside `tcapjudge show` of the same record: prints, for records of several shapes, the time for 100,000 entries, how many times that
 of `show` it is, the ratios of the times for 25,000, 50,000 and 100,000 entries, and, of `check`, the peak of memory beside the
 greatest count of messages that wait. `make bench` builds the program first."""
 
@@ -155,6 +155,17 @@ def refuted_at_last(count):
 
 JUDGED = [short, many_open, one_dialogue, refused, rejected, refuted_at_last]
 
+
+def one_id(count):
+    """One dialogue and one invoke ID."""
+    entries = [A + begin(0), B + going_on(0, 0)]
+    for turn in range((count - 2) // 2):
+        entries += [A + going_on(0, 0, invoke(1, 45)), B + going_on(0, 0, result(1))]
+    return entries
+
+
+BLAMED = [short, many_open, one_dialogue, one_id, refused, rejected]
+
 # ---- measures
 
 
@@ -212,14 +223,14 @@ def main():
                 f" {line}; {peak(command)} kB where {waiting} wait",
                 flush=True,
             )
-        for shape in JUDGED:
+        for word, shape in [("judge", shape) for shape in JUDGED] + [("blame", shape) for shape in BLAMED]:
             times = []
             for count in COUNTS:
                 entries = shape(count)
-                own, shown, line, command = compared(folder, "judge", entries)
+                own, shown, line, command = compared(folder, word, entries)
                 times.append(own)
             print(
-                f"judge, {shape.__doc__.lower().rstrip('.')}: {len(entries)} entries in {own:.3f} s, {own / shown:.1f} times"
+                f"{word}, {shape.__doc__.lower().rstrip('.')}: {len(entries)} entries in {own:.3f} s, {own / shown:.1f} times"
                 f" `show`; twice as many {times[1] / times[0]:.2f}, four times {times[2] / times[0]:.2f}; {line}",
                 flush=True,
             )
