@@ -106,10 +106,69 @@ def count_of(shown):
     return next((number for number, line in enumerate(entries) if b" FAULT " in line), len(entries))
 
 
-def faults():
+def parts_of(octets):
+    """The elements, of short or of long definite length, that octets are, one after the other: the tag of each, and its octets.
+    None where they are not."""
+    parts, at = [], 0
+    while at < len(octets):
+        if at + 2 > len(octets) or octets[at + 1] == 0x80:
+            return None
+        more = octets[at + 1] - 0x80 if octets[at + 1] > 0x80 else 0
+        start = at + 2 + more
+        stop = start + (int.from_bytes(octets[at + 2 : start], "big") if more else octets[at + 1])
+        parts.append((octets[at], octets[at:start], octets[start:stop]))
+        at = stop
+    return parts if at == len(octets) else None
+
+
+def entries_of(record):
+    """The entries of a record whose messages have a definite length."""
+    entries, at = [], 0
+    while at < len(record):
+        stop = at + 1
+        if record[at] != 0x51:
+            more = record[at + 2] - 0x80 if record[at + 2] > 0x80 else 0
+            length = int.from_bytes(record[at + 3 : at + 3 + more], "big") if more else record[at + 2]
+            stop = at + 3 + more + length
+        entries.append(record[at:stop])
+        at = stop
+    return entries
+
+
+def under_other_ids(entry):
+    """An entry with each transaction ID of its message turned into another of as many octets."""
+    if entry == b"\x51":
+        return entry
+    _, head, content = parts_of(entry[1:])[0]
+    parts = parts_of(content)
+    if parts is None:
+        return entry
+    turned = [(tag, h, bytes([c[0] ^ 0x80]) + c[1:] if tag in (0x48, 0x49) and c else c) for tag, h, c in parts]
+    return entry[:1] + head + b"".join(h + c for _, h, c in turned)
+
+
+def moved(faults, entry):
+    """What is blamed on the ends where each entry has another number."""
+    return {end: fault and [entry(fault[0]), fault[1]] for end, fault in faults.items()}
+
+
+# A dialogue that has ended, with the IDs that most records use, and a quiet mark.
+BEFORE = bytes.fromhex("41" + BEGIN + "42" + CONTINUE + "41" + END + "51")
+
+
+def known_faults():
     """Of each record of faults.json its name, its octets, those of its table, and what is blamed on its ends."""
     with open(FAULTS, encoding="utf-8") as file:
         known = json.load(file)
     for row in known["records"]:
         table = json.dumps(known["tables"][row["table"]]).encode()
         yield row["name"], bytes.fromhex(row["record"]), table, {"A": row["A"], "B": row["B"]}
+
+
+def faults():
+    """The same, and of each record behind a quiet mark, and with each entry twice, the second time under other IDs."""
+    for name, record, table, ends in known_faults():
+        yield name, record, table, ends
+        yield f"{name}, behind a mark", BEFORE + record, table, moved(ends, lambda entry: entry + 4)
+        twice = b"".join(entry + under_other_ids(entry) for entry in entries_of(record))
+        yield f"{name}, twice", twice, table, moved(ends, lambda entry: 2 * entry)
