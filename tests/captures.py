@@ -90,12 +90,18 @@ def is_shown_alike(folder, name, entries, frames, link):
     return holds
 
 
+def named_by_beginning(lines):
+    """The lines with A for the end that begins first, as it is where the capture alone says which end is A."""
+    first = next((line[0] for line in lines if line[2:4] == "62"), "A")
+    return lines if first == "A" else [("B" if line[0] == "A" else "A") + line[1:] for line in lines]
+
+
 def example_lines():
     """The lines of each example, without its quiet marks, which a capture has not."""
     for path in sorted(glob.glob("examples/*.hex")):
         with open(path, encoding="utf-8") as file:
             lines = file.read().splitlines()
-        yield [line[:2] + line[2:].lower() for line in lines if line[:1] in ("A", "B")]
+        yield named_by_beginning([line[:2] + line[2:].lower() for line in lines if line[:1] in ("A", "B")])
 
 
 def examples_come_back(folder):
