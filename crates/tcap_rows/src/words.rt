@@ -27,6 +27,10 @@ certify;=x y;,tcapjudge,judge,x,y,--cert
 certify;=x y;,tcapjudge,judge,--cert,x,y
 wrong;<TABLE>;,tcapjudge,judge,x
 wrong;unexpected argument 'z';,tcapjudge,judge,x,y,z
+blame;=x y;,tcapjudge,blame,x,y
+blame;=blame -y;,tcapjudge,blame,blame,--,-y
+wrong;<TABLE>;,tcapjudge,blame,x
+wrong;unexpected argument '--cert';,tcapjudge,blame,x,y,--cert
 wrong;requires a subcommand;,tcapjudge
 wrong;unrecognized subcommand 'shew';,tcapjudge,shew
 wrong;unexpected argument 'y';,tcapjudge,show,x,y
@@ -69,6 +73,10 @@ fn is_answered<'a>(
             let files = format!(in alloc; "{record} {table}")?;
             Ok(kind == word && Some(files.as_str()) == wanted.strip_prefix("="))
         }
+        Ok(Request::Blame(record, table)) => {
+            let files = format!(in alloc; "{record} {table}")?;
+            Ok(kind == "blame" && Some(files.as_str()) == wanted.strip_prefix("="))
+        }
         Err(fault) => {
             let said = format!(in alloc; "{fault}")?;
             let is_kind = kind
@@ -99,6 +107,6 @@ impl Row for WordsRow {
 
 #[test]
 fn words(rt: HostRuntime) -> Result<(), Fail> {
-    assert_eq!(rt; each_row::<WordsRow>(rt.alloc(), WORDS)?, 40);
+    assert_eq!(rt; each_row::<WordsRow>(rt.alloc(), WORDS)?, 44);
     Ok(())
 }
