@@ -9,9 +9,14 @@
 #                that is walked, and with the messages of a transaction that an end takes; how long `check` and `judge`
 #                take beside `show`; and how many records are judged in a second by 1, 2 and 4 processes
 # make memory    lets each allocation of a run fail in turn
-.PHONY: demo program test edits changed bench memory measured needs
+# make attack    prints how the time grows with inputs that are made to be slow; ONLY="PART .." chooses some by their names
+# make fuzz      runs the program over random and changed records, tables and certificates, for SECONDS, by default 60;
+#                SEED, and CASE of it, give the same ones again
+# make octets    runs it over messages that are cut, and over two with each octet set to each value: some minutes
+.PHONY: demo program test edits changed bench memory attack fuzz octets measured needs
 
 PROGRAM = crates/tcapjudge/out/tcapjudge
+SECONDS = 60
 
 demo: needs
 	@python3 tools/demo.py
@@ -38,6 +43,15 @@ bench: measured
 
 memory: measured
 	@python3 bench/memory.py
+
+attack: program
+	@python3 bench/attack.py $(ONLY)
+
+fuzz: program
+	@python3 tests/fuzz.py $(SECONDS) $(SEED) $(CASE)
+
+octets: program
+	@python3 tests/octets.py
 
 measured: program
 	@log=$$(mktemp) && { (cd crates/tcap_bench && rt run <stdin && cd ../tcap_end_rows && rt run <stdin) >"$$log" 2>&1 \

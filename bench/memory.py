@@ -1,11 +1,12 @@
-"""Lets each allocation of a proved program fail in turn, by a library that is preloaded before it (bench/fail_alloc.c; it takes a C
-compiler).
+"""Lets each allocation of a proved program fail in turn, by a library that is preloaded before it (bench/fail_alloc.c;
+it takes a C compiler): of the words of `tcapjudge` over worked records, of a feeder that is fed a record one octet at a
+time, and of the worked lists of calls of one end.
 
-What `tcapjudge show` prints then has to be the lines of the first entries and `FAULT 99 0`, with status 3, or all lines, with status 0,
-where the program did without that memory. What `tcapjudge check` prints has to be `FAULT 99 0`, with status 3, or `LAWFUL 3`, with
-status 0. A feeder that is fed a record one octet at a time, and each octet once more where memory ran
-out, has to give all entries. The worked lists of calls of one end, each call made once more where memory ran out, have to answer what they
-answer without it."""
+Each run has to say what it says without a failure, with that status; or that memory ran out, with status 3. `check`,
+`judge` and `blame` have `FAULT 99 0` as their only line then. `show` has it behind the lines of the first entries, and
+`pack` on standard error, with the octets of the first lines on standard output. A run that finds no memory as it reads
+its words has it alone, on standard output. What is fed or called once more where memory ran out has to go on as if
+nothing had been."""
 
 import os
 import shutil
@@ -17,48 +18,153 @@ from collections import Counter
 PROGRAM = "crates/tcapjudge/out/tcapjudge"
 BENCH = "crates/tcap_bench/out/tcap_bench"
 CALLS = "crates/tcap_end_rows/out/tcap_end_rows"
-RECORD = "examples/components.hex"
-CHECKED = "examples/expired"
-ENTRIES = [
+NO_MEMORY = b"FAULT 99 0\n"
+
+# Records in lines of hexadecimal digits, and tables and certificates for them.
+BEGIN, CONTINUE, END = "A 6203480101\n", "B 6506480102490101\n", "A 6403490102\n"
+INVOKE = "A 620D4801016C08A10602010102012D\n"
+# A dialogue that is asked for and confirmed.
+CONFIRMED = (
+    "A 622D4801016B1E281C060700118605010101A011600F80020780A1090607040000010013026C08A10602010102012D\n"
+    "B 65394801024901016B2A2828060700118605010101A01D611B80020780A109060704000001001302A203020100A305A103020100"
+    "6C05A203020101\n" + END
+)
+# An End that a Continue crosses, which the provider answers.
+CROSSED = BEGIN + CONTINUE + END + CONTINUE + "A 67064901024A0101\n"
+# A result that is rejected, since its invocation had ended unseen.
+REJECTED = INVOKE + "B 650D4801024901016C05A203020101\nA 640D4901026C08A406020101820100\n"
+# An ID that is invoked twice: F10.
+TWICE = "A 62154801016C10A10602010102012DA10602010102012D\n"
+# Components of each kind.
+COMPONENTS = "examples/components.hex"
+TABLE = (
+    b'{"operations":[{"class":1,"code":45},{"class":2,"code":46},{"class":3,"code":47},{"class":4,"code":48},'
+    b'{"class":1,"code":50,"linked":[48]},{"class":1,"code":"2a0304","linked":["2a0305"]}]}'
+)
+EXPIRED = b'{"close":[],"expire":[{"at":2,"component":0,"end":"A","entry":0}],"fates":[1,2,3],"version":1}'
+PROMPT = b'{"close":[],"expire":[],"fates":[1,2,3],"version":1}'
+FOUND = b'{"close":[],"expire":[],"fates":[1,2,4,{"by":4},5],"version":1}'
+SHOWN = [
+    "0 A Begin otid=01 AARQ context=04000001001302\n  Invoke id=1 op=45\n",
+    "1 B Continue otid=02 dtid=01 AARE context=04000001001302 result=0 user=0\n  ReturnResultLast id=1\n",
+    "2 A End dtid=02\n",
+]
+SHOWN_COMPONENTS = [
     "0 A Begin otid=01\n  Invoke id=5 linked=1 op=g:2a864801\n  ReturnResultNotLast id=2 op=45\n"
     "  ReturnError id=1 error=34\n  Reject id=1 invoke=7\n",
     "1 B Begin otid=02\n  ReturnResultLast id=1\n  Reject id=null general=0\n  Reject id=2 result=1\n"
     "  Reject id=3 error=2\n",
 ]
-WHOLE = ("".join(ENTRIES), 0)
-CUT = [("".join(ENTRIES[:count]) + "FAULT 99 0\n", 3) for count in range(len(ENTRIES) + 1)]
 
 
-def octets_of(path):
-    """The record of the lines of that file."""
-    with open(path) as file:
-        lines = [line.split() for line in file if not line.startswith("#")]
-    return b"".join(end.encode() + bytes.fromhex(digits) for end, digits in lines)
+def octets_of(lines):
+    """The record of lines."""
+    words = [line.split() for line in lines.splitlines() if not line.startswith("#")]
+    return b"".join(end.encode() + bytes.fromhex(digits) for end, digits in words)
+
+
+def said(out, status, error=b""):
+    """What a run says: both streams, and its status."""
+    return (out.encode() if isinstance(out, str) else out), error, status
+
+
+def cut(parts):
+    """What `show` says where memory runs out behind some of these parts."""
+    return [said("".join(parts[:count]).encode() + NO_MEMORY, 3) for count in range(len(parts) + 1)]
+
+
+def cut_pack(record):
+    """What `pack` says then of a record of that many octets: it may not yet have written all of what is before."""
+    return [said(record[:count], 3, NO_MEMORY) for count in range(len(record) + 1)]
+
+
+# A word, its files, and what it has to say: the standard output and the status.
+CHECKED = [
+    ("check", (REJECTED, TABLE, EXPIRED), "LAWFUL 3\n", 0),
+    ("check", (CROSSED, TABLE, FOUND), "LAWFUL 5\n", 0),
+    ("check", (REJECTED, TABLE, PROMPT), "NOT SHOWN 2 65/50\n", 2),
+    ("judge", (CONFIRMED, TABLE), "LAWFUL 3\n", 0),
+    ("judge --cert", (CROSSED, TABLE), f"LAWFUL 5\n{FOUND.decode()}\n", 0),
+    ("judge --cert", (REJECTED, TABLE), f"LAWFUL 3\n{EXPIRED.decode()}\n", 0),
+    ("judge", (BEGIN + "B 6403490109\n", TABLE), "REFUTED 1 F2\n", 1),
+    ("judge", (TWICE, TABLE), "UNDECIDED 0 65/45\n", 2),
+    ("judge", (TWICE, b'{"operations":[]'), "FAULT 30 0\n", 3),
+    ("blame", (CONFIRMED, TABLE), "LAWFUL 3\nNOT BLAMED A 3\nNOT BLAMED B 3\n", 0),
+    ("blame", (CROSSED, TABLE), "LAWFUL 5\nNOT BLAMED A 5\nNOT BLAMED B 5\n", 0),
+    ("blame", (TWICE, TABLE), "UNDECIDED 0 65/45\nBLAMED A 0 F10\nNOT BLAMED B 1\n", 1),
+]
 
 
 def answers(library, command, given):
-    """What the command prints over that input, and its status: where no allocation fails, and where each fails in turn."""
+    """What the command says over that input: where no allocation fails, and where each fails in turn."""
 
     def run(failing):
         environment = {**os.environ, "LD_PRELOAD": library, "FAIL_ALLOC": str(failing)}
         ended = subprocess.run(command, env=environment, input=given, capture_output=True, check=False)
         # The library's line is the last one of standard error.
-        return (ended.stdout.decode(), ended.returncode), int(ended.stderr.split()[-1])
+        lines = ended.stderr.splitlines(keepends=True)
+        return (ended.stdout, b"".join(lines[:-1]), ended.returncode), int(lines[-1])
 
     whole, count = run(0)
     return whole, [run(number)[0] for number in range(1, count + 1)]
 
 
 def look(name, library, command, given, wanted, others):
-    """Stops where the command answers anything else than what is wanted without a failure, or that or one of the others with one. Counts
-    its answers."""
+    """Stops where the command says anything else than what is wanted without a failure, or that or one of the others
+    with one. Counts what it says."""
     whole, failed = answers(library, command, given)
     if whole != wanted:
         sys.exit(f"{name}: {whole}")
     for number, answer in enumerate(failed, 1):
         if answer != wanted and answer not in others:
             sys.exit(f"{name}, allocation {number}: {answer}")
+    if not any(answer in others for answer in failed):
+        sys.exit(f"{name}: no allocation of {len(failed)} makes a difference")
     return len(failed), Counter(failed)
+
+
+def tell(name, count, given, wanted):
+    """Prints how many of the allocations of a run end in the fault."""
+    without = given[wanted]
+    print(f"{name}: of {count} allocations {count - without} end in FAULT 99 0, and it does without {without}")
+
+
+def look_at_runs(library, folder):
+    """The words of the program."""
+    with open(COMPONENTS, encoding="utf-8") as file:
+        components = file.read()
+    for lines, shown in (CONFIRMED, SHOWN), (components, SHOWN_COMPONENTS):
+        wanted, record = said("".join(shown), 0), octets_of(lines)
+        tell("show", *look("show", library, [PROGRAM, "show"], record, wanted, cut(shown)), wanted)
+        # Where the words find no memory, its line is on standard output.
+        wanted, others = said(record, 0), [*cut_pack(record), said(NO_MEMORY, 3)]
+        tell("pack", *look("pack", library, [PROGRAM, "pack"], lines.encode(), wanted, others), wanted)
+    for number, (words, files, out, status) in enumerate(CHECKED):
+        word, *flags = words.split()
+        paths = []
+        for name, text in zip(("record", "table", "cert"), (octets_of(files[0]), *files[1:])):
+            paths.append(f"{folder}/{name}{number}")
+            with open(paths[-1], "wb") as file:
+                file.write(text)
+        wanted = said(out, status)
+        found = look(words, library, [PROGRAM, word, *flags, *paths], b"", wanted, [said(NO_MEMORY, 3)])
+        tell(f"{words}, {out.splitlines()[0]}", *found, wanted)
+
+
+def look_at_calls(library):
+    """Feeding, and calls of an end."""
+    fed, again, neither = said("3 0 true\n", 0), said("3 1 true\n", 0), said("", 1)
+    count, given = look("feeding", library, [BENCH, "feed"], octets_of(CONFIRMED), fed, [again, neither])
+    print(
+        f"feeding: of {count} allocations {given[again]} fail in a feed, and the same octet fed again goes on;"
+        f" {given[neither]} are the program's, and it does without {given[fed]}"
+    )
+    made, again = said("0 0\n", 0), said("1 0\n", 0)
+    count, given = look("calls of an end", library, [CALLS], b"", made, [again, neither])
+    print(
+        f"calls of an end: of {count} allocations {given[again]} fail in a call, and the same call made again goes on;"
+        f" {given[neither]} are of messages and tables, and it does without {given[made]}"
+    )
 
 
 def main():
@@ -68,27 +174,10 @@ def main():
     with tempfile.TemporaryDirectory() as folder:
         library = f"{folder}/fail_alloc.so"
         subprocess.run([compiler, "-O2", "-shared", "-fPIC", "-o", library, "bench/fail_alloc.c", "-ldl"], check=True)
-        octets = octets_of(RECORD)
-        count, given = look("show", library, [PROGRAM, "show"], octets, WHOLE, CUT)
-        print(f"show: of {count} allocations {count - given[WHOLE]} end in FAULT 99 0, and it does without {given[WHOLE]}")
-        with open(f"{folder}/record", "wb") as file:
-            file.write(octets_of(f"{CHECKED}.hex"))
-        check = [PROGRAM, "check", f"{folder}/record", f"{CHECKED}.table.json", f"{CHECKED}.cert.json"]
-        lawful, out_of_memory = ("LAWFUL 3\n", 0), ("FAULT 99 0\n", 3)
-        count, given = look("check", library, check, b"", lawful, [out_of_memory])
-        print(f"check: of {count} allocations {given[out_of_memory]} end in FAULT 99 0, and it does without {given[lawful]}")
-        fed, again, neither = ("2 0 true\n", 0), ("2 1 true\n", 0), ("", 1)
-        count, given = look("feeding", library, [BENCH, "feed"], octets, fed, [again, neither])
-        print(
-            f"feeding: of {count} allocations {given[again]} fail in a feed, and the same octet fed again goes on;"
-            f" {given[neither]} are the program's, and it does without {given[fed]}"
-        )
-        made, again = ("0 0\n", 0), ("1 0\n", 0)
-        count, given = look("calls of an end", library, [CALLS], b"", made, [again, neither])
-        print(
-            f"calls of an end: of {count} allocations {given[again]} fail in a call, and the same call made again goes on;"
-            f" {given[neither]} are of messages and tables, and it does without {given[made]}"
-        )
+        look_at_runs(library, folder)
+        if len(sys.argv) == 1:
+            look_at_calls(library)
 
 
-main()
+if __name__ == "__main__":
+    main()

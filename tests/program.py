@@ -1,5 +1,7 @@
 """Runs the built program and looks at what no contract holds: to which stream it prints, and its exit status."""
 
+import contextlib
+import os
 import subprocess
 import sys
 import tempfile
@@ -32,6 +34,22 @@ FILES = {
     "FULL_CERT": CERT.ljust(LIMIT),
     "LONG_TABLE": TABLE.ljust(LIMIT + 1),
     "LONG_CERT": CERT.ljust(LIMIT + 1),
+    # Keys of a million octets, in the object and in a row, and a code whose text is as long.
+    "LONG_KEY": TABLE[:-1] + b',"' + b"k" * 1_000_000 + b'":0}',
+    "LONG_ROW_KEY": b'{"operations":[{"class":1,"code":45,"' + b"k" * 1_000_000 + b'":0}]}',
+    "LONG_CODE": TABLE[:-2] + b',{"class":1,"code":"' + b"2a" * 500_000 + b'"}]}',
+    "LONG_KEY_CERT": CERT[:-1] + b',"' + b"k" * 1_000_000 + b'":0}',
+    "LONG_FATE_CERT": CERT.replace(b"[1,2]", b'[1,{"' + b"k" * 1_000_000 + b'":2}]'),
+    # Texts that are no UTF-8: an octet that begins nothing, a character that is cut, one that is spelled too long, and
+    # half of a pair.
+    "NO_UTF8": TABLE[:-1] + b',"\xff":0}',
+    "CUT_UTF8": b'{"operations":[]}\xc3',
+    "LONG_UTF8": TABLE[:-1] + b',"\xc0\xaf":0}',
+    "HALF_UTF8": TABLE[:-1] + b',"\xed\xa0\x80":0}',
+    "NO_UTF8_CERT": CERT[:-1] + b',"\xff":0}',
+    # Lists in each other, closed or not.
+    "LISTS": b"[" * 200 + b"]" * 200,
+    "OPEN_LISTS": b"[" * 1_000_000,
 }
 NONE = "/no/such/file"
 SOME = object()
@@ -74,6 +92,22 @@ ROWS = [
     (["check", "DIALOGUE", "LONG_TABLE", "CERT"], b"", b"FAULT 30 0\n", b"", 3),
     (["check", "DIALOGUE", "TABLE", "LONG_CERT"], b"", b"FAULT 60 0\n", b"", 3),
     (["check", "DIALOGUE", "/dev/zero", "CERT"], b"", b"FAULT 30 0\n", b"", 3),
+    # Keys of a million octets, texts that are no UTF-8, and lists in each other.
+    (["check", "DIALOGUE", "LONG_KEY", "CERT"], b"", b"FAULT 31 0\n", b"", 3),
+    (["check", "DIALOGUE", "LONG_ROW_KEY", "CERT"], b"", b"FAULT 31 0\n", b"", 3),
+    (["check", "DIALOGUE", "LONG_CODE", "CERT"], b"", b"LAWFUL 2\n", b"", 0),
+    (["check", "DIALOGUE", "TABLE", "LONG_KEY_CERT"], b"", b"FAULT 60 0\n", b"", 3),
+    (["check", "DIALOGUE", "TABLE", "LONG_FATE_CERT"], b"", b"FAULT 60 0\n", b"", 3),
+    (["check", "DIALOGUE", "NO_UTF8", "CERT"], b"", b"FAULT 30 0\n", b"", 3),
+    (["check", "DIALOGUE", "CUT_UTF8", "CERT"], b"", b"FAULT 30 0\n", b"", 3),
+    (["check", "DIALOGUE", "LONG_UTF8", "CERT"], b"", b"FAULT 30 0\n", b"", 3),
+    (["judge", "DIALOGUE", "HALF_UTF8"], b"", b"FAULT 30 0\n", b"", 3),
+    (["blame", "DIALOGUE", "NO_UTF8"], b"", b"FAULT 30 0\n", b"", 3),
+    (["check", "DIALOGUE", "TABLE", "NO_UTF8_CERT"], b"", b"FAULT 60 0\n", b"", 3),
+    (["check", "DIALOGUE", "LISTS", "CERT"], b"", b"FAULT 30 0\n", b"", 3),
+    (["judge", "DIALOGUE", "OPEN_LISTS"], b"", b"FAULT 30 0\n", b"", 3),
+    (["check", "DIALOGUE", "TABLE", "LISTS"], b"", b"FAULT 60 0\n", b"", 3),
+    (["check", "DIALOGUE", "TABLE", "OPEN_LISTS"], b"", b"FAULT 60 0\n", b"", 3),
     # Without a certificate: a fault of one of the two, and the certificate that is proposed where it is asked for.
     (["judge", "DIALOGUE", "TABLE"], b"", b"LAWFUL 2\n", b"", 0),
     (["judge", "DIALOGUE", "TABLE", "--cert"], b"", b"LAWFUL 2\n" + CERT + b"\n", b"", 0),
@@ -112,7 +146,7 @@ ROWS = [
     (["check", "--help"], b"", SOME, b"", 0),
 ]
 
-# The same where the standard output takes nothing.
+# The same where the standard output takes nothing: a full device, and a pipe that no one reads.
 FULL = [
     (["pack"], LINES, 3),
     (["show"], BEGIN, 3),
@@ -136,6 +170,27 @@ TABLES = [
 ]
 
 
+@contextlib.contextmanager
+def closed_pipe():
+    """The end of a pipe to which is written, where the other one is closed."""
+    reading, writing = os.pipe()
+    os.close(reading)
+    with open(writing, "wb") as pipe:
+        yield pipe
+
+
+def are_whole(folder, names):
+    """Whether these files hold what they held."""
+    for name in names:
+        with open(f"{folder}/{name}", "rb") as file:
+            if file.read() != FILES[name]:
+                return False
+    return True
+
+
+DEVICES = [("that is full", lambda: open("/dev/full", "wb")), ("that is closed", closed_pipe)]
+
+
 def is_wanted(found, wanted):
     return found != b"" if wanted is SOME else found == wanted
 
@@ -154,18 +209,28 @@ def wrong_in(folder):
         if not (is_wanted(run.stdout, out) and is_wanted(run.stderr, error) and run.returncode == status):
             wrong += 1
             print(f"{words}: {run.returncode} {run.stdout} {run.stderr}")
-    for words, given, status in FULL:
-        with open("/dev/full", "wb") as full:
-            run = run_with(folder, words, given, stdout=full, stderr=subprocess.DEVNULL)
-        if run.returncode != status:
+    # Where no standard stream is open, the files take their numbers: what is printed must not go into one of these.
+    for words, _, status in FULL:
+        words = [f"{folder}/{word}" if word in FILES else word for word in words]
+        run = subprocess.run(["sh", "-c", 'exec "$@" <&- >&- 2>&-', "sh", PROGRAM, *words], check=False)
+        if run.returncode != status or not are_whole(folder, ["DIALOGUE", "TABLE", "CERT", "LATE"]):
             wrong += 1
-            print(f"{words}, no standard output: {run.returncode}")
-    # What was packed goes out where standard error takes nothing.
-    with open("/dev/full", "wb") as full:
-        run = run_with(folder, ["pack"], LINES + b"x\n", stdout=subprocess.PIPE, stderr=full)
-    if run.stdout != BEGIN or run.returncode != 3:
-        wrong += 1
-        print(f"pack, no standard error: {run.returncode} {run.stdout}")
+            print(f"{words}, no stream is open: {run.returncode}")
+    for name, device in DEVICES:
+        for words, given, status in FULL:
+            with device() as full:
+                run = run_with(folder, words, given, stdout=full, stderr=subprocess.PIPE)
+            # Behind the failure nothing is said, but what was wrong with the words.
+            if run.returncode != status or (status != 4 and run.stderr):
+                wrong += 1
+                print(f"{words}, standard output {name}: {run.returncode} {run.stderr}")
+        # What was packed goes out where standard error takes nothing; wrong words are wrong all the same.
+        with device() as full:
+            run = run_with(folder, ["pack"], LINES + b"x\n", stdout=subprocess.PIPE, stderr=full)
+            words = run_with(folder, ["shew"], b"", stdout=subprocess.PIPE, stderr=full)
+        if run.stdout != BEGIN or run.returncode != 3 or words.stdout or words.returncode != 4:
+            wrong += 1
+            print(f"standard error {name}: {run.returncode} {run.stdout}, {words.returncode} {words.stdout}")
     return wrong
 
 
@@ -232,7 +297,7 @@ def main():
                 file.write(octets)
         wrong = wrong_in(folder) + misjudged_in(folder) + misblamed_in(folder) + unlawful_in(folder)
     judgements = len(judged.ROWS) + len(blamed.ROWS) + len(list(blamed.faults())) + len(TABLES)
-    print(f"{len(ROWS) + len(FULL) + 1 + judgements - wrong} passed, {wrong} failed")
+    print(f"{len(ROWS) + len(FULL) + len(DEVICES) * (len(FULL) + 1) + judgements - wrong} passed, {wrong} failed")
     return int(wrong != 0)
 
 

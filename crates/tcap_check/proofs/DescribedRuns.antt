@@ -192,7 +192,7 @@ entries_go table c final count fit counted in_order (item ∷ more) steps r ends
 -- ---- a run
 
 -- Entries that are these items,
-items_of : (entries : List Entry) (items : List Item) → AreItems entries items → map item_of entries ≡ map ok_item items
+pub items_of : (entries : List Entry) (items : List Item) → AreItems entries items → map item_of entries ≡ map ok_item items
 items_of [] [] are = refl
 items_of [] (item ∷ items) are = absurd are
 items_of (entry ∷ entries) [] are = absurd are
@@ -204,7 +204,7 @@ items_of (entry ∷ entries) (item ∷ items) are =
     by Item.Quiet is = rw (is.0, is.1) refl
 
 -- are no others.
-items_same : (xs ys : List Item) → map ok_item xs ≡ map ok_item ys → xs ≡ ys
+pub items_same : (xs ys : List Item) → map ok_item xs ≡ map ok_item ys → xs ≡ ys
 items_same [] [] is = refl
 items_same [] (y ∷ ys) is = cc
 items_same (x ∷ xs) [] is = cc

@@ -146,7 +146,7 @@ abbrev uses : End → Option HalfName → List ℤ → ℕ
 uses e name ids = total (one (in_use e name)) ids
 
 -- A loss is no matter of ends,
-same_end : (side place : Side) (more : List OnItsWay) (w : World) → end_at side (with_channel place more w) ≡ end_at side w
+pub same_end : (side place : Side) (more : List OnItsWay) (w : World) → end_at side (with_channel place more w) ≡ end_at side w
 same_end A A more w = refl
 same_end A B more w = refl
 same_end B A more w = refl

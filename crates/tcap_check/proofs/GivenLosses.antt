@@ -224,7 +224,7 @@ fits_reply count n (Lost ∷ fates) (suc i) k fit at = fits_reply count (n + 1) 
 -- ---- losses
 
 -- Two ends are the same where the test says so.
-same_side : (side sender : Side) → is_side side sender ≡ true → side ≡ sender
+pub same_side : (side sender : Side) → is_side side sender ≡ true → side ≡ sender
 same_side A A is = refl
 same_side B B is = refl
 same_side A B is = cc
@@ -273,7 +273,7 @@ IsSettled fates w plain = (side : Side) (n : ℕ) (m : Message) → slice_get w.
     → (is_lost fates n ≡ true) ⊎ IsAmong n (numbers_taken side plain)
 
 -- What holds of each of these numbers and messages holds of the messages.
-all_numbered : (P : OnItsWay → Type 0) (Q : OnItsWay → Type 0) (messages : List OnItsWay) → AllByRecursion P messages
+pub all_numbered : (P : OnItsWay → Type 0) (Q : OnItsWay → Type 0) (messages : List OnItsWay) → AllByRecursion P messages
     → ((m : OnItsWay) → P m → IsAmong m.number (numbers_of messages) → Q m) → AllByRecursion Q messages
 all_numbered P Q [] all on = tt
 all_numbered P Q (first ∷ more) all on =

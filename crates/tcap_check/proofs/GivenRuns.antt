@@ -82,7 +82,7 @@ delivered_at side m g n (suc i) (fate ∷ fates) (item ∷ items) fate_is item_i
     by Item.Quiet Lost rest = rest
 
 -- or taken by the reply that it names.
-replied_at : (k n i : ℕ) (fates : List Fate) → slice_get fates i ≡ Some (By k) → IsAmong (n + i) (taken_by k n fates)
+pub replied_at : (k n i : ℕ) (fates : List Fate) → slice_get fates i ≡ Some (By k) → IsAmong (n + i) (taken_by k n fates)
 replied_at k n i [] is = cc
 replied_at k n zero (fate ∷ fates) is =
     let same : By k ≡ fate = cc in
@@ -170,7 +170,7 @@ settled_by c w plain counted fit follows sent side n m at = by (slice_get c.fate
 -- ---- the end
 
 -- Where all on a channel is lost, the lost front of it is all.
-front_empty : (fates : List Fate) (channel : List OnItsWay)
+pub front_empty : (fates : List Fate) (channel : List OnItsWay)
     → AllByRecursion (λ m. is_lost fates m.number ≡ true) channel
     → drop (length (lost_front fates channel)) channel ≡ []
 front_empty fates [] all = refl
@@ -204,7 +204,7 @@ item_is entry item is = by entry.side entry.body refl refl is
     by None QuietMark a b e = subst (IsItem entry) (ok_same Item.Quiet item e) (a, b)
 
 -- Entries are the items that they give.
-are_items : (entries : List Entry) (items : List Item)
+pub are_items : (entries : List Entry) (items : List Item)
     → map (λ (x : Item). let r : Result Item Reason = Ok x in r) items ≡ map item_of entries
     → AreItems entries items × (length items ≡ length entries)
 are_items [] [] is = (tt, refl)
@@ -216,7 +216,7 @@ are_items (entry ∷ entries) (item ∷ items) is =
     ((item_is entry item first, rest.0), ap suc rest.1)
 
 -- One step and then another is Ok where both are.
-both_ok : {X Y F : Type 0} (step : Result X F) (rest : Result Y F) (y : Y) → (step >> rest) ≡ Ok y
+pub both_ok : {X Y F : Type 0} (step : Result X F) (rest : Result Y F) (y : Y) → (step >> rest) ≡ Ok y
     → (x : X) × (step ≡ Ok x) × (rest ≡ Ok y)
 both_ok (Ok x) rest y is = (x, refl, is)
 both_ok (Err reason) rest y is = cc
@@ -281,13 +281,13 @@ given_here table c entries r steps extends are number counted fit closings expir
     (none_left c r (left_lost table c.fates steps r.world extends.plays settled)))
 
 -- Numbers that fit, as they are listed.
-record AreFit (c : Certificate) (count : ℕ) : Type 0 where
-  fates : FatesFit count 0 c.fates
-  closings : AllByRecursion (λ (x : Closing). x.gap ≤ count) c.close
-  expiries : AllByRecursion (λ (x : Expiry). x.gap ≤ count) c.expire
+pub record AreFit (c : Certificate) (count : ℕ) : Type 0 where
+  pub fates : FatesFit count 0 c.fates
+  pub closings : AllByRecursion (λ (x : Closing). x.gap ≤ count) c.close
+  pub expiries : AllByRecursion (λ (x : Expiry). x.gap ≤ count) c.expire
 
 -- They fit where the test of the certificate says so.
-are_fit : (c : Certificate) → certificate_fits c ≡ Ok tt → AreFit c (length c.fates)
+pub are_fit : (c : Certificate) → certificate_fits c ≡ Ok tt → AreFit c (length c.fates)
 are_fit c is =
     let count = length c.fates in
     let fates = both_ok (fates_fit count 0 c.fates) _ tt is in

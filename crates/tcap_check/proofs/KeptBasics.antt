@@ -66,7 +66,7 @@ waiting_front fates (first ∷ more) = by (slice_get fates first.number) refl (w
     by (Some Lost) at is = is
 
 -- and it was counted.
-counted_front : (fates : List Fate) (channel : List OnItsWay)
+pub counted_front : (fates : List Fate) (channel : List OnItsWay)
     → length (lost_front fates channel) + count_lost fates (drop (length (lost_front fates channel)) channel) ≡ count_lost fates channel
 counted_front fates [] = refl
 counted_front fates (first ∷ more) = by (slice_get fates first.number) refl (counted_front fates more)

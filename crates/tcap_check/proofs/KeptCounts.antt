@@ -30,7 +30,7 @@ new_by (Some Lost) = 0
 new_by _ = 1
 
 -- Without the lost ones at its front, as many of a channel wait.
-front_waits : (fates : List Fate) (channel : List OnItsWay)
+pub front_waits : (fates : List Fate) (channel : List OnItsWay)
     → waiting fates (drop (length (lost_front fates channel)) channel) ≡ waiting fates channel
 front_waits fates [] = refl
 front_waits fates (first ∷ more) = by (slice_get fates first.number) refl (front_waits fates more)
@@ -45,7 +45,7 @@ front_waits fates (first ∷ more) = by (slice_get fates first.number) refl (fro
     by (Some Lost) at rest = rest
 
 -- What stands behind them is one that waits.
-head_waits : (fates : List Fate) (channel : List OnItsWay) (head : OnItsWay) (more : List OnItsWay)
+pub head_waits : (fates : List Fate) (channel : List OnItsWay) (head : OnItsWay) (more : List OnItsWay)
     → drop (length (lost_front fates channel)) channel ≡ head ∷ more
     → length (waiting fates channel) ≡ suc (length (waiting fates more))
 head_waits fates [] head more is = cc
@@ -66,7 +66,7 @@ head_waits fates (first ∷ channel) head more is =
     by (Some Lost) on e = on e
 
 -- One more that joins waits, unless it is lost.
-one_waits : (fates : List Fate) (channel : List OnItsWay) (m : OnItsWay)
+pub one_waits : (fates : List Fate) (channel : List OnItsWay) (m : OnItsWay)
     → length (waiting fates (channel ++ m ∷ [])) ≡ length (waiting fates channel) + new_by (slice_get fates m.number)
 one_waits fates [] m = by (slice_get fates m.number)
   where
@@ -172,7 +172,7 @@ AreMarks (fate ∷ fates) (Item.Quiet ∷ items) = ((k : ℕ) → fate ≡ By k 
 AreMarks _ _ = Unit {0}
 
 -- No message is taken before it is sent.
-none_taken : (count reply n : ℕ) (fates : List Fate) → FatesFit count n fates → reply ≤ n → taken_by reply n fates ≡ []
+pub none_taken : (count reply n : ℕ) (fates : List Fate) → FatesFit count n fates → reply ≤ n → taken_by reply n fates ≡ []
 none_taken count reply n [] fit h = refl
 none_taken count reply n (Gap g ∷ fates) fit h = none_taken count reply (n + 1) fates fit.2 (omega (arith, h))
 none_taken count reply n (Lost ∷ fates) fit h = none_taken count reply (n + 1) fates fit (omega (arith, h))

@@ -34,29 +34,29 @@ use Rattle.tcap_check.proofs.KeptSends.{overtakes_is}
 
 -- ---- steps, one behind the other
 
-then_then : {A B C F : Type 0} (first : Result A F) (second : A → Result B F) (third : B → Result C F)
+pub then_then : {A B C F : Type 0} (first : Result A F) (second : A → Result B F) (third : B → Result C F)
     → (first >>= second >>= third) ≡ (first >>= λ x. second x >>= third)
 then_then (Ok x) second third = refl
 then_then (Err reason) second third = refl
 
-ok_behind : {A F : Type 0} (step : Result A F) → (step >>= λ x. Ok x) ≡ step
+pub ok_behind : {A F : Type 0} (step : Result A F) → (step >>= λ x. Ok x) ≡ step
 ok_behind (Ok x) = refl
 ok_behind (Err reason) = refl
 
 -- The same goes on behind a step.
-then_same : {A B F : Type 0} (step : Result A F) (on more : A → Result B F) → ((x : A) → on x ≡ more x)
+pub then_same : {A B F : Type 0} (step : Result A F) (on more : A → Result B F) → ((x : A) → on x ≡ more x)
     → (step >>= on) ≡ (step >>= more)
 then_same (Ok x) on more same = same x
 then_same (Err reason) on more same = refl
 
 -- One step over what is kept, and another that keeps something else.
-then_both : {A B C F : Type 0} (f : A → B) (g : A → C) (step : Result A F) (kept : B → Result C F) (on : A → Result A F)
+pub then_both : {A B C F : Type 0} (f : A → B) (g : A → C) (step : Result A F) (kept : B → Result C F) (on : A → Result A F)
     → ((x : A) → kept (f x) ≡ map_ok g (on x)) → (map_ok f step >>= kept) ≡ map_ok g (step >>= on)
 then_both f g (Ok x) kept on same = same x
 then_both f g (Err reason) kept on same = refl
 
 -- What is kept of what is kept of a step.
-map_both : {A B C F : Type 0} (f : A → B) (g : B → C) (h : A → C) (step : Result A F)
+pub map_both : {A B C F : Type 0} (f : A → B) (g : B → C) (h : A → C) (step : Result A F)
     → ((x : A) → step ≡ Ok x → g (f x) ≡ h x) → map_ok g (map_ok f step) ≡ map_ok h step
 map_both f g h (Ok x) same = ap Ok (same x refl)
 map_both f g h (Err reason) same = refl
@@ -124,7 +124,7 @@ gap_is table c r =
         (λ last so. deliveries last (expiries_send_nothing table c (next_entry r) next last so ∙ sent))
 
 -- A mark has no time.
-latest_with_mark : (side : Side) (fates : List Fate) (items : List Item)
+pub latest_with_mark : (side : Side) (fates : List Fate) (items : List Item)
     → latest_of side fates (items ++ Item.Quiet ∷ []) ≡ latest_of side fates items
 latest_with_mark side [] [] = refl
 latest_with_mark side [] (item ∷ items) = refl
@@ -136,11 +136,12 @@ latest_with_mark side (fate ∷ fates) [] = by fates
 latest_with_mark side (fate ∷ fates) (Sent sender message ∷ items) = rw (latest_with_mark side fates items) refl
 latest_with_mark side (fate ∷ fates) (Item.Quiet ∷ items) = latest_with_mark side fates items
 
-pub mark_is : (table : Table) (c : Certificate) (r : Replay)
-    → mark_kept (next_entry r) (taken_by (next_entry r) 0 c.fates) (progress_of c r)
-    ≡ map_ok (progress_of c) (needs (is_nothing (taken_by (next_entry r) 0 c.fates)) (fault_at NotQuiet (next_entry r))
+-- A quiet mark that takes these.
+pub mark_by_is : (table : Table) (c : Certificate) (takes : List ℕ) (r : Replay)
+    → mark_kept (next_entry r) takes (progress_of c r)
+    ≡ map_ok (progress_of c) (needs (is_nothing takes) (fault_at NotQuiet (next_entry r))
     >> happens table c Quiet NotQuiet (next_entry r) r)
-mark_is table c r = by (taken_by (next_entry r) 0 c.fates)
+mark_by_is table c takes r = by takes
   where
     fault : CheckFault
     fault = fault_at NotQuiet (next_entry r)
@@ -209,9 +210,15 @@ mark_is table c r = by (taken_by (next_entry r) 0 c.fates)
     by [] = channels (waiting c.fates r.world.from_a) (waiting c.fates r.world.from_b) refl refl
     by (n ∷ numbers) = refl
 
+pub mark_is : (table : Table) (c : Certificate) (r : Replay)
+    → mark_kept (next_entry r) (taken_by (next_entry r) 0 c.fates) (progress_of c r)
+    ≡ map_ok (progress_of c) (needs (is_nothing (taken_by (next_entry r) 0 c.fates)) (fault_at NotQuiet (next_entry r))
+    >> happens table c Quiet NotQuiet (next_entry r) r)
+mark_is table c r = mark_by_is table c (taken_by (next_entry r) 0 c.fates) r
+
 -- ---- an entry
 
-outlines_more : (c : Certificate) (n : ℕ) (items : List Item) (item : Item)
+pub outlines_more : (c : Certificate) (n : ℕ) (items : List Item) (item : Item)
     → outlines_from c n (items ++ item ∷ [])
     ≡ outlines_from c n items ++ outline_of (is_named c (n + length items)) item ∷ []
 outlines_more c n [] item =
@@ -222,7 +229,7 @@ outlines_more c n (first ∷ items) item =
     (outlines_more c (n + 1) items item
     ∙ ap (λ (k : ℕ). outlines_from c (n + 1) items ++ outline_of (is_named c k) item ∷ []) same)
 
-since_more : (since n : ℕ) (items : List Item) (item : Item)
+pub since_more : (since n : ℕ) (items : List Item) (item : Item)
     → since_from since n (items ++ item ∷ []) ≡ since_from (since_from since n items) (n + length items) (item ∷ [])
 since_more since n [] item = let same : n ≡ n + 0 = omega arith in ap (λ (k : ℕ). since_from since k (item ∷ [])) same
 since_more since n (Sent side message ∷ items) item =

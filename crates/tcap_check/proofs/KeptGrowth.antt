@@ -123,7 +123,7 @@ deliveries_grow table entries (number ∷ numbers) p next is =
     omega arith
 
 -- what is listed for a gap is no more than all that is listed
-some_listed : {X : Type 0} (so : X → Bool) (xs : List X) → length (filter so xs) ≤ length xs
+pub some_listed : {X : Type 0} (so : X → Bool) (xs : List X) → length (filter so xs) ≤ length xs
 some_listed so [] = omega arith
 some_listed so (x ∷ xs) = by (so x) (some_listed so xs)
   where
@@ -132,7 +132,7 @@ some_listed so (x ∷ xs) = by (so x) (some_listed so xs)
     by true less = omega arith
     by false less = omega arith
 
-some_due : (gap n : ℕ) (fates : List Fate) → length (due_in gap n fates) ≤ length fates
+pub some_due : (gap n : ℕ) (fates : List Fate) → length (due_in gap n fates) ≤ length fates
 some_due gap n [] = omega arith
 some_due gap n (Gap g ∷ fates) = by (g == gap) (some_due gap (n + 1) fates)
   where

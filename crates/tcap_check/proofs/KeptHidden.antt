@@ -44,7 +44,7 @@ outlines_count c n (item ∷ items) = ap suc (outlines_count c (n + 1) items)
 -- ---- entries that are named
 
 -- What is kept of an entry.
-outline_at : (c : Certificate) (n i at : ℕ) (items : List Item) → n + i ≡ at
+pub outline_at : (c : Certificate) (n i at : ℕ) (items : List Item) → n + i ≡ at
     → slice_get (outlines_from c n items) i ≡ option_map (outline_of (is_named c at)) (slice_get items i)
 outline_at c n i at [] is = refl
 outline_at c n zero at (item ∷ items) is =
@@ -120,7 +120,7 @@ named_is c items gap entry last named =
 -- ---- what is listed names an entry
 
 -- What holds of each holds of each that passes a test, and that it passes.
-each_passing : {A : Type 0} (P : A → Type 0) (p : A → Bool) (xs : List A) → AllByRecursion P xs
+pub each_passing : {A : Type 0} (P : A → Type 0) (p : A → Bool) (xs : List A) → AllByRecursion P xs
     → AllByRecursion (λ x. (p x ≡ true) × P x) (filter p xs)
 each_passing P p [] all = tt
 each_passing P p (x ∷ xs) all = by (p x) refl (each_passing P p xs all.1)
@@ -151,11 +151,11 @@ each_any entry (x ∷ xs) = (
 )
 
 -- in that gap, and of an entry that is named
-abbrev IsListed : Certificate → ℕ → ℕ → ℕ → Type 0
+abbrev pub IsListed : Certificate → ℕ → ℕ → ℕ → Type 0
 IsListed c count gap entry = (gap ≡ count) × (is_named c entry ≡ true)
 
 -- What is listed for a gap is so.
-closings_listed : (c : Certificate) (count : ℕ)
+pub closings_listed : (c : Certificate) (count : ℕ)
     → AllByRecursion (λ (x : Closing). IsListed c count x.gap x.entry) (filter (λ x. x.gap == count) c.close)
 closings_listed c count =
     all_weaker (λ (x : Closing). ((x.gap == count) ≡ true)
@@ -170,7 +170,7 @@ closings_listed c count =
     (λ (x : Closing). x.gap == count) c.close
     (each_any (λ (x : Closing). x.entry) c.close))
 
-expiries_listed : (c : Certificate) (count : ℕ)
+pub expiries_listed : (c : Certificate) (count : ℕ)
     → AllByRecursion (λ (x : Expiry). IsListed c count x.gap x.entry) (filter (λ x. x.gap == count) c.expire)
 expiries_listed c count =
     all_weaker (λ (x : Expiry). ((x.gap == count) ≡ true)
@@ -265,7 +265,7 @@ closing_is table c items x r is sent =
     by (Some name) = half_closes_is table c x name r
 
 -- Closings that are listed for the gap behind these items.
-closings_from : (table : Table) (c : Certificate) (items : List Item) (listed : List Closing) (r : Replay)
+pub closings_from : (table : Table) (c : Certificate) (items : List Item) (listed : List Closing) (r : Replay)
     → AllByRecursion (λ (x : Closing). IsListed c (length items) x.gap x.entry) listed → r.world.sent ≡ items
     → closings_kept table (outlines_from c 0 items) (since_from 0 0 items) listed (progress_of c r)
     ≡ map_ok (progress_of c) (closings_replayed table c listed r)
@@ -390,7 +390,7 @@ expiry_is table c items x r is sent =
     by (Some invocation) = invocation_ends_is table c x invocation r
 
 -- Expiries that are listed for it.
-expiries_from : (table : Table) (c : Certificate) (items : List Item) (listed : List Expiry) (r : Replay)
+pub expiries_from : (table : Table) (c : Certificate) (items : List Item) (listed : List Expiry) (r : Replay)
     → AllByRecursion (λ (x : Expiry). IsListed c (length items) x.gap x.entry) listed → r.world.sent ≡ items
     → expiries_kept table (outlines_from c 0 items) (since_from 0 0 items) listed (progress_of c r)
     ≡ map_ok (progress_of c) (expiries_replayed table c listed r)

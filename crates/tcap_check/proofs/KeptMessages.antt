@@ -279,11 +279,12 @@ reply_is table c fate side dtid n taken r has =
         answers_head table c fate sides.B dtid n taken r first more (front_is c sides.A first more r is) (first.number == taken) refl has
         (answerable r.world.b first.message abort)
 
-pub message_is : (table : Table) (c : Certificate) (fate : Fate) (side : Side) (message : Message) (r : Replay)
+-- A message that takes these.
+pub message_by_is : (table : Table) (c : Certificate) (fate : Fate) (side : Side) (message : Message) (takes : List ℕ) (r : Replay)
     → slice_get c.fates (next_entry r) ≡ Some fate
-    → message_kept table side fate (next_entry r) message (taken_by (next_entry r) 0 c.fates) (progress_of c r)
-    ≡ map_ok (progress_of c) (message_replayed table c side message r)
-message_is table c fate side message r has = by message (taken_by (next_entry r) 0 c.fates)
+    → message_kept table side fate (next_entry r) message takes (progress_of c r)
+    ≡ map_ok (progress_of c) (message_by table c side message (sending_by c (next_entry r) (Sent side message) takes) r)
+message_by_is table c fate side message takes r has = by message takes
   where
     by : (message : Message) (taken : List ℕ)
         → message_kept table side fate (next_entry r) message taken (progress_of c r)
@@ -303,3 +304,9 @@ message_is table c fate side message r has = by message (taken_by (next_entry r)
     by (Continue otid dtid dialogue components) (taken ∷ more) = refl
     by (EndMessage dtid dialogue components) [] = send_is table c fate side (EndMessage dtid dialogue components) r has
     by (EndMessage dtid dialogue components) (taken ∷ more) = refl
+
+pub message_is : (table : Table) (c : Certificate) (fate : Fate) (side : Side) (message : Message) (r : Replay)
+    → slice_get c.fates (next_entry r) ≡ Some fate
+    → message_kept table side fate (next_entry r) message (taken_by (next_entry r) 0 c.fates) (progress_of c r)
+    ≡ map_ok (progress_of c) (message_replayed table c side message r)
+message_is table c fate side message r has = message_by_is table c fate side message (taken_by (next_entry r) 0 c.fates) r has

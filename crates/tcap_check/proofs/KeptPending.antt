@@ -33,13 +33,13 @@ use Rattle.tcap_check.proofs.KeptSteps.{marks_wait, gap_waits, message_waits}
 -- ---- a certificate that fits
 
 -- Of two steps that answer Ok the first does, and the second.
-both_ok : {B F : Type 0} (step : Result (Unit {0}) F) (rest : Result B F) {x : B} → (step >> rest) ≡ Ok x
+pub both_ok : {B F : Type 0} (step : Result (Unit {0}) F) (rest : Result B F) {x : B} → (step >> rest) ≡ Ok x
     → (step ≡ Ok tt) × (rest ≡ Ok x)
 both_ok (Ok tt) rest is = (refl, is)
 both_ok (Err reason) rest is = cc
 
 -- Its fates fit.
-fit_by : (c : Certificate) → certificate_fits c ≡ Ok tt → FatesFit (length c.fates) 0 c.fates
+pub fit_by : (c : Certificate) → certificate_fits c ≡ Ok tt → FatesFit (length c.fates) 0 c.fates
 fit_by c is = fates_ok (length c.fates) 0 c.fates (both_ok (fates_fit (length c.fates) 0 c.fates) _ is).0
 
 -- ---- entries, one after the other

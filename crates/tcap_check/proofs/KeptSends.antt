@@ -159,11 +159,11 @@ waiting_more fates (first ∷ channel) m fate is =
     by (Some Lost) fate rest = rest
 
 -- whether it is lost, as a number
-abbrev lost_one : Fate → ℕ
+abbrev pub lost_one : Fate → ℕ
 lost_one Lost = 1
 lost_one _ = 0
 
-lost_more : (fates : List Fate) (channel : List OnItsWay) (m : OnItsWay) (fate : Fate) → slice_get fates m.number ≡ Some fate
+pub lost_more : (fates : List Fate) (channel : List OnItsWay) (m : OnItsWay) (fate : Fate) → slice_get fates m.number ≡ Some fate
     → count_lost fates (channel ++ m ∷ []) ≡ count_lost fates channel + lost_one fate
 lost_more fates [] m fate is = by fate is
   where

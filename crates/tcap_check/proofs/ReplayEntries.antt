@@ -91,7 +91,7 @@ item_replays table c fate Item.Quiet r next has is = quiet_replays table c fate 
 
 -- ---- entries
 
-abbrev ok_item : Item → Result Item Reason
+abbrev pub ok_item : Item → Result Item Reason
 ok_item item = Ok item
 
 -- Entries that were replayed are these items, and the steps follow the certificate but for losses.

@@ -330,7 +330,7 @@ pub record IsSentBy (table : Table) (c : Certificate) (item : Item) (r next : Re
   pub sends_is : sending c (next_entry r) item ≡ Some sends
   pub replays : Replays table r (implied ++ sends ∷ []) (item ∷ []) next
 
-implied_by : (table : Table) (side : Side) (message : Message) (r : Replay)
+pub implied_by : (table : Table) (side : Side) (message : Message) (r : Replay)
     → (events : List Event) × AllByRecursion (IsImplied (Sent side message)) events
     × Replays table r events [] (implied_over table side message (invoking_half message) r)
 implied_by table side message r = by (invoking_half message) refl

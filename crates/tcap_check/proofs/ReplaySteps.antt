@@ -124,7 +124,7 @@ replays_then table r mid next xs ys before behind a b = record {
   sent = b.sent ∙ ap (λ (x : List Item). x ++ behind) a.sent ∙ append_assoc r.world.sent before behind;
 }
 
-sent_with_channel : (side : Side) (messages : List OnItsWay) (w : World) → (with_channel side messages w).sent ≡ w.sent
+pub sent_with_channel : (side : Side) (messages : List OnItsWay) (w : World) → (with_channel side messages w).sent ≡ w.sent
 sent_with_channel sides.A messages w = refl
 sent_with_channel sides.B messages w = refl
 

@@ -10,6 +10,9 @@ pub mod Worked
 pub mod Since
 pub mod Refused
 pub mod Replayed
+pub mod Alone
+pub mod AloneGiven
+pub mod AloneWorked
 pub mod Given
 pub mod Replays
 pub mod Noted
@@ -19,3 +22,6 @@ pub mod Checking
 pub mod Buckets
 pub mod Plan
 pub mod Ready
+pub mod Hearing
+pub mod EndChecking
+pub mod EndReady

@@ -198,7 +198,7 @@ impl Replaying<'_> {
 }
 
 /// Whether a fate is the gap behind that entry.
-fn is_gap_behind(fate: Fate, entry: usize) -> bool
+pub(crate) fn is_gap_behind(fate: Fate, entry: usize) -> bool
     requires room { entry < 2 ^ 63 }
     ensures { result ≡ is_gap (entry + 1) fate }
 {

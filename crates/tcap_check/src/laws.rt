@@ -8,6 +8,7 @@ ghost use Rattle.std.specs.List.Sorted.{IsStrictlySortedBy};
 ghost use Rattle.std.specs.Ordering.{nat_cmp};
 ghost use Rattle.tcap_msg.specs.declared.message.Message.{Message};
 ghost use Rattle.tcap_record.specs.declared.entry.End.{End as Side};
+ghost use Rattle.tcap_record.specs.declared.entry.End.TheVariants as sides;
 ghost use Rattle.tcap_end.specs.Table.{Table};
 ghost use Rattle.tcap_end.specs.End.{KeptHalf};
 ghost use Rattle.tcap_end.specs.Sound.{Has, IsEnd};
@@ -41,6 +42,13 @@ pub fn steps_at_least_items()
 pub fn lawful_for_each()
     ensures { (items : List Item) (table : Table) (moves : ℕ) (side : Side) → IsLawful items table moves
         → IsLawfulFor side items table }
+{}
+
+/// The other way round: what each of two ends may have sent that keeps the rules, whatever the other end sends, both may have
+/// sent that keep them. So where no run of two ends sends a list, one end alone is at fault.
+pub fn blame_is_whole()
+    ensures { (table : Table) (items : List Item) → IsLawfulFor sides.A items table → IsLawfulFor sides.B items table
+        → (moves : ℕ) × IsLawful items table moves }
 {}
 
 /// Each end is one of which the laws of one end speak (`tcap_end::laws`): no two halves have one own transaction ID,

@@ -2,12 +2,17 @@
 //! with laws over all runs and worked runs; and certificates, which are read from a text, written, and replayed over a record.
 #![tactic(auto)]
 
+pub mod alone_laws;
+pub mod alone_worked;
 mod buckets;
 mod certificate;
 mod certificate_text;
 mod checker;
+mod end_checker;
+mod end_records;
 mod fault;
 pub mod given;
+mod hearing;
 pub mod laws;
 mod outline;
 mod plan;
@@ -21,5 +26,7 @@ pub mod worked;
 
 pub use certificate::{Certificate, Closing, Expiry, Fate};
 pub use checker::{Checker, Report};
+pub use end_checker::{EndChecker, EndReport};
+pub use end_records::check_end;
 pub use fault::{CheckFault, Reason};
 pub use records::check;

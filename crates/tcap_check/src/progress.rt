@@ -2,8 +2,8 @@
 
 ghost use Rattle.std.specs.Prelude.{◌≡◌, ◌<◌, ◌≤◌, ◌+◌, ◌^◌, OnOk, length};
 ghost use Rattle.tcap_check.specs.Plan.{IsPlan};
-ghost use Rattle.tcap_check.specs.Progress.{IsTakenFrom, Yields, YieldsInMemory, closings_kept, deliveries_kept, empty_seat};
-ghost use Rattle.tcap_check.specs.Progress.{expiries_kept, first_delivered, gap_kept, half_closes, invocation_ends};
+ghost use Rattle.tcap_check.specs.Progress.{IsTakenFrom, Yields, YieldsInMemory, closing_kept, closings_kept, deliveries_kept};
+ghost use Rattle.tcap_check.specs.Progress.{empty_seat, expiries_kept, expiry_kept, first_delivered, gap_kept, half_closes, invocation_ends};
 ghost use Rattle.tcap_check.specs.Progress.{nothing_kept, seat_at};
 
 use crate::certificate::{Certificate, Closing, Expiry};
@@ -114,6 +114,48 @@ impl Progress {
         Ok(())
     }
 
+    /// Closes the half that a closing names unseen.
+    pub(crate) fn close_listed(
+        &mut self,
+        table: &Table,
+        entries: &[Outline],
+        since: usize,
+        x: &Closing,
+    ) -> Result<(), CheckFault>
+        requires room { self.old.moves + 1 < 2 ^ 128 }
+        ensures closed { Yields (closing_kept table.now entries.now since x.now self.old) result self.new }
+        ensures grows { OnOk result (self.new.moves ≡ self.old.moves + 1) }
+    {
+        let Some(name) = half_closed(entries, since, x) else {
+            return Err(CheckFault {
+                reason: Reason::FateRange,
+                entry: u64::from(x.entry),
+            });
+        };
+        self.close(table, x, name)
+    }
+
+    /// Ends the invocation that an expiry names unseen.
+    pub(crate) fn expire_listed(
+        &mut self,
+        table: &Table,
+        entries: &[Outline],
+        since: usize,
+        x: &Expiry,
+    ) -> Result<(), CheckFault>
+        requires room { self.old.moves + 1 < 2 ^ 128 }
+        ensures ended { Yields (expiry_kept table.now entries.now since x.now self.old) result self.new }
+        ensures grows { OnOk result (self.new.moves ≡ self.old.moves + 1) }
+    {
+        let Some((name, id)) = invocation_ended(entries, since, x) else {
+            return Err(CheckFault {
+                reason: Reason::FateRange,
+                entry: u64::from(x.entry),
+            });
+        };
+        self.expire(table, x, name, id)
+    }
+
     /// Closes halves unseen, in the order in which they are listed.
     fn close_all(
         &mut self,
@@ -126,13 +168,7 @@ impl Progress {
         ensures { Yields (closings_kept table.now entries.now since closings.now self.old) result self.new }
     {
         for x in closings {
-            let Some(name) = half_closed(entries, since, x) else {
-                return Err(CheckFault {
-                    reason: Reason::FateRange,
-                    entry: u64::from(x.entry),
-                });
-            };
-            self.close(table, x, name)?;
+            self.close_listed(table, entries, since, x)?;
         }
         Ok(())
     }
@@ -149,13 +185,7 @@ impl Progress {
         ensures { Yields (expiries_kept table.now entries.now since expiries.now self.old) result self.new }
     {
         for x in expiries {
-            let Some((name, id)) = invocation_ended(entries, since, x) else {
-                return Err(CheckFault {
-                    reason: Reason::FateRange,
-                    entry: u64::from(x.entry),
-                });
-            };
-            self.expire(table, x, name, id)?;
+            self.expire_listed(table, entries, since, x)?;
         }
         Ok(())
     }

@@ -97,7 +97,7 @@ impl Progress {
     }
 
     /// A message was sent, a loss was counted where it is lost.
-    fn join<M: MessageParts>(
+    pub(crate) fn join<M: MessageParts>(
         &mut self,
         alloc: Global,
         side: End,
@@ -286,7 +286,7 @@ impl Progress {
 }
 
 /// The other end.
-fn other(side: End) -> End
+pub(crate) fn other(side: End) -> End
     ensures { result ≡ other side }
 {
     match side {

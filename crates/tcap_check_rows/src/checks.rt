@@ -4,10 +4,10 @@ use std::alloc::Global;
 use std::fmt::Write;
 use std::test::Fail;
 use tcap_ber::Counted;
-use tcap_check::{Certificate, CheckFault, Reason, Report, check};
+use tcap_check::{Certificate, CheckFault, EndReport, Reason, Report, check, check_end};
 use tcap_end::Table;
 use tcap_msg_rows::{Row, each_row, octets_of, vector};
-use tcap_record::{Record, read_record};
+use tcap_record::{End, Record, read_record};
 
 /// The operations: 45 of class 1, 46 of class 2, 47 of class 3, 48 of class 4, and 50 of class 1, to which 48 may be linked.
 const TABLE: &str =
@@ -43,6 +43,27 @@ A begin_with_invoke,B end_with_result,Q;T;{"close":[],"expire":[],"fates":[1,2,3
 A begin_with_invoke,B end_with_result,Q;T;{"close":[],"expire":[],"fates":[1,3,3],"version":1};2 67
 A begin_with_invoke,Q;T;{"close":[],"expire":[],"fates":[1,2],"version":1};1 67
 A begin_with_invoke,B end_with_result,Q;T;{"close":[],"expire":[],"fates":[1,2,2],"version":1};2 62
+"#;
+
+/// The columns: the entries of a record; the end that is judged; the certificate; and the count of steps of the run that it
+/// gives for that end, and of the messages of its peer that the end did not receive, or the entry and the number of the
+/// reason why it gives none.
+const END_CHECKS: &str = r#"
+;A;{"close":[],"expire":[],"fates":[],"version":1};0 0
+A begin_with_invoke,B end_with_result;A;{"close":[],"expire":[],"fates":[1,2],"version":1};3 0
+A begin_with_invoke,B end_with_result;B;{"close":[],"expire":[],"fates":[1,2],"version":1};3 0
+# Of the end's own messages the fate says nothing; of its peer's it does.
+A begin_with_invoke;A;{"close":[],"expire":[],"fates":["lost"],"version":1};1 0
+A begin_with_invoke;B;{"close":[],"expire":[],"fates":["lost"],"version":1};2 1
+A begin_alone,A begin_from_03,A begin_from_04;A;{"close":[],"expire":[],"fates":[3,2,3],"version":1};3 0
+A begin_alone,A begin_from_03,A begin_from_04;B;{"close":[],"expire":[],"fates":[3,2,3],"version":1};1 63
+# What the end can't receive is dropped; nothing is asked of its peer.
+B continue_alone;A;{"close":[],"expire":[],"fates":[1],"version":1};2 1
+B abort_with_cause_1;A;{"close":[],"expire":[],"fates":[1],"version":1};2 0
+A begin_with_invoke,B end_with_result;A;{"close":[{"at":1,"end":"B","entry":0}],"expire":[],"fates":[1,2],"version":1};3 0
+# Open halves close unseen at a quiet mark, where they may.
+A begin_with_invoke,Q;A;{"close":[],"expire":[],"fates":[1,2],"version":1};3 0
+A begin_with_invoke,Q;B;{"close":[],"expire":[],"fates":[1,2],"version":1};1 67
 "#;
 
 /// Appends the octets of an entry: an end and the name of a message, or a quiet mark.
@@ -83,25 +104,54 @@ fn checked(
     answer
 }
 
+/// Writes the entry and the number of a reason, and that of the inner one.
+fn write_fault(text: &mut String, fault: CheckFault) -> Result<(), Fail> {
+    write!(text, "{} {}", fault.entry, fault.reason.number())?;
+    match fault.reason {
+        Reason::SendRefused(inner) | Reason::HiddenRefused(inner) => write!(
+            text,
+            "/{}",
+            inner.number()
+        )?,
+        Reason::BadMessage(inner) => write!(text, "/{}", inner.reason.number())?,
+        _ => {}
+    }
+    Ok(())
+}
+
 /// The text of what a check answers.
 fn text_of(alloc: Global, answer: Result<Report, CheckFault>) -> Result<String, Fail> {
     let mut text = String::new(alloc);
     match answer {
         Ok(report) => write!(text, "{}", report.moves)?,
-        Err(CheckFault { reason, entry }) => {
-            write!(text, "{} {}", entry, reason.number())?;
-            match reason {
-                Reason::SendRefused(inner) | Reason::HiddenRefused(inner) => write!(
-                    text,
-                    "/{}",
-                    inner.number()
-                )?,
-                Reason::BadMessage(inner) => write!(text, "/{}", inner.reason.number())?,
-                _ => {}
-            }
-        }
+        Err(fault) => write_fault(&mut text, fault)?,
     }
     Ok(text)
+}
+
+/// The text of what a check of one end answers.
+fn end_text_of(alloc: Global, answer: Result<EndReport, CheckFault>) -> Result<String, Fail> {
+    let mut text = String::new(alloc);
+    match answer {
+        Ok(report) => write!(text, "{} {}", report.moves, report.unheard)?,
+        Err(fault) => write_fault(&mut text, fault)?,
+    }
+    Ok(text)
+}
+
+/// What a check of one end answers, with what it is over let go.
+fn checked_end(
+    alloc: Global,
+    record: Record,
+    table: Table,
+    certificate: Certificate,
+    end: End,
+) -> Result<EndReport, CheckFault> {
+    let answer = check_end(alloc, &record, &table, &certificate, end);
+    drop(record);
+    drop(table);
+    drop(certificate);
+    answer
 }
 
 /// Rows of `CHECKS`.
@@ -127,5 +177,31 @@ impl Row for Checks {
 fn each_check(rt: HostRuntime) -> Result<(), Fail> {
     let count = each_row::<Checks>(rt.alloc(), CHECKS)?;
     assert_eq!(rt; count, 21);
+    Ok(())
+}
+
+/// Rows of `END_CHECKS`.
+struct EndChecks;
+
+impl Row for EndChecks {
+    fn holds(alloc: Global, columns: &[&str]) -> Result<bool, Fail> {
+        let [entries, name, text, wanted] = columns else {
+            return Ok(false);
+        };
+        let end = if *name == "A" { End::A } else { End::B };
+        let table = Table::from_json(alloc, TABLE.as_bytes()).map_err(|_| "a table")?;
+        let certificate = Certificate::from_json(alloc, text.as_bytes()).map_err(
+            |_| "a certificate",
+        )?;
+        let answer = checked_end(alloc, record_of(alloc, entries)?, table, certificate, end);
+        Ok(end_text_of(alloc, answer)?.as_str() == *wanted)
+    }
+}
+
+/// What comes of each certificate for one end.
+#[test]
+fn each_check_of_an_end(rt: HostRuntime) -> Result<(), Fail> {
+    let count = each_row::<EndChecks>(rt.alloc(), END_CHECKS)?;
+    assert_eq!(rt; count, 12);
     Ok(())
 }

@@ -1,5 +1,5 @@
 -- The places at which halves are kept lead to the halves of an end, and each ID to the one half that has it.
-use Rattle.std.proofs.Common.{◌≡◌, ℕ, Bool, true, false, cond, List, [], ◌∷◌, Option, Some, None, is_some, ◌⊎◌, inl, inr, refl, sym, ap, ◌∙◌}
+use Rattle.std.proofs.Common.{◌≡◌, ℕ, Bool, true, false, cond, List, [], ◌∷◌, Option, Some, None, is_some, ◌⊎◌, inl, inr, refl, sym, ap, subst, ◌∙◌}
 use Rattle.std.specs.Borrow.{Bor}
 use Rattle.std.specs.Option.{MatchOption, option_copied, option_map}
 use Rattle.std.specs.BTreeMap.{is_at}
@@ -11,6 +11,7 @@ use Rattle.tcap_end.specs.declared.half.Slot.{Slot}
 use Rattle.tcap_end.specs.declared.half.Slot.TheVariants.{Begun, Accepted}
 use Rattle.tcap_end.specs.declared.half_state.HalfState.{HalfState}
 use Rattle.tcap_end.specs.declared.halves.Halves.{Halves}
+use Rattle.tcap_end.specs.declared.halves.HalfKey.{HalfKey}
 use Rattle.tcap_end.specs.declared.halves.Place.{Place}
 use Rattle.tcap_end.specs.declared.halves.Place.TheVariants.{Open, Closed}
 use Rattle.tcap_end.specs.Table.{octets_cmp}
@@ -18,7 +19,7 @@ use Rattle.tcap_end.specs.Half.{Half, is_closed}
 use Rattle.tcap_end.specs.HalfState.{half_of}
 use Rattle.tcap_end.specs.End.{End, KeptHalf, first_half, half_where, is_id, with_own, with_peer}
 use Rattle.tcap_end.specs.Sound.{Has, IsEnd, IsKept, IsSame, halves_of}
-use Rattle.tcap_end.specs.Halves.{Indexes, IsAt, IsHeld, IsOpen, closed_at, end_of, half_at, half_in, halves_at, places_of, kept_half}
+use Rattle.tcap_end.specs.Halves.{Indexes, IsAt, IsNumbered, IsHeld, IsOpen, closed_at, end_of, half_at, half_in, halves_at, open_at, places_of, kept_half}
 use Rattle.tcap_end.proofs.MapLaws.{kept_at}
 use Rattle.tcap_end.proofs.FoundLaws.{none_own, none_peer, own_has, peer_has}
 
@@ -58,6 +59,38 @@ pub none_there : {P : Type 0} (s : Halves) (slot : Slot) (key : List ℕ) (h : H
 none_there s slot key h none had =
     let bad = sym had ∙ half_there s slot key ∙ ap (option_map (half_at s.slab slot key)) none in cc
 
+-- what is kept at a place that was found
+pub found_open : (s : Halves) (found : HalfKey) (k : ℕ) → found.number ≡ Some k → IsAt found.slot found.key (Open k) s → IsNumbered found s
+unfolding IsNumbered
+found_open s found k is there = rw is there
+
+pub found_closed : (s : Halves) (found : HalfKey) (other : Option (List ℕ)) → found.number ≡ None
+    → IsAt found.slot found.key (Closed other) s → IsNumbered found s
+unfolding IsNumbered
+found_closed s found other is there = rw is (other, there)
+
+pub is_open_there : (s : Halves) (found : HalfKey) (k : ℕ) → found.number ≡ Some k → IsNumbered found s → IsAt found.slot found.key (Open k) s
+unfolding IsNumbered
+is_open_there s found k is there = rw is at there
+
+pub is_closed_there : (s : Halves) (found : HalfKey) → found.number ≡ None → IsNumbered found s
+    → (other : Option (List ℕ)) × IsAt found.slot found.key (Closed other) s
+unfolding IsNumbered
+is_closed_there s found is there = rw is at there
+
+-- Places that stay lead to what was found.
+pub still_numbered : (s t : Halves) (found : HalfKey) → t.begun ≡ s.begun → t.accepted ≡ s.accepted → IsNumbered found s → IsNumbered found t
+unfolding IsNumbered
+still_numbered s t found begun accepted is = subst kept (sym (same found.slot)) is
+  where
+    kept : List (List ℕ × Place) → Type 0
+    kept es = MatchOption found.number ((other : Option (List ℕ)) × (kept_at octets_cmp es found.key ≡ Some (Closed other)))
+        (λ k. kept_at octets_cmp es found.key ≡ Some (Open k))
+
+    same : (slot : Slot) → places_of slot t ≡ places_of slot s
+    same Begun = ap (λ m. m.entries) begun
+    same Accepted = ap (λ m. m.entries) accepted
+
 -- what stands under the number of a place, of the half that is had there
 pub open_there : (s : Halves) (slot : Slot) (key : List ℕ) (k : ℕ) (h : Half) (r : Option (Bor HalfState)) → IsHeld s
     → IsAt slot key (Open k) s → option_copied r ≡ get s.slab k → Has (end_of s) (kept_half slot key h)
@@ -82,6 +115,14 @@ closed_is Accepted key other = refl
 pub closed_there : (s : Halves) (slot : Slot) (key : List ℕ) (other : Option (List ℕ)) (h : Half)
     → IsAt slot key (Closed other) s → Has (end_of s) (kept_half slot key h) → is_closed h.phase ≡ true
 closed_there s slot key other h there had = rw (had_there s slot key (Closed other) h there had) (closed_is slot key other)
+
+-- what stands at a place, of the half that is had there
+pub shown_there : (s : Halves) (slot : Slot) (key : List ℕ) (place : Place) (h : Half) (r : Option (Bor HalfState))
+    → IsHeld s → IsAt slot key place s → option_copied r ≡ open_at s.slab place → Has (end_of s) (kept_half slot key h)
+    → MatchOption r (is_closed h.phase ≡ true) (λ half. (half_of half.now ≡ h) × (is_closed h.phase ≡ false))
+shown_there s slot key (Open k) h r held there is had = open_there s slot key k h r held there is had
+shown_there s slot key (Closed other) h None held there is had = closed_there s slot key other h there had
+shown_there s slot key (Closed other) h (Some half) held there is had = cc
 
 -- ---- what is found passes
 
@@ -113,8 +154,8 @@ same_id id (Some other) is = ap Some (sym ((bytes_eq-Decides id other).0 is))
 
 -- Of an ID that one half has at most, what is found: the half that has it, or none.
 pub record Finds (id_in : Half → Option (List ℕ)) (e : End) (id : List ℕ) (found : Option KeptHalf) : Type 0 where
-  had : (g : KeptHalf) → found ≡ Some g → Has e g × (id_in g.half ≡ Some id)
-  one : (f : KeptHalf) → Has e f → id_in f.half ≡ Some id → (h : Half) × (found ≡ Some (kept_half f.slot f.key h))
+  pub had : (g : KeptHalf) → found ≡ Some g → Has e g × (id_in g.half ≡ Some id)
+  pub one : (f : KeptHalf) → Has e f → id_in f.half ≡ Some id → (h : Half) × (found ≡ Some (kept_half f.slot f.key h))
 
 module _ (id_in : Half → Option (List ℕ)) (e : End) (id : List ℕ) where
   abbrev found : Option KeptHalf
@@ -182,6 +223,25 @@ nowhere id_in s slot other id o index law leads parts unkept unled = by o refl
     by : (p : Option KeptHalf) → o ≡ p → o ≡ None
     by None is = is
     by (Some f) is = let it = law.had f is in no_half f it.0 it.1 (parts f it.0 it.1)
+
+-- A place that was found is there.
+pub found_some : (s : Halves) (slot : Slot) (key : List ℕ) (f : HalfKey) → (f.slot ≡ slot) × (f.key ≡ key) × IsNumbered f s
+    → is_some (kept_at octets_cmp (places_of slot s) key) ≡ true
+unfolding IsNumbered
+found_some s slot key f told = rw (told.0, told.1) at (by f.number told.2)
+  where
+    by : (o : Option ℕ) → MatchOption o ((other : Option (List ℕ)) × IsAt f.slot f.key (Closed other) s) (λ k. IsAt f.slot f.key (Open k) s)
+        → is_some (kept_at octets_cmp (places_of f.slot s) f.key) ≡ true
+    by None it = ap is_some it.1
+    by (Some k) it = ap is_some it
+
+-- Where an index leads on, a place is found.
+pub led_found : (id_in : Half → Option (List ℕ)) (s : Halves) (slot : Slot) (id key : List ℕ) (o : Option KeptHalf) (r : Option HalfKey)
+    → Finds id_in (end_of s) id o → (h : Half) × (o ≡ Some (kept_half slot key h))
+    → MatchOption r (kept_at octets_cmp (places_of slot s) key ≡ None) (λ f. (f.slot ≡ slot) × (f.key ≡ key) × IsNumbered f s)
+    → MatchOption r (o ≡ None) (λ f. (h : Half) × (o ≡ Some (kept_half f.slot f.key h)))
+led_found id_in s slot id key o None law led none = none_there s slot key led.0 none (law.had (kept_half slot key led.0) led.1).0
+led_found id_in s slot id key o (Some f) law led told = rw (told.0, told.1) led
 
 -- A half that has that own transaction ID is kept by it, or was accepted; one that has that peer's is kept by it, or began.
 pub own_parts : (e : End) (id : List ℕ) → IsEnd e → (f : KeptHalf) → Has e f → f.half.own ≡ Some id

@@ -33,3 +33,4 @@ pub mod HiddenLaws
 pub mod SendStepLaws
 pub mod ReplyLaws
 pub mod EndStateLaws
+pub mod QuietUnseenLaws

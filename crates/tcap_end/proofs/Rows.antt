@@ -1,5 +1,5 @@
 -- The worked lists of calls, computed on the definitions: what each call answers, 0 where it is Ok.
-use Rattle.std.proofs.Common.{◌≡◌, ℕ, ℤ, pos, Bool, true, false, List, [], ◌∷◌, Option, Some, None, Result, Ok, Err, refl}
+use Rattle.std.proofs.Common.{◌≡◌, ℕ, ℤ, pos, Bool, true, false, List, [], ◌∷◌, Option, Some, None, Result, Ok, Err, length, refl}
 use Rattle.tcap_parts.specs.declared.code.Code.TheVariants.{Local}
 use Rattle.tcap_parts.specs.declared.problem.Problem.TheVariants as problems
 use Rattle.tcap_parts.specs.declared.component.Component.{Component}
@@ -11,14 +11,15 @@ use Rattle.tcap_msg.specs.declared.message.AbortReason.TheVariants.{Cause, Dialo
 use Rattle.tcap_msg.specs.declared.message.Message.{Message}
 use Rattle.tcap_msg.specs.declared.message.Message.TheVariants.{Unidirectional, Begin, Continue, End as EndMessage, Abort}
 use Rattle.tcap_end.specs.declared.fault.EndFault.{EndFault}
+use Rattle.tcap_end.specs.declared.fault.EndFault.TheVariants.{CannotClose}
 use Rattle.tcap_end.specs.Table.{Table, Operation}
 use Rattle.tcap_end.specs.declared.half.HalfName.{HalfName}
 use Rattle.tcap_end.specs.declared.half.HalfName.TheVariants as names
-use Rattle.tcap_end.specs.Step.{◌>>◌}
+use Rattle.tcap_end.specs.Step.{◌>>◌, ◌>>=◌}
 use Rattle.tcap_end.specs.End.{End, nothing, quiet}
 use Rattle.tcap_end.specs.Message.{send as send_message, receive as receive_message}
 use Rattle.tcap_end.specs.Reply.{refuse_begin as refuses_begin, refuse_continue as refuses_continue}
-use Rattle.tcap_end.specs.Hidden.{expire, close}
+use Rattle.tcap_end.specs.Hidden.{expire, close, open_halves, quiet_unseen}
 use Rattle.tcap_end.specs.Fault.{fault_number}
 
 abbrev operation : ℕ → Bool → Operation
@@ -303,3 +304,34 @@ pub unidirectional_components :
     ∷ send (uni (Invoke (pos 1) (Some (pos 1)) (Local (pos 48)) None ∷ [])) ∷ send (uni (result (pos 1) ∷ []))
     ∷ send (Unidirectional aarq (invoke (pos 1) (pos 99) ∷ [])) ∷ []) ≡ 45 ∷ 53 ∷ 49 ∷ 46 ∷ 43 ∷ []
 unidirectional_components = refl
+
+-- ---- quiet marks before which open halves close unseen
+
+-- how many halves close so behind these calls, or the first reason
+abbrev mark : Table → List Call → End → Result ℕ EndFault
+mark t [] e = quiet_unseen t e >>= λ left. Ok (length (open_halves e))
+mark t (call ∷ calls) e = call e >>= mark t calls
+
+abbrev prearranging : Table
+prearranging = table_with true true
+
+pub begin_is_given_up : mark table (send v7 ∷ []) nothing ≡ Ok 1
+begin_is_given_up = refl
+
+pub active_half_stays : mark table (send v7 ∷ receive v8 ∷ []) nothing ≡ Err CannotClose
+active_half_stays = refl
+
+pub active_half_closes : mark prearranging (send v7 ∷ receive v8 ∷ []) nothing ≡ Ok 1
+active_half_closes = refl
+
+pub received_begin_stays : mark table (send v7 ∷ receive v7 ∷ []) nothing ≡ Err CannotClose
+received_begin_stays = refl
+
+pub both_close : mark prearranging (send v7 ∷ receive v7 ∷ []) nothing ≡ Ok 2
+both_close = refl
+
+pub ended_half_is_closed : mark table (send v1 ∷ receive v3 ∷ []) nothing ≡ Ok 0
+ended_half_is_closed = refl
+
+pub given_up_frees : play nothing (send v7 ∷ quiet_unseen table ∷ send v7 ∷ []) ≡ 0 ∷ 0 ∷ 0 ∷ []
+given_up_frees = refl

@@ -1,5 +1,5 @@
 -- What an end is, as it is kept: open halves under numbers, closed ones by their IDs alone.
-use Rattle.std.specs.Prelude.{◌≡◌, ◌↔◌, ℕ, false, List, [], ◌∷◌, Option, Some, None, Result, Ok}
+use Rattle.std.specs.Prelude.{◌≡◌, ◌↔◌, ℕ, suc, false, List, [], ◌∷◌, Option, Some, None, MatchOption, Result, Ok, cond, option_map}
 use Rattle.std.specs.Map.{lookup}
 use Rattle.std.specs.BTreeMap.{is_at}
 use Rattle.slab.specs.Slab.{Slab, get}
@@ -10,19 +10,26 @@ use Rattle.tcap_end.specs.declared.half.Slot.{Slot}
 use Rattle.tcap_end.specs.declared.half.Slot.TheVariants.{Begun, Accepted}
 use Rattle.tcap_end.specs.declared.half_state.HalfState.{HalfState}
 use Rattle.tcap_end.specs.declared.halves.Halves.{Halves}
+use Rattle.tcap_end.specs.declared.halves.HalfKey.{HalfKey}
 use Rattle.tcap_end.specs.declared.halves.Place.{Place}
 use Rattle.tcap_end.specs.declared.halves.Place.TheVariants.{Open, Closed}
-use Rattle.tcap_end.specs.Table.{octets_cmp}
+use Rattle.tcap_end.specs.Table.{Table, octets_cmp}
 use Rattle.tcap_end.specs.Half.{Half, fresh, is_closed}
 use Rattle.tcap_end.specs.Step.{AnswersInMemory, ◌>>=◌}
 use Rattle.tcap_end.specs.HalfState.{half_of, other_id}
 use Rattle.tcap_end.specs.End.{End, KeptHalf, put}
+use Rattle.tcap_end.specs.Hidden.{may_close}
 use Rattle.tcap_end.specs.Sound.{Has, IsKept, Rises}
 
 -- the half under a number; where none is, a closed one without IDs stands for it
 abbrev pub half_in : Option HalfState → Half
 half_in None = fresh phases.Closed None None standings.Without
 half_in (Some h) = half_of h
+
+-- what stands under the number of a place; a closed one has none
+abbrev pub open_at : Slab HalfState → Place → Option HalfState
+open_at slab (Open k) = get slab k
+open_at slab (Closed other) = None
 
 -- a closed half that is kept by this ID, with its other one
 abbrev pub closed_at : Slot → List ℕ → Option (List ℕ) → Half
@@ -87,6 +94,11 @@ abbrev pub AnswersOver : Slot → List ℕ → (Half → Result Half EndFault) �
 AnswersOver slot key step result s next = (h : Half) → Has (end_of s) (kept_half slot key h)
     → AnswersInMemory (step h >>= λ g. Ok (put (end_of s) slot key g)) result (end_of next)
 
+-- What was found is kept there: open, under the number, or closed, where there is none.
+unfoldable pub IsNumbered : HalfKey → Halves → Type 0
+IsNumbered found s = MatchOption found.number ((other : Option (List ℕ)) × IsAt found.slot found.key (Closed other) s)
+    (λ k. IsAt found.slot found.key (Open k) s)
+
 -- the index of the halves in a slot, from the IDs that they are not kept by
 abbrev pub index_of : Slot → Halves → List (List ℕ × List ℕ)
 index_of Begun s = s.by_peer.entries
@@ -102,3 +114,9 @@ pub record IsNew (key : List ℕ) (h : HalfState) (s : Halves) : Type 0 where
 -- Every number that is taken leads from a place.
 abbrev pub AllPlaced : Halves → Type 0
 AllPlaced s = (k : ℕ) (h : HalfState) → get s.slab k ≡ Some h → (key : List ℕ) × IsAt h.slot key (Open k) s
+
+-- How many of these halves are open; none where one of those may not close unseen.
+abbrev pub closing : Table → List (List ℕ × Half) → Option ℕ
+closing table [] = Some 0
+closing table ((key, half) ∷ more) = cond (is_closed half.phase) (closing table more)
+    (cond (may_close table half.phase) (option_map suc (closing table more)) None)

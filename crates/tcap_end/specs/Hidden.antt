@@ -1,11 +1,12 @@
 -- What happens to an end unseen (Q.774 3.2 and 3.3): an invocation ends, a half closes.
-use Rattle.std.specs.Prelude.{ℤ, Bool, true, false, Option, Some, None, Result, Ok, not, ok_or}
+use Rattle.std.specs.Prelude.{ℕ, ℤ, Bool, true, false, List, [], ◌∷◌, ◌++◌, Option, Some, None, Result, Ok, cond, not, ok_or}
 use Rattle.std.specs.Ordering.{int_cmp}
 use Rattle.std.specs.Map.{remove_entry}
 use Rattle.std.specs.BTreeMap.{is_at}
 use Rattle.tcap_end.specs.declared.fault.EndFault.{EndFault}
 use Rattle.tcap_end.specs.declared.fault.EndFault.TheVariants as faults
 use Rattle.tcap_end.specs.declared.half.HalfName.{HalfName}
+use Rattle.tcap_end.specs.declared.half.HalfName.TheVariants as names
 use Rattle.tcap_end.specs.declared.half.InvocationState.{InvocationState}
 use Rattle.tcap_end.specs.declared.half.InvocationState.TheVariants as states
 use Rattle.tcap_end.specs.declared.half.Phase.{Phase}
@@ -15,7 +16,7 @@ use Rattle.tcap_end.specs.Step.{needs, ◌>>◌, ◌>>=◌}
 use Rattle.tcap_end.specs.Table.{Table, expires_of}
 use Rattle.tcap_end.specs.Half.{Half, closed_half, is_closed}
 use Rattle.tcap_end.specs.Component.{own_invocation}
-use Rattle.tcap_end.specs.End.{End, named, put}
+use Rattle.tcap_end.specs.End.{End, named, put, quiet}
 
 -- whether an own invocation may end unseen
 abbrev pub may_expire : Table → Option OwnInvocation → Bool
@@ -51,3 +52,22 @@ close table e name = do
   kept ← ok_or (named e name) faults.CannotClose
   needs (may_close table kept.half.phase) faults.CannotClose
   Ok (put e kept.slot kept.key (closed_half kept.half))
+
+-- the names of the open halves among these, each by the ID by which it is kept
+abbrev pub open_names : (List ℕ → HalfName) → List (List ℕ × Half) → List HalfName
+open_names name [] = []
+open_names name ((key, half) ∷ more) =
+    cond (is_closed half.phase) (open_names name more) (name key ∷ open_names name more)
+
+-- those of an end: by their own IDs the halves that began by sending a Begin, by their peers' the others
+abbrev pub open_halves : End → List HalfName
+open_halves e = open_names names.Own e.begun ++ open_names names.Peer e.accepted
+
+-- Each of these halves closes unseen, one after the other.
+abbrev pub close_each : Table → List HalfName → End → Result End EndFault
+close_each table [] e = Ok e
+close_each table (name ∷ more) e = close table e name >>= close_each table more
+
+-- A quiet mark before which each open half closes unseen; one that may not is the reason against it.
+abbrev pub quiet_unseen : Table → End → Result End EndFault
+quiet_unseen table e = close_each table (open_halves e) e >>= quiet

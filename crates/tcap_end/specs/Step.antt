@@ -1,5 +1,5 @@
 -- A step of one end: what is behind it, or the first reason against it.
-use Rattle.std.specs.Prelude.{◌≡◌, ◌≢◌, Bool, Result, Ok, Err, cond}
+use Rattle.std.specs.Prelude.{◌≡◌, ◌≢◌, ℕ, Bool, Result, Ok, Err, cond}
 use Rattle.tcap_end.specs.declared.fault.EndFault.{EndFault}
 use Rattle.tcap_end.specs.declared.fault.EndFault.TheVariants as faults
 
@@ -28,3 +28,8 @@ Answers step (Err reason) left = step ≡ Err reason
 abbrev pub AnswersInMemory : {A : Type 0} → Result A EndFault → Result (Unit {0}) EndFault → A → Type 0
 AnswersInMemory step (Ok done) left = step ≡ Ok left
 AnswersInMemory step (Err reason) left = reason ≢ faults.Memory → step ≡ Err reason
+
+-- A call answers what a step answers; on Ok it leaves what is behind the step, and answers this number.
+abbrev pub AnswersNumber : {A : Type 0} → Result A EndFault → ℕ → Result ℕ EndFault → A → Type 0
+AnswersNumber step number (Ok n) left = (step ≡ Ok left) × (n ≡ number)
+AnswersNumber step number (Err reason) left = step ≡ Err reason

@@ -1,15 +1,16 @@
-//! What happens to an end unseen (Q.774 3.2 and 3.3): an invocation ends, a half closes.
+//! What happens to an end unseen (Q.774 3.2 and 3.3): an invocation ends, a half closes, all do.
 
-ghost use Rattle.std.specs.Prelude.{◌≡◌, Some, None, MatchOption, OnErr};
+ghost use Rattle.std.specs.Prelude.{◌≡◌, ◌<◌, ◌^◌, Some, None, Ok, Err, IfSome, MatchOption, OnErr, length};
+ghost use Rattle.tcap_end.specs.declared.fault.EndFault.TheVariants as EndFault;
 ghost use Rattle.tcap_end.specs.Step.{Answers};
-ghost use Rattle.tcap_end.specs.Hidden.{close, expire, may_close};
+ghost use Rattle.tcap_end.specs.Hidden.{close, expire, may_close, open_halves, quiet_unseen};
 ghost use Rattle.tcap_end.specs.Half.{Half};
-ghost use Rattle.tcap_end.specs.End.{named};
-ghost use Rattle.tcap_end.specs.Sound.{IsEnd};
-ghost use Rattle.tcap_end.specs.Halves.{AllPlaced, IsHeld, end_of, kept_half};
+ghost use Rattle.tcap_end.specs.End.{named, nothing};
+ghost use Rattle.tcap_end.specs.Sound.{IsEnd, halves_of};
+ghost use Rattle.tcap_end.specs.Halves.{AllPlaced, IsNumbered, IsHeld, closing, end_of, kept_half};
 
 use crate::fault::EndFault;
-use crate::half::{HalfName, Phase};
+use crate::half::{HalfName, Phase, Slot};
 use crate::halves::{HalfKey, Halves};
 use crate::table::Table;
 
@@ -29,8 +30,9 @@ impl Halves {
     fn named(&self, name: HalfName) -> Option<HalfKey>
         requires held { IsHeld self.now }
         requires sound { IsEnd (end_of self.now) }
-        ensures { MatchOption result (named (end_of self.now) name ≡ None)
+        ensures half { MatchOption result (named (end_of self.now) name ≡ None)
             (λ found. (h : Half) × (named (end_of self.now) name ≡ Some (kept_half found.slot found.key h))) }
+        ensures found { IfSome result (λ found. IsNumbered found self.now) }
     {
         match name {
             HalfName::Own(id) => self.with_own(id.view()),
@@ -80,5 +82,38 @@ impl Halves {
         }
         self.close(found);
         Ok(())
+    }
+
+    /// How many of the halves that began so are open; `None` where one of those may not close unseen.
+    fn closing_of(&self, table: &Table, slot: Slot) -> Option<usize>
+        requires held { IsHeld self.now }
+        requires placed { AllPlaced self.now }
+        ensures counted { result ≡ closing table.now (halves_of slot (end_of self.now)) }
+        ensures fits { IfSome result (λ n. n < 2 ^ 63) }
+    {
+        let mut count = 0;
+        for (_, place) in self.places(slot) {
+            if let Some(half) = self.open_half(place) {
+                if !may_close(table, half.phase) {
+                    return None;
+                }
+                count += 1;
+            }
+        }
+        Some(count)
+    }
+
+    /// How many halves close unseen at a quiet mark: all that are open; `None` where one of those may not.
+    pub(crate) fn closing(&self, table: &Table) -> Option<usize>
+        requires held { IsHeld self.now }
+        requires placed { AllPlaced self.now }
+        requires sound { IsEnd (end_of self.now) }
+        ensures { MatchOption result (quiet_unseen table.now (end_of self.now) ≡ Err EndFault.CannotClose)
+            (λ n. (quiet_unseen table.now (end_of self.now) ≡ Ok nothing)
+            × (n ≡ length (open_halves (end_of self.now)))) }
+    {
+        let begun = self.closing_of(table, Slot::Begun)?;
+        let accepted = self.closing_of(table, Slot::Accepted)?;
+        Some(begun + accepted)
     }
 }

@@ -21,7 +21,7 @@ ghost use Rattle.tcap_end.specs.Message.{
   send_next_continue,
 };
 ghost use Rattle.tcap_end.specs.Sound.{Has, IsEnd};
-ghost use Rattle.tcap_end.specs.Halves.{AllPlaced, IsHeld, end_of, kept_half};
+ghost use Rattle.tcap_end.specs.Halves.{AllPlaced, IsNumbered, IsHeld, end_of, kept_half};
 ghost use Rattle.tcap_end.specs.Kinds.{reason_of_dialogue};
 
 use crate::dialogues::{first_standing, may_abort, may_be_uni, may_begin, may_go_on};
@@ -173,6 +173,7 @@ impl Halves {
     ) -> Result<(), EndFault>
         requires held { IsHeld self.old }
         requires there { (h : Half) × Has (end_of self.old) (kept_half found.now.slot found.now.key h) }
+        requires found { IsNumbered found.now self.old }
         ensures step { (h : Half) → Has (end_of self.old) (kept_half found.now.slot found.now.key h)
             → AnswersInMemory (send_next_continue table.now (end_of self.old) dtid.entry.octets.now
             (option_map dialogue_of dialogue.entry) (components_left components.entry)

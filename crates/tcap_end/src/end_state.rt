@@ -1,14 +1,14 @@
 //! One end, as it runs.
 
-ghost use Rattle.std.specs.Prelude.{◌≡◌, ◌≢◌, Err, IsSome, OnErr};
+ghost use Rattle.std.specs.Prelude.{◌≡◌, ◌≢◌, Err, IsSome, OnErr, length};
 ghost use Rattle.tcap_msg.specs.declared.kind.Kind.TheVariants as Kind;
 ghost use Rattle.tcap_msg.specs.Parts.{kind_in, otid_in};
 ghost use Rattle.tcap_end.specs.declared.fault.EndFault.TheVariants as EndFault;
-ghost use Rattle.tcap_end.specs.Step.{Answers, AnswersInMemory};
+ghost use Rattle.tcap_end.specs.Step.{Answers, AnswersInMemory, AnswersNumber};
 ghost use Rattle.tcap_end.specs.End.{nothing, quiet};
 ghost use Rattle.tcap_end.specs.Message.{receive, send};
 ghost use Rattle.tcap_end.specs.Reply.{refuse_begin, refuse_continue};
-ghost use Rattle.tcap_end.specs.Hidden.{close, expire};
+ghost use Rattle.tcap_end.specs.Hidden.{close, expire, open_halves, quiet_unseen};
 ghost use Rattle.tcap_end.specs.Sound.{IsEnd};
 
 use crate::end_replies::{refuse_begin, refuse_continue};
@@ -138,5 +138,21 @@ impl EndState {
         }
         self.halves = Halves::new(self.alloc);
         Ok(())
+    }
+
+    /// A quiet mark before which each half that is still open closes unseen (Q.774 3.3): its Begin is given up, or it
+    /// ends by prearrangement, where the table says that this may be. On Ok no half and no used ID is left, and the
+    /// answer is how many halves closed so. `CannotClose` where one may not: the end is as it was then. It takes no
+    /// memory.
+    pub fn quiet_unseen(&mut self, table: &Table) -> Result<usize, EndFault>
+        ensures step { AnswersNumber (quiet_unseen table.now self.old) (length (open_halves self.old)) result
+            self.new }
+        ensures kept { OnErr result (self.new ≡ self.old) }
+    {
+        let Some(closed) = self.halves.closing(table) else {
+            return Err(EndFault::CannotClose);
+        };
+        self.halves = Halves::new(self.alloc);
+        Ok(closed)
     }
 }

@@ -1,7 +1,8 @@
 //! The halves of an end, found by their transaction IDs.
 
-ghost use Rattle.std.specs.Prelude.{◌≡◌, ◌≢◌, ◌&&◌, false, true, Some, None, IsSome, MatchOption, OnOk, OnErr};
-ghost use Rattle.std.specs.Map.{remove_entry};
+ghost use Rattle.std.specs.Prelude.{◌≡◌, ◌≢◌, ◌&&◌, false, true, Some, None, IsSome, IfSome, MatchOption, OnOk, OnErr};
+ghost use Rattle.std.specs.Option.{option_copied};
+ghost use Rattle.std.specs.Map.{lookup, remove_entry};
 ghost use Rattle.std.specs.BTreeMap.{insert_entry, is_at};
 ghost use Rattle.tcap_parts.specs.Meaning.{components_left};
 ghost use Rattle.tcap_end.specs.declared.half.Slot.TheVariants as Slot;
@@ -15,7 +16,7 @@ ghost use Rattle.tcap_end.specs.Message.{active_half};
 ghost use Rattle.tcap_end.specs.Ways.{components_by, way_of};
 ghost use Rattle.tcap_end.specs.End.{KeptHalf, all_closed, is_id, nothing, put, with_own, with_peer};
 ghost use Rattle.tcap_end.specs.Sound.{Has, IsEnd};
-ghost use Rattle.tcap_end.specs.Halves.{AllPlaced, AnswersOver, Becomes, HasOpen, IsAt, IsHeld, IsNew, end_of, index_of, kept_half, places_of};
+ghost use Rattle.tcap_end.specs.Halves.{AllPlaced, AnswersOver, Becomes, HasOpen, IsAt, IsNumbered, IsHeld, IsNew, end_of, index_of, kept_half, open_at, places_of};
 
 use crate::fault::EndFault;
 use crate::half::Slot;
@@ -52,11 +53,12 @@ pub(crate) struct Halves {
     pub(crate) by_peer: BTreeMap<TransactionId, TransactionId>,
 }
 
-/// By what a half is kept: how it began, and its ID of that time.
+/// By what a half is kept: how it began, and its ID of that time; and its number, where it is open.
 #[derive(Debug, Drop)]
 pub(crate) struct HalfKey {
     pub(crate) slot: Slot,
     pub(crate) key: TransactionId,
+    pub(crate) number: Option<usize>,
 }
 
 /// Whether it is that transaction ID.
@@ -85,52 +87,8 @@ impl Halves {
         }
     }
 
-    /// Where the half with that own transaction ID is kept.
-    pub(crate) fn with_own(&self, id: TransactionIdView) -> Option<HalfKey>
-        requires held { IsHeld self.now }
-        requires sound { IsEnd (end_of self.now) }
-        ensures { MatchOption result (with_own (end_of self.now) id.entry.octets.now ≡ None)
-            (λ found. (h : Half) × (with_own (end_of self.now) id.entry.octets.now
-            ≡ Some (kept_half found.slot found.key h))) }
-    {
-        let key = id.to_transaction_id();
-        if self.begun.contains_key(&key) {
-            return Some(HalfKey {
-                slot: Slot::Begun,
-                key,
-            });
-        }
-        let peer = self.by_own.get(&key)?;
-        Some(HalfKey {
-            slot: Slot::Accepted,
-            key: peer.view().to_transaction_id(),
-        })
-    }
-
-    /// Where the half with that peer's transaction ID is kept.
-    pub(crate) fn with_peer(&self, id: TransactionIdView) -> Option<HalfKey>
-        requires held { IsHeld self.now }
-        requires sound { IsEnd (end_of self.now) }
-        ensures { MatchOption result (with_peer (end_of self.now) id.entry.octets.now ≡ None)
-            (λ found. (h : Half) × (with_peer (end_of self.now) id.entry.octets.now
-            ≡ Some (kept_half found.slot found.key h))) }
-    {
-        let key = id.to_transaction_id();
-        if self.accepted.contains_key(&key) {
-            return Some(HalfKey {
-                slot: Slot::Accepted,
-                key,
-            });
-        }
-        let own = self.by_peer.get(&key)?;
-        Some(HalfKey {
-            slot: Slot::Begun,
-            key: own.view().to_transaction_id(),
-        })
-    }
-
     /// The places of the halves that began so.
-    fn places(&self, slot: Slot) -> &BTreeMap<TransactionId, Place>
+    pub(crate) fn places(&self, slot: Slot) -> &BTreeMap<TransactionId, Place>
         ensures { result.now.entries ≡ places_of slot self.now }
     {
         match slot {
@@ -139,28 +97,84 @@ impl Halves {
         }
     }
 
-    /// The open half that is kept there; `None` where it is closed.
-    pub(crate) fn half(&self, found: &HalfKey) -> Option<&HalfState>
-        requires held { IsHeld self.now }
-        requires there { (h : Half) × Has (end_of self.now) (kept_half found.now.slot found.now.key h) }
-        ensures { (h : Half) → Has (end_of self.now) (kept_half found.now.slot found.now.key h)
-            → MatchOption result (is_closed h.phase ≡ true)
-            (λ half. (half_of half.now ≡ h) × (is_closed h.phase ≡ false)) }
+    /// The open half at that place; `None` where it is closed.
+    pub(crate) fn open_half(&self, place: &Place) -> Option<&HalfState>
+        ensures { option_copied result ≡ open_at self.now.slab place.now }
     {
-        match self.places(found.slot).get(&found.key)? {
+        match place {
             Place::Open(number) => self.slab.get(*number),
             Place::Closed(_) => None,
         }
     }
 
+    /// The half that began so and is kept by that ID.
+    fn find(&self, slot: Slot, key: &TransactionId) -> Option<HalfKey>
+        ensures { MatchOption result (lookup (is_at (octets_cmp key.now)) (places_of slot self.now) ≡ None)
+            (λ found. (found.slot ≡ slot) × (found.key ≡ key.now) × IsNumbered found self.now) }
+    {
+        let number = match self.places(slot).get(key)? {
+            Place::Open(number) => Some(*number),
+            Place::Closed(_) => None,
+        };
+        Some(HalfKey {
+            slot,
+            key: key.view().to_transaction_id(),
+            number,
+        })
+    }
+
+    /// Where the half with that own transaction ID is kept.
+    pub(crate) fn with_own(&self, id: TransactionIdView) -> Option<HalfKey>
+        requires held { IsHeld self.now }
+        requires sound { IsEnd (end_of self.now) }
+        ensures half { MatchOption result (with_own (end_of self.now) id.entry.octets.now ≡ None)
+            (λ found. (h : Half) × (with_own (end_of self.now) id.entry.octets.now
+            ≡ Some (kept_half found.slot found.key h))) }
+        ensures found { IfSome result (λ found. IsNumbered found self.now) }
+    {
+        let key = id.to_transaction_id();
+        match self.find(Slot::Begun, &key) {
+            Some(found) => Some(found),
+            None => self.find(Slot::Accepted, self.by_own.get(&key)?),
+        }
+    }
+
+    /// Where the half with that peer's transaction ID is kept.
+    pub(crate) fn with_peer(&self, id: TransactionIdView) -> Option<HalfKey>
+        requires held { IsHeld self.now }
+        requires sound { IsEnd (end_of self.now) }
+        ensures half { MatchOption result (with_peer (end_of self.now) id.entry.octets.now ≡ None)
+            (λ found. (h : Half) × (with_peer (end_of self.now) id.entry.octets.now
+            ≡ Some (kept_half found.slot found.key h))) }
+        ensures found { IfSome result (λ found. IsNumbered found self.now) }
+    {
+        let key = id.to_transaction_id();
+        match self.find(Slot::Accepted, &key) {
+            Some(found) => Some(found),
+            None => self.find(Slot::Begun, self.by_peer.get(&key)?),
+        }
+    }
+
+    /// The open half that is kept there; `None` where it is closed.
+    pub(crate) fn half(&self, found: &HalfKey) -> Option<&HalfState>
+        requires held { IsHeld self.now }
+        requires found { IsNumbered found.now self.now }
+        ensures { (h : Half) → Has (end_of self.now) (kept_half found.now.slot found.now.key h)
+            → MatchOption result (is_closed h.phase ≡ true)
+            (λ half. (half_of half.now ≡ h) × (is_closed h.phase ≡ false)) }
+    {
+        self.slab.get(found.number?)
+    }
+
     /// The number of the open half that is kept there.
     fn number(&self, found: &HalfKey) -> usize
         requires open { HasOpen found.now.slot found.now.key self.now }
+        requires found { IsNumbered found.now self.now }
         ensures { IsAt found.now.slot found.now.key (Place.Open result) self.now }
     {
-        match self.places(found.slot).get(&found.key) {
-            Some(Place::Open(number)) => *number,
-            _ => unreachable!(),
+        match found.number {
+            Some(number) => number,
+            None => unreachable!(),
         }
     }
 
@@ -175,11 +189,13 @@ impl Halves {
     ) -> Result<(), EndFault>
         requires held { IsHeld self.old }
         requires open { HasOpen found.now.slot found.now.key self.old }
+        requires found { IsNumbered found.now self.old }
         ensures step { AnswersOver found.now.slot found.now.key
             (λ h. components_by way table.now h (components_left components.entry)) result self.old self.new }
         ensures kept { OnErr result (end_of self.new ≡ end_of self.old) }
         ensures held { IsHeld self.new }
         ensures open { HasOpen found.now.slot found.now.key self.new }
+        ensures found { IsNumbered found.now self.new }
         ensures placed { AllPlaced self.old → AllPlaced self.new }
     {
         let number = self.number(found);
@@ -193,6 +209,7 @@ impl Halves {
     pub(crate) fn forget_over(&mut self, found: &HalfKey, id: i8)
         requires held { IsHeld self.old }
         requires open { HasOpen found.now.slot found.now.key self.old }
+        requires found { IsNumbered found.now self.old }
         requires own_invocation { (h : Half) → Has (end_of self.old) (kept_half found.now.slot found.now.key h)
             → IsSome (own_invocation h id) }
         ensures forgotten { Becomes found.now.slot found.now.key (without_invocation id) self.old self.new }
@@ -212,6 +229,7 @@ impl Halves {
     pub(crate) fn close(&mut self, found: HalfKey)
         requires held { IsHeld self.old }
         requires open { HasOpen found.slot found.key self.old }
+        requires found { IsNumbered found self.old }
         ensures closed { Becomes found.slot found.key closed_half self.old self.new }
         ensures held { IsHeld self.new }
         ensures placed { AllPlaced self.old → AllPlaced self.new }
@@ -315,6 +333,7 @@ impl Halves {
     ) -> Result<(), EndFault>
         requires held { IsHeld self.old }
         requires open { HasOpen found.now.slot found.now.key self.old }
+        requires found { IsNumbered found.now self.old }
         requires unknown { (h : Half) → Has (end_of self.old) (kept_half found.now.slot found.now.key h)
             → other_id found.now.slot h ≡ None }
         requires unused { (f : KeptHalf) → Has (end_of self.old) f → other_id found.now.slot f.half ≢ Some id }

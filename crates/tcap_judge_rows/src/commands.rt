@@ -3,7 +3,7 @@
 use crate::octets::{certificate_of, named, octets_of};
 use std::alloc::Global;
 use tcap_ber::Failing;
-use tcap_judge::{Status, run_check, run_judge, run_show};
+use tcap_judge::{Status, run_blame, run_check, run_judge, run_show};
 
 /// A count of octets that no device reaches.
 pub(crate) const NEVER: usize = 1_000_000_000;
@@ -63,6 +63,7 @@ pub(crate) fn outcome_of(alloc: Global, command: &Command, limits: [usize; 4]) -
         ),
         "judge" => run_judge(alloc, &mut record, &mut table, false, &mut writer),
         "judge --cert" => run_judge(alloc, &mut record, &mut table, true, &mut writer),
+        "blame" => run_blame(alloc, &mut record, &mut table, &mut writer),
         _ => return None,
     };
     Some(Outcome {

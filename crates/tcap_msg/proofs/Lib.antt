@@ -1,3 +1,4 @@
+pub mod IdOrder
 pub mod KindLaws
 pub mod MessageLaws
 pub mod MessageWithin

@@ -1,5 +1,5 @@
 -- Transaction IDs (Q.773 4.2.1).
-use Rattle.std.specs.Prelude.{◌≡◌, ℕ, ◌<◌, ◌≤◌, List, length, Result, Ok, Err, nat_lt, Bool, ◌&&◌, if◌then◌else◌}
+use Rattle.std.specs.Prelude.{◌≡◌, ℕ, zero, suc, ◌+◌, ◌*◌, ◌<◌, ◌≤◌, List, [], ◌∷◌, length, Result, Ok, Err, nat_lt, Bool, ◌&&◌, if◌then◌else◌}
 use Rattle.tcap_ber.specs.declared.fault.Fault.{Fault}
 use Rattle.tcap_ber.specs.declared.fault.Reason.TheVariants.{BadTransactionId}
 use Rattle.tcap_ber.specs.Grammar.{Body}
@@ -24,3 +24,13 @@ is_transaction_id octets = nat_lt 0 (length octets) && nat_lt (length octets) 5
 unfoldable pub transaction_id_of : Element → Result (List ℕ) Fault
 transaction_id_of e = if is_transaction_id e.content.octets then Ok e.content.octets
     else Err (fault BadTransactionId e.place)
+
+-- octets as a number behind another, with noughts for those that are not there
+unfoldable pub filled : ℕ → ℕ → List ℕ → ℕ
+filled zero high octets = high
+filled (suc more) high [] = filled more (high * 256) []
+filled (suc more) high (octet ∷ octets) = filled more (high * 256 + octet) octets
+
+-- a number by which IDs are ordered as by their octets: four octets, and then their count
+unfoldable pub key : List ℕ → ℕ
+key octets = filled 4 0 octets * 256 + length octets

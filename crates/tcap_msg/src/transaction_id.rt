@@ -1,9 +1,9 @@
 //! Transaction IDs (Q.773 4.2.1).
 
-ghost use Rattle.std.specs.Prelude.{◌≡◌, ◌↔◌, ℕ, List, Err, IsSome, IfSome, IfOk, IsOkAnd};
+ghost use Rattle.std.specs.Prelude.{◌≡◌, ◌↔◌, ◌<◌, ◌+◌, ◌*◌, ℕ, List, All, Err, IsSome, IfSome, IfOk, IsOkAnd};
 ghost use Rattle.tcap_ber.specs.declared.fault.Fault.{Fault};
 ghost use Rattle.tcap_ber.specs.Reading.{Gives, element, span};
-ghost use Rattle.tcap_msg.specs.TransactionId.{IsTransactionId, transaction_id, transaction_id_of};
+ghost use Rattle.tcap_msg.specs.TransactionId.{IsTransactionId, key, transaction_id, transaction_id_of};
 
 use std::cmp::Ordering;
 use std::marker::Model;
@@ -21,18 +21,27 @@ pub struct TransactionIdView<'a> {
 /// by their octets, from the first on, a shorter one before those that it begins.
 #[derive(Debug, Drop)]
 pub struct TransactionId {
+    // Noughts behind the octets of the ID.
     octets: [u8; 4],
-    len: usize,
+    len: u8,
 }
 
 impl Model for TransactionId {
-    ghost use Rattle.std.specs.Prelude.{List, ℕ, ◌<◌, ◌≤◌, take};
+    ghost use Rattle.std.specs.Prelude.{◌≡◌, List, ℕ, ◌<◌, ◌≤◌, take, drop, replicate, ◌-◌};
 
     ghost Value = { List ℕ };
 
     ghost view = { λ a. take a.len a.octets };
 
-    ghost invariant = { λ a. (0 < a.len) × (a.len ≤ 4) };
+    ghost invariant = { λ a. (0 < a.len) × (a.len ≤ 4) × (drop a.len a.octets ≡ replicate (4 - a.len) 0) };
+}
+
+/// Four octets as one number, which tells that they are octets.
+fn number(a: u8, b: u8, c: u8, d: u8) -> u64
+    ensures value { result ≡ ((a * 256 + b) * 256 + c) * 256 + d }
+    ensures octets { (a < 256) × (b < 256) × (c < 256) × (d < 256) }
+{
+    u64::from(u32::from_be_bytes([a, b, c, d]))
 }
 
 impl TransactionId {
@@ -65,7 +74,17 @@ impl TransactionId {
         ensures value { result.now ≡ self.now }
         ensures is_id { IsTransactionId result.now }
     {
-        &self.octets[..self.len]
+        &self.octets[..usize::from(self.len)]
+    }
+
+    /// A number by which IDs are equal and ordered as by their octets: the octets, with noughts for those that are not
+    /// there, and their count.
+    fn key(&self) -> u64
+        ensures value { result ≡ key self.now }
+        ensures octets { IsTransactionId self.now × All (λ octet. octet < 256) self.now }
+    {
+        let [a, b, c, d] = self.octets;
+        number(a, b, c, d) * 256 + u64::from(self.len)
     }
 }
 
@@ -79,7 +98,7 @@ impl PartialEq for TransactionId {
     ghost laws = { partial_equiv_from_equiv nat_list_eq_equiv };
 
     fn eq(&self, other: &TransactionId) -> bool {
-        self.octets() == other.octets()
+        self.key() == other.key()
     }
 }
 
@@ -117,7 +136,7 @@ impl Ord for TransactionId {
     ghost matches_eq = { texts_ties };
 
     fn cmp(&self, other: &TransactionId) -> Ordering {
-        self.octets().cmp(other.octets())
+        self.key().cmp(&other.key())
     }
 }
 

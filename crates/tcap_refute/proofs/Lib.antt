@@ -64,6 +64,4 @@ pub mod EndLaws
 pub mod AskLaws
 pub mod ItemLaws
 pub mod BlamedLaws
-pub mod WholeTurns
-pub mod WholeViews
-pub mod WholeLaws
+mod GivenLaws

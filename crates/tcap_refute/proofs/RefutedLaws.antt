@@ -127,7 +127,7 @@ at_fault table entries r is = at_fault_behind table [] entries r is
 -- ---- and so it is lawful by no certificate
 
 -- Entries that are items are these.
-are_oks : (entries : List Entry) (items : List Item) → AreItems entries items → map item_of entries ≡ oks items
+pub are_oks : (entries : List Entry) (items : List Item) → AreItems entries items → map item_of entries ≡ oks items
 are_oks [] [] are = refl
 are_oks [] (item ∷ items) are = absurd are
 are_oks (entry ∷ entries) [] are = absurd are
@@ -135,13 +135,13 @@ are_oks (entry ∷ entries) (Sent side message ∷ items) are = rw (are.0.0, are
 are_oks (entry ∷ entries) (Item.Quiet ∷ items) are = rw (are.0.0, are.0.1, are_oks entries items are.1) refl
 
 -- What stands among items is one.
-none_is_bad : (items : List Item) (entry : ℕ) (reason : Reason) → slice_get (oks items) entry ≡ Some (Err reason) → ⊥
+pub none_is_bad : (items : List Item) (entry : ℕ) (reason : Reason) → slice_get (oks items) entry ≡ Some (Err reason) → ⊥
 none_is_bad [] entry reason is = cc
 none_is_bad (item ∷ items) zero reason is = cc
 none_is_bad (item ∷ items) (suc entry) reason is = none_is_bad items entry reason is
 
 -- Items that are the ones before and then a message stand so in the list.
-split_oks : (items before : List Item) (item : Item) (more : List (Result Item Reason))
+pub split_oks : (items before : List Item) (item : Item) (more : List (Result Item Reason))
     → oks items ≡ oks before ++ Ok item ∷ more → (behind : List Item) × (items ≡ before ++ item ∷ behind)
 split_oks [] [] item more is = cc
 split_oks [] (first ∷ before) item more is = cc

@@ -1,7 +1,7 @@
 //! What refutations say of all runs. Each function says by its contract alone what holds of every run in which an end keeps
 //! the rules, whatever the other end does.
 
-ghost use Rattle.std.specs.Prelude.{◌≡◌, ℕ, List, ◌∷◌, ◌++◌, map, true, false, Some, Result};
+ghost use Rattle.std.specs.Prelude.{◌≡◌, ℕ, List, ◌∷◌, ◌++◌, map, true, false, Some, Ok, Result};
 ghost use Rattle.tcap_msg.specs.declared.message.Message.{Message};
 ghost use Rattle.tcap_record.specs.declared.entry.End.{End as Side};
 ghost use Rattle.tcap_end.specs.Table.{Table};
@@ -11,6 +11,8 @@ ghost use Rattle.tcap_record.specs.declared.entry.Entry.{Entry};
 ghost use Rattle.tcap_check.specs.declared.fault.Reason.{Reason};
 ghost use Rattle.tcap_check.specs.Entries.{AreItems, item_of};
 ghost use Rattle.tcap_check.specs.Run.{IsLawful};
+ghost use Rattle.tcap_check.specs.Certificate.{Certificate};
+ghost use Rattle.tcap_check.specs.Alone.{replayed_for};
 ghost use Rattle.tcap_refute.specs.declared.kind.Kind.{Kind};
 ghost use Rattle.tcap_refute.specs.declared.kind.Refutation.{Refutation};
 ghost use Rattle.tcap_refute.specs.Before.{since_quiet};
@@ -61,4 +63,10 @@ pub fn refuted_is_never_lawful()
 pub fn blamed_is_at_fault()
     ensures { (table : Table) (side : Side) (entries : List Entry) (r : Refutation)
         → blamed table side entries ≡ Some r → IsAtFaultOf table side (map item_of entries) r }
+{}
+
+/// No certificate gives a run for an end on which an entry is blamed, whoever made it: no end is both lawful alone and at fault.
+pub fn blamed_is_never_given()
+    ensures { (table : Table) (side : Side) (c : Certificate) (entries : List Entry) (r : Refutation) (events : List Event)
+        → blamed table side entries ≡ Some r → replayed_for side table c entries ≡ Ok events → ⊥ }
 {}

@@ -15,7 +15,6 @@ pub mod laws;
 mod notes;
 mod noting;
 mod refuting;
-pub mod whole;
 pub mod worked;
 
 pub use kind::{Kind, Refutation};

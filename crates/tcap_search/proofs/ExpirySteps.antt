@@ -11,8 +11,9 @@ use Rattle.tcap_check.specs.declared.certificate.Fate.{Fate}
 use Rattle.tcap_check.specs.declared.certificate.Fate.TheVariants.{Gap, Lost, By}
 use Rattle.tcap_search.specs.declared.sweep.Sweep.{Sweep}
 use Rattle.tcap_search.specs.Lines.{Line, lines_of, or_else}
-use Rattle.tcap_search.specs.Proposed.{Fated, all_fated, components_at, expiries_by, expiries_from, fated, first_fates, ties_of}
-use Rattle.tcap_search.specs.Traced.{AreFates, AreTransactions}
+use Rattle.tcap_search.specs.Proposed.{Fated, components_at, expiries_by, expiries_from, fated}
+use Rattle.tcap_search.specs.Order.{AreInOrder}
+use Rattle.tcap_search.specs.Traced.{AreTransactions}
 use Rattle.tcap_search.specs.ByInvocation.{kept_at}
 use Rattle.tcap_search.specs.Due.{due_in}
 use Rattle.tcap_search.specs.Fates.{is_of}
@@ -20,9 +21,9 @@ use Rattle.tcap_search.specs.Listed.{entry_rejected}
 use Rattle.tcap_search.specs.Sweep.{answer_at, answer_kept, answer_rejected, answers_at, invoked_by, invoked_in}
 use Rattle.tcap_search.proofs.ExpiryLaws.{answered_by, entry_same, expiries_more, line_adds}
 use Rattle.tcap_search.proofs.FateSteps.{lines_more}
-use Rattle.tcap_search.proofs.LossLaws.{all_lines}
+use Rattle.tcap_search.proofs.LineLaws.{count_lines}
+use Rattle.tcap_search.proofs.LossLaws.{entries_fated, fates_fated, lines_fated}
 use Rattle.tcap_search.proofs.NumberedLaws.{entries_of_lines, line_at, lines_numbered}
-use Rattle.tcap_search.proofs.OrderLaws.{losses_order}
 use Rattle.tcap_search.proofs.SweepLaws.{answer_with, answered_in, answered_more, invoked_more, is_answering, is_in_gap_below}
 
 -- ---- the fates of lines
@@ -31,18 +32,23 @@ map_twice : {A B C : Type 0} (f : A → B) (g : B → C) (xs : List A) → map g
 map_twice f g [] = refl
 map_twice f g (x ∷ xs) = ap (λ ys. g (f x) ∷ ys) (map_twice f g xs)
 
--- These are their entries,
-all_entries : (entries : List Entry) → map (λ y. y.line.entry) (all_fated (lines_of entries)) ≡ entries
-all_entries entries =
-    sym (map_twice (λ (y : Fated). y.line) (λ (x : Line). x.entry) (all_fated (lines_of entries)))
-    ∙ ap (map (λ (x : Line). x.entry)) (all_lines (lines_of entries)) ∙ entries_of_lines entries
+module _ (entries : List Entry) (fates : List Fate) (counted : length fates ≡ length entries) where
+  abbrev all_of : List Fated
+  all_of = fated (lines_of entries) fates
 
--- and these their transactions.
-all_transactions : (entries : List Entry) (transactions : List (Option ℕ)) → AreTransactions entries transactions
-    → map (λ y. y.line.transaction) (all_fated (lines_of entries)) ≡ transactions
-all_transactions entries transactions are =
-    sym (map_twice (λ (y : Fated). y.line) (λ (x : Line). x.transaction) (all_fated (lines_of entries)))
-    ∙ ap (map (λ (x : Line). x.transaction)) (all_lines (lines_of entries)) ∙ sym are
+  same : length fates ≡ length (lines_of entries)
+  same = counted ∙ sym (count_lines entries)
+
+  -- These are their entries,
+  all_entries : map (λ y. y.line.entry) all_of ≡ entries
+  all_entries = entries_fated (lines_of entries) fates same ∙ entries_of_lines entries
+
+  -- and these their transactions.
+  all_transactions : (transactions : List (Option ℕ)) → AreTransactions entries transactions
+      → map (λ y. y.line.transaction) all_of ≡ transactions
+  all_transactions transactions are =
+      sym (map_twice (λ (y : Fated). y.line) (λ (x : Line). x.transaction) all_of)
+      ∙ ap (map (λ (x : Line). x.transaction)) (lines_fated (lines_of entries) fates same) ∙ sym are
 
 -- ---- at the start
 
@@ -58,12 +64,12 @@ answered_none lines (y ∷ all) is_result t s id = rw (answered_none lines all i
     by Lost = refl
     by (By reply) = refl
 
-pub answers_start : (entries : List Entry) (sweep : Sweep)
+pub answers_start : (entries : List Entry) (fates : List Fate) (sweep : Sweep)
     → ((is_result : Bool) (t : ℕ) (s : Side) (id : ℤ) → answer_kept is_result t s id sweep ≡ None)
     → (is_result : Bool) (t : ℕ) (s : Side) (id : ℤ) → answer_kept is_result t s id sweep
-    ≡ answered_in (lines_of entries) (all_fated (lines_of entries)) 0 is_result t s id
-answers_start entries sweep none is_result t s id =
-    none is_result t s id ∙ sym (answered_none (lines_of entries) (all_fated (lines_of entries)) is_result t s id)
+    ≡ answered_in (lines_of entries) (fated (lines_of entries) fates) 0 is_result t s id
+answers_start entries fates sweep none is_result t s id =
+    none is_result t s id ∙ sym (answered_none (lines_of entries) (fated (lines_of entries) fates) is_result t s id)
 
 -- ---- one entry more
 
@@ -74,12 +80,16 @@ answers_stay a b results errors true t s id = rw results refl
 answers_stay a b results errors false t s id = rw errors refl
 
 module _ (entries : List Entry) (transactions : List (Option ℕ)) (fates : List Fate)
-    (are : AreTransactions entries transactions) (are_fates : AreFates entries fates) (i : ℕ) where
+    (are : AreTransactions entries transactions) (counted : length fates ≡ length entries)
+    (order : AreInOrder (fated (lines_of entries) fates)) (i : ℕ) where
   abbrev lines : List Line
   lines = lines_of entries
 
   abbrev all : List Fated
-  all = all_fated (lines_of entries)
+  all = fated (lines_of entries) fates
+
+  fates_there : fates ≡ map (λ x. x.fate) all
+  fates_there = sym (fates_fated (lines_of entries) fates (same entries fates counted))
 
   -- The answers behind the gap before the entry.
   pub answers_step : (before behind : Sweep) (due : List ℕ) → due ≡ due_in i 0 fates
@@ -93,17 +103,21 @@ module _ (entries : List Entry) (transactions : List (Option ℕ)) (fates : List
       → answer_kept is_result t s id behind ≡ answered_in lines all (i + 1) is_result t s id
   answers_step before behind due is_due invokes answers noted is_result t s id =
       noted is_result t s id
-      ∙ rw (is_due, are_fates, invokes t s id, answers is_result t s id)
-      (ap (λ (es : List Entry).
+      ∙ rw (is_due, invokes t s id, answers is_result t s id)
+      (ap (λ (fs : List Fate).
+      cond (list_any (answers_at entries transactions is_result t s id) (due_in i 0 fs))
+      (Some (answer_at i (invoked_in (take i lines) t s id))) (answered_in lines all i is_result t s id))
+      fates_there
+      ∙ ap (λ (es : List Entry).
       cond (list_any (answers_at es transactions is_result t s id) (due_in i 0 (map (λ x. x.fate) all)))
       (Some (answer_at i (invoked_in (take i lines) t s id))) (answered_in lines all i is_result t s id))
-      (sym (all_entries entries))
+      (sym (all_entries entries fates counted))
       ∙ ap (λ (ts : List (Option ℕ)).
       cond (list_any (answers_at (map (λ y. y.line.entry) all) ts is_result t s id)
       (due_in i 0 (map (λ x. x.fate) all)))
       (Some (answer_at i (invoked_in (take i lines) t s id))) (answered_in lines all i is_result t s id))
-      (sym (all_transactions entries transactions are))
-      ∙ answered_more lines all i is_result t s id (losses_order (fated lines (first_fates lines (ties_of lines)))))
+      (sym (all_transactions entries fates counted transactions are))
+      ∙ answered_more lines all i is_result t s id order)
 
   module _ (within : i < length entries) (e : Entry) (is_entry : e ≡ get_or entries i e) where
     abbrev here : Line

@@ -1,6 +1,6 @@
 -- Steps of the loops that find fates: one entry more, or one tie.
 use Rattle.std.proofs.Common.{◌≡◌, ℕ, ◌+◌, ◌^◌, ◌<◌, ◌≤◌, max, ◌==◌, Bool, true, false, cond, List, [], ◌∷◌, ◌++◌, map, length, take, drop, set, get_or, Option, Some, None, refl, sym, ap, ◌∙◌, arith, append_assoc}
-use Rattle.std.specs.Prelude.{slice_get}
+use Rattle.std.specs.Prelude.{◌&&◌, slice_get}
 use Rattle.std.proofs.lemmas.List.{drop_all, drop_more, get_or-map, get_or-take, get_or_append_left, get_or_default, length-take-le, map-append, set_at, take_all, take_more}
 use Rattle.std.proofs.lemmas.Option.{get_or_from_slice_get}
 use Rattle.tcap_record.specs.declared.entry.End.{End as Side}
@@ -11,8 +11,8 @@ use Rattle.tcap_check.specs.declared.certificate.Fate.TheVariants.{Gap}
 use Rattle.tcap_check.specs.Replayed.{time_of}
 use Rattle.tcap_search.specs.declared.per_end.PerEnd.{PerEnd}
 use Rattle.tcap_search.specs.declared.tie.Tie.{Tie}
-use Rattle.tcap_search.specs.Lines.{Line, is_end, lines_of}
-use Rattle.tcap_search.specs.Proposed.{Fated, fate_before, fate_of, fated, gap_behind_reply, reply_of, with_losses}
+use Rattle.tcap_search.specs.Lines.{Line, is_end, lines_of, message_of}
+use Rattle.tcap_search.specs.Proposed.{Fated, fate_before, fate_of, fated, gap_behind_reply, holds_back, reply_of, with_losses}
 use Rattle.tcap_search.specs.Traced.{AreTies, AreTransactions}
 use Rattle.tcap_search.specs.PerEnd.{at_end}
 use Rattle.tcap_search.specs.Fates.{fate_behind_least, fate_from, gap_behind_last, gap_kept, gap_raised, highest, is_of, least_time, receiver_gap, sooner, time_kept}
@@ -40,6 +40,11 @@ reply_step ties i number d old within is = rw is
 
 -- ---- entries, from the first on
 
+-- the gaps that are kept of these entries
+abbrev pub KeepsGaps : Option Side → List Entry → List (PerEnd ℕ) → Type 0
+KeepsGaps judged entries gaps = (side : Side) (t : ℕ) → t < length entries
+    → gap_kept side t gaps ≡ gap_behind_last judged side t (lines_of entries)
+
 module _ (entries : List Entry) (transactions : List (Option ℕ)) (are : AreTransactions entries transactions)
     (i : ℕ) (within : i < length entries) (e : Entry) (is_entry : e ≡ get_or entries i e) where
   -- The lines are one more.
@@ -50,12 +55,13 @@ module _ (entries : List Entry) (transactions : List (Option ℕ)) (are : AreTra
       line_more entries transactions are i within e (get_or transactions i None) is_entry
       (get_or_default transactions i None (get_or transactions i None) (omega arith))
 
-  pub gap_step : (side : Side) (t old : ℕ) → old ≡ gap_behind_last side t (take i (lines_of entries))
-      → cond (is_of side t e (get_or transactions i None)) (i + 1) old
-      ≡ gap_behind_last side t (take (i + 1) (lines_of entries))
-  gap_step side t old is = rw is
-      (sym (gap_more side t (take i (lines_of entries)) (line_at i e (get_or transactions i None))))
-      ∙ ap (gap_behind_last side t) (sym lines_more)
+  pub gap_step : (judged : Option Side) (side : Side) (t old : ℕ)
+      → old ≡ gap_behind_last judged side t (take i (lines_of entries))
+      → cond (holds_back judged (message_of e) && is_of side t e (get_or transactions i None)) (i + 1) old
+      ≡ gap_behind_last judged side t (take (i + 1) (lines_of entries))
+  gap_step judged side t old is = rw is
+      (sym (gap_more judged side t (take i (lines_of entries)) (line_at i e (get_or transactions i None))))
+      ∙ ap (gap_behind_last judged side t) (sym lines_more)
 
   pub highest_step : (ties : List Tie) (side : Side) (old : ℕ) → old ≡ highest side (take i (lines_of entries)) ties
       → cond (is_end side e.side) (max old (gap_behind_reply (reply_of ties i))) old
@@ -65,14 +71,13 @@ module _ (entries : List Entry) (transactions : List (Option ℕ)) (are : AreTra
       ∙ ap (λ (lines : List Line). highest side lines ties) (sym lines_more)
 
   -- What is kept for the receiver is the gap behind its last entry in the transaction.
-  receiver_is : (gaps : List (PerEnd ℕ))
-      → ((side : Side) (t : ℕ) → t < length entries → gap_kept side t gaps ≡ gap_behind_last side t (lines_of entries))
+  receiver_is : (judged : Option Side) (gaps : List (PerEnd ℕ)) → KeepsGaps judged entries gaps
       → receiver_gap gaps e.side (get_or transactions i None)
-      ≡ gap_of_receiver (lines_of entries) e.side (get_or transactions i None)
-  receiver_is gaps kept = by e.side (get_or transactions i None) refl
+      ≡ gap_of_receiver judged (lines_of entries) e.side (get_or transactions i None)
+  receiver_is judged gaps kept = by e.side (get_or transactions i None) refl
     where
       by : (s : Option Side) (o : Option ℕ) → get_or transactions i None ≡ o
-          → receiver_gap gaps s o ≡ gap_of_receiver (lines_of entries) s o
+          → receiver_gap gaps s o ≡ gap_of_receiver judged (lines_of entries) s o
       by None o at = refl
       by (Some side) None at = refl
       by (Some side) (Some t) at =
@@ -82,20 +87,20 @@ module _ (entries : List Entry) (transactions : List (Option ℕ)) (are : AreTra
           kept (other side) t (transaction_within entries transactions are i t within there)
 
   -- So the fate that is found is the first fate of the line.
-  pub fate_step : (ties : List Tie) (gaps : List (PerEnd ℕ)) (raised : PerEnd ℕ)
-      → ((side : Side) (t : ℕ) → t < length entries → gap_kept side t gaps ≡ gap_behind_last side t (lines_of entries))
+  pub fate_step : (judged : Option Side) (ties : List Tie) (gaps : List (PerEnd ℕ)) (raised : PerEnd ℕ)
+      → KeepsGaps judged entries gaps
       → ((side : Side) → at_end side raised ≡ highest side (take i (lines_of entries)) ties)
-      → (fates : List Fate) → fates ≡ map (fate_of (lines_of entries) ties) (take i (lines_of entries))
+      → (fates : List Fate) → fates ≡ map (fate_of judged (lines_of entries) ties) (take i (lines_of entries))
       → fates ++ fate_from i e (reply_of ties i) (receiver_gap gaps e.side (get_or transactions i None))
       (gap_raised raised e.side) ∷ []
-      ≡ map (fate_of (lines_of entries) ties) (take (i + 1) (lines_of entries))
-  fate_step ties gaps raised kept high fates are_fates =
-      rw (are_fates, receiver_is gaps kept, raised_is e.side)
-      (ap (λ (fate : Fate). map (fate_of (lines_of entries) ties) (take i (lines_of entries)) ++ fate ∷ [])
-      (sym (fate_is (lines_of entries) ties (line_at i e (get_or transactions i None)) (lines_numbered entries)))
-      ∙ sym (map-append (fate_of (lines_of entries) ties) (take i (lines_of entries))
+      ≡ map (fate_of judged (lines_of entries) ties) (take (i + 1) (lines_of entries))
+  fate_step judged ties gaps raised kept high fates are_fates =
+      rw (are_fates, receiver_is judged gaps kept, raised_is e.side)
+      (ap (λ (fate : Fate). map (fate_of judged (lines_of entries) ties) (take i (lines_of entries)) ++ fate ∷ [])
+      (sym (fate_is judged (lines_of entries) ties (line_at i e (get_or transactions i None)) (lines_numbered entries)))
+      ∙ sym (map-append (fate_of judged (lines_of entries) ties) (take i (lines_of entries))
       (line_at i e (get_or transactions i None) ∷ []))
-      ∙ ap (map (fate_of (lines_of entries) ties)) (sym lines_more))
+      ∙ ap (map (fate_of judged (lines_of entries) ties)) (sym lines_more))
     where
       raised_is : (s : Option Side) → gap_raised raised s ≡ gap_so_far (take i (lines_of entries)) ties s
       raised_is None = refl
@@ -143,13 +148,13 @@ module _ (entries : List Entry) (old : List Fate) (same : length old ≡ length 
   within_all : k < length all
   within_all = let count : length all ≡ length old = count_fated (lines_of entries) old same_lines in omega arith
 
-  entry_here : here.line.entry ≡ e
+  pub entry_here : here.line.entry ≡ e
   entry_here = sym (get_or-map (λ (x : Fated). x.line.entry) all k d e within_all)
       ∙ ap (λ (es : List Entry). get_or es k e) (entries_fated (lines_of entries) old same_lines
       ∙ entries_of_lines entries)
       ∙ sym is_entry
 
-  fate_here : here.fate ≡ get_or old k (Gap 0)
+  pub fate_here : here.fate ≡ get_or old k (Gap 0)
   fate_here = sym (get_or-map (λ (x : Fated). x.fate) all k d (Gap 0) within_all)
       ∙ ap (λ (fs : List Fate). get_or fs k (Gap 0)) (fates_fated (lines_of entries) old same_lines)
 

@@ -12,13 +12,13 @@ use Rattle.tcap_check.specs.Run.{where_so}
 use Rattle.tcap_check.specs.declared.certificate.Fate.TheVariants.{Gap}
 use Rattle.tcap_search.specs.declared.tie.Tie.{Tie}
 use Rattle.tcap_search.specs.Lines.{Line, is_end, is_of_peer, last, message_of, or_else, share_transaction}
-use Rattle.tcap_search.specs.Proposed.{fate_by, fate_of, first_gap, first_gap_by, gap_behind, gap_behind_reply, last_of_receiver, raised, reply_of}
-use Rattle.tcap_search.specs.Fates.{earliest, fate_from, gap_behind_last, gap_behind_line, highest, is_line_of, is_of, untied_fate}
+use Rattle.tcap_search.specs.Proposed.{fate_by, fate_of, first_gap, first_gap_by, gap_behind, gap_behind_reply, holds_back, last_of_receiver, raised, reply_of}
+use Rattle.tcap_search.specs.Fates.{earliest, fate_from, gap_behind_last, gap_behind_line, highest, holds_back_in, is_line_of, is_of, untied_fate}
 use Rattle.tcap_search.proofs.LastLaws.{last_never, last_same}
 use Rattle.tcap_search.proofs.LineLaws.{last_push}
 use Rattle.tcap_search.proofs.NumberedLaws.{AreNumbered}
 use Rattle.tcap_search.proofs.PeerLaws.{of_peer, of_peer_none, one_end, one_end_none}
-use Rattle.tcap_search.proofs.TestLaws.{and_and, and_false}
+use Rattle.tcap_search.proofs.TestLaws.{and_and, and_false, and_swap}
 
 -- ---- ends and transactions
 
@@ -96,37 +96,48 @@ gap_is x (Some y) = by (nat_lt x.number y.number) refl
     by true test = omega (arith, ltb-true x.number y.number test)
     by false test = omega (arith, ltb-false x.number y.number test)
 
-abbrev pub gap_of_receiver : List Line → Option Side → Option ℕ → ℕ
-gap_of_receiver lines (Some side) (Some t) = gap_behind_last (other side) t lines
-gap_of_receiver lines _ _ = 0
+abbrev pub gap_of_receiver : Option Side → List Line → Option Side → Option ℕ → ℕ
+gap_of_receiver judged lines (Some side) (Some t) = gap_behind_last judged (other side) t lines
+gap_of_receiver judged lines _ _ = 0
 
 -- So is the gap behind the last later line of the receiver in the transaction.
-pub receiver_gap_is : (lines : List Line) (x : Line) → AreNumbered 0 lines
-    → gap_behind x (last_of_receiver lines x) ≡ max (x.number + 1) (gap_of_receiver lines x.entry.side x.transaction)
-receiver_gap_is lines x are =
+pub receiver_gap_is : (judged : Option Side) (lines : List Line) (x : Line) → AreNumbered 0 lines
+    → gap_behind x (last_of_receiver judged lines x)
+    ≡ max (x.number + 1) (gap_of_receiver judged lines x.entry.side x.transaction)
+receiver_gap_is judged lines x are =
     ap (gap_behind x) later ∙ gap_is x (last passes lines)
     ∙ ap (λ (n : ℕ). max (x.number + 1) n) (by x.entry.side refl x.transaction refl)
   where
-    passes : Line → Bool
-    passes y = is_of_peer x.entry y.entry && share_transaction x y
+    holds : Line → Bool
+    holds y = holds_back judged (message_of y.entry)
 
-    later : last_of_receiver lines x ≡ if_later x.number (last passes lines)
-    later = last_same (λ y. nat_lt x.number y.number && is_of_peer x.entry y.entry && share_transaction x y)
+    passes : Line → Bool
+    passes y = is_of_peer x.entry y.entry && share_transaction x y && holds y
+
+    later : last_of_receiver judged lines x ≡ if_later x.number (last passes lines)
+    later = last_same
+        (λ y. nat_lt x.number y.number && is_of_peer x.entry y.entry && share_transaction x y && holds y)
         (λ y. nat_lt x.number y.number && passes y)
-        (λ y. and_and (nat_lt x.number y.number) (is_of_peer x.entry y.entry) (share_transaction x y)) lines
+        (λ y. ap (λ (b : Bool). b && holds y)
+        (and_and (nat_lt x.number y.number) (is_of_peer x.entry y.entry) (share_transaction x y))
+        ∙ and_and (nat_lt x.number y.number) (is_of_peer x.entry y.entry && share_transaction x y) (holds y)) lines
         ∙ last_later x.number 0 lines passes are
 
     none : ((y : Line) → passes y ≡ false) → gap_behind_line (last passes lines) ≡ 0
     none never = ap gap_behind_line (last_never passes lines never)
 
     by : (s : Option Side) → x.entry.side ≡ s → (o : Option ℕ) → x.transaction ≡ o
-        → gap_behind_line (last passes lines) ≡ gap_of_receiver lines s o
-    by None at o is = none (λ y. ap (λ (b : Bool). b && share_transaction x y) (of_peer_none x.entry y.entry at))
-    by (Some side) at None is = none (λ y. ap (λ (b : Bool). is_of_peer x.entry y.entry && b) (shares_none x y is)
-        ∙ and_false (is_of_peer x.entry y.entry))
-    by (Some side) at (Some t) is = ap gap_behind_line (last_same passes (is_line_of (other side) t)
-        (λ y. ap (λ (b : Bool). b && share_transaction x y) (of_peer x.entry y.entry side at)
+        → gap_behind_line (last passes lines) ≡ gap_of_receiver judged lines s o
+    by None at o is = none (λ y. ap (λ (b : Bool). b && share_transaction x y && holds y)
+        (of_peer_none x.entry y.entry at))
+    by (Some side) at None is = none (λ y. ap (λ (b : Bool). b && holds y)
+        (ap (λ (b : Bool). is_of_peer x.entry y.entry && b) (shares_none x y is)
+        ∙ and_false (is_of_peer x.entry y.entry)))
+    by (Some side) at (Some t) is = ap gap_behind_line (last_same passes (holds_back_in judged (other side) t)
+        (λ y. ap (λ (b : Bool). b && holds y)
+        (ap (λ (b : Bool). b && share_transaction x y) (of_peer x.entry y.entry side at)
         ∙ of_both (other side) t x y is)
+        ∙ and_swap (is_line_of (other side) t y) (holds y))
         lines)
 
 -- ---- what is raised
@@ -180,35 +191,36 @@ raised_is lines ties x gap are = by x.entry.side refl
 
 -- ---- first fates
 
-earliest_is : (lines : List Line) (x : Line) (m : Message) → AreNumbered 0 lines
-    → first_gap_by lines x (Some m) ≡ earliest x.number m (gap_of_receiver lines x.entry.side x.transaction)
-earliest_is lines x (Unidirectional dialogue components) are = refl
-earliest_is lines x (Begin otid dialogue components) are = refl
-earliest_is lines x (Continue otid dtid dialogue components) are = refl
-earliest_is lines x (End dtid dialogue components) are = receiver_gap_is lines x are
-earliest_is lines x (Abort dtid reason) are = receiver_gap_is lines x are
+earliest_is : (judged : Option Side) (lines : List Line) (x : Line) (m : Message) → AreNumbered 0 lines
+    → first_gap_by judged lines x (Some m)
+    ≡ earliest x.number m (gap_of_receiver judged lines x.entry.side x.transaction)
+earliest_is judged lines x (Unidirectional dialogue components) are = refl
+earliest_is judged lines x (Begin otid dialogue components) are = refl
+earliest_is judged lines x (Continue otid dtid dialogue components) are = refl
+earliest_is judged lines x (End dtid dialogue components) are = receiver_gap_is judged lines x are
+earliest_is judged lines x (Abort dtid reason) are = receiver_gap_is judged lines x are
 
 -- The first fate of a line is that of its entry, from what is kept.
-pub fate_is : (lines : List Line) (ties : List Tie) (x : Line) → AreNumbered 0 lines
-    → fate_of lines ties x
-    ≡ fate_from x.number x.entry (reply_of ties x.number) (gap_of_receiver lines x.entry.side x.transaction)
+pub fate_is : (judged : Option Side) (lines : List Line) (ties : List Tie) (x : Line) → AreNumbered 0 lines
+    → fate_of judged lines ties x
+    ≡ fate_from x.number x.entry (reply_of ties x.number) (gap_of_receiver judged lines x.entry.side x.transaction)
     (gap_so_far (take x.number lines) ties x.entry.side)
-fate_is lines ties x are = by (reply_of ties x.number) (message_of x.entry) refl
+fate_is judged lines ties x are = by (reply_of ties x.number) (message_of x.entry) refl
   where
     behind : ℕ
-    behind = gap_of_receiver lines x.entry.side x.transaction
+    behind = gap_of_receiver judged lines x.entry.side x.transaction
 
     high : ℕ
     high = gap_so_far (take x.number lines) ties x.entry.side
 
     untied : (m : Option Message) → message_of x.entry ≡ m
-        → fate_by lines ties x None m ≡ untied_fate x.number m behind high
+        → fate_by judged lines ties x None m ≡ untied_fate x.number m behind high
     untied None at = refl
-    untied (Some m) at = ap Gap (raised_is lines ties x (first_gap lines x) are
-        ∙ ap (λ (gap : ℕ). max gap high) (ap (first_gap_by lines x) at ∙ earliest_is lines x m are))
+    untied (Some m) at = ap Gap (raised_is lines ties x (first_gap judged lines x) are
+        ∙ ap (λ (gap : ℕ). max gap high) (ap (first_gap_by judged lines x) at ∙ earliest_is judged lines x m are))
 
     by : (o : Option ℕ) (m : Option Message) → message_of x.entry ≡ m
-        → fate_by lines ties x o m ≡ fate_from x.number x.entry o behind high
+        → fate_by judged lines ties x o m ≡ fate_from x.number x.entry o behind high
     by (Some reply) m at = refl
     by None m at = untied m at ∙ ap (λ (m : Option Message). untied_fate x.number m behind high) (sym at)
 
@@ -240,13 +252,14 @@ highest_more side (y ∷ lines) x ties =
     by false first high reply = refl
 
 -- The gap behind the last with one more.
-pub gap_more : (side : Side) (t : ℕ) (lines : List Line) (x : Line)
-    → gap_behind_last side t (lines ++ x ∷ []) ≡ cond (is_line_of side t x) (x.number + 1)
-    (gap_behind_last side t lines)
-gap_more side t lines x = ap gap_behind_line (last_push (is_line_of side t) lines x) ∙ by (is_line_of side t x)
+pub gap_more : (judged : Option Side) (side : Side) (t : ℕ) (lines : List Line) (x : Line)
+    → gap_behind_last judged side t (lines ++ x ∷ [])
+    ≡ cond (holds_back_in judged side t x) (x.number + 1) (gap_behind_last judged side t lines)
+gap_more judged side t lines x =
+    ap gap_behind_line (last_push (holds_back_in judged side t) lines x) ∙ by (holds_back_in judged side t x)
   where
-    by : (b : Bool) → gap_behind_line (cond b (Some x) (last (is_line_of side t) lines))
-        ≡ cond b (x.number + 1) (gap_behind_last side t lines)
+    by : (b : Bool) → gap_behind_line (cond b (Some x) (last (holds_back_in judged side t) lines))
+        ≡ cond b (x.number + 1) (gap_behind_last judged side t lines)
     by true = refl
     by false = refl
 

@@ -3,6 +3,7 @@ pub mod EndedLaws
 pub mod ExpiryLaws
 pub mod ExpirySteps
 pub mod FateSteps
+pub mod FoundLaws
 pub mod GapLaws
 pub mod IdLaws
 pub mod KeyLaws
@@ -25,4 +26,5 @@ pub mod SweepSteps
 pub mod TestLaws
 pub mod TieLaws
 pub mod ToldLaws
+pub mod UnansweredLaws
 pub mod UntiedLaws

@@ -19,10 +19,11 @@ use Rattle.tcap_check.specs.CertificateText.{ClosingFits, ExpiryFits, FateFits}
 use Rattle.tcap_check.proofs.ListLaws.{all_more, all_weaker}
 use Rattle.tcap_check.proofs.RunLaws.{map_some, then_some}
 use Rattle.tcap_search.specs.declared.tie.Tie.{Tie}
-use Rattle.tcap_search.specs.Lines.{Line, are_of_one_end, or_else, lines_of, message_of}
-use Rattle.tcap_search.specs.Proposed.{Fated, all_fated, closing_behind, closing_by, closings_from, expiries_by, expiries_from, expiry_behind, expiry_by, expiry_in, fate_before, fate_behind, fate_by, fate_of, fated, first_fates, first_gap, first_gap_by, gap_behind, gap_behind_reply, gap_in, invocation_at, is_closing_of, is_continue, is_expiry_of, is_gap, is_invoke_of, is_overtaken, last_invocation, last_invoke, last_of_receiver, may_invoke, components_at, number_limit, of_stretch, raised, rejected_line, reply_of, ties_of, unrecognized, was_ended, was_told, with_closing, with_expiry, with_losses}
+use Rattle.tcap_search.specs.Lines.{Line, are_of_one_end, is_end, or_else, lines_of, message_of}
+use Rattle.tcap_search.specs.Proposed.{Fated, all_fated, closing_behind, closing_by, closings_from, expiries_by, expiries_from, expiry_behind, expiry_by, expiry_in, fate_before, fate_behind, fate_by, fate_of, fated, first_fates, first_gap, first_gap_by, gap_behind, gap_behind_reply, gap_in, invocation_at, is_closing_of, is_continue, is_expiry_of, is_gap, is_invoke_of, is_overtaken, is_unanswered, last_invocation, last_invoke, last_of_receiver, may_invoke, components_at, number_limit, of_stretch, raised, rejected_line, reply_of, ties_of, unrecognized, was_ended, was_told, with_closing, with_expiry, with_losses, without_unanswered}
 use Rattle.tcap_search.specs.Traced.{AreFates}
 use Rattle.tcap_search.proofs.LastLaws.{last_among}
+use Rattle.tcap_search.proofs.LossLaws.{before_losses, count_fates}
 use Rattle.tcap_search.proofs.NumberedLaws.{lines_numbered}
 use Rattle.tcap_search.proofs.ReplyLaws.{RepliesBelow, behind_reply, numbers_below, replies_below}
 use Rattle.tcap_search.proofs.LineLaws.{count_lines, transaction_below}
@@ -48,21 +49,21 @@ all_mapped : {A B : Type 0} (P : B → Type 0) (f : A → B) (xs : List A) → A
 all_mapped P f [] all = tt
 all_mapped P f (x ∷ xs) all = (all.0, all_mapped P f xs all.1)
 
-module _ (n : ℕ) (lines : List Line) (numbers : AllByRecursion (λ x. x.number < n) lines) (ties : List Tie)
-    (replies : RepliesBelow n ties) where
-  behind_within : (x : Line) (o : Option Line) → x.number < n → last_of_receiver lines x ≡ o → gap_behind x o ≤ n
+module _ (judged : Option Side) (n : ℕ) (lines : List Line) (numbers : AllByRecursion (λ x. x.number < n) lines)
+    (ties : List Tie) (replies : RepliesBelow n ties) where
+  behind_within : (x : Line) (o : Option Line) → x.number < n → last_of_receiver judged lines x ≡ o → gap_behind x o ≤ n
   behind_within x None within is = omega (arith, within)
   behind_within x (Some y) within is =
       let there : y.number < n = last_among (λ z. z.number < n) _ lines y numbers is in omega (arith, there)
 
-  first_within : (x : Line) (m : Option Message) → x.number < n → first_gap_by lines x m ≤ n
+  first_within : (x : Line) (m : Option Message) → x.number < n → first_gap_by judged lines x m ≤ n
   first_within x None within = omega (arith, within)
   first_within x (Some (Unidirectional dialogue components)) within = omega (arith, within)
   first_within x (Some (Begin otid dialogue components)) within = omega (arith, within)
   first_within x (Some (Continue otid dtid dialogue components)) within = omega (arith, within)
   first_within x (Some (End dtid dialogue components)) within =
-      behind_within x (last_of_receiver lines x) within refl
-  first_within x (Some (Abort dtid reason)) within = behind_within x (last_of_receiver lines x) within refl
+      behind_within x (last_of_receiver judged lines x) within refl
+  first_within x (Some (Abort dtid reason)) within = behind_within x (last_of_receiver judged lines x) within refl
 
   raised_within : (some : List Line) (x : Line) (gap : ℕ) → gap ≤ n → raised some ties x gap ≤ n
   raised_within [] x gap within = within
@@ -76,16 +77,16 @@ module _ (n : ℕ) (lines : List Line) (numbers : AllByRecursion (λ x. x.number
       by false reply = within
 
   fate_within : (x : Line) (o : Option ℕ) (m : Option Message) → x.number < n → reply_of ties x.number ≡ o
-      → FateWithin n (fate_by lines ties x o m)
+      → FateWithin n (fate_by judged lines ties x o m)
   fate_within x (Some reply) m within is =
       let below : gap_behind_reply (reply_of ties x.number) ≤ n = behind_reply n ties x.number replies in
       let so : reply + 1 ≤ n = rw is at below in omega (arith, so)
   fate_within x None None within is = omega (arith, within)
   fate_within x None (Some m) within is =
-      raised_within lines x (first_gap lines x) (first_within x (message_of x.entry) within)
+      raised_within lines x (first_gap judged lines x) (first_within x (message_of x.entry) within)
 
   fates_within : (some : List Line) → AllByRecursion (λ x. x.number < n) some
-      → AllByRecursion (FateWithin n) (map (fate_of lines ties) some)
+      → AllByRecursion (FateWithin n) (map (fate_of judged lines ties) some)
   fates_within [] all = tt
   fates_within (x ∷ some) all =
       (fate_within x (reply_of ties x.number) (message_of x.entry) all.0 refl, fates_within some all.1)
@@ -112,23 +113,29 @@ losses_within n [] within = tt
 losses_within n (x ∷ all) within =
     (lost_within n (with_losses all) x within.0, losses_within n all within.1)
 
-count_fated : (lines : List Line) (fates : List Fate) → length fates ≡ length lines
-    → length (fated lines fates) ≡ length lines
-count_fated [] fates count = refl
-count_fated (line ∷ lines) [] count = count
-count_fated (line ∷ lines) (fate ∷ fates) count =
-    let rest : length (fated lines fates) ≡ length lines = count_fated lines fates (omega (arith, count)) in
-    omega (arith, rest)
-
-count_losses : (all : List Fated) → length (with_losses all) ≡ length all
-count_losses [] = refl
-count_losses (x ∷ all) = let rest : length (with_losses all) ≡ length all = count_losses all in omega (arith, rest)
+unanswered_within : (n : ℕ) (judged : Option Side) (marked : Bool) (lines : List Line) (all : List Fated)
+    → AllByRecursion (λ x. FateWithin n x.fate) all
+    → AllByRecursion (λ x. FateWithin n x.fate) (without_unanswered judged marked lines all)
+unanswered_within n None marked lines all within = within
+unanswered_within n (Some side) false lines all within = within
+unanswered_within n (Some side) true lines [] within = tt
+unanswered_within n (Some side) true lines (x ∷ all) within = (
+  by (is_gap x.fate && is_end (other side) x.line.entry.side && is_unanswered side lines (message_of x.line.entry)),
+  unanswered_within n (Some side) true lines all within.1,
+)
+  where
+    by : (b : Bool) → FateWithin n (cond b Lost x.fate)
+    by true = tt
+    by false = within.0
 
 -- ---- a stretch
 
-module _ (entries : List Entry) where
+module _ (judged : Option Side) (marked : Bool) (entries : List Entry) where
   abbrev lines : List Line
   lines = lines_of entries
+
+  abbrev all_of : List Fated
+  all_of = all_fated judged marked lines
 
   numbers : AllByRecursion (λ x. x.number < length entries) lines
   numbers = numbers_below (length entries) 0 lines (lines_numbered entries)
@@ -137,21 +144,18 @@ module _ (entries : List Entry) where
   replies : RepliesBelow (length entries) (ties_of lines)
   replies = replies_below entries (ties_of lines) refl
 
-  all_within : AllByRecursion (λ x. FateWithin (length entries) x.fate) (all_fated lines)
+  all_within : AllByRecursion (λ x. FateWithin (length entries) x.fate) all_of
   all_within =
-      losses_within (length entries) (fated lines (first_fates lines (ties_of lines)))
-      (fated_within (length entries) lines (first_fates lines (ties_of lines))
-      (fates_within (length entries) lines numbers (ties_of lines) replies lines numbers))
+      losses_within (length entries) (before_losses judged marked lines)
+      (unanswered_within (length entries) judged marked lines (fated lines (first_fates judged lines (ties_of lines)))
+      (fated_within (length entries) lines (first_fates judged lines (ties_of lines))
+      (fates_within judged (length entries) lines numbers (ties_of lines) replies lines numbers)))
 
-  pub fates_of_stretch : AllByRecursion (FateWithin (length entries)) ((of_stretch entries).fates)
-  fates_of_stretch = all_mapped (FateWithin (length entries)) (λ (x : Fated). x.fate) (all_fated lines) all_within
+  pub fates_of_stretch : AllByRecursion (FateWithin (length entries)) ((of_stretch judged marked entries).fates)
+  fates_of_stretch = all_mapped (FateWithin (length entries)) (λ (x : Fated). x.fate) all_of all_within
 
-  pub count_of_stretch : length ((of_stretch entries).fates) ≡ length entries
-  count_of_stretch =
-      length-map (all_fated lines) (λ (x : Fated). x.fate)
-      ∙ count_losses (fated lines (first_fates lines (ties_of lines)))
-      ∙ count_fated lines (first_fates lines (ties_of lines)) (length-map lines (fate_of lines (ties_of lines)))
-      ∙ count_lines entries
+  pub count_of_stretch : length ((of_stretch judged marked entries).fates) ≡ length entries
+  count_of_stretch = count_fates judged marked entries (map (λ x. x.fate) all_of) refl
 
   -- ---- expiries
 
@@ -221,10 +225,10 @@ module _ (entries : List Entry) where
   -- What a component adds lies within,
   rejects_within : (x : Line) (listed : List Expiry) (o : Option (Bool × ℤ))
       → AllByRecursion (ExpiryWithin (length entries)) listed
-      → AllByRecursion (ExpiryWithin (length entries)) (expiry_by (all_fated lines) lines x listed o)
+      → AllByRecursion (ExpiryWithin (length entries)) (expiry_by all_of lines x listed o)
   rejects_within x listed None all = all
   rejects_within x listed (Some (is_result, id)) all =
-      by (then_so (rejected_line (all_fated lines) x (is_result, id)) (λ y. gap_in y.fate)) refl
+      by (then_so (rejected_line all_of x (is_result, id)) (λ y. gap_in y.fate)) refl
     where
       gap_within : (y : Fated) (gap : ℕ) (fate : Fate) → y.fate ≡ fate → FateWithin (length entries) y.fate
           → gap_in fate ≡ Some gap → gap ≤ length entries
@@ -234,33 +238,33 @@ module _ (entries : List Entry) where
       gap_within y gap (By reply) is within at = cc
       gap_within y gap Lost is within at = cc
 
-      by : (o : Option ℕ) → then_so (rejected_line (all_fated lines) x (is_result, id)) (λ y. gap_in y.fate) ≡ o
+      by : (o : Option ℕ) → then_so (rejected_line all_of x (is_result, id)) (λ y. gap_in y.fate) ≡ o
           → AllByRecursion (ExpiryWithin (length entries)) (expiry_in lines x listed id o)
       by None is = all
       by (Some gap) is =
-          let (y, found, at) = then_some (rejected_line (all_fated lines) x (is_result, id))
+          let (y, found, at) = then_some (rejected_line all_of x (is_result, id))
           (λ y. gap_in y.fate) gap is in
           let within : FateWithin (length entries) y.fate =
-          last_among (λ z. FateWithin (length entries) z.fate) _ (all_fated lines) y all_within found in
+          last_among (λ z. FateWithin (length entries) z.fate) _ all_of y all_within found in
           expiry_added listed x.entry.side gap (last_invocation lines x id gap) (gap_within y gap y.fate refl within at)
           (invocation_within x id gap) all
 
   rejecting_within : (x : Line) (components : List Component) (listed : List Expiry)
       → AllByRecursion (ExpiryWithin (length entries)) listed
-      → AllByRecursion (ExpiryWithin (length entries)) (expiries_by (all_fated lines) lines x listed components)
+      → AllByRecursion (ExpiryWithin (length entries)) (expiries_by all_of lines x listed components)
   rejecting_within x [] listed all = all
   rejecting_within x (c ∷ more) listed all =
-      rejecting_within x more (expiry_by (all_fated lines) lines x listed (unrecognized c))
+      rejecting_within x more (expiry_by all_of lines x listed (unrecognized c))
       (rejects_within x listed (unrecognized c) all)
 
   listing_within : (some : List Line) (listed : List Expiry) → AllByRecursion (ExpiryWithin (length entries)) listed
-      → AllByRecursion (ExpiryWithin (length entries)) (expiries_from (all_fated lines) lines some listed)
+      → AllByRecursion (ExpiryWithin (length entries)) (expiries_from all_of lines some listed)
   listing_within [] listed all = all
   listing_within (x ∷ some) listed all =
-      listing_within some (expiries_by (all_fated lines) lines x listed (components_at x))
+      listing_within some (expiries_by all_of lines x listed (components_at x))
       (rejecting_within x (components_at x) listed all)
 
-  pub expiries_of_stretch : AllByRecursion (ExpiryWithin (length entries)) ((of_stretch entries).expire)
+  pub expiries_of_stretch : AllByRecursion (ExpiryWithin (length entries)) ((of_stretch judged marked entries).expire)
   expiries_of_stretch = listing_within lines [] tt
 
   -- ---- closings
@@ -284,10 +288,10 @@ module _ (entries : List Entry) where
 
   tie_within : (listed : List Closing) (entry reply : ℕ) (o : Option Line) → reply ≤ length entries
       → slice_get lines entry ≡ o → AllByRecursion (ClosingWithin (length entries)) listed
-      → AllByRecursion (ClosingWithin (length entries)) (closing_by (all_fated lines) lines listed reply o)
+      → AllByRecursion (ClosingWithin (length entries)) (closing_by all_of lines listed reply o)
   tie_within listed entry reply None within is all = all
   tie_within listed entry reply (Some x) within is all =
-      by (is_continue (message_of x.entry) && not (was_ended lines x reply) && not (was_told (all_fated lines) x reply))
+      by (is_continue (message_of x.entry) && not (was_ended lines x reply) && not (was_told all_of x reply))
     where
       by : (b : Bool) → AllByRecursion (ClosingWithin (length entries))
           (cond b (with_closing listed (option_map other x.entry.side) reply x.transaction) listed)
@@ -298,14 +302,14 @@ module _ (entries : List Entry) where
 
   closing_within : (ties : List Tie) (listed : List Closing) → RepliesBelow (length entries) ties
       → AllByRecursion (ClosingWithin (length entries)) listed
-      → AllByRecursion (ClosingWithin (length entries)) (closings_from (all_fated lines) lines ties listed)
+      → AllByRecursion (ClosingWithin (length entries)) (closings_from all_of lines ties listed)
   closing_within [] listed below all = all
   closing_within (t ∷ ties) listed below all =
-      closing_within ties (closing_by (all_fated lines) lines listed t.reply (slice_get lines t.entry)) below.1
+      closing_within ties (closing_by all_of lines listed t.reply (slice_get lines t.entry)) below.1
       (tie_within listed t.entry t.reply (slice_get lines t.entry)
       (let within : t.reply < length entries = below.0 in omega (arith, within)) refl all)
 
-  pub closings_of_stretch : AllByRecursion (ClosingWithin (length entries)) ((of_stretch entries).close)
+  pub closings_of_stretch : AllByRecursion (ClosingWithin (length entries)) ((of_stretch judged marked entries).close)
   closings_of_stretch = closing_within (ties_of lines) [] replies tt
 
 -- ---- the limits of a certificate
@@ -316,56 +320,62 @@ fate_fits first n (Gap gap) few within = omega (arith, few, within)
 fate_fits first n (By reply) few within = omega (arith, few, within)
 fate_fits first n Lost few within = tt
 
-module _ (first : ℕ) (entries : List Entry) (few : first + length entries ≤ number_limit) where
+module _ (judged : Option Side) (marked : Bool) (first : ℕ) (entries : List Entry)
+    (few : first + length entries ≤ number_limit) where
   -- What is added lies within, where the stretch begins behind so many entries.
-  pub fates_fit : (fates : List Fate) → AreFates entries fates → AllByRecursion FateFits (map (fate_behind first) fates)
+  pub fates_fit : (fates : List Fate) → AreFates judged marked entries fates
+      → AllByRecursion FateFits (map (fate_behind first) fates)
   fates_fit fates are =
       all_mapped FateFits (fate_behind first) fates
       (all_weaker (FateWithin (length entries)) (λ fate. FateFits (fate_behind first fate)) fates
       (λ fate within. fate_fits first (length entries) fate few within)
-      (subst (λ (x : List Fate). AllByRecursion (FateWithin (length entries)) x) (sym are) (fates_of_stretch entries)))
+      (subst (λ (x : List Fate). AllByRecursion (FateWithin (length entries)) x) (sym are)
+      (fates_of_stretch judged marked entries)))
 
-  pub expiries_fit : (listed : List Expiry) → listed ≡ (of_stretch entries).expire
+  pub expiries_fit : (listed : List Expiry) → listed ≡ (of_stretch judged marked entries).expire
       → AllByRecursion ExpiryFits (map (expiry_behind first) listed)
   expiries_fit listed are =
       all_mapped ExpiryFits (expiry_behind first) listed
       (all_weaker (ExpiryWithin (length entries)) (λ x. ExpiryFits (expiry_behind first x)) listed
       (λ x within. (omega (arith, few, within.0), within.1, omega (arith, few, within.2)))
       (subst (λ (xs : List Expiry). AllByRecursion (ExpiryWithin (length entries)) xs) (sym are)
-      (expiries_of_stretch entries)))
+      (expiries_of_stretch judged marked entries)))
 
-  pub closings_fit : (listed : List Closing) → listed ≡ (of_stretch entries).close
+  pub closings_fit : (listed : List Closing) → listed ≡ (of_stretch judged marked entries).close
       → AllByRecursion ClosingFits (map (closing_behind first) listed)
   closings_fit listed are =
       all_mapped ClosingFits (closing_behind first) listed
       (all_weaker (ClosingWithin (length entries)) (λ x. ClosingFits (closing_behind first x)) listed
       (λ x within. (omega (arith, few, within.0), omega (arith, few, within.1)))
       (subst (λ (xs : List Closing). AllByRecursion (ClosingWithin (length entries)) xs) (sym are)
-      (closings_of_stretch entries)))
+      (closings_of_stretch judged marked entries)))
 
 fate_small : (n : ℕ) (fate : Fate) → n ≤ number_limit → FateWithin n fate → FateFits fate
 fate_small n (Gap gap) few within = omega (arith, few, within)
 fate_small n (By reply) few within = omega (arith, few, within)
 fate_small n Lost few within = tt
 
-module _ (entries : List Entry) (few : length entries ≤ number_limit) where
+module _ (judged : Option Side) (marked : Bool) (entries : List Entry) (few : length entries ≤ number_limit) where
   -- So does what is found.
-  pub fates_small : (fates : List Fate) → AreFates entries fates → AllByRecursion FateFits fates
+  pub fates_small : (fates : List Fate) → AreFates judged marked entries fates → AllByRecursion FateFits fates
   fates_small fates are =
       all_weaker (FateWithin (length entries)) FateFits fates
       (λ fate within. fate_small (length entries) fate few within)
-      (subst (λ (x : List Fate). AllByRecursion (FateWithin (length entries)) x) (sym are) (fates_of_stretch entries))
+      (subst (λ (x : List Fate). AllByRecursion (FateWithin (length entries)) x) (sym are)
+      (fates_of_stretch judged marked entries))
 
-  pub expiries_small : (listed : List Expiry) → listed ≡ (of_stretch entries).expire → AllByRecursion ExpiryFits listed
+  pub expiries_small : (listed : List Expiry) → listed ≡ (of_stretch judged marked entries).expire
+      → AllByRecursion ExpiryFits listed
   expiries_small listed are =
       all_weaker (ExpiryWithin (length entries)) ExpiryFits listed
       (λ x within. (omega (arith, few, within.0), within.1, omega (arith, few, within.2)))
       (subst (λ (xs : List Expiry). AllByRecursion (ExpiryWithin (length entries)) xs) (sym are)
-      (expiries_of_stretch entries))
+      (expiries_of_stretch judged marked entries))
 
-  pub closings_small : (listed : List Closing) → listed ≡ (of_stretch entries).close → AllByRecursion ClosingFits listed
+  pub closings_small : (listed : List Closing) → listed ≡ (of_stretch judged marked entries).close
+      → AllByRecursion ClosingFits listed
   closings_small listed are =
       all_weaker (ClosingWithin (length entries)) ClosingFits listed
       (λ x within. (omega (arith, few, within.0), omega (arith, few, within.1)))
       (subst (λ (xs : List Closing). AllByRecursion (ClosingWithin (length entries)) xs) (sym are)
-      (closings_of_stretch entries))
+      (closings_of_stretch judged marked entries))

@@ -10,8 +10,9 @@ use Rattle.tcap_check.specs.declared.certificate.Fate.{Fate}
 use Rattle.tcap_check.specs.declared.certificate.Fate.TheVariants.{Lost}
 use Rattle.tcap_check.specs.Replayed.{is_later, time_of}
 use Rattle.tcap_search.specs.Lines.{Line, is_end, lines_of, message_of}
-use Rattle.tcap_search.specs.Proposed.{Fated, all_fated, fate_before, fate_of, fated, first_fates, is_gap, is_overtaken, ties_of, with_losses}
-use Rattle.tcap_search.specs.Traced.{AreFates}
+use Rattle.tcap_search.specs.Proposed.{Fated, all_fated, fate_before, fate_of, fate_unanswered, fated, first_fates, is_gap, is_overtaken, ties_of, with_losses, without_unanswered}
+use Rattle.tcap_search.specs.declared.tie.Tie.{Tie}
+use Rattle.tcap_search.specs.Traced.{AreFates, AreTies}
 use Rattle.tcap_search.specs.Fates.{fate_behind_least, least_time, sooner}
 use Rattle.tcap_search.proofs.LineLaws.{count_lines}
 use Rattle.tcap_search.proofs.PeerLaws.{one_end, one_end_none}
@@ -94,6 +95,11 @@ fated_there (x ∷ lines) (y ∷ fates) zero line fate d within same is_line is_
 fated_there (x ∷ lines) (y ∷ fates) (suc i) line fate d within same is_line is_fate =
     fated_there lines fates i line fate d (omega arith) (omega arith) is_line is_fate
 
+-- Lines and fates come apart, and together again.
+pub fated_parts : (all : List Fated) → fated (map (λ x. x.line) all) (map (λ x. x.fate) all) ≡ all
+fated_parts [] = refl
+fated_parts (x ∷ all) = ap (λ (more : List Fated). x ∷ more) (fated_parts all)
+
 -- ---- losses, from the last line to the first
 
 losses_step : (x : Fated) (more : List Fated)
@@ -101,10 +107,26 @@ losses_step : (x : Fated) (more : List Fated)
     ≡ fate_before (with_losses more) x ∷ map (λ x. x.fate) (with_losses more)
 losses_step x more = refl
 
--- Losses keep the lines.
+-- Losses keep the lines, as does what is not answered.
 pub lines_kept : (all : List Fated) → map (λ x. x.line) (with_losses all) ≡ map (λ x. x.line) all
 lines_kept [] = refl
 lines_kept (x ∷ more) = ap (λ (lines : List Line). x.line ∷ lines) (lines_kept more)
+
+pub count_lost : (lines : List Line) (fates : List Fate) → length fates ≡ length lines
+    → length (map (λ x. x.fate) (with_losses (fated lines fates))) ≡ length fates
+count_lost lines fates same =
+    length-map (with_losses (fated lines fates)) (λ x. x.fate)
+    ∙ sym (length-map (with_losses (fated lines fates)) (λ y. y.line))
+    ∙ ap length (lines_kept (fated lines fates)) ∙ length-map (fated lines fates) (λ y. y.line)
+    ∙ count_fated lines fates same
+
+pub lines_answered : (judged : Option Side) (marked : Bool) (lines : List Line) (all : List Fated)
+    → map (λ x. x.line) (without_unanswered judged marked lines all) ≡ map (λ x. x.line) all
+lines_answered None marked lines all = refl
+lines_answered (Some side) false lines all = refl
+lines_answered (Some side) true lines [] = refl
+lines_answered (Some side) true lines (x ∷ all) =
+    ap (λ (ls : List Line). x.line ∷ ls) (lines_answered (Some side) true lines all)
 
 pub lines_fated : (lines : List Line) (fates : List Fate) → length fates ≡ length lines
     → map (λ x. x.line) (fated lines fates) ≡ lines
@@ -124,16 +146,68 @@ entries_fated (line ∷ lines) (fate ∷ fates) same =
 
 -- ---- the fates behind all rules
 
--- They are of these lines, one for each.
-pub all_lines : (lines : List Line) → map (λ y. y.line) (all_fated lines) ≡ lines
-all_lines lines =
-    let same : length (first_fates lines (ties_of lines)) ≡ length lines =
-    length-map lines (fate_of lines (ties_of lines)) in
-    lines_kept (fated lines (first_fates lines (ties_of lines)))
-    ∙ lines_fated lines (first_fates lines (ties_of lines)) same
+module _ (judged : Option Side) (marked : Bool) where
+  -- those of lines before the losses
+  abbrev pub before_losses : List Line → List Fated
+  before_losses lines = without_unanswered judged marked lines (fated lines (first_fates judged lines (ties_of lines)))
 
-pub count_fates : (entries : List Entry) (fates : List Fate) → AreFates entries fates → length fates ≡ length entries
-count_fates entries fates are =
-    ap length are ∙ length-map (all_fated (lines_of entries)) (λ x. x.fate)
-    ∙ sym (length-map (all_fated (lines_of entries)) (λ y. y.line)) ∙ ap length (all_lines (lines_of entries))
-    ∙ count_lines entries
+  pub lines_before : (lines : List Line) → map (λ y. y.line) (before_losses lines) ≡ lines
+  lines_before lines =
+      let same : length (first_fates judged lines (ties_of lines)) ≡ length lines =
+      length-map lines (fate_of judged lines (ties_of lines)) in
+      lines_answered judged marked lines (fated lines (first_fates judged lines (ties_of lines)))
+      ∙ lines_fated lines (first_fates judged lines (ties_of lines)) same
+
+  -- They are of these lines, one for each.
+  pub all_lines : (lines : List Line) → map (λ y. y.line) (all_fated judged marked lines) ≡ lines
+  all_lines lines = lines_kept (before_losses lines) ∙ lines_before lines
+
+  pub count_fates : (entries : List Entry) (fates : List Fate) → AreFates judged marked entries fates
+      → length fates ≡ length entries
+  count_fates entries fates are =
+      ap length are ∙ length-map (all_fated judged marked (lines_of entries)) (λ x. x.fate)
+      ∙ sym (length-map (all_fated judged marked (lines_of entries)) (λ y. y.line))
+      ∙ ap length (all_lines (lines_of entries))
+      ∙ count_lines entries
+
+  -- With their lines they are what the rules give.
+  pub all_is : (entries : List Entry) (fates : List Fate) → AreFates judged marked entries fates
+      → fated (lines_of entries) fates ≡ all_fated judged marked (lines_of entries)
+  all_is entries fates are =
+      let lines = lines_of entries in
+      let all = all_fated judged marked lines in
+      sym (sym (fated_parts all)
+      ∙ (ap (λ (ls : List Line). fated ls (map (λ x. x.fate) all)) (all_lines lines) ∙ ap (fated lines) (sym are)))
+
+  pub parts_before : (lines : List Line) (fates : List Fate) → fates ≡ map (λ x. x.fate) (before_losses lines)
+      → fated lines fates ≡ before_losses lines
+  parts_before lines fates are =
+      ap (fated lines) are
+      ∙ ap (λ (ls : List Line). fated ls (map (λ x. x.fate) (before_losses lines))) (sym (lines_before lines))
+      ∙ fated_parts (before_losses lines)
+
+  -- What is found by each of the rules is found by all.
+  module _ (entries : List Entry) (ties : List Tie) (first left : List Fate) (are_ties : AreTies entries ties)
+      (is_first : first ≡ first_fates judged (lines_of entries) ties)
+      (is_left : left ≡ map (λ x. x.fate)
+      (without_unanswered judged marked (lines_of entries) (fated (lines_of entries) first))) where
+    left_is : left ≡ map (λ x. x.fate) (before_losses (lines_of entries))
+    left_is =
+        is_left
+        ∙ ap (λ (fs : List Fate). map (λ x. x.fate)
+        (without_unanswered judged marked (lines_of entries) (fated (lines_of entries) fs)))
+        (is_first ∙ ap (first_fates judged (lines_of entries)) are_ties)
+
+    pub count_left : length left ≡ length entries
+    count_left =
+        ap length left_is ∙ length-map (before_losses (lines_of entries)) (λ x. x.fate)
+        ∙ sym (length-map (before_losses (lines_of entries)) (λ y. y.line))
+        ∙ ap length (lines_before (lines_of entries)) ∙ count_lines entries
+
+    pub fates_are : (fates : List Fate)
+        → fates ≡ map (λ x. x.fate) (with_losses (fated (lines_of entries) left))
+        → AreFates judged marked entries fates
+    fates_are fates is =
+        is
+        ∙ ap (λ (all : List Fated). map (λ x. x.fate) (with_losses all))
+        (parts_before (lines_of entries) left left_is)

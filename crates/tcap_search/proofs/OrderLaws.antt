@@ -1,4 +1,4 @@
--- Of two messages of one end that are delivered, the later one comes in no earlier gap.
+-- Behind the losses no message comes before an earlier one of its end.
 use Rattle.std.proofs.Common.{◌≡◌, ℕ, ◌*◌, ◌≤◌, Bool, true, false, cond, List, [], ◌∷◌, refl, arith}
 use Rattle.std.specs.Prelude.{◌&&◌, is_some, nat_lt}
 use Rattle.std.specs.List.{AllByRecursion, list_any}
@@ -8,17 +8,8 @@ use Rattle.tcap_check.specs.declared.certificate.Fate.TheVariants.{Gap, Lost, By
 use Rattle.tcap_check.specs.Replayed.{is_later, time_of}
 use Rattle.tcap_search.specs.Lines.{Line, are_of_one_end, message_of}
 use Rattle.tcap_search.specs.Proposed.{Fated, fate_before, is_gap, is_overtaken, with_losses}
+use Rattle.tcap_search.specs.Order.{AreInOrder, ComesNoEarlier}
 use Rattle.tcap_search.proofs.LossLaws.{fated_at}
-
--- The first is a message, both are of one end, and the second comes no earlier.
-abbrev pub ComesNoEarlier : Fated → Fated → Type 0
-ComesNoEarlier x y = (g h : ℕ) → x.fate ≡ Gap g → y.fate ≡ Gap h → is_some (message_of x.line.entry) ≡ true
-    → are_of_one_end x.line.entry y.line.entry ≡ true → g ≤ h
-
--- No message comes before an earlier one of its end.
-abbrev pub AreInOrder : List Fated → Type 0
-AreInOrder [] = Unit {0}
-AreInOrder (x ∷ later) = AllByRecursion (ComesNoEarlier x) later × AreInOrder later
 
 -- A fate that is a gap behind the losses was one before, and is overtaken by none.
 kept_gap : (b c : Bool) (fate : Fate) (g : ℕ) → cond (is_gap fate && b && c) Lost fate ≡ Gap g → b ≡ true
@@ -54,7 +45,7 @@ each_not_overtaken line fate kept (y ∷ later) never = (
   )),
 )
 
--- Behind the losses they are in order.
+-- So they are in order.
 pub losses_order : (all : List Fated) → AreInOrder (with_losses all)
 losses_order [] = tt
 losses_order (x ∷ more) = (

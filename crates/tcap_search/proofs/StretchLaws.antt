@@ -1,10 +1,11 @@
 -- Entries, stretch by stretch between quiet marks.
-use Rattle.std.proofs.Common.{◌≡◌, Bool, true, false, cond, ℕ, ◌+◌, ◌-◌, ◌≤◌, ◌<◌, arith, List, [], ◌∷◌, ◌++◌, length, take, drop, get_or, zero, suc, refl, sym, ap, subst, ◌∙◌, append_assoc}
+use Rattle.std.proofs.Common.{◌≡◌, Bool, true, false, cond, ℕ, ◌+◌, ◌-◌, ◌≤◌, ◌<◌, arith, List, [], ◌∷◌, ◌++◌, length, take, drop, get_or, Option, zero, suc, refl, sym, ap, subst, ◌∙◌, append_assoc}
 use Rattle.std.specs.Prelude.{◌||◌, Result, Ok, Err, IfOk, map}
 use Rattle.std.specs.List.{list_any}
 use Rattle.std.proofs.lemmas.List.{drop_more, get_or-drop, length-append, length-drop, length-map, length-take-le, take-append-drop}
 use Rattle.std.proofs.lemmas.List.Folds.{list_any_more}
 use Rattle.std.proofs.Math.Seq.{drop-nil, take-length}
+use Rattle.tcap_record.specs.declared.entry.End.{End as Side}
 use Rattle.tcap_record.specs.declared.entry.Entry.{Entry}
 use Rattle.tcap_check.specs.Certificate.{Certificate}
 use Rattle.tcap_search.specs.Proposed.{behind, fate_behind, is_mark, of_mark, of_stretch, of_stretches, stretches, then_certificate, with_entry}
@@ -62,17 +63,19 @@ then_assoc c d f =
     ) refl
 
 -- What is proposed for entries without a mark.
-pub of_one : (first : ℕ) (entries : List Entry) → has_mark entries ≡ false
-    → of_stretches first (stretches entries) ≡ behind first (of_stretch entries)
-of_one first entries none = rw (one_stretch entries none) refl
+pub of_one : (judged : Option Side) (first : ℕ) (entries : List Entry) → has_mark entries ≡ false
+    → of_stretches judged first (stretches entries) ≡ behind first (of_stretch judged false entries)
+of_one judged first entries none = rw (one_stretch entries none) refl
 
 -- What is proposed for entries before a mark, for the mark, and for what stands behind it.
-pub of_more : (first : ℕ) (front : List Entry) (mark : Entry) (more : List Entry) → has_mark front ≡ false
+pub of_more : (judged : Option Side) (first : ℕ) (front : List Entry) (mark : Entry) (more : List Entry)
+    → has_mark front ≡ false
     → is_mark mark.body ≡ true
-    → of_stretches first (stretches (front ++ mark ∷ more))
-    ≡ then_certificate (behind first (of_stretch front))
-    (then_certificate (of_mark (first + length front)) (of_stretches (first + length front + 1) (stretches more)))
-of_more first front mark more none is =
+    → of_stretches judged first (stretches (front ++ mark ∷ more))
+    ≡ then_certificate (behind first (of_stretch judged true front))
+    (then_certificate (of_mark (first + length front))
+    (of_stretches judged (first + length front + 1) (stretches more)))
+of_more judged first front mark more none is =
     let (stretch, others, split) = first_stretch more in
     rw (stretch_before front mark more none is, split) refl
 
@@ -112,32 +115,35 @@ module _ (entries : List Entry) (first k : ℕ) (e : Entry) (within : first + k 
       ∙ ap (λ x. e ∷ x) (drop_drop first (k + 1) entries ∙ ap (λ n. drop n entries) (omega arith)))
 
   -- It is a mark, and the next stretch begins.
-  pub begins : (found : Certificate) → is_mark e.body ≡ true → has_mark (take k under) ≡ false
-      → then_certificate found (of_stretches first (stretches under))
-      ≡ then_certificate (then_certificate (then_certificate found (behind first (of_stretch (take k under))))
+  pub begins : (judged : Option Side) (found : Certificate) → is_mark e.body ≡ true → has_mark (take k under) ≡ false
+      → then_certificate found (of_stretches judged first (stretches under))
+      ≡ then_certificate
+      (then_certificate (then_certificate found (behind first (of_stretch judged true (take k under))))
       (of_mark (first + k)))
-      (of_stretches (first + k + 1) (stretches (drop (first + k + 1) entries)))
-  begins found mark none =
+      (of_stretches judged (first + k + 1) (stretches (drop (first + k + 1) entries)))
+  begins judged found mark none =
       let count : length (take k under) ≡ k = length-take-le k under (omega (arith, k_within)) in
-      ap (λ x. then_certificate found (of_stretches first (stretches x))) split
-      ∙ ap (then_certificate found) (of_more first (take k under) e (drop (first + k + 1) entries) none mark)
+      ap (λ x. then_certificate found (of_stretches judged first (stretches x))) split
+      ∙ ap (then_certificate found) (of_more judged first (take k under) e (drop (first + k + 1) entries) none mark)
       ∙ rw count
-      (sym (then_assoc found (behind first (of_stretch (take k under)))
+      (sym (then_assoc found (behind first (of_stretch judged true (take k under)))
       (then_certificate (of_mark (first + k))
-      (of_stretches (first + k + 1) (stretches (drop (first + k + 1) entries)))))
-      ∙ sym (then_assoc (then_certificate found (behind first (of_stretch (take k under)))) (of_mark (first + k))
-      (of_stretches (first + k + 1) (stretches (drop (first + k + 1) entries)))))
+      (of_stretches judged (first + k + 1) (stretches (drop (first + k + 1) entries)))))
+      ∙ sym (then_assoc (then_certificate found (behind first (of_stretch judged true (take k under))))
+      (of_mark (first + k))
+      (of_stretches judged (first + k + 1) (stretches (drop (first + k + 1) entries)))))
 
 -- What stands behind the last mark is the last stretch.
-pub ends : (entries : List Entry) (found : Certificate) (first k : ℕ) → first + k ≡ length entries
+pub ends : (judged : Option Side) (entries : List Entry) (found : Certificate) (first k : ℕ)
+    → first + k ≡ length entries
     → has_mark (take k (drop first entries)) ≡ false
-    → then_certificate found (of_stretches first (stretches (drop first entries)))
-    ≡ then_certificate found (behind first (of_stretch (drop first entries)))
-ends entries found first k all none =
+    → then_certificate found (of_stretches judged first (stretches (drop first entries)))
+    ≡ then_certificate found (behind first (of_stretch judged false (drop first entries)))
+ends judged entries found first k all none =
     let count : length (drop first entries) ≡ k = length-drop first entries ∙ omega (arith, all) in
     let whole : take k (drop first entries) ≡ drop first entries =
     subst (λ n. take n (drop first entries) ≡ drop first entries) count (take-length (drop first entries)) in
-    ap (then_certificate found) (of_one first (drop first entries) (subst (λ x. has_mark x ≡ false) whole none))
+    ap (then_certificate found) (of_one judged first (drop first entries) (subst (λ x. has_mark x ≡ false) whole none))
 
 -- The same by the number of the entry.
 module _ (entries : List Entry) (first i : ℕ) (begun : first ≤ i) where
@@ -154,70 +160,79 @@ module _ (entries : List Entry) (first i : ℕ) (begun : first ≤ i) where
       subst (λ n. has_mark (take n (drop first entries)) ≡ false) next
       (goes_on entries first (i - first) e (rw at within) (rw at is) plain none)
 
-  pub begins_at : (e : Entry) (found : Certificate) → i < length entries → e ≡ get_or entries i e
+  pub begins_at : (judged : Option Side) (e : Entry) (found : Certificate) → i < length entries → e ≡ get_or entries i e
       → is_mark e.body ≡ true
       → has_mark (take (i - first) (drop first entries)) ≡ false
-      → then_certificate found (of_stretches first (stretches (drop first entries)))
+      → then_certificate found (of_stretches judged first (stretches (drop first entries)))
       ≡ then_certificate
-      (then_certificate (then_certificate found (behind first (of_stretch (take (i - first) (drop first entries)))))
+      (then_certificate (then_certificate found (behind first
+      (of_stretch judged true (take (i - first) (drop first entries)))))
       (of_mark i))
-      (of_stretches (i + 1) (stretches (drop (i + 1) entries)))
-  begins_at e found within is mark none =
+      (of_stretches judged (i + 1) (stretches (drop (i + 1) entries)))
+  begins_at judged e found within is mark none =
       subst
-      (λ n. then_certificate found (of_stretches first (stretches (drop first entries)))
+      (λ n. then_certificate found (of_stretches judged first (stretches (drop first entries)))
       ≡ then_certificate
-      (then_certificate (then_certificate found (behind first (of_stretch (take (i - first) (drop first entries)))))
+      (then_certificate (then_certificate found (behind first
+      (of_stretch judged true (take (i - first) (drop first entries)))))
       (of_mark n))
-      (of_stretches (n + 1) (stretches (drop (n + 1) entries))))
-      at (begins entries first (i - first) e (rw at within) (rw at is) found mark none)
+      (of_stretches judged (n + 1) (stretches (drop (n + 1) entries))))
+      at (begins entries first (i - first) e (rw at within) (rw at is) judged found mark none)
 
-  pub ends_at : (found : Certificate) → i ≡ length entries → has_mark (take (i - first) (drop first entries)) ≡ false
-      → then_certificate found (of_stretches first (stretches (drop first entries)))
-      ≡ then_certificate found (behind first (of_stretch (take (length entries - first) (drop first entries))))
-  ends_at found all none =
-      ends entries found first (i - first) (at ∙ all) none
-      ∙ ap (λ x. then_certificate found (behind first (of_stretch x)))
+  pub ends_at : (judged : Option Side) (found : Certificate) → i ≡ length entries
+      → has_mark (take (i - first) (drop first entries)) ≡ false
+      → then_certificate found (of_stretches judged first (stretches (drop first entries)))
+      ≡ then_certificate found (behind first
+      (of_stretch judged false (take (length entries - first) (drop first entries))))
+  ends_at judged found all none =
+      ends judged entries found first (i - first) (at ∙ all) none
+      ∙ ap (λ x. then_certificate found (behind first (of_stretch judged false x)))
       (sym (subst (λ n. take n (drop first entries) ≡ drop first entries) (length-drop first entries)
       (take-length (drop first entries))))
 
 -- ---- how many fates there are
 
-with_count : (found : Certificate) (first : ℕ) (stretch : List Entry)
-    → length ((then_certificate found (behind first (of_stretch stretch))).fates) ≡ length found.fates + length stretch
-with_count found first stretch =
-    length-append found.fates (map (fate_behind first) ((of_stretch stretch).fates))
-    ∙ ap (λ n. length found.fates + n)
-    (length-map ((of_stretch stretch).fates) (fate_behind first) ∙ count_of_stretch stretch)
+module _ (judged : Option Side) where
+  with_count : (marked : Bool) (found : Certificate) (first : ℕ) (stretch : List Entry)
+      → length ((then_certificate found (behind first (of_stretch judged marked stretch))).fates)
+      ≡ length found.fates + length stretch
+  with_count marked found first stretch =
+      length-append found.fates (map (fate_behind first) ((of_stretch judged marked stretch).fates))
+      ∙ ap (λ n. length found.fates + n)
+      (length-map ((of_stretch judged marked stretch).fates) (fate_behind first)
+      ∙ count_of_stretch judged marked stretch)
 
-pub count_ends : (entries : List Entry) (found : Certificate) (first : ℕ) → first ≤ length entries
-    → length found.fates ≡ first
-    → length ((then_certificate found (behind first (of_stretch
-    (take (length entries - first) (drop first entries))))).fates)
-    ≡ length entries
-count_ends entries found first within count =
-    let some : length (take (length entries - first) (drop first entries)) ≡ length entries - first =
-    length-take-le (length entries - first) (drop first entries)
-    (let left : length (drop first entries) ≡ length entries - first = length-drop first entries in
-    omega (arith, left)) in
-    with_count found first (take (length entries - first) (drop first entries)) ∙ omega (arith, some, count, within)
+  pub count_ends : (entries : List Entry) (found : Certificate) (first : ℕ) → first ≤ length entries
+      → length found.fates ≡ first
+      → length ((then_certificate found (behind first (of_stretch judged false
+      (take (length entries - first) (drop first entries))))).fates)
+      ≡ length entries
+  count_ends entries found first within count =
+      let some : length (take (length entries - first) (drop first entries)) ≡ length entries - first =
+      length-take-le (length entries - first) (drop first entries)
+      (let left : length (drop first entries) ≡ length entries - first = length-drop first entries in
+      omega (arith, left)) in
+      with_count false found first (take (length entries - first) (drop first entries))
+      ∙ omega (arith, some, count, within)
 
-pub count_begins : (entries : List Entry) (found : Certificate) (first i : ℕ) → first ≤ i → i < length entries
-    → length found.fates ≡ first
-    → length ((then_certificate (then_certificate found (behind first
-    (of_stretch (take (i - first) (drop first entries)))))
-    (of_mark i)).fates)
-    ≡ i + 1
-count_begins entries found first i begun within count =
-    let some : length (take (i - first) (drop first entries)) ≡ i - first =
-    length-take-le (i - first) (drop first entries)
-    (let left : length (drop first entries) ≡ length entries - first = length-drop first entries in
-    omega (arith, left, within)) in
-    let front : length ((then_certificate found (behind first (of_stretch
-    (take (i - first) (drop first entries))))).fates)
-    ≡ length found.fates + length (take (i - first) (drop first entries)) =
-    with_count found first (take (i - first) (drop first entries)) in
-    length-append ((then_certificate found (behind first (of_stretch (take (i - first) (drop first entries))))).fates) _
-    ∙ omega (arith, front, some, count, begun)
+  pub count_begins : (entries : List Entry) (found : Certificate) (first i : ℕ) → first ≤ i → i < length entries
+      → length found.fates ≡ first
+      → length ((then_certificate (then_certificate found (behind first
+      (of_stretch judged true (take (i - first) (drop first entries)))))
+      (of_mark i)).fates)
+      ≡ i + 1
+  count_begins entries found first i begun within count =
+      let some : length (take (i - first) (drop first entries)) ≡ i - first =
+      length-take-le (i - first) (drop first entries)
+      (let left : length (drop first entries) ≡ length entries - first = length-drop first entries in
+      omega (arith, left, within)) in
+      let front : length ((then_certificate found (behind first (of_stretch judged true
+      (take (i - first) (drop first entries))))).fates)
+      ≡ length found.fates + length (take (i - first) (drop first entries)) =
+      with_count true found first (take (i - first) (drop first entries)) in
+      length-append ((then_certificate found (behind first (of_stretch judged true
+      (take (i - first) (drop first entries))))).fates) _
+      ∙ omega (arith, front, some, count, begun)
 
 -- What follows of what is answered.
 pub answers_so : {A E : Type 0} (P Q : A → Type 0) (r : Result A E) → ((x : A) → P x → Q x) → IfOk r P → IfOk r Q

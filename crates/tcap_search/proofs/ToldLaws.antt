@@ -10,20 +10,14 @@ use Rattle.tcap_check.specs.declared.certificate.Fate.TheVariants.{Gap, Lost, By
 use Rattle.tcap_search.specs.declared.leasts.Leasts.{Leasts}
 use Rattle.tcap_search.specs.Leasts.{HasRoom, is_transaction, is_within, least_at, lesser}
 use Rattle.tcap_search.specs.Lines.{Line, are_of_one_end, is_end, line_behind, lines_of, message_of, share_transaction}
-use Rattle.tcap_search.specs.Proposed.{Fated, all_fated, fated, is_delivered_by, is_end_or_abort, was_told}
+use Rattle.tcap_search.specs.Proposed.{Fated, fated, is_delivered_by, is_end_or_abort, was_told}
 use Rattle.tcap_search.specs.Shown.{KeepsTold, gap_told}
-use Rattle.tcap_search.specs.Traced.{AreFates}
 use Rattle.tcap_search.proofs.LineLaws.{count_taken, lines_more}
 use Rattle.tcap_search.proofs.NotedLaws.{any_push, shares, test_noted, turned_tests, within_lesser}
-use Rattle.tcap_search.proofs.LossLaws.{all_lines, count_fates}
 use Rattle.tcap_search.proofs.PeerLaws.{one_end}
 use Rattle.tcap_search.proofs.TestLaws.{and_false, or_false}
 
 -- ---- lines and their fates
-
-fated_parts : (all : List Fated) → fated (map (λ x. x.line) all) (map (λ x. x.fate) all) ≡ all
-fated_parts [] = refl
-fated_parts (x ∷ all) = ap (λ (more : List Fated). x ∷ more) (fated_parts all)
 
 fated_push : (lines : List Line) (fates : List Fate) (x : Line) (fate : Fate) → length fates ≡ length lines
     → fated (lines ++ x ∷ []) (fates ++ fate ∷ []) ≡ fated lines fates ++ record { line = x; fate = fate } ∷ []
@@ -32,14 +26,6 @@ fated_push [] (f ∷ fates) x fate same = cc
 fated_push (y ∷ lines) [] x fate same = cc
 fated_push (y ∷ lines) (f ∷ fates) x fate same =
     ap (λ (more : List Fated). record { line = y; fate = f } ∷ more) (fated_push lines fates x fate (omega arith))
-
-pub all_is : (entries : List Entry) (fates : List Fate) → AreFates entries fates
-    → all_fated (lines_of entries) ≡ fated (lines_of entries) fates
-all_is entries fates are =
-    let lines = lines_of entries in
-    sym (fated_parts (all_fated lines))
-    ∙ (ap (λ (ls : List Line). fated ls (map (λ x. x.fate) (all_fated lines))) (all_lines lines)
-    ∙ ap (fated lines) (sym are))
 
 -- ---- what tells of ends
 
@@ -55,13 +41,11 @@ told_none entries fates told nothing room = record {
   kept = λ x side transaction limit sent has below. ap (is_within limit) (nothing side transaction);
 }
 
-pub told_all : (entries : List Entry) (fates : List Fate) (count : ℕ) (told : Leasts) → AreFates entries fates
-    → length entries ≤ count → Told entries fates count told
-    → KeepsTold (length entries) (all_fated (lines_of entries)) told
-told_all entries fates count told are all so_far =
-    let counted = count_fates entries fates are in
-    rw (all_is entries fates are)
-    (rw (take_all count entries all, take_all count fates (omega arith)) at so_far.kept)
+pub told_all : (entries : List Entry) (fates : List Fate) (count : ℕ) (told : Leasts)
+    → length fates ≡ length entries → length entries ≤ count → Told entries fates count told
+    → KeepsTold (length entries) (fated (lines_of entries) fates) told
+told_all entries fates count told counted all so_far =
+    rw (take_all count entries all, take_all count fates (omega arith)) at so_far.kept
 
 module _ (entries : List Entry) (fates : List Fate) (i : ℕ) (old : Leasts) (e : Entry) (other_fate fate : Fate)
     (below : i < length entries) (counted : length fates ≡ length entries) (is : e ≡ get_or entries i e)

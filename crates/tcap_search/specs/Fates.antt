@@ -1,5 +1,5 @@
--- What is kept to find fates: the gap behind the last entry of each end in each transaction, the gap behind the last
--- reply so far, and the least time of what comes.
+-- What is kept to find fates: the gap behind the last entry of each end in each transaction that holds back what comes
+-- to that end, the gap behind the last reply so far, and the least time of what comes.
 use Rattle.std.specs.Prelude.{ℕ, ◌+◌, max, min, Bool, false, List, [], ◌∷◌, slice_get, Option, Some, None, is_some, ◌==◌, ◌&&◌, cond}
 use Rattle.tcap_msg.specs.declared.message.Message.{Message}
 use Rattle.tcap_msg.specs.declared.message.Message.TheVariants.{End as EndMessage, Abort}
@@ -12,7 +12,7 @@ use Rattle.tcap_check.specs.Replayed.{is_later, time_of}
 use Rattle.tcap_search.specs.declared.per_end.PerEnd.{PerEnd}
 use Rattle.tcap_search.specs.declared.tie.Tie.{Tie}
 use Rattle.tcap_search.specs.Lines.{Line, is_end, last, message_of}
-use Rattle.tcap_search.specs.Proposed.{Fated, gap_behind_reply, is_gap, reply_of}
+use Rattle.tcap_search.specs.Proposed.{Fated, gap_behind_reply, holds_back, is_gap, reply_of}
 use Rattle.tcap_search.specs.PerEnd.{at_end}
 
 -- ---- the last entry of each end in each transaction
@@ -30,9 +30,13 @@ abbrev pub gap_behind_line : Option Line → ℕ
 gap_behind_line None = 0
 gap_behind_line (Some x) = x.number + 1
 
--- the gap behind the last of these of that end in that transaction; 0 where there is none
-abbrev pub gap_behind_last : Side → ℕ → List Line → ℕ
-gap_behind_last side transaction lines = gap_behind_line (last (is_line_of side transaction) lines)
+-- whether it is one that holds back what comes to its end
+abbrev pub holds_back_in : Option Side → Side → ℕ → Line → Bool
+holds_back_in judged side transaction x = holds_back judged (message_of x.entry) && is_line_of side transaction x
+
+-- the gap behind the last of these of that end in that transaction that holds back; 0 where there is none
+abbrev pub gap_behind_last : Option Side → Side → ℕ → List Line → ℕ
+gap_behind_last judged side transaction lines = gap_behind_line (last (holds_back_in judged side transaction) lines)
 
 abbrev pub gap_of_end : Side → Option (PerEnd ℕ) → ℕ
 gap_of_end side None = 0

@@ -1,5 +1,7 @@
 -- The certificate that is proposed for a record, by five rules: for the entries of each stretch between quiet marks
 -- alone, each by "last", "earlier" and "later" over their list. Nothing is tried twice, and nothing of it is believed.
+-- It is proposed for both ends, or for one end alone, whose peer may break rules: the end that is judged. For that one
+-- the second rule is milder, and one more rule stands behind it.
 use Rattle.std.specs.Prelude.{ℕ, ℤ, ◌+◌, max, Bool, true, false, List, [], ◌∷◌, ◌++◌, map, length, reverse, slice_get, Option, Some, None, is_some, is_none, ◌==◌, ◌&&◌, not, nat_lt, nat_le, cond, option_map}
 use Rattle.std.specs.List.{list_any}
 use Rattle.std.specs.Ordering.{int_cmp}
@@ -10,11 +12,12 @@ use Rattle.tcap_parts.specs.declared.problem.Problem.TheVariants as problems
 use Rattle.tcap_msg.specs.declared.message.AbortReason.TheVariants.{Cause}
 use Rattle.tcap_msg.specs.declared.message.Message.{Message}
 use Rattle.tcap_msg.specs.declared.message.Message.TheVariants.{Begin, Continue, End as EndMessage, Abort}
-use Rattle.tcap_msg.specs.Parts.{cause_in, components_in}
+use Rattle.tcap_msg.specs.Parts.{cause_in, components_in, dtid_in}
 use Rattle.tcap_record.specs.declared.entry.Body.{Body}
 use Rattle.tcap_record.specs.declared.entry.Body.TheVariants.{Quiet}
 use Rattle.tcap_record.specs.declared.entry.End.{End as Side}
 use Rattle.tcap_record.specs.declared.entry.Entry.{Entry}
+use Rattle.tcap_end.specs.End.{is_id}
 use Rattle.tcap_check.specs.World.{is_side, other}
 use Rattle.tcap_check.specs.Run.{then_so, where_so}
 use Rattle.tcap_check.specs.Certificate.{Certificate}
@@ -24,7 +27,7 @@ use Rattle.tcap_check.specs.declared.certificate.Fate.{Fate}
 use Rattle.tcap_check.specs.declared.certificate.Fate.TheVariants.{Gap, Lost, By}
 use Rattle.tcap_check.specs.Replayed.{is_later, time_of}
 use Rattle.tcap_search.specs.declared.tie.Tie.{Tie}
-use Rattle.tcap_search.specs.Lines.{Line, are_of_one_end, is_asked_from, is_of_peer, last, lines_of, message_of, share_transaction}
+use Rattle.tcap_search.specs.Lines.{Line, are_of_one_end, is_asked_from, is_end, is_from, is_of_peer, last, lines_of, message_of, share_transaction}
 
 -- ---- 1. Ties: what the Aborts of providers answer (Q.774 3.3)
 
@@ -70,10 +73,24 @@ reply_of ties number = option_map (λ t. t.reply) (last (λ t. t.entry == number
 
 -- ---- 2. Gaps
 
+-- whether it is an Abort of a provider (Q.774 3.3)
+abbrev pub is_provider_abort : Option Message → Bool
+is_provider_abort None = false
+is_provider_abort (Some message) = is_some (cause_in message)
+
+-- Whether an End or an Abort comes behind such an entry of its receiver, whose half was still there. Where one end is
+-- judged alone, an Abort of a provider does not say so.
+abbrev pub holds_back : Option Side → Option Message → Bool
+holds_back None message = true
+holds_back (Some judged) message = not (is_provider_abort message)
+
 -- the last later entry of the receiver in the transaction
-abbrev pub last_of_receiver : List Line → Line → Option Line
-last_of_receiver lines x =
-    last (λ y. nat_lt x.number y.number && is_of_peer x.entry y.entry && share_transaction x y) lines
+abbrev pub last_of_receiver : Option Side → List Line → Line → Option Line
+last_of_receiver judged lines x =
+    last
+    (λ y. nat_lt x.number y.number && is_of_peer x.entry y.entry && share_transaction x y
+    && holds_back judged (message_of y.entry))
+    lines
 
 -- the gap behind it, or behind the entry itself where there is none
 abbrev pub gap_behind : Line → Option Line → ℕ
@@ -82,13 +99,14 @@ gap_behind x (Some y) = y.number + 1
 
 -- An End, or an Abort, comes behind the last later entry of its receiver in the transaction; another message comes at
 -- once.
-abbrev pub first_gap_by : List Line → Line → Option Message → ℕ
-first_gap_by lines x (Some (EndMessage dtid dialogue components)) = gap_behind x (last_of_receiver lines x)
-first_gap_by lines x (Some (Abort dtid reason)) = gap_behind x (last_of_receiver lines x)
-first_gap_by lines x _ = x.number + 1
+abbrev pub first_gap_by : Option Side → List Line → Line → Option Message → ℕ
+first_gap_by judged lines x (Some (EndMessage dtid dialogue components)) =
+    gap_behind x (last_of_receiver judged lines x)
+first_gap_by judged lines x (Some (Abort dtid reason)) = gap_behind x (last_of_receiver judged lines x)
+first_gap_by judged lines x _ = x.number + 1
 
-abbrev pub first_gap : List Line → Line → ℕ
-first_gap lines x = first_gap_by lines x (message_of x.entry)
+abbrev pub first_gap : Option Side → List Line → Line → ℕ
+first_gap judged lines x = first_gap_by judged lines x (message_of x.entry)
 
 abbrev pub gap_behind_reply : Option ℕ → ℕ
 gap_behind_reply None = 0
@@ -104,18 +122,16 @@ raised (y ∷ lines) ties x gap =
 
 -- A message that is tied is taken by its Abort. Octets that are no message have the gap behind them, which no rule
 -- changes.
-abbrev pub fate_by : List Line → List Tie → Line → Option ℕ → Option Message → Fate
-fate_by lines ties x (Some reply) message = By reply
-fate_by lines ties x None None = Gap (x.number + 1)
-fate_by lines ties x None (Some message) = Gap (raised lines ties x (first_gap lines x))
+abbrev pub fate_by : Option Side → List Line → List Tie → Line → Option ℕ → Option Message → Fate
+fate_by judged lines ties x (Some reply) message = By reply
+fate_by judged lines ties x None None = Gap (x.number + 1)
+fate_by judged lines ties x None (Some message) = Gap (raised lines ties x (first_gap judged lines x))
 
-abbrev pub fate_of : List Line → List Tie → Line → Fate
-fate_of lines ties x = fate_by lines ties x (reply_of ties x.number) (message_of x.entry)
+abbrev pub fate_of : Option Side → List Line → List Tie → Line → Fate
+fate_of judged lines ties x = fate_by judged lines ties x (reply_of ties x.number) (message_of x.entry)
 
-abbrev pub first_fates : List Line → List Tie → List Fate
-first_fates lines ties = map (fate_of lines ties) lines
-
--- ---- 3. Losses
+abbrev pub first_fates : Option Side → List Line → List Tie → List Fate
+first_fates judged lines ties = map (fate_of judged lines ties) lines
 
 -- a line, and its fate
 pub record Fated : Type 0 where
@@ -126,16 +142,62 @@ abbrev pub fated : List Line → List Fate → List Fated
 fated (line ∷ lines) (fate ∷ fates) = record { line = line; fate = fate } ∷ fated lines fates
 fated _ _ = []
 
--- whether the first comes behind the second, which its end sent later
-abbrev pub is_overtaken : Fated → Fated → Bool
-is_overtaken x y = are_of_one_end x.line.entry y.line.entry && is_later (time_of y.fate) (time_of x.fate)
-
 abbrev pub is_gap : Fate → Bool
 is_gap (Gap gap) = true
 is_gap _ = false
 
--- A message that is delivered, and would come behind a later entry of the same end that is not lost, is lost. Octets that
--- are no message are such an entry too.
+-- ---- between 2 and 3, where one end is judged alone: what it did not answer before a mark, it never heard
+
+abbrev pub is_continue : Option Message → Bool
+is_continue (Some (Continue otid dtid dialogue components)) = true
+is_continue _ = false
+
+-- whether the entry is a message to that destination ID
+abbrev pub is_to : List ℕ → Entry → Bool
+is_to id e = by (message_of e)
+  where
+    by : Option Message → Bool
+    by None = false
+    by (Some message) = is_id id (dtid_in message)
+
+-- whether it is a message of the end to that ID
+abbrev pub speaks_to : Side → List ℕ → Entry → Bool
+speaks_to side id e = is_end side e.side && is_to id e
+
+-- whether it is a Continue of the end from that ID
+abbrev pub goes_on_from : Side → List ℕ → Entry → Bool
+goes_on_from side id e = is_end side e.side && is_continue (message_of e) && is_from id e
+
+-- A Begin to whose originating ID the end sent nothing; a Continue of which that is so, and from whose destination ID
+-- the end sent no Continue: that end closed no half of this dialogue itself, so a half that had heard it may be open still
+-- at the mark.
+abbrev pub is_unanswered : Side → List Line → Option Message → Bool
+is_unanswered side lines (Some (Begin otid dialogue components)) =
+    not (list_any (λ y. speaks_to side otid y.entry) lines)
+is_unanswered side lines (Some (Continue otid dtid dialogue components)) =
+    not (list_any (λ y. speaks_to side otid y.entry) lines) && not (list_any (λ y. goes_on_from side dtid y.entry) lines)
+is_unanswered side lines _ = false
+
+-- Such a message of the peer is lost, unless it is taken by an Abort.
+abbrev pub fate_unanswered : Side → List Line → Fated → Fate
+fate_unanswered side lines x =
+    cond (is_gap x.fate && is_end (other side) x.line.entry.side && is_unanswered side lines (message_of x.line.entry))
+    Lost x.fate
+
+-- This is asked where one end is judged alone, in a stretch behind which a mark stands.
+abbrev pub without_unanswered : Option Side → Bool → List Line → List Fated → List Fated
+without_unanswered (Some side) true lines all =
+    map (λ (x : Fated). record x { fate = fate_unanswered side lines x }) all
+without_unanswered judged marked lines all = all
+
+-- ---- 3. Losses
+
+-- whether the first comes behind the second, which its end sent later
+abbrev pub is_overtaken : Fated → Fated → Bool
+is_overtaken x y = are_of_one_end x.line.entry y.line.entry && is_later (time_of y.fate) (time_of x.fate)
+
+-- A message that is delivered, and would come behind a later entry of the same end that is not lost, is lost. Octets
+-- that are no message are such an entry too.
 abbrev pub fate_before : List Fated → Fated → Fate
 fate_before later x =
     cond (is_gap x.fate && is_some (message_of x.line.entry) && list_any (is_overtaken x) later) Lost x.fate
@@ -261,10 +323,6 @@ expiries_of all lines = expiries_from all lines lines []
 
 -- ---- 5. Closings: a Continue that is answered by cause 1 comes to a half that had closed (Q.774 3.3)
 
-abbrev pub is_continue : Option Message → Bool
-is_continue (Some (Continue otid dtid dialogue components)) = true
-is_continue _ = false
-
 -- whether it ends a dialogue: an End, or an Abort without cause
 abbrev pub ends : Option Message → Bool
 ends (Some (EndMessage dtid dialogue components)) = true
@@ -302,8 +360,8 @@ with_closing listed (Some side) gap (Some transaction) =
     (listed ++ record { gap = gap; side = side; entry = transaction } ∷ [])
 with_closing listed _ gap _ = listed
 
--- What the tie of a Continue adds: where nothing in the list had closed the half that it came to, the half closed unseen in
--- the gap before the Abort.
+-- What the tie of a Continue adds: where nothing in the list had closed the half that it came to, the half closed
+-- unseen in the gap before the Abort.
 abbrev pub closing_by : List Fated → List Line → List Closing → ℕ → Option Line → List Closing
 closing_by all lines listed reply None = listed
 closing_by all lines listed reply (Some x) =
@@ -321,20 +379,21 @@ closings_of all lines ties = closings_from all lines ties []
 
 -- ---- the certificate
 
--- the fates of a stretch, behind all rules
-abbrev pub all_fated : List Line → List Fated
-all_fated lines = with_losses (fated lines (first_fates lines (ties_of lines)))
+-- the fates of a stretch, behind all rules: which end is judged alone, if one is, and whether a mark stands behind it
+abbrev pub all_fated : Option Side → Bool → List Line → List Fated
+all_fated judged marked lines =
+    with_losses (without_unanswered judged marked lines (fated lines (first_fates judged lines (ties_of lines))))
 
 -- the certificate of a stretch alone
-abbrev pub of_lines : List Line → Certificate
-of_lines lines = record {
-  fates = map (λ x. x.fate) (all_fated lines);
-  expire = expiries_of (all_fated lines) lines;
-  close = closings_of (all_fated lines) lines (ties_of lines);
+abbrev pub of_lines : Option Side → Bool → List Line → Certificate
+of_lines judged marked lines = record {
+  fates = map (λ x. x.fate) (all_fated judged marked lines);
+  expire = expiries_of (all_fated judged marked lines) lines;
+  close = closings_of (all_fated judged marked lines) lines (ties_of lines);
 }
 
-abbrev pub of_stretch : List Entry → Certificate
-of_stretch entries = of_lines (lines_of entries)
+abbrev pub of_stretch : Option Side → Bool → List Entry → Certificate
+of_stretch judged marked entries = of_lines judged marked (lines_of entries)
 
 -- what it says where the stretch begins behind so many entries
 abbrev pub fate_behind : ℕ → Fate → Fate
@@ -379,13 +438,22 @@ stretches (e ∷ entries) = cond (is_mark e.body) ([] ∷ stretches entries) (wi
 
 -- The certificate of these stretches, the first of which begins behind so many entries; a quiet mark stands behind each
 -- but the last.
-abbrev pub of_stretches : ℕ → List (List Entry) → Certificate
-of_stretches first [] = record { fates = []; expire = []; close = [] }
-of_stretches first (stretch ∷ []) = behind first (of_stretch stretch)
-of_stretches first (stretch ∷ next ∷ more) =
-    then_certificate (behind first (of_stretch stretch))
-    (then_certificate (of_mark (first + length stretch)) (of_stretches (first + length stretch + 1) (next ∷ more)))
+abbrev pub of_stretches : Option Side → ℕ → List (List Entry) → Certificate
+of_stretches judged first [] = record { fates = []; expire = []; close = [] }
+of_stretches judged first (stretch ∷ []) = behind first (of_stretch judged false stretch)
+of_stretches judged first (stretch ∷ next ∷ more) =
+    then_certificate (behind first (of_stretch judged true stretch))
+    (then_certificate (of_mark (first + length stretch))
+    (of_stretches judged (first + length stretch + 1) (next ∷ more)))
 
--- the certificate that is proposed
+-- the certificate that is proposed, for both ends or for one alone
+abbrev pub proposed_by : Option Side → List Entry → Certificate
+proposed_by judged entries = of_stretches judged 0 (stretches entries)
+
+-- the one for both ends
 abbrev pub proposed : List Entry → Certificate
-proposed entries = of_stretches 0 (stretches entries)
+proposed entries = proposed_by None entries
+
+-- the one for that end alone
+abbrev pub proposed_for : Side → List Entry → Certificate
+proposed_for side entries = proposed_by (Some side) entries

@@ -1,5 +1,6 @@
 -- What the search keeps of a stretch, as lists beside its entries.
-use Rattle.std.specs.Prelude.{◌≡◌, ℕ, List, map, Option}
+use Rattle.std.specs.Prelude.{◌≡◌, ℕ, Bool, List, map, Option}
+use Rattle.tcap_record.specs.declared.entry.End.{End as Side}
 use Rattle.tcap_record.specs.declared.entry.Entry.{Entry}
 use Rattle.tcap_check.specs.declared.certificate.Fate.{Fate}
 use Rattle.tcap_search.specs.declared.tie.Tie.{Tie}
@@ -15,5 +16,5 @@ abbrev pub AreTies : List Entry → List Tie → Type 0
 AreTies entries ties = ties ≡ ties_of (lines_of entries)
 
 -- the fates of the entries behind all rules, one for each
-abbrev pub AreFates : List Entry → List Fate → Type 0
-AreFates entries fates = fates ≡ map (λ x. x.fate) (all_fated (lines_of entries))
+abbrev pub AreFates : Option Side → Bool → List Entry → List Fate → Type 0
+AreFates judged marked entries fates = fates ≡ map (λ x. x.fate) (all_fated judged marked (lines_of entries))

@@ -1,8 +1,10 @@
 -- Worked proposals: the certificate that is proposed for a record.
 use Rattle.std.specs.Prelude.{◌≡◌, List, [], ◌∷◌, map, Some, None}
 use Rattle.tcap_ber.specs.declared.fault.Reason.TheVariants as reading
-use Rattle.tcap_msg.specs.declared.message.Message.TheVariants.{Begin}
+use Rattle.tcap_msg.specs.declared.message.Message.{Message}
+use Rattle.tcap_msg.specs.declared.message.Message.TheVariants.{Begin, Continue}
 use Rattle.tcap_record.specs.declared.entry.Body.TheVariants.{Bad}
+use Rattle.tcap_record.specs.declared.entry.End.{End as Side}
 use Rattle.tcap_record.specs.declared.entry.End.TheVariants.{A, B}
 use Rattle.tcap_record.specs.declared.entry.Entry.{Entry}
 use Rattle.tcap_check.specs.World.{Item, Sent}
@@ -11,7 +13,7 @@ use Rattle.tcap_check.specs.Certificate.{Certificate}
 use Rattle.tcap_check.specs.declared.certificate.Fate.TheVariants.{Gap, Lost, By}
 use Rattle.tcap_check.specs.Entries.{entry_of}
 use Rattle.tcap_check.specs.Worked.{Worked, answer, begin, by_fates, both_again, closed_half, crossing, delayed, empty_record, end_implies, end_to, id, late_reject, over_a_mark, refused_begin, three_entries, two_entries}
-use Rattle.tcap_search.specs.Proposed.{proposed}
+use Rattle.tcap_search.specs.Proposed.{proposed, proposed_for}
 
 -- The certificate that is proposed for the record of a worked run is the one that describes it.
 abbrev pub IsProposed : Worked → Type 0
@@ -20,6 +22,10 @@ IsProposed w = proposed (map entry_of w.items) ≡ w.certificate
 -- the certificate that is proposed for these items
 abbrev pub Proposes : List Item → Certificate → Type 0
 Proposes items certificate = proposed (map entry_of items) ≡ certificate
+
+-- the one that is proposed for that end alone
+abbrev pub ProposesFor : Side → List Item → Certificate → Type 0
+ProposesFor side items certificate = proposed_for side (map entry_of items) ≡ certificate
 
 abbrev pub of_worked_runs : Type 0
 of_worked_runs =
@@ -54,3 +60,43 @@ abbrev pub bad_entry : Type 0
 bad_entry =
     proposed (entry_of (Sent A (begin None None)) ∷ bad_of_b ∷ entry_of (Sent B (end_to 1 None)) ∷ [])
     ≡ by_fates (Gap 1 ∷ Gap 2 ∷ Gap 3 ∷ [])
+
+-- ---- for one end alone
+
+-- A's End, and an Abort of B's provider that answers nothing
+abbrev aborted_end : List Item
+aborted_end =
+    Sent A (begin None None) ∷ Sent B (answer None None) ∷ Sent A (end_to 2 None)
+    ∷ Sent B (provider_abort (id 1) 1) ∷ []
+
+-- For both ends the End comes behind the Abort, for one alone at once.
+abbrev pub end_before_an_abort : Type 0
+end_before_an_abort =
+    Proposes aborted_end (by_fates (Gap 1 ∷ Gap 2 ∷ Gap 4 ∷ Gap 4 ∷ []))
+    × ProposesFor A aborted_end (by_fates (Gap 1 ∷ Gap 2 ∷ Gap 3 ∷ Gap 4 ∷ []))
+    × ProposesFor B aborted_end (by_fates (Gap 1 ∷ Gap 2 ∷ Gap 3 ∷ Gap 4 ∷ []))
+
+-- A's Begin that nobody answers, before a mark
+abbrev unanswered_begin : List Item
+unanswered_begin = Sent A (begin None None) ∷ Item.Quiet ∷ []
+
+-- For B alone it is lost. It is not for both ends, nor for A, nor where no mark stands behind it.
+abbrev pub lost_begin : Type 0
+lost_begin =
+    ProposesFor B unanswered_begin (by_fates (Lost ∷ Gap 2 ∷ []))
+    × ProposesFor A unanswered_begin (by_fates (Gap 1 ∷ Gap 2 ∷ []))
+    × Proposes unanswered_begin (by_fates (Gap 1 ∷ Gap 2 ∷ []))
+    × ProposesFor B (Sent A (begin None None) ∷ []) (by_fates (Gap 1 ∷ []))
+
+-- A's Continue from 03 to 02. For B alone it is lost before a mark, but not where B sent a Continue from 02, or a message
+-- to 03.
+abbrev pub lost_continue : Type 0
+lost_continue =
+    ProposesFor B (Sent A stray ∷ Item.Quiet ∷ []) (by_fates (Lost ∷ Gap 2 ∷ []))
+    × ProposesFor B (Sent A (begin None None) ∷ Sent B (answer None None) ∷ Sent A stray ∷ Item.Quiet ∷ [])
+    (by_fates (Gap 1 ∷ Gap 2 ∷ Gap 3 ∷ Gap 4 ∷ []))
+    × ProposesFor B (Sent A stray ∷ Sent B (end_to 3 None) ∷ Item.Quiet ∷ [])
+    (by_fates (Gap 1 ∷ Gap 2 ∷ Gap 3 ∷ []))
+  where
+    stray : Message
+    stray = Continue (id 3) (id 2) None None

@@ -1,12 +1,12 @@
 //! The fifth rule: which halves closed unseen.
 
-ghost use Rattle.std.specs.Prelude.{◌≡◌, ◌≤◌, ◌&&◌, not, length, option_copied, slice_get, IfOk};
+ghost use Rattle.std.specs.Prelude.{◌≡◌, ◌≤◌, ◌&&◌, not, List, length, option_copied, slice_get, IfOk};
 ghost use Rattle.tcap_check.specs.World.{other};
 ghost use Rattle.tcap_search.specs.Leasts.{is_below, is_within, least_at};
 ghost use Rattle.tcap_search.specs.Lines.{lines_of, message_of};
-ghost use Rattle.tcap_search.specs.Proposed.{all_fated, closings_of, ends, is_continue, ties_of};
+ghost use Rattle.tcap_search.specs.Proposed.{Fated, closings_of, ends, fated, is_continue, ties_of};
 ghost use Rattle.tcap_search.specs.Shown.{KeepsEnded, KeepsTold, gap_told, shown_by};
-ghost use Rattle.tcap_search.specs.Traced.{AreFates, AreTies, AreTransactions};
+ghost use Rattle.tcap_search.specs.Traced.{AreTies, AreTransactions};
 
 use crate::leasts::Leasts;
 use crate::lines::other;
@@ -84,8 +84,8 @@ fn told_of(
     fates: &[Fate],
 ) -> Result<Leasts, AllocError>
     requires transactions { AreTransactions entries.now transactions.now }
-    requires fates { AreFates entries.now fates.now }
-    ensures { IfOk result (λ told. KeepsTold (length entries.now) (all_fated (lines_of entries.now)) told) }
+    requires count { length fates.now ≡ length entries.now }
+    ensures { IfOk result (λ told. KeepsTold (length entries.now) (fated (lines_of entries.now) fates.now) told) }
 {
     let mut told = Leasts::new(alloc, entries.len())?;
     for (number, entry) in entries.iter().enumerate() {
@@ -125,9 +125,8 @@ fn shown_by(
 ) -> Option<(End, u32)>
     requires transactions { AreTransactions entries.now transactions.now }
     requires ended { KeepsEnded (length entries.now) (lines_of entries.now) ended.now }
-    requires told { KeepsTold (length entries.now) (all_fated (lines_of entries.now)) told.now }
-    ensures { result ≡ shown_by (all_fated (lines_of entries.now)) (lines_of entries.now) tie.now.reply
-        (slice_get (lines_of entries.now) tie.now.entry) }
+    ensures { (all : List Fated) → KeepsTold (length entries.now) all told.now
+        → result ≡ shown_by all (lines_of entries.now) tie.now.reply (slice_get (lines_of entries.now) tie.now.entry) }
 {
     let entry = entries.get(tie.entry as usize)?;
     let side = entry.side?;
@@ -139,7 +138,7 @@ fn shown_by(
     }
 }
 
-/// The closings of a stretch, in the order of the Aborts that show them.
+/// The closings of a stretch with these fates, in the order of the Aborts that show them.
 pub(crate) fn closings_of(
     alloc: Global,
     entries: &[Entry],
@@ -150,9 +149,9 @@ pub(crate) fn closings_of(
     requires few { length entries.now ≤ 100000 }
     requires transactions { AreTransactions entries.now transactions.now }
     requires ties { AreTies entries.now ties.now }
-    requires fates { AreFates entries.now fates.now }
+    requires count { length fates.now ≡ length entries.now }
     ensures { IfOk result (λ listed. listed.items
-        ≡ closings_of (all_fated (lines_of entries.now)) (lines_of entries.now) (ties_of (lines_of entries.now))) }
+        ≡ closings_of (fated (lines_of entries.now) fates.now) (lines_of entries.now) (ties_of (lines_of entries.now))) }
 {
     let ended = ends_of(alloc, entries, transactions)?;
     let told = told_of(alloc, entries, transactions, fates)?;

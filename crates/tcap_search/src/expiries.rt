@@ -2,8 +2,9 @@
 
 ghost use Rattle.std.specs.Prelude.{◌≡◌, ◌≤◌, ◌<◌, ◌++◌, ◌∷◌, [], ◌==◌, ℕ, Some, cond, length, IfOk, OnOk};
 ghost use Rattle.tcap_search.specs.Lines.{lines_of};
-ghost use Rattle.tcap_search.specs.Proposed.{all_fated, expiries_of, with_expiry};
-ghost use Rattle.tcap_search.specs.Traced.{AreFates, AreTransactions};
+ghost use Rattle.tcap_search.specs.Proposed.{expiries_of, fated, with_expiry};
+ghost use Rattle.tcap_search.specs.Order.{AreInOrder};
+ghost use Rattle.tcap_search.specs.Traced.{AreTransactions};
 ghost use Rattle.tcap_search.specs.Due.{due_at, due_in};
 ghost use Rattle.tcap_search.specs.Listed.{IsListed, all_rejected, entry_rejected};
 ghost use Rattle.tcap_search.specs.Sweep.{answer_rejected};
@@ -148,7 +149,7 @@ fn due_at(lists: &[Vec<u32>], gap: usize) -> &[u32]
     }
 }
 
-/// The expiries of a stretch, in the order in which what was unrecognized is rejected.
+/// The expiries of a stretch with these fates, in the order in which what was unrecognized is rejected.
 pub(crate) fn expiries_of(
     alloc: Global,
     entries: &[Entry],
@@ -157,9 +158,10 @@ pub(crate) fn expiries_of(
 ) -> Result<Vec<Expiry>, AllocError>
     requires few { length entries.now ≤ 100000 }
     requires transactions { AreTransactions entries.now transactions.now }
-    requires fates { AreFates entries.now fates.now }
+    requires count { length fates.now ≡ length entries.now }
+    requires order { AreInOrder (fated (lines_of entries.now) fates.now) }
     ensures { IfOk result (λ listed. listed.items
-        ≡ expiries_of (all_fated (lines_of entries.now)) (lines_of entries.now)) }
+        ≡ expiries_of (fated (lines_of entries.now) fates.now) (lines_of entries.now)) }
 {
     let due = due_by_gap(alloc, fates)?;
     let mut sweep = Sweep::new(alloc);

@@ -1,10 +1,10 @@
 //! The second and the third rule: in which gap each message is delivered, and what is lost.
 
-ghost use Rattle.std.specs.Prelude.{◌≡◌, ◌≤◌, ◌<◌, ◌+◌, ◌^◌, ◌==◌, ℕ, max, cond, length, map, slice_get, Some, None, IfOk};
+ghost use Rattle.std.specs.Prelude.{◌≡◌, ◌≤◌, ◌<◌, ◌+◌, ◌^◌, ◌==◌, ◌&&◌, ℕ, max, cond, length, map, slice_get, Some, None, IfOk};
 ghost use Rattle.tcap_record.specs.declared.entry.End.{End as Side};
 ghost use Rattle.tcap_check.specs.Replayed.{time_of};
-ghost use Rattle.tcap_search.specs.Lines.{is_end, lines_of};
-ghost use Rattle.tcap_search.specs.Proposed.{fated, first_fates, gap_behind_reply, reply_of, with_losses};
+ghost use Rattle.tcap_search.specs.Lines.{is_end, lines_of, message_of};
+ghost use Rattle.tcap_search.specs.Proposed.{fated, first_fates, gap_behind_reply, holds_back, is_provider_abort, reply_of, with_losses};
 ghost use Rattle.tcap_search.specs.Traced.{AreFates, AreTies, AreTransactions};
 ghost use Rattle.tcap_search.specs.PerEnd.{at_end};
 ghost use Rattle.tcap_search.specs.Fates.{fate_behind_least, fate_from, gap_behind_last, gap_kept, gap_raised, is_of};
@@ -12,9 +12,10 @@ ghost use Rattle.tcap_search.specs.Fates.{receiver_gap, sooner, time_kept};
 
 use crate::per_end::PerEnd;
 use crate::tie::Tie;
+use crate::unanswered::without_unanswered;
 use std::alloc::{AllocError, Global};
 use tcap_check::Fate;
-use tcap_msg::Message;
+use tcap_msg::{Message, MessageParts};
 use tcap_record::{Body, End, Entry};
 
 /// Notes the reply to an entry, in place of one that was noted.
@@ -42,12 +43,43 @@ fn replies_of(alloc: Global, count: usize, ties: &[Tie]) -> Result<Vec<Option<u3
     Ok(replies)
 }
 
-/// Notes the gap behind an entry as that behind the last of its end in its transaction.
-fn note_last(gaps: &mut Vec<PerEnd<u32>>, entry: &Entry, transaction: Option<u32>, gap: u32)
+/// Whether an entry is an Abort of a provider.
+fn is_provider_abort(entry: &Entry) -> bool
+    ensures { result ≡ is_provider_abort (message_of entry.now) }
+{
+    match &entry.body {
+        Body::Good(message) => message.cause().is_some(),
+        _ => false,
+    }
+}
+
+/// Whether an End or an Abort comes behind such an entry of its receiver. Where one end is judged alone, an Abort of a
+/// provider does not hold it back.
+fn holds_back(judged: Option<End>, entry: &Entry) -> bool
+    ensures { result ≡ holds_back judged (message_of entry.now) }
+{
+    match judged {
+        Some(_) => !is_provider_abort(entry),
+        None => true,
+    }
+}
+
+/// Notes the gap behind an entry as that behind the last of its end in its transaction, where it holds back.
+fn note_last(
+    gaps: &mut Vec<PerEnd<u32>>,
+    judged: Option<End>,
+    entry: &Entry,
+    transaction: Option<u32>,
+    gap: u32,
+)
     ensures noted { (side : Side) (t : ℕ) → t < length gaps.old.items → gap_kept side t gaps.new.items
-        ≡ cond (is_of side t entry.now transaction) gap (gap_kept side t gaps.old.items) }
+        ≡ cond (holds_back judged (message_of entry.now) && is_of side t entry.now transaction) gap
+        (gap_kept side t gaps.old.items) }
     ensures count { length gaps.new.items ≡ length gaps.old.items }
 {
+    if !holds_back(judged, entry) {
+        return;
+    }
     if let (Some(side), Some(transaction)) = (entry.side, transaction) {
         if let Some(of_ends) = gaps.get_mut(transaction as usize) {
             of_ends.set(side, gap);
@@ -55,21 +87,28 @@ fn note_last(gaps: &mut Vec<PerEnd<u32>>, entry: &Entry, transaction: Option<u32
     }
 }
 
-/// The gap behind the last entry of each end in each transaction; 0 where there is none.
+/// The gap behind the last entry of each end in each transaction that holds back; 0 where there is none.
 fn last_gaps(
     alloc: Global,
+    judged: Option<End>,
     entries: &[Entry],
     transactions: &[Option<u32>],
 ) -> Result<Vec<PerEnd<u32>>, AllocError>
     requires few { length entries.now ≤ 100000 }
     requires transactions { AreTransactions entries.now transactions.now }
     ensures { IfOk result (λ gaps. (side : Side) (t : ℕ) → t < length entries.now
-        → gap_kept side t gaps.items ≡ gap_behind_last side t (lines_of entries.now)) }
+        → gap_kept side t gaps.items ≡ gap_behind_last judged side t (lines_of entries.now)) }
 {
     let mut gaps = Vec::new(alloc);
     gaps.resize(entries.len(), PerEnd::both(0))?;
     for (number, entry) in entries.iter().enumerate() {
-        note_last(&mut gaps, entry, transactions[number], number as u32 + 1);
+        note_last(
+            &mut gaps,
+            judged,
+            entry,
+            transactions[number],
+            number as u32 + 1,
+        );
     }
     Ok(gaps)
 }
@@ -133,6 +172,7 @@ fn first_fate(number: u32, entry: &Entry, reply: Option<u32>, behind: u32, raise
 /// The fates of entries before any are lost.
 fn first_fates(
     alloc: Global,
+    judged: Option<End>,
     entries: &[Entry],
     transactions: &[Option<u32>],
     ties: &[Tie],
@@ -140,10 +180,10 @@ fn first_fates(
     requires few { length entries.now ≤ 100000 }
     requires transactions { AreTransactions entries.now transactions.now }
     requires ties { AreTies entries.now ties.now }
-    ensures { IfOk result (λ fates. fates.items ≡ first_fates (lines_of entries.now) ties.now) }
+    ensures { IfOk result (λ fates. fates.items ≡ first_fates judged (lines_of entries.now) ties.now) }
 {
     let replies = replies_of(alloc, entries.len(), ties)?;
-    let gaps = last_gaps(alloc, entries, transactions)?;
+    let gaps = last_gaps(alloc, judged, entries, transactions)?;
     let mut raised = PerEnd::both(0);
     let mut fates = Vec::new(alloc);
     for (number, entry) in entries.iter().enumerate() {
@@ -212,9 +252,12 @@ fn lose_overtaken(entries: &[Entry], fates: &mut [Fate])
     }
 }
 
-/// The fates of the entries of a stretch, one for each.
+/// The fates of the entries of a stretch, one for each, for the end that is judged alone, where one is; behind the
+/// stretch a mark stands or not.
 pub(crate) fn fates_of(
     alloc: Global,
+    judged: Option<End>,
+    marked: bool,
     entries: &[Entry],
     transactions: &[Option<u32>],
     ties: &[Tie],
@@ -222,9 +265,10 @@ pub(crate) fn fates_of(
     requires few { length entries.now ≤ 100000 }
     requires transactions { AreTransactions entries.now transactions.now }
     requires ties { AreTies entries.now ties.now }
-    ensures { IfOk result (λ fates. AreFates entries.now fates.items) }
+    ensures { IfOk result (λ fates. AreFates judged marked entries.now fates.items) }
 {
-    let mut fates = first_fates(alloc, entries, transactions, ties)?;
+    let first = first_fates(alloc, judged, entries, transactions, ties)?;
+    let mut fates = without_unanswered(alloc, judged, marked, entries, first)?;
     lose_overtaken(entries, &mut fates);
     Ok(fates)
 }

@@ -14,7 +14,7 @@ use crate::ties::ties_of;
 use std::alloc::{AllocError, Global};
 use std::marker::Model;
 use tcap_check::{Certificate, Closing, Expiry, Fate};
-use tcap_record::Entry;
+use tcap_record::{End, Entry};
 
 /// What is proposed for the stretches so far; its numbers are in the limits of a certificate.
 #[derive(Debug, Drop)]
@@ -125,19 +125,23 @@ impl Found {
         }
     }
 
-    /// The same, and what is proposed for a stretch that begins behind so many entries.
+    /// The same, and what is proposed for a stretch that begins behind so many entries, for the end that is judged alone,
+    /// where one is; behind the stretch a mark stands or not.
     pub(crate) fn with_stretch(
         self,
         alloc: Global,
+        judged: Option<End>,
+        marked: bool,
         first: usize,
         entries: &[Entry],
     ) -> Result<Found, AllocError>
         requires few { first + length entries.now ≤ 100000 }
-        ensures { IfOk result (λ found. found ≡ then_certificate self (behind first (of_stretch entries.now))) }
+        ensures { IfOk result (λ found. found
+            ≡ then_certificate self (behind first (of_stretch judged marked entries.now))) }
     {
         let transactions = transactions_of(alloc, entries)?;
         let ties = ties_of(alloc, entries)?;
-        let fates = fates_of(alloc, entries, &transactions, &ties)?;
+        let fates = fates_of(alloc, judged, marked, entries, &transactions, &ties)?;
         let expire = expiries_of(alloc, entries, &transactions, &fates)?;
         let close = closings_of(alloc, entries, &transactions, &ties, &fates)?;
         let mut found = self;

@@ -2,6 +2,7 @@
 //! Nothing of it is believed: `tcap_check` replays it.
 #![tactic(auto)]
 
+pub mod alone_rows;
 mod by_invocation;
 mod candidates;
 mod closings;
@@ -16,7 +17,8 @@ mod stacks;
 mod sweep;
 mod tie;
 mod ties;
+mod unanswered;
 pub mod worked;
 
-pub use searching::search;
+pub use searching::{search, search_for};
 pub use tcap_refute::{Kind, Refutation, SearchFault, refute};

@@ -21,3 +21,18 @@ pub fn not_lawful()
 pub fn bad_entry()
     ensures { worked.bad_entry }
 {}
+
+/// An End that an Abort of its receiver's provider does not hold back, for one end alone.
+pub fn end_before_an_abort()
+    ensures { worked.end_before_an_abort }
+{}
+
+/// A Begin that nobody answered before a mark is lost, for its receiver alone.
+pub fn lost_begin()
+    ensures { worked.lost_begin }
+{}
+
+/// So is a Continue to a half that sent none.
+pub fn lost_continue()
+    ensures { worked.lost_continue }
+{}

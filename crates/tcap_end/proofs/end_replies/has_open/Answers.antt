@@ -5,14 +5,8 @@ use Rattle.tcap_end.proofs.OverLaws.{own_there}
 use Rattle.tcap_end.proofs.ReplyLaws.{shows_open}
 use Rattle.tcap_end.proofs.end_replies.has_open.Goals as goal
 
-pub half-requires-clause-there : goal.half-requires-clause-there
-half-requires-clause-there c = (
-  c.in-Some.ensures.0,
-  own_there (end_of c.args.halves.now) c.args.id.octets.now c.in-Some.found c.requires.sound c.in-Some.ensures,
-)
-
 pub returns-in-Some : goal.returns-in-Some
 returns-in-Some c =
-    let had = own_there (end_of c.args.halves.now) c.args.id.octets.now c.in-Some.found c.requires.sound c.in-Some.ensures in
-    c.is_some.ensures ∙ shows_open c.in-Some.ensures.0 c.half.result (c.half.ensures c.in-Some.ensures.0 had)
-    ∙ sym (ap is_open c.in-Some.ensures.1)
+    let had = own_there (end_of c.args.halves.now) c.args.id.octets.now c.in-Some.found c.requires.sound c.in-Some.ensures.half in
+    c.is_some.ensures ∙ shows_open c.in-Some.ensures.half.0 c.half.result (c.half.ensures c.in-Some.ensures.half.0 had)
+    ∙ sym (ap is_open c.in-Some.ensures.half.1)

@@ -1,8 +1,8 @@
 use Rattle.std.proofs.Common.{length, get_or, not, refl, sym, ap, ◌∙◌}
 use Rattle.tcap_search.specs.declared.tie.Tie.{Tie}
 use Rattle.tcap_search.specs.Lines.{lines_of}
-use Rattle.tcap_search.specs.Proposed.{all_fated}
-use Rattle.tcap_search.proofs.ClosingLaws.{listed_again, listed_more, shown_below}
+use Rattle.tcap_search.specs.Proposed.{fated}
+use Rattle.tcap_search.proofs.ClosingLaws.{listed_again, listed_more, listed_same, shown_below}
 use Rattle.tcap_search.proofs.closings.closings_of.Goals.{then-is_none+in_ok-push, else-is_none}
 use Rattle.tcap_search.proofs.closings.closings_of.Goals as goal
 
@@ -10,7 +10,7 @@ pub loop-tie-preserved : goal.loop-tie-preserved
 loop-tie-preserved c =
     let entries = c.args.entries.now in
     let lines = lines_of entries in
-    let all = all_fated lines in
+    let all = fated lines c.args.fates.now in
     let ties = c.args.ties.now in
     let count = length entries in
     let i = c.loop-tie.tie-index in
@@ -22,7 +22,7 @@ loop-tie-preserved c =
     let t = get_or ties i zero_tie in
     let side = c.in-Some.side in
     let transaction = c.in-Some.transaction in
-    let shown = sym c.in-Some.ensures in
+    let shown = sym (c.in-Some.ensures all c.in_ok-told.ensures) in
     let within = shown_below entries all t.entry t.reply side transaction shown in
     let is_none = rw c.get.ensures at c.is_none.ensures in
     elim c.if-is_none.branch [
@@ -34,3 +34,13 @@ loop-tie-preserved c =
           (listed_again all lines ties count i listed old zero_tie t below refl so_far side transaction shown within
           (is_none ∙ ap not w.if-is_none.false))
     ]
+
+pub loop-tie-preserved-in_default : goal.loop-tie-preserved-in_default
+loop-tie-preserved-in_default c =
+    let lines = lines_of c.args.entries.now in
+    let all = fated lines c.args.fates.now in
+    let i = c.loop-tie.tie-index in
+    let zero_tie : Tie = record { entry = 0; reply = 0 } in
+    listed_same all lines c.args.ties.now (length c.args.entries.now) i c.loop-tie.listed.items c.loop-tie.kept zero_tie
+    (get_or c.args.ties.now i zero_tie) c.loop-tie-test.true refl c.loop-tie.invariant
+    (sym (c.in_default.ensures all c.in_ok-told.ensures))

@@ -1,11 +1,11 @@
 -- what the ties so far list, and what those that are left add to it
 use Rattle.std.proofs.Common.{length}
 use Rattle.tcap_search.specs.Lines.{lines_of}
-use Rattle.tcap_search.specs.Proposed.{all_fated}
+use Rattle.tcap_search.specs.Proposed.{fated}
 use Rattle.tcap_search.proofs.ClosingLaws.{Listed}
 use Rattle.tcap_search.proofs.closings.closings_of.Given as goal
 
 abbrev pub invariant-loop-tie : goal.invariant-loop-tie
 invariant-loop-tie l =
-    Listed (all_fated (lines_of l.entries)) (lines_of l.entries) l.ties (length l.entries) l.tie-index l.listed.items
-    l.kept
+    Listed (fated (lines_of l.entries) l.fates) (lines_of l.entries) l.ties (length l.entries) l.tie-index
+    l.listed.items l.kept

@@ -2,13 +2,11 @@ use Rattle.std.proofs.Common.{length, get_or, None, refl, sym, arith}
 use Rattle.tcap_check.specs.declared.certificate.Fate.TheVariants.{Gap}
 use Rattle.tcap_search.proofs.LineLaws.{count_transactions, transaction_is}
 use Rattle.tcap_search.proofs.ToldLaws.{told_all, told_more, told_other}
-use Rattle.tcap_search.proofs.LossLaws.{count_fates}
 use Rattle.tcap_search.proofs.closings.told_of.Goals.{in-Some, in_default}
 use Rattle.tcap_search.proofs.closings.told_of.Goals as goal
 
 pub bounds-fates-number : goal.bounds-fates-number
-bounds-fates-number c =
-    let counted = count_fates c.args.entries.now c.args.fates.now c.requires.fates in omega arith
+bounds-fates-number c = omega (arith, c.requires.count)
 
 pub bounds-transactions-number : goal.bounds-transactions-number
 bounds-transactions-number c =
@@ -17,7 +15,7 @@ bounds-transactions-number c =
 pub returns : goal.returns
 returns c =
     let l = c.loop-number in
-    told_all c.args.entries.now c.args.fates.now l.number l.told c.requires.fates c.loop-number-test.false l.invariant
+    told_all c.args.entries.now c.args.fates.now l.number l.told c.requires.count c.loop-number-test.false l.invariant
 
 pub loop-number-preserved : goal.loop-number-preserved
 loop-number-preserved c =
@@ -30,7 +28,7 @@ loop-number-preserved c =
     let below = c.loop-number-test.true in
     let e = c.index-entries-number.result in
     let read = c.index-entries-number.is in
-    let counted = count_fates entries fates c.requires.fates in
+    let counted = c.requires.count in
     elim c.match-gap_told.branch [
       | in-Some w ↦ rw w.told-is
           (told_more entries fates i old e (Gap 0) (get_or fates i (Gap 0)) below counted read refl so_far

@@ -2,12 +2,11 @@
 use Rattle.std.proofs.Common.{◌≡◌, ◌+◌, ℕ, ℤ, Bool, List, [], length, ap, arith, ◌∙◌}
 use Rattle.tcap_record.specs.declared.entry.End.{End as Side}
 use Rattle.tcap_search.specs.Lines.{Line, lines_of}
-use Rattle.tcap_search.specs.Proposed.{all_fated, expiries_from}
+use Rattle.tcap_search.specs.Proposed.{expiries_from, fated}
 use Rattle.tcap_search.specs.ByInvocation.{kept_at}
 use Rattle.tcap_search.specs.Due.{due_at, due_in}
 use Rattle.tcap_search.specs.Sweep.{answer_kept}
 use Rattle.tcap_search.proofs.ExpirySteps.{answers_start, answers_stay, answers_step, invokes_step, listed_step}
-use Rattle.tcap_search.proofs.LossLaws.{count_fates}
 use Rattle.tcap_search.proofs.FateSteps.{all_lines}
 use Rattle.tcap_search.proofs.LineLaws.{count_transactions}
 use Rattle.tcap_search.proofs.SweepLaws.{answered_in}
@@ -15,7 +14,7 @@ use Rattle.tcap_search.proofs.expiries.expiries_of.Goals as goal
 
 pub due_by_gap-requires : goal.due_by_gap-requires
 due_by_gap-requires c = record {
-  few = omega (arith, count_fates c.args.entries.now c.args.fates.now c.requires.fates);
+  few = omega (arith, c.requires.count);
 }
 
 pub bounds-transactions-number : goal.bounds-transactions-number
@@ -25,7 +24,7 @@ bounds-transactions-number c =
 pub loop-number-init : goal.loop-number-init
 loop-number-init c = record {
   invokes = c.new-sweep.ensures.invokes;
-  answers = answers_start c.args.entries.now c.new-sweep.result c.new-sweep.ensures.answers;
+  answers = answers_start c.args.entries.now c.args.fates.now c.new-sweep.result c.new-sweep.ensures.answers;
   added = c.new-listed.ensures.none;
   listed = c.new-listed.ensures.listed;
 }
@@ -37,17 +36,17 @@ loop-number-preserved c =
     let fates = c.args.fates.now in
     let i = c.loop-number.number in
     let e = c.index-entries-number.result in
-    let count : length fates ≡ length entries = count_fates entries fates c.requires.fates in
+    let count : length fates ≡ length entries = c.requires.count in
     let due : c.due_at.result.now ≡ due_in i 0 fates =
     c.due_at.ensures ∙ ap (due_at i) c.deref.ensures.value ∙ c.in_ok-due.ensures i (omega arith) in
     let answers : (is_result : Bool) (t : ℕ) (s : Side) (id : ℤ) → answer_kept is_result t s id c.deliver_all.new.self
-    ≡ answered_in (lines_of entries) (all_fated (lines_of entries)) (i + 1) is_result t s id =
-    answers_step entries transactions fates c.requires.transactions c.requires.fates i c.loop-number.sweep
+    ≡ answered_in (lines_of entries) (fated (lines_of entries) fates) (i + 1) is_result t s id =
+    answers_step entries transactions fates c.requires.transactions count c.requires.order i c.loop-number.sweep
     c.deliver_all.new.self c.due_at.result.now due c.loop-number.invariant.invokes c.loop-number.invariant.answers
     c.in_ok-deliver_all.ensures.noted in
     record {
       invokes = λ t s id.
-          invokes_step entries transactions fates c.requires.transactions c.requires.fates i c.loop-number-test.true e
+          invokes_step entries transactions fates c.requires.transactions count c.requires.order i c.loop-number-test.true e
           c.index-entries-number.is (kept_at t s id c.deliver_all.new.self.invokes)
           (kept_at t s id c.note_entry.new.self.invokes) t s id
           (rw c.deliver_all.ensures.invokes (c.loop-number.invariant.invokes t s id))
@@ -56,7 +55,7 @@ loop-number-preserved c =
           answers_stay c.deliver_all.new.self c.note_entry.new.self c.note_entry.ensures.results
           c.note_entry.ensures.errors
           is_result t s id ∙ answers is_result t s id;
-      added = listed_step entries transactions fates c.requires.transactions c.requires.fates i
+      added = listed_step entries transactions fates c.requires.transactions count c.requires.order i
           c.loop-number-test.true e c.index-entries-number.is c.deliver_all.new.self c.loop-number.listed.expiries.items
           c.add_entry.new.self.expiries.items answers c.loop-number.invariant.added c.in_ok-add_entry.ensures.added;
       listed = c.in_ok-add_entry.ensures.listed;
@@ -64,6 +63,6 @@ loop-number-preserved c =
 
 pub returns : goal.returns
 returns c = c.loop-number.invariant.added
-    ∙ ap (λ (ls : List Line). expiries_from (all_fated (lines_of c.args.entries.now))
+    ∙ ap (λ (ls : List Line). expiries_from (fated (lines_of c.args.entries.now) c.args.fates.now)
     (lines_of c.args.entries.now) ls [])
     (all_lines c.args.entries.now c.loop-number.number c.loop-number-test.false)

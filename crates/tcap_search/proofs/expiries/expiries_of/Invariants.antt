@@ -2,7 +2,7 @@
 use Rattle.std.proofs.Common.{◌≡◌, ℕ, ℤ, Bool, [], take}
 use Rattle.tcap_record.specs.declared.entry.End.{End as Side}
 use Rattle.tcap_search.specs.Lines.{lines_of}
-use Rattle.tcap_search.specs.Proposed.{all_fated, expiries_from}
+use Rattle.tcap_search.specs.Proposed.{expiries_from, fated}
 use Rattle.tcap_search.specs.ByInvocation.{kept_at}
 use Rattle.tcap_search.specs.Listed.{IsListed}
 use Rattle.tcap_search.specs.Sweep.{answer_kept, invoked_in}
@@ -14,8 +14,9 @@ invariant-loop-number l = record {
   invokes : (t : ℕ) (s : Side) (id : ℤ) → kept_at t s id l.sweep.invokes
       ≡ invoked_in (take l.number (lines_of l.entries)) t s id;
   answers : (is_result : Bool) (t : ℕ) (s : Side) (id : ℤ) → answer_kept is_result t s id l.sweep
-      ≡ answered_in (lines_of l.entries) (all_fated (lines_of l.entries)) l.number is_result t s id;
+      ≡ answered_in (lines_of l.entries) (fated (lines_of l.entries) l.fates) l.number is_result t s id;
   added : l.listed.expiries.items
-      ≡ expiries_from (all_fated (lines_of l.entries)) (lines_of l.entries) (take l.number (lines_of l.entries)) [];
+      ≡ expiries_from (fated (lines_of l.entries) l.fates) (lines_of l.entries)
+      (take l.number (lines_of l.entries)) [];
   listed : IsListed l.listed;
 }

@@ -32,7 +32,7 @@ loop-number-preserved c =
             c.gap_raised-least.ensures,
           )
           (fate_step c.args.entries.now c.args.transactions.now c.requires.transactions c.loop-number.number
-          c.loop-number-test.true c.index-entries-number.result c.index-entries-number.is c.args.ties.now
+          c.loop-number-test.true c.index-entries-number.result c.index-entries-number.is c.args.judged c.args.ties.now
           c.in_ok-gaps.gaps.items c.loop-number.raised c.in_ok-gaps.ensures c.loop-number.invariant.raised
           c.loop-number.fates.items c.loop-number.invariant.fates);
       raised = λ side. c.raise.ensures side ∙ rw reply
@@ -43,5 +43,5 @@ loop-number-preserved c =
 
 pub returns : goal.returns
 returns c = c.loop-number.invariant.fates
-    ∙ ap (map (fate_of (lines_of c.args.entries.now) c.args.ties.now))
+    ∙ ap (map (fate_of c.args.judged (lines_of c.args.entries.now) c.args.ties.now))
     (all_lines c.args.entries.now c.loop-number.number c.loop-number-test.false)

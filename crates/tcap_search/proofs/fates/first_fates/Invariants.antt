@@ -9,6 +9,6 @@ use Rattle.tcap_search.proofs.fates.first_fates.Given as goal
 
 abbrev pub invariant-loop-number : goal.invariant-loop-number
 invariant-loop-number l = record {
-  fates : l.fates.items ≡ map (fate_of (lines_of l.entries) l.ties) (take l.number (lines_of l.entries));
+  fates : l.fates.items ≡ map (fate_of l.fn.judged (lines_of l.entries) l.ties) (take l.number (lines_of l.entries));
   raised : (side : Side) → at_end side l.raised ≡ highest side (take l.number (lines_of l.entries)) l.ties;
 }

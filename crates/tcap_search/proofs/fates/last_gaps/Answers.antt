@@ -14,11 +14,11 @@ loop-number-preserved c = record {
   gaps = λ side t within.
       c.note_last.ensures.noted side t (omega arith)
       ∙ gap_step c.args.entries.now c.args.transactions.now c.requires.transactions c.loop-number.number
-      c.loop-number-test.true c.index-entries-number.result c.index-entries-number.is side t _
+      c.loop-number-test.true c.index-entries-number.result c.index-entries-number.is c.args.judged side t _
       (c.loop-number.invariant.gaps side t within);
   count = c.note_last.ensures.count ∙ c.loop-number.invariant.count;
 }
 
 pub returns : goal.returns
 returns c = λ side t within. c.loop-number.invariant.gaps side t within
-    ∙ ap (gap_behind_last side t) (all_lines c.args.entries.now c.loop-number.number (omega arith))
+    ∙ ap (gap_behind_last c.args.judged side t) (all_lines c.args.entries.now c.loop-number.number (omega arith))

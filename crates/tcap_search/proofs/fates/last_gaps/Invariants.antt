@@ -8,6 +8,6 @@ use Rattle.tcap_search.proofs.fates.last_gaps.Given as goal
 abbrev pub invariant-loop-number : goal.invariant-loop-number
 invariant-loop-number l = record {
   gaps : (side : Side) (t : ℕ) → t < length l.entries
-      → gap_kept side t l.gaps.items ≡ gap_behind_last side t (take l.number (lines_of l.entries));
+      → gap_kept side t l.gaps.items ≡ gap_behind_last l.judged side t (take l.number (lines_of l.entries));
   count : length l.gaps.items ≡ length l.entries;
 }

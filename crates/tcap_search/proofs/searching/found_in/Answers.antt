@@ -9,7 +9,7 @@ loop-number-preserved c =
     elim c.if-is_mark.branch [
       | then-is_mark+in_ok-with_stretch+in_ok-found w ↦ record {
         count = rw (w.first-is, w.found-is, w.in_ok-found.ensures, w.in_ok-with_stretch.ensures)
-            (count_begins c.args.entries.now c.loop-number.found c.loop-number.first c.loop-number.number was.begun
+            (count_begins c.args.judged c.args.entries.now c.loop-number.found c.loop-number.first c.loop-number.number was.begun
             c.loop-number-test.true was.count);
         begun = rw (w.first-is) (omega arith);
         within = omega (arith, c.loop-number-test.true);
@@ -18,7 +18,7 @@ loop-number-preserved c =
             rw (w.first-is, nothing) refl;
         is =
             rw (w.first-is, w.found-is, w.in_ok-found.ensures, w.in_ok-with_stretch.ensures)
-            (sym (begins_at c.args.entries.now c.loop-number.first c.loop-number.number was.begun
+            (sym (begins_at c.args.entries.now c.loop-number.first c.loop-number.number was.begun c.args.judged
             c.index-entries-number.result c.loop-number.found c.loop-number-test.true c.index-entries-number.is
             (sym w.if-is_mark.ensures) was.none) ∙ was.is);
       }
@@ -42,10 +42,10 @@ returns c =
     answers_so _ _ c.with_stretch-2.result
     (λ found is. (
       is
-          ∙ sym (ends_at c.args.entries.now c.loop-number.first c.loop-number.number was.begun
+          ∙ sym (ends_at c.args.entries.now c.loop-number.first c.loop-number.number was.begun c.args.judged
           c.loop-number.found all was.none)
           ∙ was.is,
-      rw is (count_ends c.args.entries.now c.loop-number.found c.loop-number.first
+      rw is (count_ends c.args.judged c.args.entries.now c.loop-number.found c.loop-number.first
           (omega (arith, was.begun, was.within)) was.count),
     ))
     c.with_stretch-2.ensures

@@ -1,5 +1,5 @@
 use Rattle.std.proofs.Common.{◌≡◌, ◌≤◌, ◌-◌, length, take, drop, false}
-use Rattle.tcap_search.specs.Proposed.{of_stretches, proposed, stretches, then_certificate}
+use Rattle.tcap_search.specs.Proposed.{of_stretches, proposed_by, stretches, then_certificate}
 use Rattle.tcap_search.proofs.StretchLaws.{has_mark}
 use Rattle.tcap_search.proofs.searching.found_in.Given as goal
 
@@ -10,5 +10,6 @@ invariant-loop-number l = record {
   begun : l.first ≤ l.number;
   within : l.number ≤ length l.entries;
   none : has_mark (take (l.number - l.first) (drop l.first l.entries)) ≡ false;
-  is : then_certificate l.found (of_stretches l.first (stretches (drop l.first l.entries))) ≡ proposed l.entries;
+  is : then_certificate l.found (of_stretches l.judged l.first (stretches (drop l.first l.entries)))
+      ≡ proposed_by l.judged l.entries;
 }

@@ -17,6 +17,7 @@ use Rattle.tcap_end.proofs.HalfLaws.{Follows, follows_self}
 use Rattle.tcap_end.proofs.ChangeLaws.{answers_on, going_on, held_on, kept_on}
 use Rattle.tcap_end.proofs.AllPlacedLaws.{placed_on}
 use Rattle.tcap_end.proofs.AnswerLaws.{Reindexed, over_index, at_before, held_gains, held_too, not_led, placed_too, reindexed, reindexed_on, reindexed_then, same_end, serves_of, slot_of, steps_follow, taken_out, under_before}
+use Rattle.tcap_end.proofs.FindLaws.{still_numbered}
 use Rattle.tcap_end.proofs.halves.Halves.activate_over.Goals as goal
 use Rattle.tcap_end.proofs.halves.Halves.activate_over.Goals.{After-activate, After-remove_index, In-Ok}
 
@@ -145,3 +146,8 @@ returns-in-Err-clause-held c =
 
 pub returns-in-Err-clause-placed : goal.returns-in-Err-clause-placed
 returns-in-Err-clause-placed c all = placed_too (without_entry c) (placed (at_err c) all)
+
+pub number-number-requires-clause-found : goal.number-number-requires-clause-found
+number-number-requires-clause-found c =
+    let others = c.in_ok-put_index.ensures.others in
+    still_numbered c.args.self.now c.put_index.new.self c.args.found.now others.1 others.2 c.requires.found

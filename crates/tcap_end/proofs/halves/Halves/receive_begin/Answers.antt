@@ -30,7 +30,7 @@ add-requires-clause-new c =
     let components = components_left c.args.components in
     let standing = c.first_standing-standing.result in
     let start = fresh phases.Received None (Some id) standing in
-    let none = told_none (with_peer (end_of s) id) c.with_peer.result (sym c.is_some.ensures ∙ c.if-is_some.false) c.with_peer.ensures in
+    let none = told_none (with_peer (end_of s) id) c.with_peer.result (sym c.is_some.ensures ∙ c.if-is_some.false) c.with_peer.ensures.half in
     let begun : half_of c.new-half.result ≡ start = rw c.to_transaction_id.ensures at c.new-half.ensures.half in
     let made = ok_same {F = EndFault} (receive_components table start components) (half_of c.step_components.new.self)
     (sym (receives_in table start components)
@@ -44,7 +44,7 @@ pub returns-in_err-step_components-clause-step : goal.returns-in_err-step_compon
 returns-in_err-step_components-clause-step c =
     let e = end_of c.args.self.now in
     let id = c.args.otid.octets.now in
-    let none = told_none (with_peer e id) c.with_peer.result (sym c.is_some.ensures ∙ c.if-is_some.false) c.with_peer.ensures in
+    let none = told_none (with_peer e id) c.with_peer.result (sym c.is_some.ensures ∙ c.if-is_some.false) c.with_peer.ensures.half in
     let half = rw (c.to_transaction_id.ensures, c.first_standing-standing.ensures) at c.new-half.ensures.half in
     let p = err_from_is_err_and c.from_residual.result c.from_residual.ensures.1 in
     rw (p.1, p.2) (λ apart.
@@ -55,7 +55,7 @@ pub returns-clause-step : goal.returns-clause-step
 returns-clause-step c =
     let e = end_of c.args.self.now in
     let id = c.args.otid.octets.now in
-    let none = told_none (with_peer e id) c.with_peer.result (sym c.is_some.ensures ∙ c.if-is_some.false) c.with_peer.ensures in
+    let none = told_none (with_peer e id) c.with_peer.result (sym c.is_some.ensures ∙ c.if-is_some.false) c.with_peer.ensures.half in
     let half = rw (c.to_transaction_id.ensures, c.first_standing-standing.ensures) at c.new-half.ensures.half in
     let slot = c.in_ok-step_components.ensures.slot ∙ c.new-half.ensures.slot in
     let added = rw (slot, c.to_transaction_id-2.ensures) at c.in_ok-add.ensures.added in

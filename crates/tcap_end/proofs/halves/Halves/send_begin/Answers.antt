@@ -27,7 +27,7 @@ add-requires-clause-new c =
     let components = components_left c.args.components in
     let standing = c.first_standing-standing.result in
     let start = fresh phases.Sent (Some id) None standing in
-    let none = told_none (with_own (end_of s) id) c.with_own.result (sym c.is_some.ensures ∙ c.if-is_some.false) c.with_own.ensures in
+    let none = told_none (with_own (end_of s) id) c.with_own.result (sym c.is_some.ensures ∙ c.if-is_some.false) c.with_own.ensures.half in
     let begun : half_of c.new-half.result ≡ start = rw c.to_transaction_id.ensures at c.new-half.ensures.half in
     let made = sym (sends_out table start components)
     ∙ (ap (λ (h : Half). components_by Out table h components) (sym begun) ∙ c.in_ok-step_components.ensures.step) in
@@ -40,7 +40,7 @@ pub returns-in_err-step_components-clause-step : goal.returns-in_err-step_compon
 returns-in_err-step_components-clause-step c =
     let e = end_of c.args.self.now in
     let id = c.args.otid.octets.now in
-    let none = told_none (with_own e id) c.with_own.result (sym c.is_some.ensures ∙ c.if-is_some.false) c.with_own.ensures in
+    let none = told_none (with_own e id) c.with_own.result (sym c.is_some.ensures ∙ c.if-is_some.false) c.with_own.ensures.half in
     let half = rw (c.to_transaction_id.ensures, c.first_standing-standing.ensures) at c.new-half.ensures.half in
     let p = err_from_is_err_and c.from_residual.result c.from_residual.ensures.1 in
     rw (p.1, p.2) (λ apart.
@@ -52,7 +52,7 @@ pub returns-clause-step : goal.returns-clause-step
 returns-clause-step c =
     let e = end_of c.args.self.now in
     let id = c.args.otid.octets.now in
-    let none = told_none (with_own e id) c.with_own.result (sym c.is_some.ensures ∙ c.if-is_some.false) c.with_own.ensures in
+    let none = told_none (with_own e id) c.with_own.result (sym c.is_some.ensures ∙ c.if-is_some.false) c.with_own.ensures.half in
     let half = rw (c.to_transaction_id.ensures, c.first_standing-standing.ensures) at c.new-half.ensures.half in
     let slot = c.in_ok-step_components.ensures.slot ∙ c.new-half.ensures.slot in
     let added = rw (slot, c.to_transaction_id-2.ensures) at c.in_ok-add.ensures.added in

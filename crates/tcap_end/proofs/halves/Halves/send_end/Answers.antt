@@ -13,30 +13,24 @@ use Rattle.tcap_end.proofs.OverLaws.{over_peer, peer_there}
 use Rattle.tcap_end.proofs.SendStepLaws.{becomes_closed, ends_closed, ends_half, ends_wrong, stays_err}
 use Rattle.tcap_end.proofs.halves.Halves.send_end.Goals as goal
 
-pub half-requires-clause-there : goal.half-requires-clause-there
-half-requires-clause-there c = (
-  c.in-Some.ensures.0,
-  peer_there (end_of c.args.self.now) c.args.dtid.octets.now c.in-Some.found c.requires.sound c.in-Some.ensures,
-)
-
 pub returns-in_default-half-clause-step : goal.returns-in_default-half-clause-step
 returns-in_default-half-clause-step c _ =
     let e = end_of c.args.self.now in
-    let had = peer_there e c.args.dtid.octets.now c.in-Some.found c.requires.sound c.in-Some.ensures in
+    let had = peer_there e c.args.dtid.octets.now c.in-Some.found c.requires.sound c.in-Some.ensures.half in
     ends_closed c.args.table.now e c.args.dtid.octets.now (option_map dialogue_of c.args.dialogue) (components_left c.args.components)
-    c.in-Some.ensures.1 (c.in_default-half.ensures c.in-Some.ensures.0 had)
+    c.in-Some.ensures.half.1 (c.in_default-half.ensures c.in-Some.ensures.half.0 had)
 
 pub returns-then-not-may_go_on-clause-step : goal.returns-then-not-may_go_on-clause-step
 returns-then-not-may_go_on-clause-step c _ =
     let over = over_peer c.args.self.now c.args.dtid.octets.now c.in-Some.found c.in-Some-half.half.now
-    c.requires.sound c.in-Some.ensures c.in-Some-half.ensures in
+    c.requires.sound c.in-Some.ensures.half c.in-Some-half.ensures in
     ends_wrong c.args.table.now (end_of c.args.self.now) c.args.dtid.octets.now (option_map dialogue_of c.args.dialogue)
     (components_left c.args.components) over.is over.is_open (sym c.may_go_on.ensures ∙ c.if-not-may_go_on.true)
 
 pub step_over-requires-clause-open : goal.step_over-requires-clause-open
 step_over-requires-clause-open c =
     (over_peer c.args.self.now c.args.dtid.octets.now c.in-Some.found c.in-Some-half.half.now
-    c.requires.sound c.in-Some.ensures c.in-Some-half.ensures).there
+    c.requires.sound c.in-Some.ensures.half c.in-Some-half.ensures).there
 
 pub returns-in_err-step_over-clause-step : goal.returns-in_err-step_over-clause-step
 returns-in_err-step_over-clause-step c =
@@ -44,7 +38,7 @@ returns-in_err-step_over-clause-step c =
     let found = c.in-Some.found in
     let h = half_of c.in-Some-half.half.now in
     let over = over_peer c.args.self.now c.args.dtid.octets.now c.in-Some.found c.in-Some-half.half.now
-    c.requires.sound c.in-Some.ensures c.in-Some-half.ensures in
+    c.requires.sound c.in-Some.ensures.half c.in-Some-half.ensures in
     let p = err_from_is_err_and c.from_residual.result c.from_residual.ensures.1 in
     rw (p.1, p.2) (λ apart.
     ends_half c.args.table.now e c.args.dtid.octets.now (option_map dialogue_of c.args.dialogue) (components_left c.args.components)
@@ -57,7 +51,7 @@ returns-clause-step c =
     let s = c.args.self.now in
     let h = half_of c.in-Some-half.half.now in
     let over = over_peer c.args.self.now c.args.dtid.octets.now c.in-Some.found c.in-Some-half.half.now
-    c.requires.sound c.in-Some.ensures c.in-Some-half.ensures in
+    c.requires.sound c.in-Some.ensures.half c.in-Some-half.ensures in
     ends_half c.args.table.now (end_of s) c.args.dtid.octets.now (option_map dialogue_of c.args.dialogue)
     (components_left c.args.components) over.is over.is_open (sym c.may_go_on.ensures ∙ c.if-not-may_go_on.false)
     ∙ becomes_closed s c.step_over.new.self c.close.new.self c.in-Some.found.slot c.in-Some.found.key

@@ -11,26 +11,20 @@ use Rattle.tcap_end.proofs.OverLaws.{over_half, over_peer, peer_there}
 use Rattle.tcap_end.proofs.SendStepLaws.{closed_unreceived, first_goes, first_none, first_wrong, received_accepted, received_own}
 use Rattle.tcap_end.proofs.halves.Halves.send_first_continue.Goals as goal
 
-pub half-requires-clause-there : goal.half-requires-clause-there
-half-requires-clause-there c = (
-  c.in-Some.ensures.0,
-  peer_there (end_of c.args.self.now) c.args.dtid.octets.now c.in-Some.found c.requires.sound c.in-Some.ensures,
-)
-
 pub returns-in_default-half-clause-step : goal.returns-in_default-half-clause-step
 returns-in_default-half-clause-step c _ =
     let e = end_of c.args.self.now in
-    let had = peer_there e c.args.dtid.octets.now c.in-Some.found c.requires.sound c.in-Some.ensures in
+    let had = peer_there e c.args.dtid.octets.now c.in-Some.found c.requires.sound c.in-Some.ensures.half in
     first_none c.args.table.now e c.args.otid.octets.now c.args.dtid.octets.now (option_map dialogue_of c.args.dialogue)
     (components_left c.args.components)
-    c.in-Some.ensures.1 (closed_unreceived c.in-Some.ensures.0.phase (c.in_default-half.ensures c.in-Some.ensures.0 had))
+    c.in-Some.ensures.half.1 (closed_unreceived c.in-Some.ensures.half.0.phase (c.in_default-half.ensures c.in-Some.ensures.half.0 had))
 
 pub returns-then-not-is_received-clause-step : goal.returns-then-not-is_received-clause-step
 returns-then-not-is_received-clause-step c _ =
     first_none c.args.table.now (end_of c.args.self.now) c.args.otid.octets.now c.args.dtid.octets.now
     (option_map dialogue_of c.args.dialogue) (components_left c.args.components)
     (over_peer c.args.self.now c.args.dtid.octets.now c.in-Some.found c.in-Some-half.half.now
-    c.requires.sound c.in-Some.ensures c.in-Some-half.ensures).is
+    c.requires.sound c.in-Some.ensures.half c.in-Some-half.ensures).is
     (sym c.is_received.ensures ∙ c.if-not-is_received.true)
 
 pub returns-then-not-may_go_on-clause-step : goal.returns-then-not-may_go_on-clause-step
@@ -38,14 +32,14 @@ returns-then-not-may_go_on-clause-step c _ =
     first_wrong c.args.table.now (end_of c.args.self.now) c.args.otid.octets.now c.args.dtid.octets.now
     (option_map dialogue_of c.args.dialogue) (components_left c.args.components)
     (over_peer c.args.self.now c.args.dtid.octets.now c.in-Some.found c.in-Some-half.half.now
-    c.requires.sound c.in-Some.ensures c.in-Some-half.ensures).is
+    c.requires.sound c.in-Some.ensures.half c.in-Some-half.ensures).is
     (sym c.is_received.ensures ∙ c.if-not-is_received.false)
     (sym c.may_go_on.ensures ∙ c.if-not-may_go_on.true)
 
 pub activate_over-requires-clause-open : goal.activate_over-requires-clause-open
 activate_over-requires-clause-open c =
     (over_peer c.args.self.now c.args.dtid.octets.now c.in-Some.found c.in-Some-half.half.now
-    c.requires.sound c.in-Some.ensures c.in-Some-half.ensures).there
+    c.requires.sound c.in-Some.ensures.half c.in-Some-half.ensures).there
 
 pub activate_over-requires-clause-unknown : goal.activate_over-requires-clause-unknown
 activate_over-requires-clause-unknown c h has =
@@ -59,7 +53,7 @@ pub activate_over-requires-clause-unused : goal.activate_over-requires-clause-un
 activate_over-requires-clause-unused c f has its =
     let at = received_accepted (end_of c.args.self.now) (over_half c.in-Some.found c.in-Some-half.half.now) c.requires.sound
     (over_peer c.args.self.now c.args.dtid.octets.now c.in-Some.found c.in-Some-half.half.now
-    c.requires.sound c.in-Some.ensures c.in-Some-half.ensures).had
+    c.requires.sound c.in-Some.ensures.half c.in-Some-half.ensures).had
     (sym c.is_received.ensures ∙ c.if-not-is_received.false) in
     none_own (end_of c.args.self.now) c.args.otid.octets.now f c.requires.unused has (rw (at, c.to_transaction_id.ensures) at its)
 
@@ -68,7 +62,7 @@ returns-clause-step c =
     let s = c.args.self.now in
     let h = half_of c.in-Some-half.half.now in
     let over = over_peer c.args.self.now c.args.dtid.octets.now c.in-Some.found c.in-Some-half.half.now
-    c.requires.sound c.in-Some.ensures c.in-Some-half.ensures in
+    c.requires.sound c.in-Some.ensures.half c.in-Some-half.ensures in
     let received = sym c.is_received.ensures ∙ c.if-not-is_received.false in
     let at = received_accepted (end_of s) (over_half c.in-Some.found c.in-Some-half.half.now) c.requires.sound over.had received in
     rw (

@@ -1,4 +1,4 @@
-use Rattle.std.proofs.Common.{◌≡◌, Result, Ok, Err, OnErr, sym, subst}
+use Rattle.std.proofs.Common.{◌≡◌, Result, Ok, Err, OnErr, refl, sym, subst}
 use Rattle.std.proofs.lemmas.Result.{on_err_weaker}
 use Rattle.tcap_parts.specs.Meaning.{components_left}
 use Rattle.tcap_end.specs.declared.fault.EndFault.{EndFault}
@@ -6,6 +6,7 @@ use Rattle.tcap_end.specs.Half.{Half}
 use Rattle.tcap_end.specs.Step.{AnswersInMemory}
 use Rattle.tcap_end.specs.HalfState.{half_of}
 use Rattle.tcap_end.specs.Ways.{components_by}
+use Rattle.tcap_end.proofs.FindLaws.{still_numbered}
 use Rattle.tcap_end.proofs.HalfLaws.{Follows, follows_self}
 use Rattle.tcap_end.proofs.AnswerLaws.{steps_follow}
 use Rattle.tcap_end.proofs.ChangeLaws.{answers_on, held_on, kept_on}
@@ -46,3 +47,6 @@ pub returns-clause-placed : goal.returns-clause-placed
 returns-clause-placed c =
     placed_on c.args.self.now c.number-number.result c.in-Some.half.now c.step_components.new.self
     (sym c.in-Some.ensures.value) c.step_components.ensures.slot
+
+pub returns-clause-found : goal.returns-clause-found
+returns-clause-found c = still_numbered c.args.self.now _ c.args.found.now refl refl c.requires.found

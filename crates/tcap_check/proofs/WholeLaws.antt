@@ -7,8 +7,8 @@ use Rattle.tcap_end.specs.End.{End, nothing, quiet}
 use Rattle.tcap_check.specs.World.{Item, OnItsWay, Sent, World}
 use Rattle.tcap_check.specs.Run.{BothKeepRules, Event, IsLawful, IsLawfulFor, Quiet, after, played}
 use Rattle.tcap_check.proofs.ReplaySteps.{played_on}
-use Rattle.tcap_refute.proofs.WholeTurns.{Drifts, Goes, Says, Takes, Turn, both_keep, with_newest}
-use Rattle.tcap_refute.proofs.WholeViews.{goes_lawful}
+use Rattle.tcap_check.proofs.WholeTurns.{Drifts, Goes, Says, Takes, Turn, both_keep, with_newest}
+use Rattle.tcap_check.proofs.WholeViews.{goes_lawful}
 
 -- both ends, what is on its way to each, and what was sent
 abbrev both : End → End → List OnItsWay → List OnItsWay → List Item → World

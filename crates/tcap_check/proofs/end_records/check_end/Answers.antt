@@ -1,0 +1,75 @@
+use Rattle.std.proofs.Common.{◌≡◌, List, [], ◌∷◌, Result, sym, ap, ap₂, subst, ◌∙◌, map, take, drop, ◌++◌, ◌+◌}
+use Rattle.tcap_record.specs.declared.entry.End.{End as Side}
+use Rattle.tcap_record.specs.declared.entry.Entry.{Entry}
+use Rattle.tcap_record.specs.Viewed.{entry_read}
+use Rattle.tcap_end.specs.Table.{Table}
+use Rattle.tcap_check.specs.declared.fault.Reason.{Reason}
+use Rattle.tcap_check.specs.declared.fault.Reason.TheVariants.{Memory}
+use Rattle.tcap_check.specs.World.{Item}
+use Rattle.tcap_check.specs.Certificate.{Certificate}
+use Rattle.tcap_check.specs.Entries.{item_of}
+use Rattle.tcap_check.specs.Replayed.{fault_at}
+use Rattle.tcap_check.specs.Alone.{heard_by}
+use Rattle.tcap_check.specs.Checking.{map_ok}
+use Rattle.tcap_check.specs.EndChecking.{EndTook, end_reported}
+use Rattle.tcap_check.proofs.EndRecordLaws.{answered_err, is_report, lawful_is, refused_short, same_fault}
+use Rattle.tcap_check.proofs.RecordLaws.{all_taken, taken_at, whole_is}
+use Rattle.tcap_check.proofs.end_records.check_end.Goals as goal
+
+pub returns-in-Err : goal.returns-in-Err
+returns-in-Err c =
+    let all = c.args.record.now.entries.items in
+    let i = c.loop-entry.entry-index in
+    let before = map item_of (take i all) in
+    let next : before ++ item_of c.entry-item.result ∷ [] ≡ before ++ item_of (entry_read c.view.result) ∷ [] =
+    ap (λ (x : Entry). before ++ item_of x ∷ []) (sym c.view.ensures) in
+    let so_far = taken_at all c.deref-entry-items.result.now i c.entry-item.result c.deref-entry-items.ensures.value
+    c.loop-entry-test.true c.entry-item.is ∙ next in
+    let same = ap₂ (λ (t : Table) (x : Certificate). map_ok (end_reported c.take.new.self.side) (heard_by c.take.new.self.side t x (map item_of all)))
+    (c.take.ensures.table ∙ c.loop-entry.invariant.table) (c.take.ensures.certificate ∙ c.loop-entry.invariant.certificate)
+    ∙ ap (λ (s : Side). map_ok (end_reported s) (heard_by s c.args.table.now c.args.certificate.now (map item_of all)))
+    (c.take.ensures.side ∙ c.loop-entry.invariant.side) in
+    record {
+      lawful = λ report e. cc;
+      exact = λ other.
+          refused_short c.take.new.self (before ++ item_of (entry_read c.view.result) ∷ []) (map item_of (drop (i + 1) all)) (map item_of all)
+          c.in-Err.fault
+          (c.take.ensures.took before c.loop-entry.invariant.took
+          (λ e. other (same_fault c.in-Err.fault (fault_at Memory 0) (sym c.in-Err.is ∙ e))))
+          (answered_err c.take.new.self.so_far c.in-Err.fault (sym c.take.ensures.answers ∙ c.in-Err.is))
+          (ap (λ (x : List (Result Item Reason)). x ++ map item_of (drop (i + 1) all)) (sym so_far) ∙ whole_is all (i + 1))
+          ∙ same;
+    }
+
+pub loop-entry-preserved : goal.loop-entry-preserved
+loop-entry-preserved c =
+    let all = c.args.record.now.entries.items in
+    let i = c.loop-entry.entry-index in
+    let before = map item_of (take i all) in
+    let next : before ++ item_of c.entry-item.result ∷ [] ≡ before ++ item_of (entry_read c.view.result) ∷ [] =
+    ap (λ (x : Entry). before ++ item_of x ∷ []) (sym c.view.ensures) in
+    let so_far = taken_at all c.deref-entry-items.result.now i c.entry-item.result c.deref-entry-items.ensures.value
+    c.loop-entry-test.true c.entry-item.is ∙ next in
+    record {
+      took = subst (λ (x : List (Result Item Reason)). EndTook c.take.new.self x) (sym so_far)
+          (c.take.ensures.took before c.loop-entry.invariant.took (c.in_default.not-Err (fault_at Memory 0)));
+      side = c.take.ensures.side ∙ c.loop-entry.invariant.side;
+      table = c.take.ensures.table ∙ c.loop-entry.invariant.table;
+      certificate = c.take.ensures.certificate ∙ c.loop-entry.invariant.certificate;
+    }
+
+pub returns-clause-lawful : goal.returns-clause-lawful
+returns-clause-lawful c = λ report e.
+    let all = c.args.record.now.entries.items in
+    let i = c.loop-entry.entry-index in
+    let whole = all_taken all c.deref-entry-items.result.now i c.deref-entry-items.ensures.value c.loop-entry-test.false in
+    let same = ap₂ (λ (t : Table) (x : Certificate). map_ok (end_reported c.loop-entry.checker.side)
+    (heard_by c.loop-entry.checker.side t x (map item_of all)))
+    c.loop-entry.invariant.table c.loop-entry.invariant.certificate
+    ∙ ap (λ (s : Side). map_ok (end_reported s) (heard_by s c.args.table.now c.args.certificate.now (map item_of all)))
+    c.loop-entry.invariant.side in
+    let exact = c.finish.ensures.finished (map item_of (take i all)) c.loop-entry.invariant.took (is_report c.finish.result report (fault_at Memory 0) e)
+    ∙ ap (λ (x : List Entry). map_ok (end_reported c.loop-entry.checker.side)
+    (heard_by c.loop-entry.checker.side c.loop-entry.checker.table c.loop-entry.checker.certificate (map item_of x))) whole
+    ∙ same in
+    lawful_is c.args.end c.args.table.now c.args.certificate.now all report (sym exact ∙ e)

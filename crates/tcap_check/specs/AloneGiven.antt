@@ -1,0 +1,24 @@
+-- What a certificate gives for one end alone: a run in which that end keeps the rules.
+use Rattle.std.specs.Prelude.{◌≡◌, ◌+◌, ◌*◌, ◌≤◌, List, length}
+use Rattle.tcap_record.specs.declared.entry.End.{End as Side}
+use Rattle.tcap_record.specs.declared.entry.Entry.{Entry}
+use Rattle.tcap_end.specs.Table.{Table}
+use Rattle.tcap_check.specs.World.{Item, other}
+use Rattle.tcap_check.specs.Run.{Event, IsRunOf, KeepsRules}
+use Rattle.tcap_check.specs.Certificate.{Certificate}
+use Rattle.tcap_check.specs.Entries.{AreItems, count_components}
+use Rattle.tcap_check.specs.Follows.{losses_from, lost_from}
+use Rattle.tcap_check.specs.Alone.{steps_of, unheard_of}
+
+-- The entries are items, and these events are a run that sends them, in which that end keeps the rules, whatever its peer sends.
+pub record IsGivenFor (side : Side) (table : Table) (c : Certificate) (entries : List Entry) (events : List Event) : Type 0 where
+  pub items : List Item
+  pub are : AreItems entries items
+  pub run : IsRunOf items table events
+  pub keeps : KeepsRules side events
+  pub bound : steps_of side events ≤ 3 * length entries + count_components items
+  pub unheard : unheard_of side events ≤ length entries
+
+-- Of the peer's messages exactly those are lost whose fates say so: none is discarded.
+abbrev pub DiscardsNothing : Side → Certificate → List Item → List Event → Type 0
+DiscardsNothing side c items events = losses_from (other side) events ≡ lost_from (other side) 0 c.fates items

@@ -1,0 +1,38 @@
+-- What holds of a checker of one end between entries.
+use Rattle.std.specs.Prelude.{◌≡◌, ◌≤◌, ◌*◌, ◌^◌, length}
+use Rattle.tcap_check.specs.declared.end_checker.EndReplaying.{EndReplaying}
+use Rattle.tcap_check.specs.EndChecking.{EndKept}
+use Rattle.tcap_check.specs.Plan.{IsPlan}
+
+abbrev pub end_kept_in : EndReplaying → EndKept
+end_kept_in x = record { hearing = x.hearing; entries = x.entries.items; since = x.since }
+
+-- It goes by the certificate's plan; there is a fate for each entry so far; and there are at most so many steps, and
+-- messages, for each.
+pub record IsEndReady (x : EndReplaying) : Type 0 where
+  pub plan : IsPlan x.certificate.now x.plan
+  pub count : length x.entries.items ≤ length x.certificate.now.fates
+  pub few : length x.certificate.now.fates ≤ 100000
+  pub room : x.hearing.progress.moves ≤ length x.entries.items * 2 ^ 68
+  pub own : x.hearing.own ≤ length x.entries.items
+  pub unheard : x.hearing.unheard ≤ length x.entries.items * 2 ^ 20
+
+-- All but the hearing is the same.
+pub record IsSameBesideHearing (x y : EndReplaying) : Type 0 where
+  pub alloc : y.alloc ≡ x.alloc
+  pub side : y.side ≡ x.side
+  pub table : y.table ≡ x.table
+  pub certificate : y.certificate ≡ x.certificate
+  pub plan : y.plan ≡ x.plan
+  pub entries : y.entries ≡ x.entries
+  pub since : y.since ≡ x.since
+
+-- All but what is kept of entries is the same.
+pub record IsSameBesideOutlines (x y : EndReplaying) : Type 0 where
+  pub alloc : y.alloc ≡ x.alloc
+  pub side : y.side ≡ x.side
+  pub table : y.table ≡ x.table
+  pub certificate : y.certificate ≡ x.certificate
+  pub plan : y.plan ≡ x.plan
+  pub hearing : y.hearing ≡ x.hearing
+  pub since : y.since ≡ x.since

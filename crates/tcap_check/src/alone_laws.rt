@@ -1,0 +1,50 @@
+//! What a certificate gives for one end alone: a run in which that end keeps the rules, whatever its peer sends. Each
+//! function says by its contract alone what holds of the definitions.
+
+ghost use Rattle.std.specs.Prelude.{◌≡◌, List, [], length, Ok};
+ghost use Rattle.tcap_record.specs.declared.entry.End.{End as Side};
+ghost use Rattle.tcap_record.specs.declared.entry.Entry.{Entry};
+ghost use Rattle.tcap_end.specs.Table.{Table};
+ghost use Rattle.tcap_check.specs.World.{Item, World, channel_from, other};
+ghost use Rattle.tcap_check.specs.Run.{Event, IsLawfulFor, Runs};
+ghost use Rattle.tcap_check.specs.Certificate.{Certificate};
+ghost use Rattle.tcap_check.specs.Entries.{AreItems};
+ghost use Rattle.tcap_check.specs.Follows.{losses_from};
+ghost use Rattle.tcap_check.specs.Replayed.{replayed};
+ghost use Rattle.tcap_check.specs.Alone.{replayed_for, unheard_of};
+ghost use Rattle.tcap_check.specs.AloneGiven.{DiscardsNothing, IsGivenFor};
+
+/// A run of one end from any certificate: what it gives is a run, from the empty world, which sends the items that the
+/// entries are, in their order, and nothing else, and in which that end keeps the rules. But for the losses of what the
+/// end sent, it has at most three times as many steps as there are entries, and one for each component; no more of the
+/// peer's messages are lost than there are entries.
+pub fn gives_a_run_of_one_end()
+    ensures { (side : Side) (table : Table) (c : Certificate) (entries : List Entry) (events : List Event)
+        → replayed_for side table c entries ≡ Ok events
+        → IsGivenFor side table c entries events }
+{}
+
+/// Where a certificate gives a run of two ends, it gives each end alone a run too, in which none of the peer's messages
+/// is lost but those whose fates say so.
+pub fn both_give_each()
+    ensures { (side : Side) (table : Table) (c : Certificate) (entries : List Entry) (items : List Item)
+        (events : List Event)
+        → AreItems entries items → replayed table c entries ≡ Ok events
+        → (own : List Event) × (replayed_for side table c entries ≡ Ok own) × DiscardsNothing side c items own }
+{}
+
+/// So that end may have sent its part of these items, whatever its peer sends.
+pub fn what_one_end_is_given_is_lawful()
+    ensures { (side : Side) (table : Table) (c : Certificate) (entries : List Entry) (events : List Event)
+        → replayed_for side table c entries ≡ Ok events
+        → (items : List Item) × AreItems entries items × IsLawfulFor side items table }
+{}
+
+/// In that run each of the peer's messages is received, answered by the provider, or lost: none is left on its way. So
+/// those that are lost are all that the end does not hear.
+pub fn nothing_waits_for_the_end()
+    ensures { (side : Side) (table : Table) (c : Certificate) (entries : List Entry) (events : List Event) (w : World)
+        → replayed_for side table c entries ≡ Ok events → Runs table events w
+        → (channel_from (other side) w ≡ [])
+        × (unheard_of side events ≡ length (losses_from (other side) events)) }
+{}
