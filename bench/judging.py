@@ -166,6 +166,14 @@ def one_id(count):
 
 BLAMED = [short, many_open, one_dialogue, one_id, refused, rejected]
 
+
+def unheard(count):
+    """Each message of A is one that B cannot receive."""
+    return [A + going_on(n, 999_999_999) for n in range(count)]
+
+
+ALONE = [short, many_open, one_dialogue, refused, rejected, unheard]
+
 # ---- measures
 
 
@@ -198,12 +206,12 @@ def written(folder, name, octets):
     return path
 
 
-def compared(folder, word, entries, *certificate):
-    """The seconds of a command of that word over a record, those of `show`, what it printed last, and the command."""
+def compared(folder, words, entries, *certificate):
+    """The seconds of a command of these words over a record, those of `show`, what it printed first, and the command."""
     record = written(folder, "record", b"".join(entries))
     table = written(folder, "table", json.dumps(TABLE).encode())
     paths = [written(folder, "certificate", json.dumps(c, separators=(",", ":")).encode()) for c in certificate]
-    command = [PROGRAM, word, record, table, *paths]
+    command = [PROGRAM, *words.split(), record, table, *paths]
     own, printed = seconds(command)
     shown, _ = seconds([PROGRAM, "show", record])
     return own, shown, printed.decode().split("\n")[0], command
@@ -223,7 +231,8 @@ def main():
                 f" {line}; {peak(command)} kB where {waiting} wait",
                 flush=True,
             )
-        for word, shape in [("judge", shape) for shape in JUDGED] + [("blame", shape) for shape in BLAMED]:
+        asked = [("judge", JUDGED), ("blame", BLAMED), ("judge --end B", ALONE)]
+        for word, shape in [(word, shape) for word, shapes in asked for shape in shapes]:
             times = []
             for count in COUNTS:
                 entries = shape(count)

@@ -33,34 +33,34 @@ BEGIN_7, TWO_RESULTS, DUPLICATE = "6203480107", "640F4901016C0AA203020101A203020
 
 # The entries, what is printed, and, where it is not TABLE, the table.
 ROWS = [
-    # Nothing is blamed: a lawful record, and one that no fact decides.
-    ("", ["LAWFUL 0", "NOT BLAMED A 0", "NOT BLAMED B 0"]),
-    (f"A {INVOKE} B {RESULT}", ["LAWFUL 2", "NOT BLAMED A 2", "NOT BLAMED B 2"]),
-    (f"A {REQUEST} B {ACCEPTED} A {END}", ["LAWFUL 3", "NOT BLAMED A 3", "NOT BLAMED B 3"]),
-    ("Q Q", ["LAWFUL 2", "NOT BLAMED A 2", "NOT BLAMED B 2"]),
+    # Nothing is blamed: a lawful record, and one that no fact decides. An end is lawful alone or nothing is said of it.
+    ("", ["LAWFUL 0", "LAWFUL A 0 unheard 0", "LAWFUL B 0 unheard 0"]),
+    (f"A {INVOKE} B {RESULT}", ["LAWFUL 2", "LAWFUL A 2 unheard 0", "LAWFUL B 2 unheard 0"]),
+    (f"A {REQUEST} B {ACCEPTED} A {END}", ["LAWFUL 3", "LAWFUL A 3 unheard 0", "LAWFUL B 3 unheard 0"]),
+    ("Q Q", ["LAWFUL 2", "LAWFUL A 2 unheard 0", "LAWFUL B 2 unheard 0"]),
     (
         f"A {INVOKE} B {WITH_RESULT} A {UNRECOGNIZED}",
-        ["UNDECIDED 0 66/51", "NOT BLAMED A 3", "NOT BLAMED B 3"],
+        ["UNDECIDED 0 66/51", "NOT BLAMED A 3", "LAWFUL B 3 unheard 0"],
         LASTING,
     ),
     (
         f"A {INVOKE} B {CONTINUE} B {WITH_RESULT} A {AGAIN} A {UNEXPECTED}",
-        ["UNDECIDED 4 65/50", "NOT BLAMED A 5", "NOT BLAMED B 5"],
+        ["UNDECIDED 4 65/50", "NOT BLAMED A 5", "LAWFUL B 5 unheard 0"],
     ),
     # One end, by a kind that refutes.
-    (f"A {INVOKE} B {TO_NINE}", ["REFUTED 1 F2", "BLAMED B 1 F2", "NOT BLAMED A 2"]),
-    (f"A {BEGIN} B {CONTINUE} A {END} A {END}", ["REFUTED 3 F4", "BLAMED A 3 F4", "NOT BLAMED B 4"]),
+    (f"A {INVOKE} B {TO_NINE}", ["REFUTED 1 F2", "BLAMED B 1 F2", "LAWFUL A 2 unheard 0"]),
+    (f"A {BEGIN} B {CONTINUE} A {END} A {END}", ["REFUTED 3 F4", "BLAMED A 3 F4", "LAWFUL B 4 unheard 0"]),
     # One end, by a further kind: the record is undecided.
-    (f"A {BEGIN} B {BEGIN_7} A {UNHEARD}", ["UNDECIDED 2 65/42", "BLAMED A 2 F8", "NOT BLAMED B 3"]),
-    (f"A {REQUEST} B {CONTINUE}", ["UNDECIDED 1 65/43", "BLAMED B 1 F9", "NOT BLAMED A 2"]),
-    (f"A {TWICE}", ["UNDECIDED 0 65/45", "BLAMED A 0 F10", "NOT BLAMED B 1"]),
-    (f"A {INVOKE} B {LINKED}", ["UNDECIDED 1 65/49", "BLAMED B 1 F11", "NOT BLAMED A 2"]),
-    (f"A {INVOKE} B {TWO_RESULTS}", ["UNDECIDED 1 65/46", "BLAMED B 1 F12", "NOT BLAMED A 2"]),
-    (f"A {INVOKE} B {DUPLICATE}", ["UNDECIDED 1 65/50", "BLAMED B 1 F13", "NOT BLAMED A 2"]),
-    (f"A {BEGIN} B {REFUSED} B {REFUSED}", ["UNDECIDED 1 64", "BLAMED B 2 F14", "NOT BLAMED A 3"]),
-    (f"A {BEGIN} B {CONTINUE} Q", ["UNDECIDED 2 67", "BLAMED B 2 F15", "NOT BLAMED A 3"]),
+    (f"A {BEGIN} B {BEGIN_7} A {UNHEARD}", ["UNDECIDED 2 65/42", "BLAMED A 2 F8", "LAWFUL B 3 unheard 1"]),
+    (f"A {REQUEST} B {CONTINUE}", ["UNDECIDED 1 65/43", "BLAMED B 1 F9", "LAWFUL A 2 unheard 1"]),
+    (f"A {TWICE}", ["UNDECIDED 0 65/45", "BLAMED A 0 F10", "LAWFUL B 1 unheard 0"]),
+    (f"A {INVOKE} B {LINKED}", ["UNDECIDED 1 65/49", "BLAMED B 1 F11", "LAWFUL A 2 unheard 0"]),
+    (f"A {INVOKE} B {TWO_RESULTS}", ["UNDECIDED 1 65/46", "BLAMED B 1 F12", "LAWFUL A 2 unheard 0"]),
+    (f"A {INVOKE} B {DUPLICATE}", ["UNDECIDED 1 65/50", "BLAMED B 1 F13", "LAWFUL A 2 unheard 0"]),
+    (f"A {BEGIN} B {REFUSED} B {REFUSED}", ["UNDECIDED 1 64", "BLAMED B 2 F14", "LAWFUL A 3 unheard 0"]),
+    (f"A {BEGIN} B {CONTINUE} Q", ["UNDECIDED 2 67", "BLAMED B 2 F15", "LAWFUL A 3 unheard 1"]),
     # An ID is free again, where the invocation may have ended unseen.
-    (f"A {INVOKE} B {CONTINUE} A {AGAIN}", ["LAWFUL 3", "NOT BLAMED A 3", "NOT BLAMED B 3"]),
+    (f"A {INVOKE} B {CONTINUE} A {AGAIN}", ["LAWFUL 3", "LAWFUL A 3 unheard 0", "LAWFUL B 3 unheard 0"]),
     # Both ends: the lower entry stands first, and at one mark A.
     (f"A {BEGIN} B {TO_NINE} A {TO_NINE}", ["REFUTED 1 F2", "BLAMED B 1 F2", "BLAMED A 2 F2"]),
     (f"A {TO_NINE} B {TO_NINE}", ["REFUTED 0 F2", "BLAMED A 0 F2", "BLAMED B 1 F2"]),
@@ -70,7 +70,7 @@ ROWS = [
     # A negative test: B breaks a rule, and A keeps them, or breaks one too.
     (
         f"B {BEGIN} A {CONTINUE} B {END} B {BACK} A 67064901014A0101",
-        ["REFUTED 3 F4", "BLAMED B 3 F4", "NOT BLAMED A 5"],
+        ["REFUTED 3 F4", "BLAMED B 3 F4", "LAWFUL A 5 unheard 0"],
     ),
     (
         f"B {BEGIN} A {CONTINUE} B {END} B {BACK} A 6506480103490101",
@@ -83,21 +83,34 @@ ROWS = [
 ]
 
 
+def status_of(lines):
+    """The exit status, by the lines that are printed."""
+    if any(line.startswith("BLAMED") for line in lines):
+        return 1
+    if all(line.startswith("LAWFUL") for line in lines[1:]):
+        return 0
+    return judged.STATUSES[lines[0].split()[0]]
+
+
 def rows():
     """Of each row the octets of the record, those of the table, what is to be printed, and the exit status."""
     for entries, lines, *table in ROWS:
-        is_blamed = any(line.startswith("BLAMED") for line in lines)
-        status = 1 if is_blamed else judged.STATUSES[lines[0].split()[0]]
+        status = status_of(lines)
         printed = "".join(f"{line}\n" for line in lines).encode()
         yield judged.octets_of(entries), (table or [TABLE])[0].encode(), printed, status
 
 
-def lines_of(faults, count):
-    """What is printed of both ends, by the entry that is blamed on each and its kinds, where so many entries are looked at."""
+def line_alone(end, line, count):
+    """What is printed of an end on which nothing is blamed, by what is said of it alone, where so many entries are looked at."""
+    return line.replace("LAWFUL", f"LAWFUL {end}") if line.startswith("LAWFUL") else f"NOT BLAMED {end} {count}"
+
+
+def lines_of(faults, alone, count):
+    """What is printed of both ends, by the entry that is blamed on each and its kinds, and by what is said of each alone, where so
+    many entries are looked at."""
     found = sorted((fault[0], end, fault[1][0]) for end, fault in faults.items() if fault)
-    lines = [f"BLAMED {end} {entry} {kind}\n" for entry, end, kind in found]
-    lines += [f"NOT BLAMED {end} {count}\n" for end, fault in faults.items() if not fault]
-    return "".join(lines).encode()
+    lines = [f"BLAMED {end} {entry} {kind}" for entry, end, kind in found]
+    return lines + [line_alone(end, alone[end], count) for end, fault in faults.items() if not fault]
 
 
 def count_of(shown):

@@ -6,6 +6,7 @@ import subprocess
 import sys
 import tempfile
 
+import alone
 import blamed
 import judged
 
@@ -122,7 +123,7 @@ ROWS = [
     (["judge", "DIALOGUE", "TABLE", "x"], b"", b"", SOME, 4),
     (["judge", "--help"], b"", SOME, b"", 0),
     # The same, with what is blamed on each end.
-    (["blame", "DIALOGUE", "TABLE"], b"", b"LAWFUL 2\nNOT BLAMED A 2\nNOT BLAMED B 2\n", b"", 0),
+    (["blame", "DIALOGUE", "TABLE"], b"", b"LAWFUL 2\nLAWFUL A 2 unheard 0\nLAWFUL B 2 unheard 0\n", b"", 0),
     (["blame", "DIALOGUE", "BROKEN"], b"", b"FAULT 30 0\n", b"", 3),
     (["blame", "CUT", "TABLE"], b"", b"FAULT 21 28\n", b"", 3),
     (["blame", "CUT", "BROKEN"], b"", b"FAULT 30 0\n", b"", 3),
@@ -135,6 +136,24 @@ ROWS = [
     (["blame", "DIALOGUE", "TABLE", "x"], b"", b"", SOME, 4),
     (["blame", "DIALOGUE", "TABLE", "--cert"], b"", b"", SOME, 4),
     (["blame", "--help"], b"", SOME, b"", 0),
+    # One end alone.
+    (["check", "--end", "A", "DIALOGUE", "TABLE", "CERT"], b"", b"LAWFUL 2 unheard 0\n", b"", 0),
+    (["check", "DIALOGUE", "TABLE", "LATE", "--end", "A"], b"", b"LAWFUL 2 unheard 0\n", b"", 0),
+    (["check", "--end=B", "DIALOGUE", "TABLE", "LATE"], b"", b"NOT SHOWN 1 65/40\n", b"", 2),
+    (["check", "--end", "A", "CUT", "TABLE", "BROKEN"], b"", b"FAULT 60 0\n", b"", 3),
+    (["check", "--end", "A", "CUT", "BROKEN", "BROKEN"], b"", b"FAULT 30 0\n", b"", 3),
+    (["check", "--end", "A", "CUT", "TABLE", "CERT"], b"", b"FAULT 21 28\n", b"", 3),
+    (["check", "--end", "A", NONE, "TABLE", "CERT"], b"", b"FAULT 23 0\n", b"", 3),
+    (["judge", "--end", "B", "DIALOGUE", "TABLE", "--cert"], b"", b"LAWFUL 2 unheard 0\n" + CERT + b"\n", b"", 0),
+    (["judge", "--end", "A", "CUT", "TABLE"], b"", b"FAULT 21 28\n", b"", 3),
+    (["judge", "--end", "A", "DIALOGUE", "BROKEN"], b"", b"FAULT 30 0\n", b"", 3),
+    (["judge", "--end", "A", "DIALOGUE", NONE], b"", b"FAULT 23 0\n", b"", 3),
+    (["judge", "--end", "C", "DIALOGUE", "TABLE"], b"", b"", SOME, 4),
+    (["judge", "--end", "a", "DIALOGUE", "TABLE"], b"", b"", SOME, 4),
+    (["judge", "--end", "DIALOGUE", "TABLE"], b"", b"", SOME, 4),
+    (["judge", "DIALOGUE", "TABLE", "--end"], b"", b"", SOME, 4),
+    (["judge", "--end", "A", "--end", "B", "DIALOGUE", "TABLE"], b"", b"", SOME, 4),
+    (["blame", "--end", "A", "DIALOGUE", "TABLE"], b"", b"", SOME, 4),
     (["check", "DIALOGUE", "TABLE"], b"", b"", SOME, 4),
     (["check", "DIALOGUE", "TABLE", "CERT", "x"], b"", b"", SOME, 4),
     (["--version"], b"", b"tcapjudge 0.1.0\n", b"", 0),
@@ -155,6 +174,8 @@ FULL = [
     (["check", "DIALOGUE", "TABLE", "LATE"], b"", 3),
     (["judge", "DIALOGUE", "TABLE", "--cert"], b"", 3),
     (["blame", "DIALOGUE", "TABLE"], b"", 3),
+    (["check", "--end", "A", "DIALOGUE", "TABLE", "CERT"], b"", 3),
+    (["judge", "--end", "A", "DIALOGUE", "TABLE", "--cert"], b"", 3),
     (["--help"], b"", 3),
     (["--version"], b"", 3),
     (["shew"], b"", 4),
@@ -266,13 +287,36 @@ def misblamed_in(folder):
     wrong = 0
     for name, record, table, faults in blamed.faults():
         paths = written(folder, record, table)
-        line, _, status = said(["judge", *paths])
-        count = blamed.count_of(said(["show", paths[0]])[0])
-        wanted = line + blamed.lines_of(faults, count), b"", 1 if any(faults.values()) else status
+        line = said(["judge", *paths])[0].decode().removesuffix("\n")
+        ends = {end: said(["judge", "--end", end, *paths])[0].decode().removesuffix("\n") for end in faults}
+        lines = [line, *blamed.lines_of(faults, ends, blamed.count_of(said(["show", paths[0]])[0]))]
+        wanted = "".join(f"{line}\n" for line in lines).encode(), b"", blamed.status_of(lines)
         found = said(["blame", *paths])
         if found != wanted:
             wrong += 1
             print(f"{name}: {found}, not {wanted}")
+    return wrong
+
+
+def missaid_in(folder):
+    """How many rows of alone.py are not as they are wanted, each of which is printed."""
+    wrong = 0
+    for number, (words, record, table, cert, printed, status) in enumerate(alone.rows()):
+        paths = written(folder, record, table)
+        if cert is not None:
+            paths.append(f"{folder}/judged.cert")
+            with open(paths[2], "wb") as file:
+                file.write(cert)
+        found = said([*words, *paths])
+        if found != (printed, b"", status):
+            wrong += 1
+            print(f"row {number} of alone.py, {words}: {found}, not {printed}")
+    for name, record, table, ends in alone.known():
+        for end, line in ends.items():
+            found = said(["judge", "--end", end, *written(folder, record, table)])
+            if found != (f"{line}\n".encode(), b"", alone.STATUSES[line.split()[0]]):
+                wrong += 1
+                print(f"{name}, {end}: {found}, not {line}")
     return wrong
 
 
@@ -295,8 +339,9 @@ def main():
         for name, octets in FILES.items():
             with open(f"{folder}/{name}", "wb") as file:
                 file.write(octets)
-        wrong = wrong_in(folder) + misjudged_in(folder) + misblamed_in(folder) + unlawful_in(folder)
-    judgements = len(judged.ROWS) + len(blamed.ROWS) + len(list(blamed.faults())) + len(TABLES)
+        wrong = wrong_in(folder) + misjudged_in(folder) + misblamed_in(folder) + missaid_in(folder) + unlawful_in(folder)
+    ends = len(list(alone.rows())) + 2 * len(list(alone.known()))
+    judgements = len(judged.ROWS) + len(blamed.ROWS) + len(list(blamed.faults())) + ends + len(TABLES)
     print(f"{len(ROWS) + len(FULL) + len(DEVICES) * (len(FULL) + 1) + judgements - wrong} passed, {wrong} failed")
     return int(wrong != 0)
 

@@ -1,6 +1,6 @@
 """What `make demo` runs: makes records of the lines of examples/ by `pack`, shows them by `show`, checks those that have an
-operation table and a certificate by `check`, judges those of JUDGED and TABLES by `judge`, and says of those of BLAMED by
-`blame` which end is at fault. It is the program as `rt try` runs it, compiled but not proved."""
+operation table and a certificate by `check`, judges those of JUDGED and TABLES by `judge`, and one end alone of those of ALONE,
+and says of those of BLAMED by `blame` which end is at fault. It is the program as `rt try` runs it, compiled but not proved."""
 
 import concurrent.futures
 import glob
@@ -36,6 +36,8 @@ BLAMED = [
     "open_at_mark",
     "negative_test",
 ]
+# Those of which one end alone is judged, and which: the stack under test, whose tester breaks rules.
+ALONE = [("negative_test", "A"), ("negative_test_failed", "A")]
 # Those that are judged by another table.
 TABLES = {"ussd": "examples/tables/ussd.json"}
 
@@ -63,11 +65,11 @@ def checked(name, record):
     return f"== check {name}\n".encode() + run(flags, ["check", *files], [0, 2, 3])
 
 
-def judged(word, name, record):
-    """What the program prints with that word of the record of that example, which stands in that file."""
+def judged(words, name, record):
+    """What the program prints with these words of the record of that example, which stands in that file."""
     files = {"record": record, "table": TABLES.get(name, "examples/operations.json")}
     flags = [word for file, path in files.items() for word in ("--data", f"{file}={os.path.abspath(path)}")]
-    return f"== {word} {name}\n".encode() + run(flags, [word, *files], [0, 1, 2])
+    return f"== {' '.join(words)} {name}\n".encode() + run(flags, [*words, *files], [0, 1, 2])
 
 
 def main():
@@ -86,8 +88,9 @@ def main():
         shown = lanes.submit(run_each, "show", records)
         names = sorted(os.path.basename(path).removesuffix(".cert.json") for path in glob.glob("examples/*.cert.json"))
         checks = [lanes.submit(checked, name, f"{records}/{name}") for name in names]
-        asked = [("judge", name) for name in [*JUDGED, *TABLES]] + [("blame", name) for name in BLAMED]
-        verdicts = [lanes.submit(judged, word, name, f"{records}/{name}") for word, name in asked]
+        asked = [(["judge"], name) for name in [*JUDGED, *TABLES]] + [(["blame"], name) for name in BLAMED]
+        asked += [(["judge", "--end", end], name) for name, end in ALONE]
+        verdicts = [lanes.submit(judged, words, name, f"{records}/{name}") for words, name in asked]
         for said in [shown, *checks, *verdicts]:
             sys.stdout.buffer.write(said.result())
             sys.stdout.buffer.flush()

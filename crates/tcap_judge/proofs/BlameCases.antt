@@ -7,7 +7,8 @@ use Rattle.clap.specs.Faults.{check_fault, defaults_fault, fault_of, level_fault
 use Rattle.clap.specs.Takes.{default_passes, is_valid, level_passes, settle_passes, takes, turn_passes}
 use Rattle.clap.specs.Walk.{Held, Text, Walk, arg_by_index, finished, nothing_held, settled, to_positional, walk_from, walked}
 use Rattle.clap.specs.declared.error.kind.ErrorKind.TheVariants as kind
-use Rattle.tcap_judge.specs.Words.{begins_with_hyphen, blamed_paths, named_with_two, tool}
+use Rattle.tcap_judge.specs.CommandLine.{tool}
+use Rattle.tcap_judge.specs.Words.{begins_with_hyphen, blamed_paths, named_with_two}
 use Rattle.tcap_judge.proofs.Paths.{fault_at, moved_at, turned_at, walk_at}
 use Rattle.tcap_judge.proofs.Tool.{blame_built}
 

@@ -7,7 +7,8 @@ use Rattle.clap.specs.Faults.{check_fault, defaults_fault, fault_of, level_fault
 use Rattle.clap.specs.Takes.{default_passes, is_valid, level_passes, settle_passes, takes, turn_passes}
 use Rattle.clap.specs.Walk.{Held, Text, Walk, arg_by_index, finished, first_of, nothing_held, settled, to_positional, walk_from, walked}
 use Rattle.clap.specs.declared.error.kind.ErrorKind.TheVariants as kind
-use Rattle.tcap_judge.specs.Words.{begins_with_hyphen, checked_paths, named_with, named_with_paths, tool, with_path}
+use Rattle.tcap_judge.specs.CommandLine.{tool, with_path}
+use Rattle.tcap_judge.specs.Words.{begins_with_hyphen, checked_paths, end_value, named_with, named_with_paths}
 use Rattle.tcap_judge.proofs.Paths.{fault_at, level, moved, moved_at, turned_at, walk_at}
 use Rattle.tcap_judge.proofs.Tool.{check_built, sub_built}
 
@@ -142,6 +143,12 @@ check_named program x y z plain_x plain_y plain_z =
   where
     some_paths : Option Text × Option Text × Option Text → Option (Text × (Option Text × Option Text × Option Text))
     some_paths paths = Some (codes "check", paths)
+
+pub check_no_end : (program x y z : Text) → begins_with_hyphen x ≡ false → begins_with_hyphen y ≡ false
+    → begins_with_hyphen z ≡ false → end_value (program ∷ codes "check" ∷ x ∷ y ∷ z ∷ []) ≡ None
+unfolding tool clap_on_literals
+check_no_end program x y z plain_x plain_y plain_z =
+    ap (λ (w : Walk). first_of (codes "end") (finished check_built.rules w.held)) (walk_3 x plain_x y plain_y z plain_z)
 
 -- the faults of `check`, from those of its words and what is held behind them
 abbrev level_kinds : Kinds → Walk → Kinds

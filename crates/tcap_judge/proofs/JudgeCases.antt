@@ -1,13 +1,14 @@
 -- What the command line makes of the words of `judge` that are written out, after the program's name.
-use Rattle.std.proofs.Common.{◌≡◌, ◌∙◌, ◌&&◌, ℕ, Bool, true, false, [], ◌∷◌, Option, Some, ap, refl, codes}
+use Rattle.std.proofs.Common.{◌≡◌, ◌∙◌, ◌&&◌, ℕ, Bool, true, false, [], ◌∷◌, Option, Some, None, ap, refl, codes}
 use Rattle.clap.proofs.OnLiterals.{clap_on_literals}
 use Rattle.std.specs.List.{list_all}
 use Rattle.clap.specs.Kinds.{Kinds, or_else}
 use Rattle.clap.specs.Faults.{check_fault, defaults_fault, fault_of, level_fault, settle_fault, turn_fault}
 use Rattle.clap.specs.Takes.{default_passes, is_valid, level_passes, settle_passes, takes, turn_passes}
-use Rattle.clap.specs.Walk.{Held, Text, Walk, arg_by_index, finished, nothing_held, settled, to_positional, walk_from, walked}
+use Rattle.clap.specs.Walk.{Held, Text, Walk, arg_by_index, finished, first_of, nothing_held, settled, to_positional, walk_from, walked}
 use Rattle.clap.specs.declared.error.kind.ErrorKind.TheVariants as kind
-use Rattle.tcap_judge.specs.Words.{begins_with_hyphen, judged_paths, named_with_flag, tool}
+use Rattle.tcap_judge.specs.CommandLine.{tool}
+use Rattle.tcap_judge.specs.Words.{begins_with_hyphen, end_value, judged_paths, named_with_flag}
 use Rattle.tcap_judge.proofs.Paths.{fault_at, moved_at, turned_at, walk_at}
 use Rattle.tcap_judge.proofs.Tool.{judge_built}
 
@@ -99,6 +100,19 @@ pub judge_cert_named : (program x y : Text) → begins_with_hyphen x ≡ false �
     ≡ Some (codes "judge", (Some x, Some y, true))
 unfolding tool clap_on_literals
 judge_cert_named program x y plain_x plain_y = ap (λ w. named_at (then_flag w)) (walk_2 x plain_x y plain_y)
+
+pub judge_no_end : (program x y : Text) → begins_with_hyphen x ≡ false → begins_with_hyphen y ≡ false
+    → end_value (program ∷ codes "judge" ∷ x ∷ y ∷ []) ≡ None
+unfolding tool clap_on_literals
+judge_no_end program x y plain_x plain_y =
+    ap (λ (w : Walk). first_of (codes "end") (finished judge_built.rules w.held)) (walk_2 x plain_x y plain_y)
+
+pub judge_cert_no_end : (program x y : Text) → begins_with_hyphen x ≡ false → begins_with_hyphen y ≡ false
+    → end_value (program ∷ codes "judge" ∷ x ∷ y ∷ codes "--cert" ∷ []) ≡ None
+unfolding tool clap_on_literals
+judge_cert_no_end program x y plain_x plain_y =
+    ap (λ (w : Walk). first_of (codes "end") (finished judge_built.rules (then_flag w).held))
+    (walk_2 x plain_x y plain_y)
 
 -- ---- faults
 

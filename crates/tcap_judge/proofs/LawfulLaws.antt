@@ -1,5 +1,5 @@
 -- Where a record is said to be lawful, it is.
-use Rattle.std.proofs.Common.{◌≡◌, ℕ, ◌+◌, ◌-◌, List, [], ◌∷◌, ◌++◌, length, refl, sym, subst, ◌∙◌, inl, inr, append-nil}
+use Rattle.std.proofs.Common.{◌≡◌, ℕ, ◌+◌, ◌-◌, List, [], ◌∷◌, ◌++◌, length, refl, sym, ap, subst, ◌∙◌, inl, inr, append-nil}
 use Rattle.std.specs.Prelude.{IfOk, Option, Some, None, Result, Ok, Err}
 use Rattle.std.specs.Io.KnownBytes.{Appends, Consumes, IsAtEnd}
 use Rattle.tcap_record.specs.declared.entry.Entry.{Entry}
@@ -7,27 +7,30 @@ use Rattle.tcap_record.specs.declared.entry.Body.{Body}
 use Rattle.tcap_record.specs.declared.entry.End.{End as Side}
 use Rattle.tcap_record.specs.declared.fault.FeedFault.{FeedFault}
 use Rattle.tcap_record.specs.Framed.{FramedFrom, IsBody, octet_of}
+use Rattle.tcap_end.specs.Fault.{table_number_of}
 use Rattle.tcap_end.specs.Table.{Table}
 use Rattle.tcap_end.specs.TableText.{IsTableOf}
 use Rattle.tcap_check.specs.declared.fault.CheckFault.{CheckFault}
 use Rattle.tcap_check.specs.World.{Item, Sent}
-use Rattle.tcap_check.specs.Run.{Event, IsLawful}
+use Rattle.tcap_check.specs.Run.{Event}
 use Rattle.tcap_check.specs.Certificate.{Certificate}
 use Rattle.tcap_check.specs.Entries.{AreItems}
 use Rattle.tcap_check.specs.Replayed.{replayed}
+use Rattle.tcap_check.specs.Alone.{unheard_of}
 use Rattle.tcap_check.proofs.GivenRuns.{gives}
 use Rattle.tcap_check.proofs.ReasonGaps.{as_many}
 use Rattle.tcap_judge.specs.declared.text_reading.TextFault.{TextFault}
 use Rattle.tcap_judge.specs.declared.text_reading.TextFault.TheVariants as faults
 use Rattle.tcap_judge.specs.declared.outcome.Outcome.{Outcome}
-use Rattle.tcap_judge.specs.declared.outcome.Outcome.TheVariants.{Lawful, NotShown, Refuted, Undecided, Faulty}
+use Rattle.tcap_judge.specs.declared.outcome.Outcome.TheVariants.{Lawful, LawfulFor, Faulty}
 use Rattle.tcap_judge.specs.declared.status.Status.{Status}
 use Rattle.tcap_judge.specs.declared.status.Status.TheVariants as statuses
 use Rattle.tcap_judge.specs.declared.status.WriteFailed.{WriteFailed}
-use Rattle.tcap_judge.specs.Outcome.{Says, SaysWith, outcome_line}
+use Rattle.tcap_judge.specs.Outcome.{Says, SaysWith, outcome_line, outcome_status}
 use Rattle.tcap_judge.specs.Text.{ReadsText}
-use Rattle.tcap_judge.specs.Checked.{Checks, Device, IsCertificateGiven, IsTableGiven, Judges, JudgesBy, JudgesRecord, JudgesWith, ReadsCertificate, ReadsRecord, ReadsTable, judged, out_of_memory, record_says, said_of_text, text_limit}
-use Rattle.tcap_judge.specs.LawfulRecord.{FindsLawful, SpellsRecord, TellsAll}
+use Rattle.tcap_judge.specs.Judged.{AreLawful, IsShown, MayBeSent, lawful_by, replayed_by}
+use Rattle.tcap_judge.specs.Checked.{Checks, Device, IsCertificateGiven, IsTableGiven, Judges, JudgesBy, JudgesRecord, JudgesWith, ReadsCertificate, ReadsRecord, ReadsTable, out_of_memory, record_says, replay_says, said_of_text, text_limit}
+use Rattle.tcap_judge.specs.LawfulRecord.{FindsLawfulBy, SpellsRecord, TellsAll}
 
 -- ---- what the octets spell
 
@@ -54,162 +57,220 @@ spells_items place (entry ∷ entries) (Item.Quiet ∷ items) octets (others, in
 
 -- ---- what was said
 
--- only a lawful record is fine
-pub is_lawful : (outcome : Outcome) (line : List ℕ) (status : Status) → Says outcome line status
-    → status ≡ statuses.Fine
-    → (count : ℕ) × (outcome ≡ Lawful count) × (line ≡ outcome_line (Lawful count))
-is_lawful (Lawful count) line status (inl said) fine = (count, refl, said.0)
-is_lawful (NotShown fault) line status (inl said) fine =
-    let bad : statuses.NotShown ≡ statuses.Fine = sym said.1 ∙ fine in cc
-is_lawful (Refuted r) line status (inl said) fine =
-    let bad : statuses.Refuted ≡ statuses.Fine = sym said.1 ∙ fine in cc
-is_lawful (Undecided fault) line status (inl said) fine =
-    let bad : statuses.NotShown ≡ statuses.Fine = sym said.1 ∙ fine in cc
-is_lawful (Faulty number place) line status (inl said) fine =
-    let bad : statuses.Fault ≡ statuses.Fine = sym said.1 ∙ fine in cc
-is_lawful outcome line status (inr said) fine =
-    let bad : statuses.Fault ≡ statuses.Fine = sym said.1 ∙ fine in cc
+-- how it is said that so many entries are lawful, and that so many of the peer's are unheard
+abbrev pub said_lawful : Option Side → ℕ → ℕ → Outcome
+said_lawful None count unheard = Lawful count
+said_lawful (Some side) count unheard = LawfulFor count unheard
 
--- so many entries
-pub lawful_count : (count other : ℕ) → Lawful count ≡ Lawful other → count ≡ other
-lawful_count count other same = cc
+-- Where a run is fine that says this, it is said of so many entries.
+abbrev pub IsFineOf : Option Side → ℕ → Outcome → Type 0
+IsFineOf judged count outcome =
+    outcome_status outcome ≡ statuses.Fine → (unheard : ℕ) × (outcome ≡ said_lawful judged count unheard)
 
--- what is said where there is no text is no lawful record
-no_text : (too_long : ℕ) (fault : TextFault) (count : ℕ) → Lawful count ≡ said_of_text too_long fault → ⊥
-no_text too_long faults.TooLong count is = cc
-no_text too_long (faults.Read place) count is = cc
-no_text too_long faults.Memory count is = cc
+pub lawful_is : (judged : Option Side) (count : ℕ) (events : List Event)
+    → IsFineOf judged count (lawful_by judged count events)
+lawful_is None count events fine = (0, refl)
+lawful_is (Some side) count events fine = (unheard_of side events, refl)
 
--- nor what is said where there is no table
-pub no_table : (text : Result (List ℕ) TextFault) (said : Outcome) (count : ℕ) → IsTableGiven text (Err said)
-    → Lawful count ≡ said → ⊥
-no_table (Ok octets) said count (Ok table, is, given) same = cc
-no_table (Ok octets) said count (Err fault, is, given) same = cc
-no_table (Err fault) said count given same =
-    no_text 30 fault count (let is : said ≡ said_of_text 30 fault = cc in same ∙ is)
+replay_is : (judged : Option Side) (count : ℕ) (replay : Result (List Event) CheckFault)
+    → IsFineOf judged count (replay_says judged count replay)
+replay_is judged count (Ok events) fine = lawful_is judged count events fine
+replay_is judged count (Err fault) fine = let bad : statuses.NotShown ≡ statuses.Fine = fine in cc
 
--- nor what is said where there is no certificate
-no_certificate : (text : Result (List ℕ) TextFault) (said : Outcome) (count : ℕ) → IsCertificateGiven text (Err said)
-    → Lawful count ≡ said → ⊥
-no_certificate (Ok octets) said count given same = let bad : Lawful count ≡ Faulty 60 0 = same ∙ given.0 in cc
-no_certificate (Err fault) said count given same =
-    no_text 60 fault count (let is : said ≡ said_of_text 60 fault = cc in same ∙ is)
+-- a fault is not fine, and no entry is at fault by it
+pub no_fault : (outcome said : Outcome) (status : Status) → outcome ≡ said → outcome_status said ≡ statuses.Fault
+    → outcome_status outcome ≡ status → status ≡ statuses.Fault
+no_fault outcome said status is fault ended = sym ended ∙ ap outcome_status is ∙ fault
+
+pub fine_fault : (outcome said : Outcome) → outcome ≡ said → outcome_status said ≡ statuses.Fault
+    → outcome_status outcome ≡ statuses.Fine → ⊥
+fine_fault outcome said is fault fine =
+    let bad : statuses.Fine ≡ statuses.Fault = no_fault outcome said statuses.Fine is fault fine in cc
+
+text_fault : (too_long : ℕ) (fault : TextFault) → outcome_status (said_of_text too_long fault) ≡ statuses.Fault
+text_fault too_long faults.TooLong = refl
+text_fault too_long (faults.Read place) = refl
+text_fault too_long faults.Memory = refl
+
+-- where there is no table
+pub table_fault : (d : Device) (said : Outcome) → ReadsTable d (Err said) → outcome_status said ≡ statuses.Fault
+table_fault d said reads = elim reads.is [
+  | inl memory ↦ let is : said ≡ out_of_memory = cc in ap outcome_status is
+  | inr given ↦ by reads.text given
+]
+  where
+    by : (text : Result (List ℕ) TextFault) → IsTableGiven text (Err said) → outcome_status said ≡ statuses.Fault
+    by (Ok octets) (Ok table, is, given) = cc
+    by (Ok octets) (Err fault, is, given) =
+        let same : said ≡ Faulty (table_number_of fault.reason) fault.place = cc in ap outcome_status same
+    by (Err fault) given =
+        let same : said ≡ said_of_text 30 fault = cc in ap outcome_status same ∙ text_fault 30 fault
+
+-- where there is no certificate
+certificate_fault : (d : Device) (said : Outcome) → ReadsCertificate d (Err said) → outcome_status said ≡ statuses.Fault
+certificate_fault d said reads = elim reads.is [
+  | inl memory ↦ let is : said ≡ out_of_memory = cc in ap outcome_status is
+  | inr given ↦ by reads.text given
+]
+  where
+    by : (text : Result (List ℕ) TextFault) → IsCertificateGiven text (Err said) → outcome_status said ≡ statuses.Fault
+    by (Ok octets) given = ap outcome_status given.0
+    by (Err fault) given =
+        let same : said ≡ said_of_text 60 fault = cc in ap outcome_status same ∙ text_fault 60 fault
 
 -- ---- the record
 
--- What is known where a record of so many entries is said to be lawful by this table.
-pub record IsFoundBy (table : Table) (d : Device) (count : ℕ) : Type 0 where
+-- what a replay of both ends gives is a run
+pub shown_by_replay : (table : Table) (c : Certificate) (entries : List Entry) (outcome : Outcome)
+    → outcome ≡ replay_says None (length entries) (replayed table c entries) → IsShown None table entries outcome
+shown_by_replay table c entries outcome says = by (replayed table c entries) refl says
+  where
+    by : (replay : Result (List Event) CheckFault) → replayed table c entries ≡ replay
+        → outcome ≡ replay_says None (length entries) replay → IsShown None table entries outcome
+    by (Ok events) is said =
+        let given = gives table c entries events is in
+        subst (IsShown None table entries) (sym said)
+        (given.items, given.are, (length events, (events, given.run, given.keeps, refl)))
+    by (Err fault) is said = subst (IsShown None table entries) (sym said) tt
+
+-- what is said to be lawful is so
+pub shown_lawful : (judged : Option Side) (table : Table) (entries : List Entry) (outcome : Outcome) (count unheard : ℕ)
+    → outcome ≡ said_lawful judged count unheard → IsShown judged table entries outcome → AreLawful judged table entries
+shown_lawful None table entries outcome count unheard is shown = subst (IsShown None table entries) is shown
+shown_lawful (Some side) table entries outcome count unheard is shown = subst (IsShown (Some side) table entries) is shown
+
+-- What is known where this is said of a record by this table, and the run is fine.
+pub record IsFoundBy (judged : Option Side) (table : Table) (d : Device) (outcome : Outcome) : Type 0 where
   pub octets : List ℕ
   pub items : List Item
-  pub moves : ℕ
+  pub unheard : ℕ
   pub tells : TellsAll d octets
   pub spells : SpellsRecord items octets
-  pub lawful : IsLawful items table moves
-  pub counted : count ≡ length items
+  pub lawful : MayBeSent judged items table
+  pub is : outcome ≡ said_lawful judged (length items) unheard
 
--- entries that are all that was told, and of which a certificate gives a run
-pub found_of : (table : Table) (c : Certificate) (d : Device) (count : ℕ) (entries : List Entry) (end : Unit {0})
-    (events : List Event) → ReadsRecord d entries (Ok end) → replayed table c entries ≡ Ok events → count ≡ length entries
-    → IsFoundBy table d count
-found_of table c d count entries end events reads is counted =
-    let given = gives table c entries events is in
+-- entries that are all that was told, and are lawful
+pub found_of : (judged : Option Side) (table : Table) (d : Device) (outcome : Outcome) (unheard : ℕ) (entries : List Entry)
+    (end : Unit {0}) → ReadsRecord d entries (Ok end) → AreLawful judged table entries
+    → outcome ≡ said_lawful judged (length entries) unheard → IsFoundBy judged table d outcome
+found_of judged table d outcome unheard entries end reads (items, are, sent) is =
     let framed = subst (FramedFrom 0 entries reads.told) reads.is_read.ends reads.is_read.framed in
     record {
       octets = reads.told;
-      items = given.items;
-      moves = length events;
+      items = items;
+      unheard = unheard;
       tells = (reads.tells, reads.ended);
-      spells = spells_items 0 entries given.items reads.told framed given.are;
-      lawful = (events, given.run, given.keeps, refl);
-      counted = counted ∙ as_many entries given.items given.are;
+      spells = spells_items 0 entries items reads.told framed are;
+      lawful = sent;
+      is = is ∙ ap (λ (n : ℕ). said_lawful judged n unheard) (as_many entries items are);
     }
 
-by_replay : (table : Table) (c : Certificate) (d : Device) (count : ℕ) (entries : List Entry) (end : Unit {0})
-    (replay : Result (List Event) CheckFault) → ReadsRecord d entries (Ok end) → replayed table c entries ≡ replay
-    → Lawful count ≡ judged (length entries) replay → IsFoundBy table d count
-by_replay table c d count entries end (Err fault) reads is said = let bad : Lawful count ≡ NotShown fault = said in cc
-by_replay table c d count entries end (Ok events) reads is said =
-    found_of table c d count entries end events reads is (lawful_count count (length entries) said)
+-- by what is said of entries that are all that was told
+pub found_said : (judged : Option Side) (table : Table) (d : Device) (outcome said : Outcome) (entries : List Entry)
+    (end : Unit {0}) → ReadsRecord d entries (Ok end) → IsFineOf judged (length entries) said → outcome ≡ said
+    → IsShown judged table entries outcome → outcome_status outcome ≡ statuses.Fine → IsFoundBy judged table d outcome
+found_said judged table d outcome said entries end reads fine_of is shown fine =
+    let (unheard, lawful) = fine_of (sym (ap outcome_status is) ∙ fine) in
+    found_of judged table d outcome unheard entries end reads
+    (shown_lawful judged table entries outcome (length entries) unheard (is ∙ lawful) shown) (is ∙ lawful)
 
-by_end : (table : Table) (c : Certificate) (d : Device) (count : ℕ) (entries : List Entry)
-    (end : Result (Unit {0}) FeedFault) → ReadsRecord d entries end → Lawful count ≡ record_says table c entries end
-    → IsFoundBy table d count
-by_end table c d count entries (Err fault) reads said = cc
-by_end table c d count entries (Ok end) reads said =
-    by_replay table c d count entries end (replayed table c entries) reads refl said
+by_end : (judged : Option Side) (table : Table) (c : Certificate) (d : Device) (outcome : Outcome) (entries : List Entry)
+    (end : Result (Unit {0}) FeedFault) → ReadsRecord d entries end → outcome ≡ record_says judged table c entries end
+    → IsShown judged table entries outcome → outcome_status outcome ≡ statuses.Fine → IsFoundBy judged table d outcome
+by_end judged table c d outcome entries (Err fault) reads says shown fine =
+    absurd (fine_fault outcome (record_says judged table c entries (Err fault)) says refl fine)
+by_end judged table c d outcome entries (Ok end) reads says shown fine =
+    found_said judged table d outcome (record_says judged table c entries (Ok end)) entries end reads
+    (replay_is judged (length entries) (replayed_by judged table c entries)) says shown fine
 
-found_by : (table : Table) (c : Certificate) (d : Device) (count : ℕ) → JudgesRecord table c d (Lawful count)
-    → IsFoundBy table d count
-found_by table c d count (inl memory) = let bad : Lawful count ≡ out_of_memory = memory in cc
-found_by table c d count (inr says) = by_end table c d count says.entries says.end says.reads says.says
+found_by : (judged : Option Side) (table : Table) (c : Certificate) (d : Device) (outcome : Outcome)
+    → JudgesRecord judged table c d outcome → outcome_status outcome ≡ statuses.Fine → IsFoundBy judged table d outcome
+found_by judged table c d outcome (inl memory) fine = absurd (fine_fault outcome out_of_memory memory refl fine)
+found_by judged table c d outcome (inr says) fine =
+    by_end judged table c d outcome says.entries says.end says.reads says.says says.shown fine
 
-by_certificate : (table : Table) (given : Result Certificate Outcome) (certificate d : Device) (count : ℕ)
-    → ReadsCertificate certificate given → JudgesBy table given d (Lawful count) → IsFoundBy table d count
-by_certificate table (Ok c) certificate d count reads judges = found_by table c d count judges
-by_certificate table (Err said) certificate d count reads judges = elim reads.is [
-  | inl memory ↦ let bad : Lawful count ≡ out_of_memory = cc (judges.0, memory) in cc
-  | inr given ↦ absurd (no_certificate reads.text said count given judges.0)
-]
+by_certificate : (judged : Option Side) (table : Table) (given : Result Certificate Outcome) (certificate d : Device)
+    (outcome : Outcome) → ReadsCertificate certificate given → JudgesBy judged table given d outcome
+    → outcome_status outcome ≡ statuses.Fine → IsFoundBy judged table d outcome
+by_certificate judged table (Ok c) certificate d outcome reads judges fine = found_by judged table c d outcome judges fine
+by_certificate judged table (Err said) certificate d outcome reads judges fine =
+    absurd (fine_fault outcome said judges.0 (certificate_fault certificate said reads) fine)
 
 -- ---- all three
 
 -- the text of the table that was read
-pub table_text : (d : Device) (operations : Table) (text : Result (List ℕ) TextFault)
-    → ReadsText text_limit d.before d.after d.failed_before d.failed_after text → IsTableGiven text (Ok operations)
+pub table_text : (d : Device) (operations : Table) → ReadsTable d (Ok operations)
     → (octets : List ℕ) × TellsAll d octets × IsTableOf octets (Ok operations)
-table_text d operations (Ok octets) reads (Ok table, is, given) =
-    let same : table ≡ operations = cc in (
-      octets,
-      (subst (Consumes d.before d.after) (sym reads.ends.0) reads.tells, reads.ends.2),
-      subst (λ (x : Table). IsTableOf octets (Ok x)) same is,
-    )
-table_text d operations (Ok octets) reads (Err fault, is, given) = cc
-table_text d operations (Err fault) reads given = cc
+table_text d operations reads = elim reads.is [
+  | inl memory ↦ cc
+  | inr given ↦ by reads.text reads.reads given
+]
+  where
+    by : (text : Result (List ℕ) TextFault)
+        → ReadsText text_limit d.before d.after d.failed_before d.failed_after text → IsTableGiven text (Ok operations)
+        → (octets : List ℕ) × TellsAll d octets × IsTableOf octets (Ok operations)
+    by (Ok octets) reads (Ok table, is, given) =
+        let same : table ≡ operations = cc in (
+          octets,
+          (subst (Consumes d.before d.after) (sym reads.ends.0) reads.tells, reads.ends.2),
+          subst (λ (x : Table). IsTableOf octets (Ok x)) same is,
+        )
+    by (Ok octets) reads (Err fault, is, given) = cc
+    by (Err fault) reads given = cc
 
 -- what was found, with the text of the table and the line
-pub finds : (entries table : Device) (operations : Table) (taken taken' : Option (List ℕ)) (count : ℕ)
-    → (octets : List ℕ) × TellsAll table octets × IsTableOf octets (Ok operations) → IsFoundBy operations entries count
-    → Appends taken taken' (outcome_line (Lawful count)) → FindsLawful entries table taken taken'
-finds entries table operations taken taken' count text found line = record {
-  octets = found.octets;
-  text = text.0;
-  operations = operations;
-  items = found.items;
-  moves = found.moves;
-  tells = found.tells;
-  tells_table = text.1;
-  is_table = text.2;
-  spells = found.spells;
-  lawful = found.lawful;
-  line = subst (λ (n : ℕ). Appends taken taken' (outcome_line (Lawful n))) found.counted line;
-}
+pub finds : (judged : Option Side) (entries table : Device) (operations : Table) (taken taken' : Option (List ℕ))
+    (outcome : Outcome) → ReadsTable table (Ok operations) → IsFoundBy judged operations entries outcome
+    → Appends taken taken' (outcome_line outcome) → FindsLawfulBy judged entries table taken taken'
+finds None entries table operations taken taken' outcome reads found line =
+    let text = table_text table operations reads in
+    record {
+      octets = found.octets;
+      text = text.0;
+      operations = operations;
+      items = found.items;
+      moves = found.lawful.0;
+      tells = found.tells;
+      tells_table = text.1;
+      is_table = text.2;
+      spells = found.spells;
+      lawful = found.lawful.1;
+      line = subst (λ (o : Outcome). Appends taken taken' (outcome_line o)) found.is line;
+    }
+finds (Some side) entries table operations taken taken' outcome reads found line =
+    let text = table_text table operations reads in
+    record {
+      octets = found.octets;
+      text = text.0;
+      operations = operations;
+      items = found.items;
+      unheard = found.unheard;
+      tells = found.tells;
+      tells_table = text.1;
+      is_table = text.2;
+      spells = found.spells;
+      lawful = found.lawful;
+      line = subst (λ (o : Outcome). Appends taken taken' (outcome_line o)) found.is line;
+    }
 
-by_table : (given : Result Table Outcome) (entries table certificate : Device) (taken taken' : Option (List ℕ))
-    (count : ℕ) → ReadsTable table given → JudgesWith given certificate entries (Lawful count)
-    → Appends taken taken' (outcome_line (Lawful count)) → FindsLawful entries table taken taken'
-by_table (Err said) entries table certificate taken taken' count reads judges line = elim reads.is [
-  | inl memory ↦ let bad : Lawful count ≡ out_of_memory = cc (judges.0, memory) in cc
-  | inr given ↦ absurd (no_table reads.text said count given judges.0)
-]
-by_table (Ok operations) entries table certificate taken taken' count reads judges line = elim reads.is [
-  | inl memory ↦ cc
-  | inr given ↦
-      finds entries table operations taken taken' count (table_text table operations reads.text reads.reads given)
-      (by_certificate operations judges.0 certificate entries count judges.1 judges.2) line
-]
-
--- where a run is fine, the record is lawful
-pub fine_is_lawful : (entries table certificate : Device) (taken taken' : Option (List ℕ)) (status : Status)
-    → Checks entries table certificate taken taken' status → status ≡ statuses.Fine
-    → FindsLawful entries table taken taken'
-fine_is_lawful entries table certificate taken taken' status checks fine =
-    let said = is_lawful checks.outcome checks.line status checks.says fine in
-    let judges : Judges entries table certificate (Lawful said.0) =
-    subst (Judges entries table certificate) said.1 checks.judges in
-    let line = subst (Appends taken taken') said.2 checks.takes in
-    by_table judges.0 entries table certificate taken taken' said.0 judges.1 judges.2 line
+by_table : (judged : Option Side) (given : Result Table Outcome) (entries table certificate : Device)
+    (taken taken' : Option (List ℕ)) (outcome : Outcome) → ReadsTable table given
+    → JudgesWith judged given certificate entries outcome → outcome_status outcome ≡ statuses.Fine
+    → Appends taken taken' (outcome_line outcome) → FindsLawfulBy judged entries table taken taken'
+by_table judged (Err said) entries table certificate taken taken' outcome reads judges fine line =
+    absurd (fine_fault outcome said judges.0 (table_fault table said reads) fine)
+by_table judged (Ok operations) entries table certificate taken taken' outcome reads judges fine line =
+    finds judged entries table operations taken taken' outcome reads
+    (by_certificate judged operations judges.0 certificate entries outcome judges.1 judges.2 fine) line
 
 -- ---- what was written
+
+-- where a run is fine, so is what it says
+fine_line : (outcome : Outcome) (line : List ℕ) (status : Status) → Says outcome line status → status ≡ statuses.Fine
+    → (outcome_status outcome ≡ statuses.Fine) × (line ≡ outcome_line outcome)
+fine_line outcome line status (inl said) fine = (sym said.1 ∙ fine, said.0)
+fine_line outcome line status (inr said) fine =
+    let bad : statuses.Fault ≡ statuses.Fine = sym said.1 ∙ fine in cc
 
 -- nothing behind the line
 plain : (outcome : Outcome) (line : List ℕ) (status : Status) → SaysWith outcome [] line status → Says outcome line status
@@ -217,23 +278,26 @@ plain outcome line status (inl said) = inl (said.0 ∙ append-nil (outcome_line 
 plain outcome line status (inr memory) = inr memory
 
 -- what was written of the outcome that the readers gave
-pub checks_of : (entries table certificate : Device) (outcome : Outcome) (taken taken' : Option (List ℕ))
-    (result : Result Status WriteFailed) → Judges entries table certificate outcome
+pub checks_of : (judged : Option Side) (entries table certificate : Device) (outcome : Outcome)
+    (taken taken' : Option (List ℕ)) (result : Result Status WriteFailed)
+    → Judges judged entries table certificate outcome
     → IfOk result (λ status. (text : List ℕ) × SaysWith outcome [] text status × Appends taken taken' text)
-    → IfOk result (Checks entries table certificate taken taken')
-checks_of entries table certificate outcome taken taken' (Ok status) judges said = record {
+    → IfOk result (Checks judged entries table certificate taken taken')
+checks_of judged entries table certificate outcome taken taken' (Ok status) judges said = record {
   outcome = outcome;
   line = said.0;
   judges = judges;
   says = plain outcome said.0 status said.1;
   takes = said.2;
 }
-checks_of entries table certificate outcome taken taken' (Err failed) judges said = tt
+checks_of judged entries table certificate outcome taken taken' (Err failed) judges said = tt
 
--- the same of a run that may have failed to write
-pub fine_run : (entries table certificate : Device) (taken taken' : Option (List ℕ))
-    (result : Result Status WriteFailed) → IfOk result (Checks entries table certificate taken taken')
-    → result ≡ Ok statuses.Fine → FindsLawful entries table taken taken'
-fine_run entries table certificate taken taken' (Ok status) checks fine =
-    fine_is_lawful entries table certificate taken taken' status checks cc
-fine_run entries table certificate taken taken' (Err failed) checks fine = cc
+-- where a run is fine, the record is lawful
+pub fine_run : (judged : Option Side) (entries table certificate : Device) (taken taken' : Option (List ℕ))
+    (result : Result Status WriteFailed) → IfOk result (Checks judged entries table certificate taken taken')
+    → result ≡ Ok statuses.Fine → FindsLawfulBy judged entries table taken taken'
+fine_run judged entries table certificate taken taken' (Ok status) checks fine =
+    let (ended, is) = fine_line checks.outcome checks.line status checks.says cc in
+    by_table judged checks.judges.0 entries table certificate taken taken' checks.outcome checks.judges.1 checks.judges.2
+    ended (subst (Appends taken taken') is checks.takes)
+fine_run judged entries table certificate taken taken' (Err failed) checks fine = cc

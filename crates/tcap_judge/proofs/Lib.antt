@@ -1,8 +1,14 @@
 pub mod Help
+pub mod Letters
 pub mod Valued
+pub mod PlacelessWalk
+pub mod PlacelessTakes
+pub mod PlacelessFaults
+pub mod PlacelessCommands
 pub mod Tool
 pub mod Paths
 pub mod Requests
+pub mod Matches
 pub mod Cases
 pub mod PrintLaws
 pub mod ShowLaws
@@ -12,3 +18,5 @@ pub mod VerdictLaws
 pub mod JudgeCases
 pub mod BlameCases
 pub mod BlamedLaws
+pub mod EndCases
+pub mod JudgeEndCases

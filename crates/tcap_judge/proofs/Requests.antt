@@ -1,25 +1,32 @@
--- What words ask for, from the subcommand and the value that clap's words name.
-use Rattle.std.proofs.Common.{◌≡◌, ◌∙◌, Bool, List, [], ◌∷◌, is_some, Option, inl, inr, subst, ap₂, Some, None, Result, Ok, Err, ap, sym, codes, true, refl}
+-- What words ask for, from the subcommand and the values that clap's words name.
+use Rattle.std.proofs.Common.{◌≡◌, ◌∙◌, Bool, List, [], ◌∷◌, Option, Some, None, Result, Ok, Err, ap, sym, subst, codes, true, refl}
 use Rattle.std.specs.Prelude.{IfErr, IfOk, IsErrAnd, MatchResult, option_and_then, option_map}
-use Rattle.std.specs.Borrow.{Bor}
-use Rattle.clap.proofs.WalkLemmas.{first_value-rows}
 use Rattle.clap.specs.Faults.{fault_of}
-use Rattle.clap.specs.Matches.{first_value, subcommand_name_of}
-use Rattle.clap.specs.Simple.{subcommand_of, subcommand_rows_of}
-use Rattle.clap.specs.declared.parser.matches.ArgMatches.{ArgMatches}
-use Rattle.clap.specs.declared.parser.matches.ArgMatches.TheViews.{out-ArgMatches}
-use Rattle.clap.specs.declared.parser.matches.Found.{Found}
-use Rattle.tcap_judge.proofs.Tool.{IsKnown, apart, fused, named, needed_there}
+use Rattle.clap.specs.Simple.{subcommand_of}
 use Rattle.clap.specs.Takes.{takes}
-use Rattle.clap.specs.Walk.{Row, Text, first_of, rows_of}
-use Rattle.tcap_judge.specs.Words.{Asks, IsBlame, IsCheck, IsFaultOf, IsJudge, IsMemory, IsPack, IsShow, blamed_paths, checked_paths, is_set, judged_paths, named_with, named_with_flag, named_with_paths, named_with_two, path_text, tool}
+use Rattle.clap.specs.Walk.{Row, Text, first_of}
 use Rattle.clap.specs.declared.error.kind.ErrorKind.{ErrorKind}
+use Rattle.tcap_record.specs.declared.entry.End.{End as Side}
+use Rattle.tcap_record.specs.declared.entry.End.TheVariants as sides
+use Rattle.tcap_judge.specs.Blamed.{letter}
+use Rattle.tcap_judge.specs.CommandLine.{tool}
+use Rattle.tcap_judge.specs.Words.{Asks, IsBlame, IsCheck, IsCheckEnd, IsFaultOf, IsJudge, IsJudgeEnd, IsMemory, IsPack, IsShow, blamed_paths, checked_paths, end_value, judged_paths, named_with, named_with_flag, named_with_paths, named_with_two}
 use Rattle.tcap_judge.specs.declared.asked.Request.{Request}
-use Rattle.tcap_judge.specs.declared.asked.Request.TheVariants.{Show, Pack, Check, Judge, Blame}
+use Rattle.tcap_judge.specs.declared.asked.Request.TheVariants.{Show, Pack, Check, CheckEnd, Judge, JudgeEnd, Blame}
 use Rattle.tcap_judge.specs.declared.words.WordsFault.{WordsFault}
+use Rattle.tcap_judge.proofs.Tool.{apart}
 
-some_same : {X : Type 0} (a b : X) → Some a ≡ Some b → a ≡ b
+pub some_same : {X : Type 0} (a b : X) → Some a ≡ Some b → a ≡ b
 some_same a b e = cc
+
+none_not : {X : Type 0} (o : Option X) (x : X) → o ≡ None → o ≡ Some x → ⊥
+none_not o x none is = let bad : None ≡ Some x = sym none ∙ is in cc
+
+letter_same : (a b : Side) → letter a ≡ letter b → a ≡ b
+letter_same sides.A sides.A e = refl
+letter_same sides.B sides.B e = refl
+letter_same sides.A sides.B e = absurd (apart (codes "A") (codes "B") refl refl e)
+letter_same sides.B sides.A e = absurd (apart (codes "B") (codes "A") refl refl e)
 
 -- what the words name, and what that gives of its rows
 abbrev naming : {X : Type 0} → (List Row → X) → List Text → Option (Text × X)
@@ -32,50 +39,74 @@ abbrev value_in : {X : Type 0} → Option (Text × X) → Option X
 value_in {X} = option_map (λ p. p.1)
 
 -- the name does not hang on what is asked of the rows
-one_name : {X Y : Type 0} (reads : List Row → X) (others : List Row → Y) (o : Option (Text × List Row))
-    → name_in (option_map (λ p. (p.0, reads p.1)) o) ≡ name_in (option_map (λ p. (p.0, others p.1)) o)
-one_name reads others None = refl
-one_name reads others (Some p) = refl
+name_kept : {X : Type 0} (reads : List Row → X) (o : Option (Text × List Row))
+    → name_in o ≡ name_in (option_map (λ p. (p.0, reads p.1)) o)
+name_kept reads None = refl
+name_kept reads (Some p) = refl
+
+-- the word of a request
+abbrev word_of : Request → Text
+word_of (Show path) = codes "show"
+word_of (Pack path) = codes "pack"
+word_of (Check x y z) = codes "check"
+word_of (CheckEnd side x y z) = codes "check"
+word_of (Judge x y flag) = codes "judge"
+word_of (JudgeEnd side x y flag) = codes "judge"
+word_of (Blame x y) = codes "blame"
+
+word_asked : (words : List Text) (r : Request) → Asks words r → name_in (subcommand_of tool words) ≡ Some (word_of r)
+word_asked words (Show path) asks = name_kept (first_of (codes "RECORD")) (subcommand_of tool words) ∙ ap name_in asks
+word_asked words (Pack path) asks = name_kept (first_of (codes "LINES")) (subcommand_of tool words) ∙ ap name_in asks
+word_asked words (Check x y z) asks = name_kept checked_paths (subcommand_of tool words) ∙ ap name_in asks.0
+word_asked words (CheckEnd side x y z) asks = name_kept checked_paths (subcommand_of tool words) ∙ ap name_in asks.0
+word_asked words (Judge x y flag) asks = name_kept judged_paths (subcommand_of tool words) ∙ ap name_in asks.0
+word_asked words (JudgeEnd side x y flag) asks = name_kept judged_paths (subcommand_of tool words) ∙ ap name_in asks.0
+word_asked words (Blame x y) asks = name_kept blamed_paths (subcommand_of tool words) ∙ ap name_in asks
 
 -- words name one subcommand
-one_word : {X Y : Type 0} (reads : List Row → X) (others : List Row → Y) (words : List Text) (name other : Text) (x : X)
-    (y : Y) → naming reads words ≡ Some (name, x) → naming others words ≡ Some (other, y) → name ≡ other
-one_word {X} {Y} reads others words name other x y is at =
-    some_same _ _ (sym (ap name_in is) ∙ one_name reads others (subcommand_of tool words) ∙ ap name_in at)
+one_word : {X : Type 0} (reads : List Row → X) (words : List Text) (name : Text) (x : X) (r : Request)
+    → naming reads words ≡ Some (name, x) → Asks words r → name ≡ word_of r
+one_word reads words name x r is asks =
+    some_same _ _ (sym (ap name_in is) ∙ sym (name_kept reads (subcommand_of tool words)) ∙ word_asked words r asks)
 
 show_only : (words : List Text) (text : Option Text) (r : Request)
-    → named_with (codes "RECORD") words ≡ Some (codes "show", text)
-    → Asks words r → IsShow text r
+    → named_with (codes "RECORD") words ≡ Some (codes "show", text) → Asks words r → IsShow text r
 show_only words text (Show path) is asks = some_same _ _ (ap value_in (sym asks ∙ is))
 show_only words text (Pack path) is asks =
-    apart (codes "show") (codes "pack") refl refl
-    (one_word (first_of (codes "RECORD")) (first_of (codes "LINES")) words _ _ _ _ is asks)
-show_only words text (Check x y z) is asks =
+    apart (codes "show") (codes "pack") refl refl (one_word (first_of (codes "RECORD")) words _ _ (Pack path) is asks)
+show_only words text (Check a b c) is asks =
     apart (codes "show") (codes "check") refl refl
-    (one_word (first_of (codes "RECORD")) checked_paths words _ _ _ _ is asks)
-show_only words text (Judge x y b) is asks =
+    (one_word (first_of (codes "RECORD")) words _ _ (Check a b c) is asks)
+show_only words text (CheckEnd side a b c) is asks =
+    apart (codes "show") (codes "check") refl refl
+    (one_word (first_of (codes "RECORD")) words _ _ (CheckEnd side a b c) is asks)
+show_only words text (Judge a b set) is asks =
     apart (codes "show") (codes "judge") refl refl
-    (one_word (first_of (codes "RECORD")) judged_paths words _ _ _ _ is asks)
-show_only words text (Blame x y) is asks =
-    apart (codes "show") (codes "blame") refl refl
-    (one_word (first_of (codes "RECORD")) blamed_paths words _ _ _ _ is asks)
+    (one_word (first_of (codes "RECORD")) words _ _ (Judge a b set) is asks)
+show_only words text (JudgeEnd side a b set) is asks =
+    apart (codes "show") (codes "judge") refl refl
+    (one_word (first_of (codes "RECORD")) words _ _ (JudgeEnd side a b set) is asks)
+show_only words text (Blame a b) is asks =
+    apart (codes "show") (codes "blame") refl refl (one_word (first_of (codes "RECORD")) words _ _ (Blame a b) is asks)
 
 pack_only : (words : List Text) (text : Option Text) (r : Request)
-    → named_with (codes "LINES") words ≡ Some (codes "pack", text)
-    → Asks words r → IsPack text r
+    → named_with (codes "LINES") words ≡ Some (codes "pack", text) → Asks words r → IsPack text r
 pack_only words text (Pack path) is asks = some_same _ _ (ap value_in (sym asks ∙ is))
 pack_only words text (Show path) is asks =
-    apart (codes "pack") (codes "show") refl refl
-    (one_word (first_of (codes "LINES")) (first_of (codes "RECORD")) words _ _ _ _ is asks)
-pack_only words text (Check x y z) is asks =
+    apart (codes "pack") (codes "show") refl refl (one_word (first_of (codes "LINES")) words _ _ (Show path) is asks)
+pack_only words text (Check a b c) is asks =
+    apart (codes "pack") (codes "check") refl refl (one_word (first_of (codes "LINES")) words _ _ (Check a b c) is asks)
+pack_only words text (CheckEnd side a b c) is asks =
     apart (codes "pack") (codes "check") refl refl
-    (one_word (first_of (codes "LINES")) checked_paths words _ _ _ _ is asks)
-pack_only words text (Judge x y b) is asks =
+    (one_word (first_of (codes "LINES")) words _ _ (CheckEnd side a b c) is asks)
+pack_only words text (Judge a b set) is asks =
     apart (codes "pack") (codes "judge") refl refl
-    (one_word (first_of (codes "LINES")) judged_paths words _ _ _ _ is asks)
-pack_only words text (Blame x y) is asks =
-    apart (codes "pack") (codes "blame") refl refl
-    (one_word (first_of (codes "LINES")) blamed_paths words _ _ _ _ is asks)
+    (one_word (first_of (codes "LINES")) words _ _ (Judge a b set) is asks)
+pack_only words text (JudgeEnd side a b set) is asks =
+    apart (codes "pack") (codes "judge") refl refl
+    (one_word (first_of (codes "LINES")) words _ _ (JudgeEnd side a b set) is asks)
+pack_only words text (Blame a b) is asks =
+    apart (codes "pack") (codes "blame") refl refl (one_word (first_of (codes "LINES")) words _ _ (Blame a b) is asks)
 
 -- the three paths of `check`
 abbrev three : Text → Text → Text → Option (Text × (Option Text × Option Text × Option Text))
@@ -89,19 +120,38 @@ three_same a b c x y z e = (
 )
 
 check_only : (words : List Text) (x y z : Text) (r : Request)
-    → named_with_paths words ≡ Some (codes "check", (Some x, Some y, Some z))
+    → named_with_paths words ≡ Some (codes "check", (Some x, Some y, Some z)) → end_value words ≡ None
     → Asks words r → IsCheck x y z r
-check_only words x y z (Check a b c) is asks = three_same a.now b.now c.now x y z (sym asks ∙ is)
-check_only words x y z (Show path) is asks =
-    apart (codes "check") (codes "show") refl refl
-    (one_word checked_paths (first_of (codes "RECORD")) words _ _ _ _ is asks)
-check_only words x y z (Pack path) is asks =
-    apart (codes "check") (codes "pack") refl refl
-    (one_word checked_paths (first_of (codes "LINES")) words _ _ _ _ is asks)
-check_only words x y z (Judge a b c) is asks =
-    apart (codes "check") (codes "judge") refl refl (one_word checked_paths judged_paths words _ _ _ _ is asks)
-check_only words x y z (Blame a b) is asks =
-    apart (codes "check") (codes "blame") refl refl (one_word checked_paths blamed_paths words _ _ _ _ is asks)
+check_only words x y z (Check a b c) is none asks = three_same a.now b.now c.now x y z (sym asks.0 ∙ is)
+check_only words x y z (CheckEnd side a b c) is none asks = none_not _ _ none asks.1
+check_only words x y z (Show path) is none asks =
+    apart (codes "check") (codes "show") refl refl (one_word checked_paths words _ _ (Show path) is asks)
+check_only words x y z (Pack path) is none asks =
+    apart (codes "check") (codes "pack") refl refl (one_word checked_paths words _ _ (Pack path) is asks)
+check_only words x y z (Judge a b set) is none asks =
+    apart (codes "check") (codes "judge") refl refl (one_word checked_paths words _ _ (Judge a b set) is asks)
+check_only words x y z (JudgeEnd side a b set) is none asks =
+    apart (codes "check") (codes "judge") refl refl (one_word checked_paths words _ _ (JudgeEnd side a b set) is asks)
+check_only words x y z (Blame a b) is none asks =
+    apart (codes "check") (codes "blame") refl refl (one_word checked_paths words _ _ (Blame a b) is asks)
+
+check_end_only : (words : List Text) (side : Side) (x y z : Text) (r : Request)
+    → named_with_paths words ≡ Some (codes "check", (Some x, Some y, Some z)) → end_value words ≡ Some (letter side)
+    → Asks words r → IsCheckEnd side x y z r
+check_end_only words side x y z (CheckEnd judged a b c) is at asks =
+    let paths = three_same a.now b.now c.now x y z (sym asks.0 ∙ is) in
+    (letter_same judged side (some_same _ _ (sym asks.1 ∙ at)), paths.0, paths.1, paths.2)
+check_end_only words side x y z (Check a b c) is at asks = none_not _ _ asks.1 at
+check_end_only words other x y z (Show path) is at asks =
+    apart (codes "check") (codes "show") refl refl (one_word checked_paths words _ _ (Show path) is asks)
+check_end_only words other x y z (Pack path) is at asks =
+    apart (codes "check") (codes "pack") refl refl (one_word checked_paths words _ _ (Pack path) is asks)
+check_end_only words other x y z (Judge a b set) is at asks =
+    apart (codes "check") (codes "judge") refl refl (one_word checked_paths words _ _ (Judge a b set) is asks)
+check_end_only words other x y z (JudgeEnd side a b set) is at asks =
+    apart (codes "check") (codes "judge") refl refl (one_word checked_paths words _ _ (JudgeEnd side a b set) is asks)
+check_end_only words other x y z (Blame a b) is at asks =
+    apart (codes "check") (codes "blame") refl refl (one_word checked_paths words _ _ (Blame a b) is asks)
 
 -- the two paths of `judge`, and its flag
 abbrev two : Text → Text → Bool → Option (Text × (Option Text × Option Text × Bool))
@@ -116,19 +166,38 @@ two_same a b set x y flag e = (
 )
 
 judge_only : (words : List Text) (x y : Text) (flag : Bool) (r : Request)
-    → named_with_flag words ≡ Some (codes "judge", (Some x, Some y, flag))
+    → named_with_flag words ≡ Some (codes "judge", (Some x, Some y, flag)) → end_value words ≡ None
     → Asks words r → IsJudge x y flag r
-judge_only words x y flag (Judge a b set) is asks = two_same a.now b.now set x y flag (sym asks ∙ is)
-judge_only words x y flag (Show path) is asks =
-    apart (codes "judge") (codes "show") refl refl
-    (one_word judged_paths (first_of (codes "RECORD")) words _ _ _ _ is asks)
-judge_only words x y flag (Pack path) is asks =
-    apart (codes "judge") (codes "pack") refl refl
-    (one_word judged_paths (first_of (codes "LINES")) words _ _ _ _ is asks)
-judge_only words x y flag (Check a b c) is asks =
-    apart (codes "judge") (codes "check") refl refl (one_word judged_paths checked_paths words _ _ _ _ is asks)
-judge_only words x y flag (Blame a b) is asks =
-    apart (codes "judge") (codes "blame") refl refl (one_word judged_paths blamed_paths words _ _ _ _ is asks)
+judge_only words x y flag (Judge a b set) is none asks = two_same a.now b.now set x y flag (sym asks.0 ∙ is)
+judge_only words x y flag (JudgeEnd side a b set) is none asks = none_not _ _ none asks.1
+judge_only words x y flag (Show path) is none asks =
+    apart (codes "judge") (codes "show") refl refl (one_word judged_paths words _ _ (Show path) is asks)
+judge_only words x y flag (Pack path) is none asks =
+    apart (codes "judge") (codes "pack") refl refl (one_word judged_paths words _ _ (Pack path) is asks)
+judge_only words x y flag (Check a b c) is none asks =
+    apart (codes "judge") (codes "check") refl refl (one_word judged_paths words _ _ (Check a b c) is asks)
+judge_only words x y flag (CheckEnd side a b c) is none asks =
+    apart (codes "judge") (codes "check") refl refl (one_word judged_paths words _ _ (CheckEnd side a b c) is asks)
+judge_only words x y flag (Blame a b) is none asks =
+    apart (codes "judge") (codes "blame") refl refl (one_word judged_paths words _ _ (Blame a b) is asks)
+
+judge_end_only : (words : List Text) (side : Side) (x y : Text) (flag : Bool) (r : Request)
+    → named_with_flag words ≡ Some (codes "judge", (Some x, Some y, flag)) → end_value words ≡ Some (letter side)
+    → Asks words r → IsJudgeEnd side x y flag r
+judge_end_only words side x y flag (JudgeEnd judged a b set) is at asks =
+    let given = two_same a.now b.now set x y flag (sym asks.0 ∙ is) in
+    (letter_same judged side (some_same _ _ (sym asks.1 ∙ at)), given.0, given.1, given.2)
+judge_end_only words side x y flag (Judge a b set) is at asks = none_not _ _ asks.1 at
+judge_end_only words other x y flag (Show path) is at asks =
+    apart (codes "judge") (codes "show") refl refl (one_word judged_paths words _ _ (Show path) is asks)
+judge_end_only words other x y flag (Pack path) is at asks =
+    apart (codes "judge") (codes "pack") refl refl (one_word judged_paths words _ _ (Pack path) is asks)
+judge_end_only words other x y flag (Check a b c) is at asks =
+    apart (codes "judge") (codes "check") refl refl (one_word judged_paths words _ _ (Check a b c) is asks)
+judge_end_only words other x y flag (CheckEnd side a b c) is at asks =
+    apart (codes "judge") (codes "check") refl refl (one_word judged_paths words _ _ (CheckEnd side a b c) is asks)
+judge_end_only words other x y flag (Blame a b) is at asks =
+    apart (codes "judge") (codes "blame") refl refl (one_word judged_paths words _ _ (Blame a b) is asks)
 
 -- the two paths of `blame`
 abbrev pair_of : Text → Text → Option (Text × (Option Text × Option Text))
@@ -141,65 +210,71 @@ pair_same a b x y e = (
 )
 
 blame_only : (words : List Text) (x y : Text) (r : Request)
-    → named_with_two words ≡ Some (codes "blame", (Some x, Some y))
-    → Asks words r → IsBlame x y r
+    → named_with_two words ≡ Some (codes "blame", (Some x, Some y)) → Asks words r → IsBlame x y r
 blame_only words x y (Blame a b) is asks = pair_same a.now b.now x y (sym asks ∙ is)
 blame_only words x y (Show path) is asks =
-    apart (codes "blame") (codes "show") refl refl
-    (one_word blamed_paths (first_of (codes "RECORD")) words _ _ _ _ is asks)
+    apart (codes "blame") (codes "show") refl refl (one_word blamed_paths words _ _ (Show path) is asks)
 blame_only words x y (Pack path) is asks =
-    apart (codes "blame") (codes "pack") refl refl
-    (one_word blamed_paths (first_of (codes "LINES")) words _ _ _ _ is asks)
+    apart (codes "blame") (codes "pack") refl refl (one_word blamed_paths words _ _ (Pack path) is asks)
 blame_only words x y (Check a b c) is asks =
-    apart (codes "blame") (codes "check") refl refl (one_word blamed_paths checked_paths words _ _ _ _ is asks)
+    apart (codes "blame") (codes "check") refl refl (one_word blamed_paths words _ _ (Check a b c) is asks)
+blame_only words x y (CheckEnd side a b c) is asks =
+    apart (codes "blame") (codes "check") refl refl (one_word blamed_paths words _ _ (CheckEnd side a b c) is asks)
 blame_only words x y (Judge a b set) is asks =
-    apart (codes "blame") (codes "judge") refl refl (one_word blamed_paths judged_paths words _ _ _ _ is asks)
+    apart (codes "blame") (codes "judge") refl refl (one_word blamed_paths words _ _ (Judge a b set) is asks)
+blame_only words x y (JudgeEnd side a b set) is asks =
+    apart (codes "blame") (codes "judge") refl refl (one_word blamed_paths words _ _ (JudgeEnd side a b set) is asks)
 
--- words that are taken, and name this, ask for that and nothing else
-pub show_asked : (words known : List Text) (text : Option Text) (r : Result Request WordsFault) → words ≡ known
-    → takes tool known ≡ true
-    → named_with (codes "RECORD") known ≡ Some (codes "show", text) → IfOk r (Asks words)
-    → (takes tool words ≡ true → IfErr r IsMemory)
-    → MatchResult r (IsShow text) IsMemory
-show_asked words known text (Ok x) is taken named asks memory =
-    show_only words text x (ap (named_with (codes "RECORD")) is ∙ named) asks
-show_asked words known text (Err e) is taken named asks memory = memory (ap (takes tool) is ∙ taken)
+-- words that are taken, and ask for nothing but this
+module _ (words known : List Text) (r : Result Request WordsFault) (is : words ≡ known)
+    (taken : takes tool known ≡ true) (asks : IfOk r (Asks words)) (memory : takes tool words ≡ true → IfErr r IsMemory) where
+  asked : (P : Request → Type 0) → ((x : Request) → Asks words x → P x) → MatchResult r P IsMemory
+  asked P only = go r asks memory
+    where
+      go : (r : Result Request WordsFault) → IfOk r (Asks words) → (takes tool words ≡ true → IfErr r IsMemory)
+          → MatchResult r P IsMemory
+      go (Ok x) asks memory = only x asks
+      go (Err e) asks memory = memory (ap (takes tool) is ∙ taken)
 
-pub pack_asked : (words known : List Text) (text : Option Text) (r : Result Request WordsFault) → words ≡ known
-    → takes tool known ≡ true
-    → named_with (codes "LINES") known ≡ Some (codes "pack", text) → IfOk r (Asks words)
-    → (takes tool words ≡ true → IfErr r IsMemory)
-    → MatchResult r (IsPack text) IsMemory
-pack_asked words known text (Ok x) is taken named asks memory =
-    pack_only words text x (ap (named_with (codes "LINES")) is ∙ named) asks
-pack_asked words known text (Err e) is taken named asks memory = memory (ap (takes tool) is ∙ taken)
+  pub show_asked : (text : Option Text) → named_with (codes "RECORD") known ≡ Some (codes "show", text)
+      → MatchResult r (IsShow text) IsMemory
+  show_asked text named =
+      asked (IsShow text) (λ x. show_only words text x (ap (named_with (codes "RECORD")) is ∙ named))
 
-pub check_asked : (words known : List Text) (x y z : Text) (r : Result Request WordsFault) → words ≡ known
-    → takes tool known ≡ true
-    → named_with_paths known ≡ Some (codes "check", (Some x, Some y, Some z)) → IfOk r (Asks words)
-    → (takes tool words ≡ true → IfErr r IsMemory)
-    → MatchResult r (IsCheck x y z) IsMemory
-check_asked words known x y z (Ok a) is taken named asks memory =
-    check_only words x y z a (ap named_with_paths is ∙ named) asks
-check_asked words known x y z (Err e) is taken named asks memory = memory (ap (takes tool) is ∙ taken)
+  pub pack_asked : (text : Option Text) → named_with (codes "LINES") known ≡ Some (codes "pack", text)
+      → MatchResult r (IsPack text) IsMemory
+  pack_asked text named =
+      asked (IsPack text) (λ x. pack_only words text x (ap (named_with (codes "LINES")) is ∙ named))
 
-pub judge_asked : (words known : List Text) (x y : Text) (flag : Bool) (r : Result Request WordsFault) → words ≡ known
-    → takes tool known ≡ true
-    → named_with_flag known ≡ Some (codes "judge", (Some x, Some y, flag)) → IfOk r (Asks words)
-    → (takes tool words ≡ true → IfErr r IsMemory)
-    → MatchResult r (IsJudge x y flag) IsMemory
-judge_asked words known x y flag (Ok a) is taken named asks memory =
-    judge_only words x y flag a (ap named_with_flag is ∙ named) asks
-judge_asked words known x y flag (Err e) is taken named asks memory = memory (ap (takes tool) is ∙ taken)
+  pub check_asked : (x y z : Text) → named_with_paths known ≡ Some (codes "check", (Some x, Some y, Some z))
+      → end_value known ≡ None → MatchResult r (IsCheck x y z) IsMemory
+  check_asked x y z named none =
+      asked (IsCheck x y z)
+      (λ a. check_only words x y z a (ap named_with_paths is ∙ named) (ap end_value is ∙ none))
 
-pub blame_asked : (words known : List Text) (x y : Text) (r : Result Request WordsFault) → words ≡ known
-    → takes tool known ≡ true
-    → named_with_two known ≡ Some (codes "blame", (Some x, Some y)) → IfOk r (Asks words)
-    → (takes tool words ≡ true → IfErr r IsMemory)
-    → MatchResult r (IsBlame x y) IsMemory
-blame_asked words known x y (Ok a) is taken named asks memory =
-    blame_only words x y a (ap named_with_two is ∙ named) asks
-blame_asked words known x y (Err e) is taken named asks memory = memory (ap (takes tool) is ∙ taken)
+  pub check_end_asked : (side : Side) (x y z : Text)
+      → named_with_paths known ≡ Some (codes "check", (Some x, Some y, Some z))
+      → end_value known ≡ Some (letter side) → MatchResult r (IsCheckEnd side x y z) IsMemory
+  check_end_asked side x y z named at =
+      asked (IsCheckEnd side x y z)
+      (λ a. check_end_only words side x y z a (ap named_with_paths is ∙ named) (ap end_value is ∙ at))
+
+  pub judge_asked : (x y : Text) (flag : Bool) → named_with_flag known ≡ Some (codes "judge", (Some x, Some y, flag))
+      → end_value known ≡ None → MatchResult r (IsJudge x y flag) IsMemory
+  judge_asked x y flag named none =
+      asked (IsJudge x y flag)
+      (λ a. judge_only words x y flag a (ap named_with_flag is ∙ named) (ap end_value is ∙ none))
+
+  pub judge_end_asked : (side : Side) (x y : Text) (flag : Bool)
+      → named_with_flag known ≡ Some (codes "judge", (Some x, Some y, flag))
+      → end_value known ≡ Some (letter side) → MatchResult r (IsJudgeEnd side x y flag) IsMemory
+  judge_end_asked side x y flag named at =
+      asked (IsJudgeEnd side x y flag)
+      (λ a. judge_end_only words side x y flag a (ap named_with_flag is ∙ named) (ap end_value is ∙ at))
+
+  pub blame_asked : (x y : Text) → named_with_two known ≡ Some (codes "blame", (Some x, Some y))
+      → MatchResult r (IsBlame x y) IsMemory
+  blame_asked x y named = asked (IsBlame x y) (λ a. blame_only words x y a (ap named_with_two is ∙ named))
 
 -- words with a fault are refused by it
 pub refused_by : (words known : List Text) (k : ErrorKind) (r : Result Request WordsFault) → words ≡ known
@@ -209,177 +284,3 @@ pub refused_by : (words known : List Text) (k : ErrorKind) (r : Result Request W
 refused_by words known k (Ok a) is fault faults =
     let bad : k ∷ [] ≡ [] = sym (ap (fault_of tool) is ∙ fault) ∙ faults in cc
 refused_by words known k (Err e) is fault faults = subst (λ ks. IsFaultOf ks e) (ap (fault_of tool) is ∙ fault) faults
-
--- ---- the matches of words
-
-two_parts : {X Y : Type 0} (o : Option (X × Y)) (x : X) (y : Y) → Some x ≡ option_map (λ p. p.0) o
-    → Some y ≡ option_map (λ p. p.1) o → o ≡ Some (x, y)
-two_parts None x y is_x is_y = cc
-two_parts {X} {Y} (Some p) x y is_x is_y =
-    let same_x : x ≡ p.0 = some_same _ _ is_x in
-    let same_y : y ≡ p.1 = some_same _ _ is_y in
-    ap₂ (λ (a : X) (b : Y). Some (a, b)) (sym same_x) (sym same_y)
-
--- the name and the rows of the subcommand that the matches have
-entered_as : (m : ArgMatches) (words : List Text) (name : Text) (f : Found)
-    → subcommand_rows_of m ≡ subcommand_of tool words
-    → Some name ≡ subcommand_name_of m
-    → Some (rows_of f) ≡ option_map (λ p. p.1) (subcommand_rows_of m)
-    → subcommand_of tool words ≡ Some (name, rows_of f)
-entered_as m words name f same is_name is_rows =
-    sym same ∙ two_parts (subcommand_rows_of m) name (rows_of f)
-    (is_name ∙ sym (fused (λ (p : Text × List Row). p.0) _ (out-ArgMatches m).subcommand)) is_rows
-
--- the known subcommand that the matches have, and the value that they give for its argument
-pub asked_of : (m : ArgMatches) (words : List Text) (id name known : Text) (f : Found) (r : Option (Bor Text))
-    → subcommand_rows_of m ≡ subcommand_of tool words → Some name ≡ subcommand_name_of m
-    → Some (rows_of f) ≡ option_map (λ p. p.1) (subcommand_rows_of m) → name ≡ known → path_text r ≡ first_value f id
-    → named_with id words ≡ Some (known, path_text r)
-asked_of m words id name known f r same is_name is_rows is_known value =
-    ap (option_map (λ p. (p.0, first_of id p.1))) (entered_as m words name f same is_name is_rows)
-    ∙ ap₂ (λ (n : Text) (v : Option Text). pair n v) is_known (sym (value ∙ first_value-rows f id))
-  where
-    pair : Text → Option Text → Option (Text × Option Text)
-    pair n v = Some (n, v)
-
--- matches of words with no fault have a known name
-pub has_name : (m : ArgMatches) (words : List Text) → subcommand_rows_of m ≡ subcommand_of tool words
-    → fault_of tool words ≡ []
-    → IsKnown (subcommand_name_of m)
-has_name m words same clear =
-    subst IsKnown (sym (sym (fused (λ (p : Text × List Row). p.0) _ (out-ArgMatches m).subcommand)
-    ∙ ap (option_map (λ (p : Text × List Row). p.0)) same)) (named words clear)
-
-pub no_name : (o : Option Text) → IsKnown o → None ≡ o → ⊥
-no_name o (inl is) none = let bad : None ≡ Some (codes "show") = none ∙ is in cc
-no_name o (inr (inl is)) none = let bad : None ≡ Some (codes "pack") = none ∙ is in cc
-no_name o (inr (inr (inl is))) none = let bad : None ≡ Some (codes "check") = none ∙ is in cc
-no_name o (inr (inr (inr (inl is)))) none = let bad : None ≡ Some (codes "judge") = none ∙ is in cc
-no_name o (inr (inr (inr (inr is)))) none = let bad : None ≡ Some (codes "blame") = none ∙ is in cc
-
-pub other_name : (o : Option Text) (name : Text) → IsKnown o → Some name ≡ o → (name ≡ codes "show" → ⊥)
-    → (name ≡ codes "pack" → ⊥) → (name ≡ codes "check" → ⊥) → (name ≡ codes "judge" → ⊥)
-    → (name ≡ codes "blame" → ⊥) → ⊥
-other_name o name (inl is) at not_show not_pack not_check not_judge not_blame = not_show (some_same _ _ (at ∙ is))
-other_name o name (inr (inl is)) at not_show not_pack not_check not_judge not_blame =
-    not_pack (some_same _ _ (at ∙ is))
-other_name o name (inr (inr (inl is))) at not_show not_pack not_check not_judge not_blame =
-    not_check (some_same _ _ (at ∙ is))
-other_name o name (inr (inr (inr (inl is)))) at not_show not_pack not_check not_judge not_blame =
-    not_judge (some_same _ _ (at ∙ is))
-other_name o name (inr (inr (inr (inr is)))) at not_show not_pack not_check not_judge not_blame =
-    not_blame (some_same _ _ (at ∙ is))
-
--- ---- the matches of `check`, `judge` and `blame`
-
--- the rows of the subcommand of that name, which the matches have
-entered_at : (m : ArgMatches) (words : List Text) (name known : Text) (f : Found)
-    → subcommand_rows_of m ≡ subcommand_of tool words
-    → Some name ≡ subcommand_name_of m
-    → Some (rows_of f) ≡ option_map (λ p. p.1) (subcommand_rows_of m) → name ≡ known
-    → subcommand_of tool words ≡ Some (known, rows_of f)
-entered_at m words name known f same is_name is_rows is_known =
-    entered_as m words name f same is_name is_rows ∙ ap (λ (n : Text). Some (n, rows_of f)) is_known
-
--- the paths that they give are there
-pub check_there : (m : ArgMatches) (words : List Text) (name : Text) (f : Found)
-    → subcommand_rows_of m ≡ subcommand_of tool words
-    → fault_of tool words ≡ []
-    → Some name ≡ subcommand_name_of m
-    → Some (rows_of f) ≡ option_map (λ p. p.1) (subcommand_rows_of m) → name ≡ codes "check"
-    → (is_some (first_value f (codes "RECORD")) ≡ true) × (is_some (first_value f (codes "TABLE")) ≡ true)
-    × (is_some (first_value f (codes "CERT")) ≡ true)
-check_there m words name f same clear is_name is_rows is_check =
-    let there = (needed_there words (codes "check", rows_of f) clear
-    (entered_at m words name (codes "check") f same is_name is_rows is_check)).0 refl in (
-      ap is_some (first_value-rows f (codes "RECORD")) ∙ there.1.0,
-      ap is_some (first_value-rows f (codes "TABLE")) ∙ there.1.1,
-      ap is_some (first_value-rows f (codes "CERT")) ∙ there.0,
-    )
-
-pub judge_there : (m : ArgMatches) (words : List Text) (name : Text) (f : Found)
-    → subcommand_rows_of m ≡ subcommand_of tool words
-    → fault_of tool words ≡ []
-    → Some name ≡ subcommand_name_of m
-    → Some (rows_of f) ≡ option_map (λ p. p.1) (subcommand_rows_of m) → name ≡ codes "judge"
-    → (is_some (first_value f (codes "RECORD")) ≡ true) × (is_some (first_value f (codes "TABLE")) ≡ true)
-judge_there m words name f same clear is_name is_rows is_judge =
-    let there = (needed_there words (codes "judge", rows_of f) clear
-    (entered_at m words name (codes "judge") f same is_name is_rows is_judge)).1 refl in (
-      ap is_some (first_value-rows f (codes "RECORD")) ∙ there.0,
-      ap is_some (first_value-rows f (codes "TABLE")) ∙ there.1,
-    )
-
-pub blame_there : (m : ArgMatches) (words : List Text) (name : Text) (f : Found)
-    → subcommand_rows_of m ≡ subcommand_of tool words
-    → fault_of tool words ≡ []
-    → Some name ≡ subcommand_name_of m
-    → Some (rows_of f) ≡ option_map (λ p. p.1) (subcommand_rows_of m) → name ≡ codes "blame"
-    → (is_some (first_value f (codes "RECORD")) ≡ true) × (is_some (first_value f (codes "TABLE")) ≡ true)
-blame_there m words name f same clear is_name is_rows is_blame =
-    let there = (needed_there words (codes "blame", rows_of f) clear
-    (entered_at m words name (codes "blame") f same is_name is_rows is_blame)).2 refl in (
-      ap is_some (first_value-rows f (codes "RECORD")) ∙ there.0,
-      ap is_some (first_value-rows f (codes "TABLE")) ∙ there.1,
-    )
-
--- and they are what the words ask for
-pub check_asked_of : (m : ArgMatches) (words : List Text) (name : Text) (f : Found) (x y z : Text)
-    → subcommand_rows_of m ≡ subcommand_of tool words
-    → Some name ≡ subcommand_name_of m
-    → Some (rows_of f) ≡ option_map (λ p. p.1) (subcommand_rows_of m) → name ≡ codes "check"
-    → Some x ≡ first_value f (codes "RECORD") → Some y ≡ first_value f (codes "TABLE")
-    → Some z ≡ first_value f (codes "CERT")
-    → named_with_paths words ≡ Some (codes "check", (Some x, Some y, Some z))
-check_asked_of m words name f x y z same is_name is_rows is_check is_x is_y is_z =
-    ap (option_map (λ p. (p.0, checked_paths p.1)))
-    (entered_at m words name (codes "check") f same is_name is_rows is_check)
-    ∙ ap (λ (o : Option Text). some_three o (first_of (codes "TABLE") rows) (first_of (codes "CERT") rows))
-    (sym (is_x ∙ first_value-rows f (codes "RECORD")))
-    ∙ ap (λ (o : Option Text). some_three (Some x) o (first_of (codes "CERT") rows))
-    (sym (is_y ∙ first_value-rows f (codes "TABLE")))
-    ∙ ap (λ (o : Option Text). some_three (Some x) (Some y) o) (sym (is_z ∙ first_value-rows f (codes "CERT")))
-  where
-    rows : List Row
-    rows = rows_of f
-
-    some_three : Option Text → Option Text → Option Text → Option (Text × (Option Text × Option Text × Option Text))
-    some_three a b c = Some (codes "check", (a, b, c))
-
-pub judge_asked_of : (m : ArgMatches) (words : List Text) (name : Text) (f : Found) (x y : Text) (flag : Bool)
-    → subcommand_rows_of m ≡ subcommand_of tool words
-    → Some name ≡ subcommand_name_of m
-    → Some (rows_of f) ≡ option_map (λ p. p.1) (subcommand_rows_of m) → name ≡ codes "judge"
-    → Some x ≡ first_value f (codes "RECORD") → Some y ≡ first_value f (codes "TABLE")
-    → flag ≡ is_set (first_value f (codes "cert"))
-    → named_with_flag words ≡ Some (codes "judge", (Some x, Some y, flag))
-judge_asked_of m words name f x y flag same is_name is_rows is_judge is_x is_y is_flag =
-    ap (option_map (λ p. (p.0, judged_paths p.1)))
-    (entered_at m words name (codes "judge") f same is_name is_rows is_judge)
-    ∙ ap (λ (o : Option Text). some_two o (first_of (codes "TABLE") rows) (is_set (first_of (codes "cert") rows)))
-    (sym (is_x ∙ first_value-rows f (codes "RECORD")))
-    ∙ ap (λ (o : Option Text). some_two (Some x) o (is_set (first_of (codes "cert") rows)))
-    (sym (is_y ∙ first_value-rows f (codes "TABLE")))
-    ∙ ap (λ (b : Bool). some_two (Some x) (Some y) b) (sym (is_flag ∙ ap is_set (first_value-rows f (codes "cert"))))
-  where
-    rows : List Row
-    rows = rows_of f
-
-    some_two : Option Text → Option Text → Bool → Option (Text × (Option Text × Option Text × Bool))
-    some_two a b flag = Some (codes "judge", (a, b, flag))
-
-pub blame_asked_of : (m : ArgMatches) (words : List Text) (name : Text) (f : Found) (x y : Text)
-    → subcommand_rows_of m ≡ subcommand_of tool words
-    → Some name ≡ subcommand_name_of m
-    → Some (rows_of f) ≡ option_map (λ p. p.1) (subcommand_rows_of m) → name ≡ codes "blame"
-    → Some x ≡ first_value f (codes "RECORD") → Some y ≡ first_value f (codes "TABLE")
-    → named_with_two words ≡ Some (codes "blame", (Some x, Some y))
-blame_asked_of m words name f x y same is_name is_rows is_blame is_x is_y =
-    ap (option_map (λ p. (p.0, blamed_paths p.1)))
-    (entered_at m words name (codes "blame") f same is_name is_rows is_blame)
-    ∙ ap (λ (o : Option Text). both o (first_of (codes "TABLE") (rows_of f)))
-    (sym (is_x ∙ first_value-rows f (codes "RECORD")))
-    ∙ ap (λ (o : Option Text). both (Some x) o) (sym (is_y ∙ first_value-rows f (codes "TABLE")))
-  where
-    both : Option Text → Option Text → Option (Text × (Option Text × Option Text))
-    both a b = Some (codes "blame", (a, b))

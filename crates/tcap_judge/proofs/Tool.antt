@@ -1,22 +1,25 @@
 -- What follows from words at which the command line has no fault.
-use Rattle.std.proofs.Common.{◌≡◌, ◌⊎◌, ◌∙◌, ap, sym, subst, Bool, true, false, List, [], ◌∷◌, Option, Some, None, is_some, inl, inr, refl, codes}
-use Rattle.std.specs.Prelude.{option_map, drop}
+use Rattle.std.proofs.Common.{◌≡◌, ◌⊎◌, ◌∙◌, ◌&&◌, ap, ap₂, sym, subst, Bool, true, false, List, [], ◌∷◌, Option, Some, None, is_some, inl, inr, refl, codes}
+use Rattle.std.specs.List.{list_all}
+use Rattle.std.specs.Prelude.{IfSome, if◌then◌else◌, option_map, drop}
 use Rattle.std.specs.Str.{bytes_eq}
 use Rattle.std.proofs.lemmas.Slice.Eq.{bytes_eq-Decides}
 use Rattle.clap.proofs.OnLiterals.{clap_on_literals}
-use Rattle.clap.specs.Kinds.{HasKind, Kinds}
+use Rattle.clap.specs.Kinds.{HasKind, Kinds, value_kinds, values_kinds}
 use Rattle.clap.specs.Faults.{check_fault, defaults_fault, entered_fault, fault_of, is_simple_and_free, level_fault, settle_fault, walk_fault}
-use Rattle.clap.specs.Simple.{Shape, built, built_leaf, entered, help_shape, inherited, is_simple, marked_built, names_of, on_top, rows_at, subcommand_of, with_leaf_noted}
+use Rattle.clap.specs.Simple.{Shape, built, built_leaf, entered, filled, help_rule, help_shape, inherited, is_simple, marked_built, names_of, on_top, rows_at, subcommand_of, with_leaf_noted}
 use Rattle.clap.specs.Takes.{is_given}
 use Rattle.clap.specs.Values.{kind_of}
-use Rattle.clap.specs.Walk.{Row, Text, finished, first_of, nothing_held, rows_after, settled, walk, walk_from}
+use Rattle.clap.specs.Walk.{Row, Rule, Text, finished, first_of, nothing_held, rows_after, settled, walk, walk_from}
 use Rattle.clap.specs.declared.error.Error.{Error}
 use Rattle.clap.specs.declared.error.kind.ErrorKind.TheVariants as kind
-use Rattle.tcap_judge.specs.Words.{Becomes, IsFaultOf, IsMemory, blame_shape, check_shape, judge_shape, tool, with_path}
+use Rattle.tcap_judge.specs.CommandLine.{blame_shape, check_shape, end_rule, ends_parser, flag_rule, judge_shape, needed_rule, tool, with_path}
+use Rattle.tcap_judge.specs.Words.{Becomes, IsFaultOf, IsMemory, is_letter}
 use Rattle.tcap_judge.specs.declared.words.WordsFault.{WordsFault}
 use Rattle.tcap_judge.specs.declared.words.WordsFault.TheVariants.{Words, Memory}
 use Rattle.tcap_judge.proofs.Help.{NotHelp, or_empty, walk_not}
-use Rattle.tcap_judge.proofs.Valued.{AllGood, Valued, end_valued, first_there}
+use Rattle.tcap_judge.proofs.Letters.{may_have, may_have_any}
+use Rattle.tcap_judge.proofs.Valued.{AllGood, Fits, Valued, end_valued, first_there, letter_there}
 
 pub tool_simple : is_simple_and_free tool ≡ true
 unfolding tool clap_on_literals
@@ -142,6 +145,10 @@ abbrev pub HasTwoPaths : List Row → Type 0
 HasTwoPaths rows = (is_some (first_of (codes "RECORD") rows) ≡ true)
     × (is_some (first_of (codes "TABLE") rows) ≡ true)
 
+-- where an end is named, its letter is
+abbrev pub HasLetter : List Row → Type 0
+HasLetter rows = IfSome (first_of (codes "end") rows) (λ word. is_letter word ≡ true)
+
 -- and that of a certificate, which `check` needs too
 abbrev pub HasPaths : List Row → Type 0
 HasPaths rows = (is_some (first_of (codes "CERT") rows) ≡ true) × HasTwoPaths rows
@@ -178,17 +185,72 @@ two_given rows false y is_x is_y e =
 two_given rows true false is_x is_y e =
     let bad : kind.MissingRequiredArgument ∷ [] ≡ [] = rw (is_x, is_y) at e in cc
 
+-- the values that pass the parser of `--end` are letters of ends
+ends_fit : (ignore_case : Bool) (values : List Text) → ignore_case ≡ false
+    → values_kinds ignore_case ends_parser values ≡ [] → list_all (may_have (codes "end")) values ≡ true
+ends_fit ignore_case [] is e = refl
+ends_fit ignore_case (v ∷ vs) is e =
+    let p = or_empty (value_kinds ignore_case ends_parser v) (values_kinds ignore_case ends_parser vs) e in
+    ap₂ (λ b d. b && d) (accepted (is_letter v) (ap (λ i. value_kinds i ends_parser v) (sym is) ∙ p.0))
+    (ends_fit ignore_case vs is p.1)
+  where
+    accepted : (b : Bool) → (if b then [] else kind.InvalidValue ∷ []) ≡ [] → b ≡ true
+    accepted true none = refl
+    accepted false none = cc
+
+other_fits : (a : Rule) → bytes_eq (codes "end") a.id ≡ false → Fits a
+other_fits a other = (λ values e. may_have_any a.id other values, may_have_any a.id other a.defaults)
+
+abbrev end_fits : Fits (filled end_rule)
+end_fits = (λ values e. ends_fit false values refl e, refl)
+
+path_fits : (id : Text) → bytes_eq (codes "end") id ≡ false → Fits (filled (needed_rule id))
+path_fits id other = other_fits (filled (needed_rule id)) other
+
+help_fits : Fits (filled help_rule)
+help_fits = other_fits (filled help_rule) refl
+
 check_good : AllGood check_built.rules
 unfolding tool
-check_good = (inl refl, (inl refl, (inl refl, (inr (inl refl), tt))))
+check_good = (
+  (path_fits (codes "RECORD") refl, inl refl),
+  (
+    (path_fits (codes "TABLE") refl, inl refl),
+    (
+      (path_fits (codes "CERT") refl, inl refl),
+      (
+        (end_fits, inl refl),
+        ((help_fits, inr (inl refl)), tt),
+      ),
+    ),
+  ),
+)
 
 judge_good : AllGood judge_built.rules
 unfolding tool
-judge_good = (inl refl, (inl refl, (inr (inr refl), (inr (inl refl), tt))))
+judge_good = (
+  (path_fits (codes "RECORD") refl, inl refl),
+  (
+    (path_fits (codes "TABLE") refl, inl refl),
+    (
+      (other_fits (filled (flag_rule (codes "cert"))) refl, inr (inr refl)),
+      (
+        (end_fits, inl refl),
+        ((help_fits, inr (inl refl)), tt),
+      ),
+    ),
+  ),
+)
 
 blame_good : AllGood blame_built.rules
 unfolding tool
-blame_good = (inl refl, (inl refl, (inr (inl refl), tt)))
+blame_good = (
+  (path_fits (codes "RECORD") refl, inl refl),
+  (
+    (path_fits (codes "TABLE") refl, inl refl),
+    ((help_fits, inr (inl refl)), tt),
+  ),
+)
 
 -- behind words at which a subcommand has no fault, its rows have values, and its last checks find nothing
 level_valued : (s : Shape) → AllGood s.rules → (words : List Text) → level_fault s [] nothing_held words false [] ≡ []
@@ -202,22 +264,27 @@ level_valued s good words e =
 
 -- its paths are there
 check_paths : (words : List Text) → level_fault check_built [] nothing_held words false [] ≡ []
-    → HasPaths (rows_after check_built.rules [] words)
+    → HasPaths (rows_after check_built.rules [] words) × HasLetter (rows_after check_built.rules [] words)
 check_paths words e =
     let rows = rows_after check_built.rules [] words in
     let level = level_valued check_built check_good words e in
     let given = all_given rows _ _ _ refl refl refl level.1 in (
-      first_there (codes "CERT") rows level.0 given.2,
-      (first_there (codes "RECORD") rows level.0 given.0, first_there (codes "TABLE") rows level.0 given.1),
+      (
+        first_there (codes "CERT") rows level.0 given.2,
+        (first_there (codes "RECORD") rows level.0 given.0, first_there (codes "TABLE") rows level.0 given.1),
+      ),
+      letter_there rows level.0,
     )
 
 judge_paths : (words : List Text) → level_fault judge_built [] nothing_held words false [] ≡ []
-    → HasTwoPaths (rows_after judge_built.rules [] words)
+    → HasTwoPaths (rows_after judge_built.rules [] words) × HasLetter (rows_after judge_built.rules [] words)
 judge_paths words e =
     let rows = rows_after judge_built.rules [] words in
     let level = level_valued judge_built judge_good words e in
-    let given = both_given rows _ _ refl refl level.1 in
-    (first_there (codes "RECORD") rows level.0 given.0, first_there (codes "TABLE") rows level.0 given.1)
+    let given = both_given rows _ _ refl refl level.1 in (
+      (first_there (codes "RECORD") rows level.0 given.0, first_there (codes "TABLE") rows level.0 given.1),
+      letter_there rows level.0,
+    )
 
 blame_paths : (words : List Text) → level_fault blame_built [] nothing_held words false [] ≡ []
     → HasTwoPaths (rows_after blame_built.rules [] words)
@@ -235,7 +302,8 @@ not_some x e = cc
 
 -- what the subcommand of that name needs is there
 abbrev pub HasNeeded : Text × List Row → Type 0
-HasNeeded found = (found.0 ≡ codes "check" → HasPaths found.1) × (found.0 ≡ codes "judge" → HasTwoPaths found.1)
+HasNeeded found = (found.0 ≡ codes "check" → HasPaths found.1 × HasLetter found.1)
+    × (found.0 ≡ codes "judge" → HasTwoPaths found.1 × HasLetter found.1)
     × (found.0 ≡ codes "blame" → HasTwoPaths found.1)
 
 -- another subcommand needs nothing

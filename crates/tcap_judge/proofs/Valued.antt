@@ -1,10 +1,12 @@
--- Behind words that fail by nothing, each row has a value.
-use Rattle.std.proofs.Common.{◌≡◌, ◌&&◌, ◌⊎◌, ◌++◌, ℕ, zero, suc, inl, inr, Bool, true, false, List, [], ◌∷◌, Option, Some, None, is_some, refl}
-use Rattle.std.specs.Prelude.{⊤, find, fold, if◌then◌else◌, length, nat_lt, option_and_then, slice_get}
+-- Behind words that fail by nothing, each row has a value, and a row of `--end` the letters of ends.
+use Rattle.std.proofs.Common.{◌≡◌, ◌&&◌, ◌⊎◌, ◌++◌, ℕ, zero, suc, inl, inr, Bool, true, false, List, [], ◌∷◌, Option, Some, None, is_some, codes, refl, subst, sym}
+use Rattle.std.proofs.lemmas.Slice.Eq.{bytes_eq-Decides}
+use Rattle.std.specs.Prelude.{⊤, IfSome, find, fold, if◌then◌else◌, length, nat_lt, option_and_then, slice_get}
 use Rattle.std.specs.Option.{option_map_or}
 use Rattle.std.specs.Str.{bytes_eq, chars}
 use Rattle.clap.specs.Facts.{explicit_source, unwrap_or_range}
-use Rattle.clap.specs.Faults.{bundle_fault, bundle_step_fault, flag_word_fault, flags_fault, long_fault, option_fault, other_fault, positional_fault, react_fault, settle_fault, short_fault, step_fault, stray_fault, turn_fault, use_fault, walk_fault, word_fault}
+use Rattle.clap.proofs.WalkLemmas.{both}
+use Rattle.clap.specs.Faults.{action_fault, bundle_fault, bundle_step_fault, flag_word_fault, flags_fault, long_fault, option_fault, other_fault, positional_fault, react_fault, settle_fault, short_fault, step_fault, stray_fault, turn_fault, use_fault, values_fault, walk_fault, word_fault}
 use Rattle.clap.specs.Kinds.{Kinds, or_else, range_kinds}
 use Rattle.clap.specs.Lexer.{long_of, short_of}
 use Rattle.clap.specs.Simple.{Shape}
@@ -17,21 +19,32 @@ use Rattle.clap.specs.declared.builder.value_parser.Reading.{Reading}
 use Rattle.clap.specs.declared.error.kind.ErrorKind.TheVariants as kind
 use Rattle.clap.specs.declared.parser.matches.ValueSource.{ValueSource}
 use Rattle.clap.specs.declared.parser.matches.ValueSource.TheVariants.{DefaultValue, CommandLine}
+use Rattle.tcap_judge.specs.Words.{is_letter}
 use Rattle.tcap_judge.proofs.Help.{or_empty}
+use Rattle.tcap_judge.proofs.Letters.{may_have, may_have_all, more_may_have}
 
 abbrev has_one : List Text → Bool
 has_one [] = false
 has_one (v ∷ vs) = true
 
--- each row has a value
+-- the row has a value, and none that its argument may not have
+abbrev IsValued : Row → Type 0
+IsValued r = (has_one r.values ≡ true) × (may_have_all r.id r.values ≡ true)
+
+-- each row is that
 abbrev pub Valued : List Row → Type 0
 Valued [] = ⊤
-Valued (r ∷ rs) = (has_one r.values ≡ true) × Valued rs
+Valued (r ∷ rs) = IsValued r × Valued rs
 
--- a use of the argument has a value, or makes no row
+-- the values that pass the parser of the argument, and its defaults, are values that it may have
+abbrev pub Fits : Rule → Type 0
+Fits a = ((values : List Text) → values_fault a values ≡ [] → may_have_all a.id values ≡ true)
+    × (may_have_all a.id a.defaults ≡ true)
+
+-- and a use of the argument has a value, or makes no row
 abbrev Good : Rule → Type 0
-Good a = (nat_lt 0 (unwrap_or_range a.range).start_inclusive ≡ true)
-    ⊎ ((is_request (action_of a) ≡ true) ⊎ (has_one a.missing ≡ true))
+Good a = Fits a × ((nat_lt 0 (unwrap_or_range a.range).start_inclusive ≡ true)
+    ⊎ ((is_request (action_of a) ≡ true) ⊎ (has_one a.missing ≡ true)))
 
 abbrev pub AllGood : List Rule → Type 0
 AllGood [] = ⊤
@@ -60,39 +73,51 @@ both_valued [] b is_a is_b = is_b
 both_valued (r ∷ rs) b is_a is_b = (is_a.0, both_valued rs b is_a.1 is_b)
 
 changed_valued : (id : Text) (change : Row → List Row) (missing rows : List Row)
-    → ((r : Row) → has_one r.values ≡ true → Valued (change r)) → Valued missing → Valued rows
+    → ((r : Row) → r.id ≡ id → IsValued r → Valued (change r)) → Valued missing → Valued rows
     → Valued (at_row id change missing rows)
 changed_valued id change missing [] changed is ok = is
 changed_valued id change missing (r ∷ rs) changed is ok =
-    go (bytes_eq r.id id) (changed_valued id change missing rs changed is ok.1)
+    go (bytes_eq r.id id) refl (changed_valued id change missing rs changed is ok.1)
   where
-    go : (b : Bool) → Valued (at_row id change missing rs)
+    go : (b : Bool) → bytes_eq r.id id ≡ b → Valued (at_row id change missing rs)
         → Valued (if b then change r ++ rs else r ∷ at_row id change missing rs)
-    go true later = both_valued (change r) rs (changed r ok.0) ok.1
-    go false later = (ok.0, later)
+    go true same later = both_valued (change r) rs (changed r ((bytes_eq-Decides r.id id).0 same) ok.0) ok.1
+    go false same later = (ok.0, later)
 
 without_valued : (id : Text) (rows : List Row) → Valued rows → Valued (without id rows)
-without_valued id rows ok = changed_valued id (λ _. []) [] rows (λ r e. tt) tt ok
+without_valued id rows ok = changed_valued id (λ _. []) [] rows (λ r same e. tt) tt ok
 
 values_valued : (id : Text) (how : Reading) (s : ValueSource) (v : Text) (vs : List Text) (rows : List Row)
-    → Valued rows
+    → may_have_all id (v ∷ vs) ≡ true → Valued rows
     → Valued (with_values id how s (v ∷ vs) rows)
-values_valued id how s v vs rows ok =
-    changed_valued id (more_values s (v ∷ vs)) _ rows (λ r e. (more_has_one r.values (v ∷ vs) e, tt)) (refl, tt) ok
+values_valued id how s v vs rows fits ok =
+    changed_valued id (more_values s (v ∷ vs)) _ rows (λ r same e. (
+      (
+        more_has_one r.values (v ∷ vs) e.0,
+        more_may_have r.id r.values (v ∷ vs) e.1
+            (subst (λ i. may_have_all i (v ∷ vs) ≡ true) (sym same) fits),
+      ),
+      tt,
+    )) ((refl, fits), tt) ok
 
 -- ---- one use
 
-used_valued : (x : ArgAction) (id : Text) (how : Reading) (v : Text) (vs : List Text) (rows : List Row) → Valued rows
-    → Valued (used_as x id how (v ∷ vs) rows)
-used_valued Set id how v vs rows ok = values_valued id how CommandLine v vs _ (without_valued id rows ok)
-used_valued SetTrue id how v vs rows ok = values_valued id how CommandLine v vs _ (without_valued id rows ok)
-used_valued SetFalse id how v vs rows ok = values_valued id how CommandLine v vs _ (without_valued id rows ok)
-used_valued Append id how v vs rows ok = values_valued id how CommandLine v vs rows ok
-used_valued Count id how v vs rows ok = values_valued id how CommandLine v vs _ (without_valued id rows ok)
-used_valued Help id how v vs rows ok = ok
-used_valued HelpShort id how v vs rows ok = ok
-used_valued HelpLong id how v vs rows ok = ok
-used_valued Version id how v vs rows ok = ok
+used_valued : (x : ArgAction) (again : Bool) (a : Rule) (how : Reading) (v : Text) (vs : List Text) (rows : List Row)
+    → Fits a → action_fault x again a (v ∷ vs) rows ≡ [] → Valued rows → Valued (used_as x a.id how (v ∷ vs) rows)
+used_valued Set again a how v vs rows fits e ok =
+    values_valued a.id how CommandLine v vs _ (fits.0 (v ∷ vs) (or_empty _ _ e).1) (without_valued a.id rows ok)
+used_valued SetTrue again a how v vs rows fits e ok =
+    values_valued a.id how CommandLine v vs _ (fits.0 (v ∷ vs) (or_empty _ _ e).1) (without_valued a.id rows ok)
+used_valued SetFalse again a how v vs rows fits e ok =
+    values_valued a.id how CommandLine v vs _ (fits.0 (v ∷ vs) (or_empty _ _ e).1) (without_valued a.id rows ok)
+used_valued Append again a how v vs rows fits e ok =
+    values_valued a.id how CommandLine v vs rows (fits.0 (v ∷ vs) e) ok
+used_valued Count again a how v vs rows fits e ok =
+    values_valued a.id how CommandLine v vs _ (fits.0 (v ∷ vs) e) (without_valued a.id rows ok)
+used_valued Help again a how v vs rows fits e ok = ok
+used_valued HelpShort again a how v vs rows fits e ok = ok
+used_valued HelpLong again a how v vs rows fits e ok = ok
+used_valued Version again a how v vs rows fits e ok = ok
 
 request_valued : (x : ArgAction) (id : Text) (how : Reading) (vs : List Text) (rows : List Row) → is_request x ≡ true
     → Valued rows
@@ -107,18 +132,23 @@ request_valued HelpShort id how vs rows is ok = ok
 request_valued HelpLong id how vs rows is ok = ok
 request_valued Version id how vs rows is ok = ok
 
-missing_valued : (a : Rule) (vs : List Text) (rows : List Row) → has_one vs ≡ true → Valued rows
+missing_valued : (again : Bool) (a : Rule) (vs : List Text) (rows : List Row) → Fits a → has_one vs ≡ true
+    → action_fault (action_of a) again a vs rows ≡ [] → Valued rows
     → Valued (used_as (action_of a) a.id (reading_by a) vs rows)
-missing_valued a [] rows stands ok = cc
-missing_valued a (v ∷ vs) rows stands ok = used_valued (action_of a) a.id (reading_by a) v vs rows ok
+missing_valued again a [] rows fits stands e ok = cc
+missing_valued again a (v ∷ vs) rows fits stands e ok =
+    used_valued (action_of a) again a (reading_by a) v vs rows fits e ok
 
 use_valued : (again : Bool) (a : Rule) (values : List Text) (rows : List Row) → Good a
     → use_fault again a values rows ≡ []
     → Valued rows → Valued (used a values rows)
-use_valued again a (v ∷ vs) rows good e ok = used_valued (action_of a) a.id (reading_by a) v vs rows ok
-use_valued again a [] rows (inr (inl is)) e ok = request_valued (action_of a) a.id (reading_by a) a.missing rows is ok
-use_valued again a [] rows (inr (inr stands)) e ok = missing_valued a a.missing rows stands ok
-use_valued again a [] rows (inl least) e ok =
+use_valued again a (v ∷ vs) rows good e ok =
+    used_valued (action_of a) again a (reading_by a) v vs rows good.0 (or_empty _ _ e).1 ok
+use_valued again a [] rows (fits, inr (inl is)) e ok =
+    request_valued (action_of a) a.id (reading_by a) a.missing rows is ok
+use_valued again a [] rows (fits, inr (inr stands)) e ok =
+    missing_valued again a a.missing rows fits stands (or_empty _ _ e).1 ok
+use_valued again a [] rows (fits, inl least) e ok =
     let none : range_kinds (unwrap_or_range a.range).start_inclusive (most_values a) 0 ≡ [] = (or_empty _ _ e).0 in
     let bad : kind.InvalidValue ∷ [] ≡ [] = rw least at none in cc
 
@@ -301,17 +331,19 @@ module _ (s : Shape) (names : Names) (all : AllGood s.rules) where
       let p = or_empty (turn_fault s names w word) _ e in
       walk_valued (walked s.rules names w word) rest p.1 (walked_valued w word p.0 ok)
 
-  default_valued : (rows : List Row) (a : Rule) → Valued rows → Valued (with_default rows a)
-  default_valued rows a ok = go (has_row a.id rows) a.defaults
+  default_valued : (rows : List Row) (a : Rule) → Good a → Valued rows → Valued (with_default rows a)
+  default_valued rows a good ok = go (has_row a.id rows) a.defaults good.0.1
     where
-      go : (b : Bool) (vs : List Text) → Valued (if b then rows else default_rows a.id (reading_by a) vs rows)
-      go true vs = ok
-      go false [] = ok
-      go false (v ∷ vs) = values_valued a.id (reading_by a) DefaultValue v vs rows ok
+      go : (b : Bool) (vs : List Text) → may_have_all a.id vs ≡ true
+          → Valued (if b then rows else default_rows a.id (reading_by a) vs rows)
+      go true vs fits = ok
+      go false [] fits = ok
+      go false (v ∷ vs) fits = values_valued a.id (reading_by a) DefaultValue v vs rows fits ok
 
-  defaults_valued : (c : List Rule) (rows : List Row) → Valued rows → Valued (fold with_default rows c)
-  defaults_valued [] rows ok = ok
-  defaults_valued (a ∷ rest) rows ok = defaults_valued rest (with_default rows a) (default_valued rows a ok)
+  defaults_valued : (c : List Rule) (rows : List Row) → AllGood c → Valued rows → Valued (fold with_default rows c)
+  defaults_valued [] rows good ok = ok
+  defaults_valued (a ∷ rest) rows good ok =
+      defaults_valued rest (with_default rows a) good.1 (default_valued rows a good.0 ok)
 
   -- the rows at the end of a walk with no fault have values
   pub end_valued : (w : Walk) (words : List Text) → walk_fault s names w words ≡ []
@@ -319,7 +351,7 @@ module _ (s : Shape) (names : Names) (all : AllGood s.rules) where
       → Valued (finished s.rules (fold (walked s.rules names) w words).held)
   end_valued w words e settles ok =
       let end = (fold (walked s.rules names) w words).held in
-      defaults_valued s.rules (settled s.rules end).rows
+      defaults_valued s.rules (settled s.rules end).rows all
       (settled_valued s.rules s.args_override_self all end settles (walk_valued w words e ok))
 
 -- an argument that is given has a first value
@@ -337,5 +369,27 @@ first_there id (r ∷ rs) ok e = go (bytes_eq r.id id) (first_there id rs ok.1) 
         (if b then Some r else find (λ (r : Row). bytes_eq r.id id) rs) false ≡ true
         → is_some (option_and_then (λ (r : Row). slice_get r.values 0)
         (if b then Some r else find (λ (r : Row). bytes_eq r.id id) rs)) ≡ true
-    go true later e = has r.values ok.0
+    go true later e = has r.values ok.0.0
     go false later e = later e
+
+-- the first value of `--end` is the letter of an end
+pub letter_there : (rows : List Row) → Valued rows
+    → IfSome (first_of (codes "end") rows) (λ word. is_letter word ≡ true)
+letter_there [] ok = tt
+letter_there (r ∷ rs) ok = go (bytes_eq r.id (codes "end")) refl (letter_there rs ok.1)
+  where
+    first : (vs : List Text) → may_have_all (codes "end") vs ≡ true
+        → IfSome (slice_get vs 0) (λ word. is_letter word ≡ true)
+    first [] fits = tt
+    first (v ∷ vs) fits = (both (may_have (codes "end") v) (may_have_all (codes "end") vs) fits).0
+
+    go : (b : Bool) → bytes_eq r.id (codes "end") ≡ b
+        → IfSome (option_and_then (λ (r : Row). slice_get r.values 0)
+        (find (λ (r : Row). bytes_eq r.id (codes "end")) rs))
+        (λ word. is_letter word ≡ true)
+        → IfSome (option_and_then (λ (r : Row). slice_get r.values 0)
+        (if b then Some r else find (λ (r : Row). bytes_eq r.id (codes "end")) rs)) (λ word. is_letter word ≡ true)
+    go true same later =
+        first r.values
+        (subst (λ id. may_have_all id r.values ≡ true) ((bytes_eq-Decides r.id (codes "end")).0 same) ok.0.1)
+    go false same later = later

@@ -1,5 +1,6 @@
--- What a run says of who is at fault: the verdict on the record, and then of each end whether an entry is blamed on it.
-use Rattle.std.specs.Prelude.{◌≡◌, ℕ, ◌⊎◌, ◌+◌, Bool, true, false, List, [], ◌∷◌, ◌++◌, map, nat_le, cond, is_some, ◌||◌, Option, Some, None, Result, Ok, Err, codes}
+-- What a run says of who is at fault: the verdict on the record, and then of each end whether an entry is blamed on it, and
+-- whether it may have sent its part.
+use Rattle.std.specs.Prelude.{◌≡◌, ℕ, ◌⊎◌, ◌+◌, Bool, true, false, List, [], ◌∷◌, ◌++◌, map, nat_lt, cond, ◌&&◌, ◌||◌, Option, Some, None, Result, Ok, Err, codes}
 use Rattle.std.specs.Fmt.{decimal}
 use Rattle.std.specs.Io.KnownBytes.{Appends}
 use Rattle.tcap_record.specs.declared.entry.End.{End as Side}
@@ -15,13 +16,47 @@ use Rattle.tcap_refute.specs.declared.kind.Refutation.{Refutation}
 use Rattle.tcap_refute.specs.Kind.{kind_number}
 use Rattle.tcap_refute.specs.Blame.{blamed}
 use Rattle.tcap_refute.specs.Unsendable.{IsAtFaultOf}
+use Rattle.tcap_judge.specs.declared.finding.Ends.{Ends}
+use Rattle.tcap_judge.specs.declared.finding.Finding.{Finding}
+use Rattle.tcap_judge.specs.declared.finding.Finding.TheVariants as findings
 use Rattle.tcap_judge.specs.declared.outcome.Outcome.{Outcome}
+use Rattle.tcap_judge.specs.declared.outcome.Outcome.TheVariants.{LawfulFor, Refuted}
 use Rattle.tcap_judge.specs.declared.status.Status.{Status}
 use Rattle.tcap_judge.specs.declared.status.Status.TheVariants as statuses
 use Rattle.tcap_judge.specs.Outcome.{outcome_line, outcome_status}
 use Rattle.tcap_judge.specs.Shown.{memory_line}
+use Rattle.tcap_judge.specs.Judged.{AreLawful, IsShown}
 use Rattle.tcap_judge.specs.Checked.{Device, IsUntouched, ReadsRecord, ReadsTable, out_of_memory}
-use Rattle.tcap_judge.specs.Verdict.{record_verdict}
+use Rattle.tcap_judge.specs.Verdict.{record_verdict, verdict_for}
+
+-- ---- what is said of an end
+
+-- how many entries stand before the first that is no item, or how many there are
+abbrev pub items_before : List (Result Item Reason) → ℕ
+items_before [] = 0
+items_before (Ok item ∷ more) = 1 + items_before more
+items_before (Err reason ∷ more) = 0
+
+-- by the verdict on it: what is blamed, or that it may have sent its part, or that nothing is blamed before so many entries
+abbrev pub finding_by : ℕ → Outcome → Finding
+finding_by count (Refuted r) = findings.Blamed r
+finding_by count (LawfulFor all unheard) = findings.Lawful all unheard
+finding_by count outcome = findings.NotBlamed count
+
+abbrev pub finding : Table → List Entry → Side → Finding
+finding table entries side = finding_by (items_before (map item_of entries)) (verdict_for side table entries)
+
+abbrev pub is_blamed : Finding → Bool
+is_blamed (findings.Blamed r) = true
+is_blamed said = false
+
+abbrev pub is_lawful : Finding → Bool
+is_lawful (findings.Lawful count unheard) = true
+is_lawful said = false
+
+-- what is said of both
+abbrev pub ends_of : Table → List Entry → Ends
+ends_of table entries = record { a = finding table entries sides.A; b = finding table entries sides.B }
 
 -- ---- lines
 
@@ -30,96 +65,100 @@ abbrev pub letter : Side → List ℕ
 letter sides.A = codes "A"
 letter sides.B = codes "B"
 
--- how many entries stand before the first that is no item, or how many there are
-abbrev pub items_before : List (Result Item Reason) → ℕ
-items_before [] = 0
-items_before (Ok item ∷ more) = 1 + items_before more
-items_before (Err reason ∷ more) = 0
-
--- an entry is blamed on an end
-abbrev pub blamed_line : Side → Refutation → List ℕ
-blamed_line side r =
+-- an entry is blamed on it, or it may have sent its part of so many, or of so many none is blamed
+abbrev pub finding_line : Side → Finding → List ℕ
+finding_line side (findings.Blamed r) =
     codes "BLAMED " ++ letter side ++ codes " " ++ decimal r.entry ++ codes " F" ++ decimal (kind_number r.kind) ++ line_end
+finding_line side (findings.Lawful count unheard) =
+    codes "LAWFUL " ++ letter side ++ codes " " ++ decimal count ++ codes " unheard " ++ decimal unheard ++ line_end
+finding_line side (findings.NotBlamed count) =
+    codes "NOT BLAMED " ++ letter side ++ codes " " ++ decimal count ++ line_end
 
--- of so many entries none is
-abbrev pub not_blamed_line : Side → ℕ → List ℕ
-not_blamed_line side count = codes "NOT BLAMED " ++ letter side ++ codes " " ++ decimal count ++ line_end
+-- whether what is said of A stands behind what is said of B: B is blamed, and A is not, or for a later entry
+abbrev pub stands_behind : Finding → Finding → Bool
+stands_behind (findings.Blamed a) (findings.Blamed b) = nat_lt b.entry a.entry
+stands_behind said (findings.Blamed b) = true
+stands_behind said other = false
 
--- what is blamed stands first, the lower entry before the other, then A before B
-abbrev pub lines_by : Option Refutation → Option Refutation → ℕ → List ℕ
-lines_by (Some a) (Some b) count = cond (nat_le a.entry b.entry) (blamed_line sides.A a ++ blamed_line sides.B b)
-    (blamed_line sides.B b ++ blamed_line sides.A a)
-lines_by (Some a) None count = blamed_line sides.A a ++ not_blamed_line sides.B count
-lines_by None (Some b) count = blamed_line sides.B b ++ not_blamed_line sides.A count
-lines_by None None count = not_blamed_line sides.A count ++ not_blamed_line sides.B count
-
--- what is said of both ends
-abbrev pub blame_lines : Table → List Entry → List ℕ
-blame_lines table entries =
-    lines_by (blamed table sides.A entries) (blamed table sides.B entries) (items_before (map item_of entries))
-
--- whether an entry is blamed on an end
-abbrev pub is_blamed : Table → List Entry → Bool
-is_blamed table entries = is_some (blamed table sides.A entries) || is_some (blamed table sides.B entries)
+-- what is blamed stands first, the lower entry before the other, and else A before B
+abbrev pub ends_lines : Ends → List ℕ
+ends_lines ends = cond (stands_behind ends.a ends.b) (finding_line sides.B ends.b ++ finding_line sides.A ends.a)
+    (finding_line sides.A ends.a ++ finding_line sides.B ends.b)
 
 -- ---- a run
 
 -- nothing is said of the ends where the record has a fault
-abbrev pub record_blame_lines : Table → List Entry → Result (Unit {0}) FeedFault → List ℕ
-record_blame_lines table entries (Ok end) = blame_lines table entries
-record_blame_lines table entries (Err fault) = []
+abbrev pub record_ends : Table → List Entry → Result (Unit {0}) FeedFault → Option Ends
+record_ends table entries (Ok end) = Some (ends_of table entries)
+record_ends table entries (Err fault) = None
 
-abbrev pub record_is_blamed : Table → List Entry → Result (Unit {0}) FeedFault → Bool
-record_is_blamed table entries (Ok end) = is_blamed table entries
-record_is_blamed table entries (Err fault) = false
+-- Where an end is said to be lawful, it may have sent its part; where both are, two lawful ends may have sent the record.
+abbrev pub IsFound : Side → Table → List Entry → Finding → Type 0
+IsFound side table entries (findings.Lawful count unheard) = AreLawful (Some side) table entries
+IsFound side table entries said = Unit {0}
 
--- What the reader told is entries and the end behind them; what is said is the verdict on them, and behind it what is
--- said of both ends. What is blamed on an end is at fault: it is no message, or no run in which this end keeps the
+pub record AreFound (table : Table) (entries : List Entry) (ends : Ends) : Type 0 where
+  pub a : IsFound sides.A table entries ends.a
+  pub b : IsFound sides.B table entries ends.b
+  pub both : is_lawful ends.a && is_lawful ends.b ≡ true → AreLawful None table entries
+
+-- What the reader told is entries and the end behind them; what is said is the verdict on them, and is so, and
+-- behind it what is said of both ends. What is blamed on an end is at fault: it is no message, or no run in which this end keeps the
 -- rules has it there, whatever its peer sends and whatever follows.
-pub record SaysBlame (table : Table) (d : Device) (outcome : Outcome) (behind : List ℕ) (blames : Bool) : Type 0 where
+pub record SaysBlame (table : Table) (d : Device) (outcome : Outcome) (ends : Option Ends) : Type 0 where
   pub entries : List Entry
   pub end : Result (Unit {0}) FeedFault
   pub reads : ReadsRecord d entries end
-  pub says : outcome ≡ record_verdict table entries end
-  pub behind_is : behind ≡ record_blame_lines table entries end
-  pub blames_is : blames ≡ record_is_blamed table entries end
+  pub says : outcome ≡ record_verdict None table entries end
+  pub shown : IsShown None table entries outcome
+  pub ends_are : ends ≡ record_ends table entries end
   pub at_fault : (side : Side) (r : Refutation) → blamed table side entries ≡ Some r
       → IsAtFaultOf table side (map item_of entries) r
+  pub found : (said : Ends) → ends ≡ Some said → AreFound table entries said
 
 -- That is so, or memory ran out.
-abbrev pub GivesBlame : Table → Device → Outcome → List ℕ → Bool → Type 0
-GivesBlame table d outcome behind blames =
-    ((outcome ≡ out_of_memory) × (behind ≡ []) × (blames ≡ false)) ⊎ SaysBlame table d outcome behind blames
+abbrev pub GivesBlame : Table → Device → Outcome → Option Ends → Type 0
+GivesBlame table d outcome ends = ((outcome ≡ out_of_memory) × (ends ≡ None)) ⊎ SaysBlame table d outcome ends
 
 -- Where there is no table, nothing of the record is read.
-abbrev pub GivesBlameWith : Result Table Outcome → Device → Outcome → List ℕ → Bool → Type 0
-GivesBlameWith (Ok table) entries outcome behind blames = GivesBlame table entries outcome behind blames
-GivesBlameWith (Err said) entries outcome behind blames =
-    (outcome ≡ said) × (behind ≡ []) × (blames ≡ false) × IsUntouched entries
+abbrev pub GivesBlameWith : Result Table Outcome → Device → Outcome → Option Ends → Type 0
+GivesBlameWith (Ok table) entries outcome ends = GivesBlame table entries outcome ends
+GivesBlameWith (Err said) entries outcome ends = (outcome ≡ said) × (ends ≡ None) × IsUntouched entries
 
--- what the two readers told gives this outcome, and this behind its line
-abbrev pub IsBlamed : Device → Device → Outcome → List ℕ → Bool → Type 0
-IsBlamed entries table outcome behind blames =
-    (given : Result Table Outcome) × ReadsTable table given × GivesBlameWith given entries outcome behind blames
+-- what the two readers told gives this outcome, and that is said of the ends
+abbrev pub IsBlamed : Device → Device → Outcome → Option Ends → Type 0
+IsBlamed entries table outcome ends =
+    (given : Result Table Outcome) × ReadsTable table given × GivesBlameWith given entries outcome ends
 
--- an entry that is blamed on an end is as a record that is refuted
-abbrev pub blame_status : Bool → Outcome → Status
-blame_status true outcome = statuses.Refuted
-blame_status false outcome = outcome_status outcome
+-- what stands behind the line of the outcome
+abbrev pub lines_behind : Option Ends → List ℕ
+lines_behind None = []
+lines_behind (Some ends) = ends_lines ends
+
+abbrev pub is_refuted : Outcome → Bool
+is_refuted (Refuted r) = true
+is_refuted outcome = false
+
+-- That of a record that is refuted, where this one is, or an entry is blamed on an end; that of one that is lawful, where
+-- both ends are; and else that of the outcome.
+abbrev pub blame_status : Option Ends → Outcome → Status
+blame_status None outcome = outcome_status outcome
+blame_status (Some ends) outcome =
+    cond (is_refuted outcome || is_blamed ends.a || is_blamed ends.b) statuses.Refuted
+    (cond (is_lawful ends.a && is_lawful ends.b) statuses.Fine (outcome_status outcome))
 
 -- The text is the line of the outcome and what stands behind it, or says that memory ran out.
-abbrev pub SaysLines : Outcome → List ℕ → Bool → List ℕ → Status → Type 0
-SaysLines outcome behind blames text status =
-    ((text ≡ outcome_line outcome ++ behind) × (status ≡ blame_status blames outcome))
+abbrev pub SaysLines : Outcome → Option Ends → List ℕ → Status → Type 0
+SaysLines outcome ends text status =
+    ((text ≡ outcome_line outcome ++ lines_behind ends) × (status ≡ blame_status ends outcome))
     ⊎ ((text ≡ memory_line) × (status ≡ statuses.Fault))
 
 -- What the two readers told gives an outcome and what is said of both ends, and what the writer took is their lines;
 -- or that memory ran out.
 pub record PrintsBlame (entries table : Device) (taken taken' : Option (List ℕ)) (status : Status) : Type 0 where
   pub outcome : Outcome
-  pub behind : List ℕ
-  pub blames : Bool
+  pub ends : Option Ends
   pub text : List ℕ
-  pub judged : IsBlamed entries table outcome behind blames
-  pub says : SaysLines outcome behind blames text status
+  pub judged : IsBlamed entries table outcome ends
+  pub says : SaysLines outcome ends text status
   pub takes : Appends taken taken' text

@@ -1,6 +1,7 @@
--- What a run says of a certificate, replayed over a record.
+-- What a run says of a certificate, replayed over a record, for both ends or for one alone.
 use Rattle.std.specs.Prelude.{◌≡◌, ℕ, ◌⊎◌, List, length, Option, Result, Ok, Err}
 use Rattle.std.specs.Io.KnownBytes.{Appends, Consumes}
+use Rattle.tcap_record.specs.declared.entry.End.{End as Side}
 use Rattle.tcap_record.specs.declared.entry.Entry.{Entry}
 use Rattle.tcap_record.specs.declared.fault.FeedFault.{FeedFault}
 use Rattle.tcap_record.specs.declared.fault.FeedReason.TheVariants as feed
@@ -14,12 +15,12 @@ use Rattle.tcap_check.specs.declared.fault.CheckFault.{CheckFault}
 use Rattle.tcap_check.specs.Run.{Event}
 use Rattle.tcap_check.specs.Certificate.{Certificate}
 use Rattle.tcap_check.specs.CertificateText.{IsCertificateText}
-use Rattle.tcap_check.specs.Replayed.{replayed}
 use Rattle.tcap_judge.specs.declared.text_reading.TextFault.{TextFault}
 use Rattle.tcap_judge.specs.declared.text_reading.TextFault.TheVariants as faults
 use Rattle.tcap_judge.specs.declared.outcome.Outcome.{Outcome}
-use Rattle.tcap_judge.specs.declared.outcome.Outcome.TheVariants.{Lawful, NotShown, Faulty}
+use Rattle.tcap_judge.specs.declared.outcome.Outcome.TheVariants.{NotShown, Faulty}
 use Rattle.tcap_judge.specs.declared.status.Status.{Status}
+use Rattle.tcap_judge.specs.Judged.{IsShown, lawful_by, replayed_by}
 use Rattle.tcap_judge.specs.Outcome.{Says}
 use Rattle.tcap_judge.specs.Text.{ReadsText}
 
@@ -80,14 +81,15 @@ pub record ReadsCertificate (d : Device) (given : Result Certificate Outcome) : 
 -- ---- the record
 
 -- what a replay over so many entries says
-abbrev pub judged : ℕ → Result (List Event) CheckFault → Outcome
-judged count (Ok events) = Lawful count
-judged count (Err fault) = NotShown fault
+abbrev pub replay_says : Option Side → ℕ → Result (List Event) CheckFault → Outcome
+replay_says judged count (Ok events) = lawful_by judged count events
+replay_says judged count (Err fault) = NotShown fault
 
 -- what is said of entries and the end behind them: the fault of the end, else what the replay says
-abbrev pub record_says : Table → Certificate → List Entry → Result (Unit {0}) FeedFault → Outcome
-record_says table c entries (Ok end) = judged (length entries) (replayed table c entries)
-record_says table c entries (Err fault) = Faulty (feed_number_of fault.reason) fault.place
+abbrev pub record_says : Option Side → Table → Certificate → List Entry → Result (Unit {0}) FeedFault → Outcome
+record_says judged table c entries (Ok end) =
+    replay_says judged (length entries) (replayed_by judged table c entries)
+record_says judged table c entries (Err fault) = Faulty (feed_number_of fault.reason) fault.place
 
 -- What the reader told is these entries and this end behind them, which is the reader's own end, or its failure, where
 -- it says so.
@@ -98,39 +100,43 @@ pub record ReadsRecord (d : Device) (entries : List Entry) (end : Result (Unit {
   pub ended : EndsOnlyAtEnd d.after end
   pub failed : FailsOnlyByReader d.failed_before d.failed_after end
 
--- What the reader told is entries and the end behind them, and what is said is what is said of them.
-pub record SaysOfRecord (table : Table) (c : Certificate) (d : Device) (outcome : Outcome) : Type 0 where
+-- What the reader told is entries and the end behind them, and what is said is what is said of them, and is so.
+pub record SaysOfRecord (judged : Option Side) (table : Table) (c : Certificate) (d : Device) (outcome : Outcome)
+    : Type 0 where
   pub entries : List Entry
   pub end : Result (Unit {0}) FeedFault
   pub reads : ReadsRecord d entries end
-  pub says : outcome ≡ record_says table c entries end
+  pub says : outcome ≡ record_says judged table c entries end
+  pub shown : IsShown judged table entries outcome
 
 -- That is so, or memory ran out.
-abbrev pub JudgesRecord : Table → Certificate → Device → Outcome → Type 0
-JudgesRecord table c d outcome = (outcome ≡ out_of_memory) ⊎ SaysOfRecord table c d outcome
+abbrev pub JudgesRecord : Option Side → Table → Certificate → Device → Outcome → Type 0
+JudgesRecord judged table c d outcome = (outcome ≡ out_of_memory) ⊎ SaysOfRecord judged table c d outcome
 
 -- ---- all three
 
 -- Where there is no certificate, nothing of the record is read.
-abbrev pub JudgesBy : Table → Result Certificate Outcome → Device → Outcome → Type 0
-JudgesBy table (Ok c) entries outcome = JudgesRecord table c entries outcome
-JudgesBy table (Err said) entries outcome = (outcome ≡ said) × IsUntouched entries
+abbrev pub JudgesBy : Option Side → Table → Result Certificate Outcome → Device → Outcome → Type 0
+JudgesBy judged table (Ok c) entries outcome = JudgesRecord judged table c entries outcome
+JudgesBy judged table (Err said) entries outcome = (outcome ≡ said) × IsUntouched entries
 
 -- Where there is no table, nothing of the certificate and the record is read.
-abbrev pub JudgesWith : Result Table Outcome → Device → Device → Outcome → Type 0
-JudgesWith (Ok table) certificate entries outcome =
-    (given : Result Certificate Outcome) × ReadsCertificate certificate given × JudgesBy table given entries outcome
-JudgesWith (Err said) certificate entries outcome = (outcome ≡ said) × IsUntouched certificate × IsUntouched entries
+abbrev pub JudgesWith : Option Side → Result Table Outcome → Device → Device → Outcome → Type 0
+JudgesWith judged (Ok table) certificate entries outcome =
+    (given : Result Certificate Outcome) × ReadsCertificate certificate given × JudgesBy judged table given entries outcome
+JudgesWith judged (Err said) certificate entries outcome =
+    (outcome ≡ said) × IsUntouched certificate × IsUntouched entries
 
 -- what the three readers told gives this outcome
-abbrev pub Judges : Device → Device → Device → Outcome → Type 0
-Judges entries table certificate outcome =
-    (given : Result Table Outcome) × ReadsTable table given × JudgesWith given certificate entries outcome
+abbrev pub Judges : Option Side → Device → Device → Device → Outcome → Type 0
+Judges judged entries table certificate outcome =
+    (given : Result Table Outcome) × ReadsTable table given × JudgesWith judged given certificate entries outcome
 
 -- What the three readers told gives an outcome, and what the writer took is its line, or that memory ran out.
-pub record Checks (entries table certificate : Device) (taken taken' : Option (List ℕ)) (status : Status) : Type 0 where
+pub record Checks (judged : Option Side) (entries table certificate : Device) (taken taken' : Option (List ℕ))
+    (status : Status) : Type 0 where
   pub outcome : Outcome
   pub line : List ℕ
-  pub judges : Judges entries table certificate outcome
+  pub judges : Judges judged entries table certificate outcome
   pub says : Says outcome line status
   pub takes : Appends taken taken' line

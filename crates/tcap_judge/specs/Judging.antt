@@ -1,5 +1,5 @@
 -- How a certificate is replayed over a record as its octets come.
-use Rattle.std.specs.Prelude.{◌≡◌, ◌⊎◌, ℕ, List, [], ◌∷◌, ◌++◌, length, map, Result, Ok, Err}
+use Rattle.std.specs.Prelude.{◌≡◌, ◌⊎◌, ℕ, List, [], ◌∷◌, ◌++◌, length, map, None, Result, Ok, Err}
 use Rattle.tcap_record.specs.declared.entry.Entry.{Entry}
 use Rattle.tcap_record.specs.declared.fault.FeedFault.{FeedFault}
 use Rattle.tcap_record.specs.Held.{Held, Fed}
@@ -10,7 +10,7 @@ use Rattle.tcap_check.specs.Checking.{Checking, Took}
 use Rattle.tcap_check.specs.Entries.{item_of}
 use Rattle.tcap_check.specs.Replayed.{certificate_fits, replayed}
 use Rattle.tcap_judge.specs.declared.outcome.Outcome.{Outcome}
-use Rattle.tcap_judge.specs.Checked.{Device, ReadsRecord, judged, out_of_memory}
+use Rattle.tcap_judge.specs.Checked.{Device, ReadsRecord, out_of_memory, replay_says}
 
 -- A checker took these entries; or the certificate's numbers are out of their ranges, and there is none.
 abbrev pub StandsFor : Table → Certificate → Result Checking CheckFault → List Entry → Type 0
@@ -68,4 +68,4 @@ abbrev pub Finishes : Result Checking CheckFault → ℕ → Outcome → Type 0
 Finishes checker count outcome =
     (table : Table) (c : Certificate) (entries : List Entry) → StandsFor table c checker entries
     → count ≡ length entries
-    → (outcome ≡ out_of_memory) ⊎ (outcome ≡ judged (length entries) (replayed table c entries))
+    → (outcome ≡ out_of_memory) ⊎ (outcome ≡ replay_says None (length entries) (replayed table c entries))

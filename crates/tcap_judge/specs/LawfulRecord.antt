@@ -1,14 +1,15 @@
 -- What it means that a record is found lawful, in words of the standard and of runs alone: no word of certificates, of
 -- their replay, or of entries stands in it.
-use Rattle.std.specs.Prelude.{◌≡◌, ℕ, List, [], ◌∷◌, ◌++◌, length, Option, Ok}
+use Rattle.std.specs.Prelude.{◌≡◌, ℕ, List, [], ◌∷◌, ◌++◌, length, Option, Some, None, Ok}
 use Rattle.std.specs.Io.KnownBytes.{Appends, Consumes, IsAtEnd}
 use Rattle.tcap_msg.specs.Message.{Spells}
+use Rattle.tcap_record.specs.declared.entry.End.{End as Side}
 use Rattle.tcap_record.specs.Framed.{octet_of, quiet_octet}
 use Rattle.tcap_end.specs.Table.{Table}
 use Rattle.tcap_end.specs.TableText.{IsTableOf}
 use Rattle.tcap_check.specs.World.{Item, Sent}
-use Rattle.tcap_check.specs.Run.{IsLawful}
-use Rattle.tcap_judge.specs.declared.outcome.Outcome.TheVariants.{Lawful}
+use Rattle.tcap_check.specs.Run.{IsLawful, IsLawfulFor}
+use Rattle.tcap_judge.specs.declared.outcome.Outcome.TheVariants.{Lawful, LawfulFor}
 use Rattle.tcap_judge.specs.Outcome.{outcome_line}
 use Rattle.tcap_judge.specs.Checked.{Device}
 
@@ -41,3 +42,36 @@ pub record FindsLawful (entries table : Device) (taken taken' : Option (List ℕ
   pub spells : SpellsRecord items octets
   pub lawful : IsLawful items operations moves
   pub line : Appends taken taken' (outcome_line (Lawful (length items)))
+
+-- The same of one end alone: it may have sent its part of these items, whatever its peer sent; and the line says beside
+-- the count of the items how many of the peer's are taken as unheard.
+pub record FindsLawfulFor (side : Side) (entries table : Device) (taken taken' : Option (List ℕ)) : Type 0 where
+  pub octets : List ℕ
+  pub text : List ℕ
+  pub operations : Table
+  pub items : List Item
+  pub unheard : ℕ
+  pub tells : TellsAll entries octets
+  pub tells_table : TellsAll table text
+  pub is_table : IsTableOf text (Ok operations)
+  pub spells : SpellsRecord items octets
+  pub lawful : IsLawfulFor side items operations
+  pub line : Appends taken taken' (outcome_line (LawfulFor (length items) unheard))
+
+-- of both ends, or of that one alone
+abbrev pub FindsLawfulBy : Option Side → Device → Device → Option (List ℕ) → Option (List ℕ) → Type 0
+FindsLawfulBy None entries table taken taken' = FindsLawful entries table taken taken'
+FindsLawfulBy (Some side) entries table taken taken' = FindsLawfulFor side entries table taken taken'
+
+-- What `FindsLawful` says of the readers alone, whatever was written.
+pub record TellsLawful (entries table : Device) : Type 0 where
+  pub octets : List ℕ
+  pub text : List ℕ
+  pub operations : Table
+  pub items : List Item
+  pub moves : ℕ
+  pub tells : TellsAll entries octets
+  pub tells_table : TellsAll table text
+  pub is_table : IsTableOf text (Ok operations)
+  pub spells : SpellsRecord items octets
+  pub lawful : IsLawful items operations moves

@@ -1,9 +1,11 @@
+pub mod CommandLine
 pub mod Words
 pub mod Shown
 pub mod Showing
 pub mod Packed
 pub mod Text
 pub mod Outcome
+pub mod Judged
 pub mod Checked
 pub mod Judging
 pub mod LawfulRecord

@@ -12,7 +12,7 @@ use Rattle.tcap_refute.specs.declared.kind.Refutation.{Refutation}
 use Rattle.tcap_refute.specs.Kind.{kind_number}
 use Rattle.tcap_judge.specs.Shown.{memory_line}
 use Rattle.tcap_judge.specs.declared.outcome.Outcome.{Outcome}
-use Rattle.tcap_judge.specs.declared.outcome.Outcome.TheVariants.{Lawful, NotShown, Refuted, Undecided, Faulty}
+use Rattle.tcap_judge.specs.declared.outcome.Outcome.TheVariants.{Lawful, LawfulFor, NotShown, Refuted, Undecided, Faulty}
 use Rattle.tcap_judge.specs.declared.status.Status.{Status}
 use Rattle.tcap_judge.specs.declared.status.Status.TheVariants as statuses
 
@@ -54,6 +54,8 @@ undecided_line fault = codes "UNDECIDED " ++ decimal fault.entry ++ codes " " ++
 -- the line of an outcome
 abbrev pub outcome_line : Outcome → List ℕ
 outcome_line (Lawful count) = codes "LAWFUL " ++ decimal count ++ line_end
+outcome_line (LawfulFor count unheard) =
+    codes "LAWFUL " ++ decimal count ++ codes " unheard " ++ decimal unheard ++ line_end
 outcome_line (NotShown fault) = not_shown_line fault
 outcome_line (Refuted r) = refuted_line r
 outcome_line (Undecided fault) = undecided_line fault
@@ -62,6 +64,7 @@ outcome_line (Faulty number place) = fault_line number place
 -- how a run ends that says this
 abbrev pub outcome_status : Outcome → Status
 outcome_status (Lawful count) = statuses.Fine
+outcome_status (LawfulFor count unheard) = statuses.Fine
 outcome_status (NotShown fault) = statuses.NotShown
 outcome_status (Refuted r) = statuses.Refuted
 outcome_status (Undecided fault) = statuses.NotShown

@@ -1,61 +1,20 @@
--- The command line of `tcapjudge`.
-use Rattle.std.specs.Prelude.{◌≡◌, ◌≢◌, ◌==◌, Bool, true, false, List, [], ◌∷◌, ℕ, Option, Some, None, codes, option_map, if◌then◌else◌}
+-- What the words of the command line of `tcapjudge` ask for.
+use Rattle.std.specs.Prelude.{◌≡◌, ◌≢◌, ◌==◌, Bool, true, false, List, [], ◌∷◌, ℕ, Option, Some, None, codes, option_and_then, option_map, if◌then◌else◌}
 use Rattle.std.specs.Borrow.{Bor}
+use Rattle.std.specs.List.{list_any}
 use Rattle.std.specs.Str.{bytes_eq}
-use Rattle.clap.specs.Words.{App, Kinds, IsAmong, Row, Rule, Shape, Text, first_of, kind_of, new_app, new_rule}
-use Rattle.clap.specs.Words.{subcommand_of, with_subcommand}
-use Rattle.clap.specs.Simple.{new_shape, on_top}
-use Rattle.clap.specs.declared.builder.action.ArgAction.TheVariants.{Set, SetTrue}
+use Rattle.clap.specs.Words.{Kinds, IsAmong, Row, Text, first_of, kind_of, subcommand_of}
 use Rattle.clap.specs.declared.error.kind.ErrorKind.{ErrorKind}
 use Rattle.clap.specs.declared.error.kind.ErrorKind.TheVariants as kind
 use Rattle.clap.specs.declared.error.Error.{Error}
+use Rattle.tcap_record.specs.declared.entry.End.{End as Side}
+use Rattle.tcap_record.specs.declared.entry.End.TheVariants as sides
+use Rattle.tcap_judge.specs.Blamed.{letter}
+use Rattle.tcap_judge.specs.CommandLine.{tool}
 use Rattle.tcap_judge.specs.declared.asked.Request.{Request}
-use Rattle.tcap_judge.specs.declared.asked.Request.TheVariants.{Show, Pack, Check, Judge, Blame}
+use Rattle.tcap_judge.specs.declared.asked.Request.TheVariants.{Show, Pack, Check, CheckEnd, Judge, JudgeEnd, Blame}
 use Rattle.tcap_judge.specs.declared.words.WordsFault.{WordsFault}
 use Rattle.tcap_judge.specs.declared.words.WordsFault.TheVariants.{Words, Memory}
-
--- the program, which has a version, and of which a subcommand is required
-abbrev pub bare_tool : App
-bare_tool = on_top (λ s. record s { has_version = true; subcommand_required = true }) (new_app (codes "tcapjudge"))
-
--- a subcommand with one positional argument, which may be left out
-abbrev pub with_path : Text → Text → Shape
-with_path name id =
-    record (new_shape name) { rules = record (new_rule id) { action = Some Set } ∷ [] }
-
--- a positional argument that may not be left out
-abbrev pub needed_rule : Text → Rule
-needed_rule id = record (new_rule id) { action = Some Set; required = true }
-
--- a flag of this name
-abbrev pub flag_rule : Text → Rule
-flag_rule name = record (new_rule name) { long = Some name; action = Some SetTrue }
-
--- the subcommand of three paths
-abbrev pub check_shape : Shape
-check_shape = record (new_shape (codes "check")) {
-  rules = needed_rule (codes "RECORD") ∷ needed_rule (codes "TABLE") ∷ needed_rule (codes "CERT") ∷ [];
-}
-
--- the subcommand of two paths and a flag
-abbrev pub judge_shape : Shape
-judge_shape = record (new_shape (codes "judge")) {
-  rules = needed_rule (codes "RECORD") ∷ needed_rule (codes "TABLE") ∷ flag_rule (codes "cert") ∷ [];
-}
-
--- the subcommand of two paths
-abbrev pub blame_shape : Shape
-blame_shape = record (new_shape (codes "blame")) {
-  rules = needed_rule (codes "RECORD") ∷ needed_rule (codes "TABLE") ∷ [];
-}
-
--- the program with its subcommands
-unfoldable pub tool : App
-tool = with_subcommand (with_subcommand (with_subcommand (with_subcommand
-    (with_subcommand bare_tool (with_path (codes "show") (codes "RECORD"))) (with_path (codes "pack") (codes "LINES")))
-    check_shape)
-    judge_shape)
-    blame_shape
 
 -- the subcommand that the words name, and the first value of its argument `id`
 abbrev pub named_with : Text → List Text → Option (Text × Option Text)
@@ -91,6 +50,10 @@ blamed_paths rows = (first_of (codes "RECORD") rows, first_of (codes "TABLE") ro
 abbrev pub named_with_two : List Text → Option (Text × (Option Text × Option Text))
 named_with_two words = option_map (λ p. (p.0, blamed_paths p.1)) (subcommand_of tool words)
 
+-- the value of the option `--end` behind the subcommand that the words name
+abbrev pub end_value : List Text → Option Text
+end_value words = option_and_then (λ p. first_of (codes "end") p.1) (subcommand_of tool words)
+
 -- the text of a path
 abbrev pub path_text : Option (Bor Text) → Option Text
 path_text = option_map (λ s. s.now)
@@ -102,9 +65,17 @@ Asks words (Show path) =
 Asks words (Pack path) =
     named_with (codes "LINES") words ≡ Some (codes "pack", path_text path)
 Asks words (Check taken table cert) =
-    named_with_paths words ≡ Some (codes "check", (Some taken.now, Some table.now, Some cert.now))
+    (named_with_paths words ≡ Some (codes "check", (Some taken.now, Some table.now, Some cert.now)))
+    × (end_value words ≡ None)
+Asks words (CheckEnd side taken table cert) =
+    (named_with_paths words ≡ Some (codes "check", (Some taken.now, Some table.now, Some cert.now)))
+    × (end_value words ≡ Some (letter side))
 Asks words (Judge taken table with_certificate) =
-    named_with_flag words ≡ Some (codes "judge", (Some taken.now, Some table.now, with_certificate))
+    (named_with_flag words ≡ Some (codes "judge", (Some taken.now, Some table.now, with_certificate)))
+    × (end_value words ≡ None)
+Asks words (JudgeEnd side taken table with_certificate) =
+    (named_with_flag words ≡ Some (codes "judge", (Some taken.now, Some table.now, with_certificate)))
+    × (end_value words ≡ Some (letter side))
 Asks words (Blame taken table) = named_with_two words ≡ Some (codes "blame", (Some taken.now, Some table.now))
 
 -- to show what this path names
@@ -122,10 +93,22 @@ abbrev pub IsCheck : Text → Text → Text → Request → Type 0
 IsCheck x y z (Check taken table cert) = (taken.now ≡ x) × (table.now ≡ y) × (cert.now ≡ z)
 IsCheck x y z _ = ⊥
 
+-- to replay a certificate for the messages of this end alone
+abbrev pub IsCheckEnd : Side → Text → Text → Text → Request → Type 0
+IsCheckEnd side x y z (CheckEnd judged taken table cert) =
+    (judged ≡ side) × (taken.now ≡ x) × (table.now ≡ y) × (cert.now ≡ z)
+IsCheckEnd side x y z _ = ⊥
+
 -- to judge: the record and the table that these paths name, with the certificate or without
 abbrev pub IsJudge : Text → Text → Bool → Request → Type 0
 IsJudge x y b (Judge taken table with_certificate) = (taken.now ≡ x) × (table.now ≡ y) × (with_certificate ≡ b)
 IsJudge x y b _ = ⊥
+
+-- to judge this end alone
+abbrev pub IsJudgeEnd : Side → Text → Text → Bool → Request → Type 0
+IsJudgeEnd side x y b (JudgeEnd judged taken table with_certificate) =
+    (judged ≡ side) × (taken.now ≡ x) × (table.now ≡ y) × (with_certificate ≡ b)
+IsJudgeEnd side x y b _ = ⊥
 
 -- to say which end is at fault: the record and the table that these paths name
 abbrev pub IsBlame : Text → Text → Request → Type 0
@@ -136,6 +119,10 @@ IsBlame x y _ = ⊥
 abbrev pub begins_with_hyphen : Text → Bool
 begins_with_hyphen [] = false
 begins_with_hyphen (x ∷ xs) = x == 45
+
+-- the word is the letter of an end
+abbrev pub is_letter : Text → Bool
+is_letter word = list_any (λ side. bytes_eq (letter side) word) (sides.A ∷ sides.B ∷ [])
 
 -- memory ran out
 abbrev pub IsMemory : WordsFault → Type 0

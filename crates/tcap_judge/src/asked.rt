@@ -1,5 +1,7 @@
 //! What the program can be asked to do.
 
+use tcap_record::End;
+
 /// What the program is asked to do.
 #[derive(Clone, Copy, Debug, PartialEq, Eq)]
 pub enum Request<'a> {
@@ -9,8 +11,12 @@ pub enum Request<'a> {
     Pack(Option<&'a str>),
     /// Replay a certificate for a record: the paths of the record, of the operation table and of the certificate.
     Check(&'a str, &'a str, &'a str),
+    /// Replay a certificate for the messages of one end: that end, and then the paths as in `Check`.
+    CheckEnd(End, &'a str, &'a str, &'a str),
     /// Judge a record: the paths of the record and of the operation table, and whether the certificate is printed too.
     Judge(&'a str, &'a str, bool),
+    /// Judge one end of a record: that end, and then as in `Judge`.
+    JudgeEnd(End, &'a str, &'a str, bool),
     /// Say which end is at fault: the paths of the record and of the operation table.
     Blame(&'a str, &'a str),
 }

@@ -1,55 +1,46 @@
-//! Judging a record, and saying of each end whether an entry is blamed on it.
+//! Judging a record, and saying of each end whether an entry is blamed on it, or whether it may have sent its part.
 
-ghost use Rattle.std.specs.Prelude.{◌≡◌, ◌⊎◌, [], ◌++◌, ◌≤◌, ℕ, List, false, length, map, IfOk, OnOk, OnErr};
+ghost use Rattle.std.specs.Prelude.{◌≡◌, ◌++◌, ◌≤◌, ℕ, List, Some, None, length, map, IfOk, OnOk, OnErr};
 ghost use Rattle.std.specs.Io.KnownBytes.{Appends};
 ghost use Rattle.std.specs.String.{string_bytes};
 ghost use Rattle.tcap_ber.specs.Device.{one_more};
 ghost use Rattle.tcap_check.specs.Entries.{item_of};
-ghost use Rattle.tcap_judge.specs.Blamed.{GivesBlame, IsBlamed, PrintsBlame, SaysLines};
-ghost use Rattle.tcap_judge.specs.Blamed.{blame_lines, blame_status, blamed_line, is_blamed, items_before, letter, lines_by, not_blamed_line};
+ghost use Rattle.tcap_judge.specs.declared.finding.Ends.{Ends};
+ghost use Rattle.tcap_judge.specs.Blamed.{AreFound, GivesBlame, IsBlamed, IsFound, PrintsBlame, SaysLines, ends_of, finding, items_before, lines_behind};
+ghost use Rattle.tcap_judge.specs.Judged.{IsShown};
+ghost use Rattle.tcap_judge.specs.Outcome.{outcome_line};
 ghost use Rattle.tcap_judge.specs.Verdict.{verdict};
 
-use crate::checking::{OUT_OF_MEMORY, read_table};
 use crate::fault_lines::{MEMORY_LINE, write_line};
-use crate::judging::judge_record;
-use crate::outcome::{Outcome, push_with};
+use crate::finding::{Ends, Finding, blame_status};
+use crate::given::read_table;
+use crate::outcome::{OUT_OF_MEMORY, Outcome, push_outcome};
 use crate::status::{Status, WriteFailed};
+use crate::verdicts::judge_record;
 use std::alloc::{AllocError, Global};
 use tcap_ber::{Read, Write};
-use tcap_blame::blame;
 use tcap_end::Table;
 use tcap_record::{Body, End, Entry, Record, read_record};
-use tcap_refute::{Refutation, laws};
+use tcap_refute::laws;
 
-/// What is said of a record, and of both ends behind the line of it.
-#[derive(Debug, Drop)]
+/// What is said of a record, and of its ends.
+#[derive(Clone, Copy, Debug)]
 struct Said {
     outcome: Outcome,
-    behind: String,
-    /// Whether an entry is blamed on an end.
-    blames: bool,
+    /// None where the table or the record has a fault, or memory ran out.
+    ends: Option<Ends>,
 }
 
-/// That is said, and nothing of the ends.
-fn alone(alloc: Global, outcome: Outcome) -> Said
-    ensures outcome { result.outcome ≡ outcome }
-    ensures behind { string_bytes result.behind ≡ [] }
-    ensures blames { result.blames ≡ false }
-{
-    Said {
-        outcome,
-        behind: String::new(alloc),
-        blames: false,
-    }
-}
-
-/// The letter of an end.
-fn letter(end: End) -> &'static str
-    ensures { result.now ≡ letter end }
-{
-    match end {
-        End::A => "A",
-        End::B => "B",
+impl Said {
+    /// That is said, and nothing of the ends.
+    fn alone(outcome: Outcome) -> Said
+        ensures outcome { result.outcome ≡ outcome }
+        ensures ends { result.ends ≡ None }
+    {
+        Said {
+            outcome,
+            ends: None,
+        }
     }
 }
 
@@ -67,86 +58,42 @@ fn items_before(entries: &[Entry]) -> usize
     count
 }
 
-/// Appends the line of an entry that is blamed on an end.
-fn push_blamed(text: &mut String, end: End, refutation: Refutation) -> Result<(), AllocError>
-    ensures { OnOk result (string_bytes text.new ≡ string_bytes text.old ++ blamed_line end refutation) }
+/// What is said of an end of a record.
+fn find_end(alloc: Global, read: &Record, table: &Table, end: End) -> Result<Finding, AllocError>
+    requires few { length read.now.entries.items ≤ 100000 }
+    ensures { IfOk result (λ said. (said ≡ finding table.now read.now.entries.items end)
+        × IsFound end table.now read.now.entries.items said) }
 {
-    let letter = letter(end);
-    let entry = refutation.entry;
-    let number = refutation.kind.number();
-    writeln!(text, "BLAMED {letter} {entry} F{number}")
+    let judged = judge_record(alloc, read, table, Some(end), false)?;
+    Ok(Finding::new(items_before(&read.entries), judged.outcome))
 }
 
-/// Appends the line of an end on which none of so many entries is blamed.
-fn push_not_blamed(text: &mut String, end: End, count: usize) -> Result<(), AllocError>
-    ensures { OnOk result (string_bytes text.new ≡ string_bytes text.old ++ not_blamed_line end count) }
+/// What is said of both ends of a record.
+fn find_both(alloc: Global, read: &Record, table: &Table) -> Result<Ends, AllocError>
+    requires few { length read.now.entries.items ≤ 100000 }
+    ensures { IfOk result (λ ends. (ends ≡ ends_of table.now read.now.entries.items)
+        × AreFound table.now read.now.entries.items ends) }
 {
-    let letter = letter(end);
-    writeln!(text, "NOT BLAMED {letter} {count}")
-}
-
-/// Appends what is said of both ends: what is blamed first, the lower entry before the other, then A before B.
-fn push_lines(
-    text: &mut String,
-    a: Option<Refutation>,
-    b: Option<Refutation>,
-    count: usize,
-) -> Result<(), AllocError>
-    ensures { OnOk result (string_bytes text.new ≡ string_bytes text.old ++ lines_by a b count) }
-{
-    match (a, b) {
-        (Some(a), Some(b)) if a.entry <= b.entry => {
-            push_blamed(text, End::A, a)?;
-            push_blamed(text, End::B, b)
-        }
-        (Some(a), Some(b)) => {
-            push_blamed(text, End::B, b)?;
-            push_blamed(text, End::A, a)
-        }
-        (Some(a), None) => {
-            push_blamed(text, End::A, a)?;
-            push_not_blamed(text, End::B, count)
-        }
-        (None, Some(b)) => {
-            push_blamed(text, End::B, b)?;
-            push_not_blamed(text, End::A, count)
-        }
-        (None, None) => {
-            push_not_blamed(text, End::A, count)?;
-            push_not_blamed(text, End::B, count)
-        }
-    }
-}
-
-/// What is said of both ends of a record, and whether an entry is blamed on one.
-fn blame_both(alloc: Global, read: &Record, table: &Table) -> Result<(String, bool), AllocError>
-    ensures { IfOk result (λ said. (string_bytes said.0 ≡ blame_lines table.now read.now.entries.items)
-        × (said.1 ≡ is_blamed table.now read.now.entries.items)) }
-{
-    let (Ok(a), Ok(b)) = (
-        blame(alloc, read, table, End::A),
-        blame(alloc, read, table, End::B),
-    ) else {
-        return Err(AllocError);
-    };
-    let mut text = String::new(alloc);
-    push_lines(&mut text, a, b, items_before(&read.entries))?;
-    Ok((text, a.is_some() || b.is_some()))
+    tcap_check::laws::blame_is_whole();
+    Ok(Ends {
+        a: find_end(alloc, read, table, End::A)?,
+        b: find_end(alloc, read, table, End::B)?,
+    })
 }
 
 /// What is said of a record and of its ends.
 fn blame_record(alloc: Global, read: &Record, table: &Table) -> Result<Said, AllocError>
     requires few { length read.now.entries.items ≤ 100000 }
     ensures { IfOk result (λ said. (said.outcome ≡ verdict table.now read.now.entries.items)
-        × (string_bytes said.behind ≡ blame_lines table.now read.now.entries.items)
-        × (said.blames ≡ is_blamed table.now read.now.entries.items)) }
+        × IsShown None table.now read.now.entries.items said.outcome
+        × ((ends : Ends) × (said.ends ≡ Some ends) × (ends ≡ ends_of table.now read.now.entries.items)
+        × AreFound table.now read.now.entries.items ends)) }
 {
-    let judged = judge_record(alloc, read, table, false)?;
-    let (behind, blames) = blame_both(alloc, read, table)?;
+    let judged = judge_record(alloc, read, table, None, false)?;
+    let ends = find_both(alloc, read, table)?;
     Ok(Said {
         outcome: judged.outcome,
-        behind,
-        blames,
+        ends: Some(ends),
     })
 }
 
@@ -157,15 +104,15 @@ fn blame_told<R: Read>(alloc: Global, reader: &mut R, table: &Table) -> Said
       after = R.untold reader.new;
       failed_before = R.failures reader.old;
       failed_after = R.failures reader.new;
-    }) result.outcome (string_bytes result.behind) result.blames }
+    }) result.outcome result.ends }
 {
     laws::blamed_is_at_fault();
     match read_record(alloc, reader) {
         Ok(read) => match blame_record(alloc, &read, table) {
             Ok(said) => said,
-            Err(AllocError) => alone(alloc, OUT_OF_MEMORY),
+            Err(AllocError) => Said::alone(OUT_OF_MEMORY),
         },
-        Err(fault) => alone(alloc, Outcome::Faulty(fault.reason.number(), fault.place)),
+        Err(fault) => Said::alone(Outcome::Faulty(fault.reason.number(), fault.place)),
     }
 }
 
@@ -183,22 +130,23 @@ fn blame_by<R: Read, T: Read>(alloc: Global, entries: &mut R, table: &mut T) -> 
           after = T.untold table.new;
           failed_before = T.failures table.old;
           failed_after = T.failures table.new;
-        }) result.outcome (string_bytes result.behind) result.blames }
+        }) result.outcome result.ends }
 {
     match read_table(alloc, table) {
         Ok(table) => blame_told(alloc, entries, &table),
-        Err(outcome) => alone(alloc, outcome),
+        Err(outcome) => Said::alone(outcome),
     }
 }
 
-/// How a run ends that says this, and whether an entry is blamed on an end.
-fn blame_status(blames: bool, outcome: Outcome) -> Status
-    ensures { result ≡ blame_status blames outcome }
+/// Appends the line of the outcome, and what is said of the ends.
+fn push_said(text: &mut String, said: &Said) -> Result<(), AllocError>
+    ensures { OnOk result (string_bytes text.new
+        ≡ string_bytes text.old ++ outcome_line said.now.outcome ++ lines_behind said.now.ends) }
 {
-    if blames {
-        Status::Refuted
-    } else {
-        outcome.status()
+    push_outcome(text, said.outcome)?;
+    match said.ends {
+        Some(ends) => ends.push(text),
+        None => Ok(()),
     }
 }
 
@@ -206,16 +154,16 @@ fn blame_status(blames: bool, outcome: Outcome) -> Status
 /// before its first octet is written.
 fn write_said<W: Write>(alloc: Global, said: &Said, writer: &mut W) -> Result<Status, WriteFailed>
     ensures text { IfOk result (λ status. (text : List ℕ)
-        × SaysLines said.now.outcome (string_bytes said.now.behind) said.now.blames text status
+        × SaysLines said.now.outcome said.now.ends text status
         × Appends (W.taken writer.old) (W.taken writer.new) text) }
     ensures counts { OnOk result (W.failures writer.new ≡ W.failures writer.old) }
     ensures failed { OnErr result (W.failures writer.new ≡ one_more (W.failures writer.old)) }
 {
     let mut text = String::new(alloc);
-    match push_with(&mut text, said.outcome, &said.behind) {
+    match push_said(&mut text, said) {
         Ok(()) => {
             write_line(writer, text.as_bytes())?;
-            Ok(blame_status(said.blames, said.outcome))
+            Ok(blame_status(said.ends, said.outcome))
         }
         Err(AllocError) => {
             write_line(writer, MEMORY_LINE.as_bytes())?;

@@ -9,80 +9,20 @@ ghost use Rattle.tcap_record.specs.declared.fault.FeedReason.{FeedReason};
 ghost use Rattle.tcap_record.specs.Framing.{feed_fault};
 ghost use Rattle.tcap_record.specs.Held.{IsFront, IsHeld, IsPart, IsWhole, nothing_held};
 ghost use Rattle.tcap_record.specs.Viewed.{entry_read};
-ghost use Rattle.tcap_judge.specs.Checked.{Checks, Judges, JudgesRecord, ReadsCertificate, ReadsTable, said_of_text};
-ghost use Rattle.tcap_judge.specs.LawfulRecord.{FindsLawful};
+ghost use Rattle.tcap_judge.specs.Checked.{Checks, Judges, JudgesRecord};
+ghost use Rattle.tcap_judge.specs.LawfulRecord.{FindsLawful, FindsLawfulFor};
 ghost use Rattle.tcap_judge.specs.Judging.{Finishes, Leads, LeadsFed, LeadsToEnd, StandsFor, Takes};
 ghost use Rattle.tcap_judge.specs.Outcome.{Says};
 
-use crate::outcome::{Outcome, write_outcome};
+use crate::end_checking::judge_end;
+use crate::given::{read_certificate, read_table};
+use crate::outcome::{OUT_OF_MEMORY, Outcome, write_outcome};
 use crate::status::{Status, WriteFailed};
-use crate::text_reading::{TextFault, read_text};
 use std::alloc::{AllocError, Global};
 use tcap_ber::{Failed, Read, Write};
 use tcap_check::{Certificate, CheckFault, Checker, Reason};
-use tcap_end::{Table, TableReason};
-use tcap_record::{EntryView, FeedFault, FeedReason, Frames, PIECE_LEN};
-
-/// The greatest length of the text of a table, and of that of a certificate, in octets.
-const TEXT_LIMIT: usize = 67_108_864;
-
-/// The number of the fault of a table's text that is too long.
-const NOT_JSON: u8 = 30;
-
-/// The number of the fault of a text that is no certificate.
-const CERTIFICATE_SHAPE: u8 = 60;
-
-/// Memory ran out.
-pub(crate) const OUT_OF_MEMORY: Outcome = Outcome::Faulty(99, 0);
-
-/// What is said where there is no text; that number where it is too long.
-fn without_text(too_long: u8, fault: TextFault) -> Outcome
-    ensures { result ≡ said_of_text too_long fault }
-{
-    match fault {
-        TextFault::TooLong => Outcome::Faulty(too_long, 0),
-        TextFault::Read(place) => Outcome::Faulty(FeedReason::Read.number(), place),
-        TextFault::Memory => OUT_OF_MEMORY,
-    }
-}
-
-/// The operation table that a reader tells; else what is said in its place.
-pub(crate) fn read_table<R: Read>(alloc: Global, reader: &mut R) -> Result<Table, Outcome>
-    ensures { ReadsTable (record {
-      before = R.untold reader.old;
-      after = R.untold reader.new;
-      failed_before = R.failures reader.old;
-      failed_after = R.failures reader.new;
-    }) result }
-{
-    match read_text(alloc, reader, TEXT_LIMIT) {
-        Ok(text) => match Table::from_json(alloc, &text) {
-            Ok(table) => Ok(table),
-            Err(fault) if matches!(fault.reason, TableReason::Memory) => Err(OUT_OF_MEMORY),
-            Err(fault) => Err(Outcome::Faulty(fault.reason.number(), fault.place)),
-        },
-        Err(fault) => Err(without_text(NOT_JSON, fault)),
-    }
-}
-
-/// The certificate that a reader tells; else what is said in its place.
-fn read_certificate<R: Read>(alloc: Global, reader: &mut R) -> Result<Certificate, Outcome>
-    ensures { ReadsCertificate (record {
-      before = R.untold reader.old;
-      after = R.untold reader.new;
-      failed_before = R.failures reader.old;
-      failed_after = R.failures reader.new;
-    }) result }
-{
-    match read_text(alloc, reader, TEXT_LIMIT) {
-        Ok(text) => match Certificate::from_json(alloc, &text) {
-            Ok(certificate) => Ok(certificate),
-            Err(fault) if matches!(fault.reason, Reason::Memory) => Err(OUT_OF_MEMORY),
-            Err(_) => Err(Outcome::Faulty(CERTIFICATE_SHAPE, 0)),
-        },
-        Err(fault) => Err(without_text(CERTIFICATE_SHAPE, fault)),
-    }
-}
+use tcap_end::Table;
+use tcap_record::{End, EntryView, FeedFault, FeedReason, Frames, PIECE_LEN};
 
 /// Takes the next entry; fails where memory ran out. A refusal is kept.
 fn take_entry(checker: &mut Result<Checker, CheckFault>, entry: &EntryView) -> Result<(), FeedFault>
@@ -208,7 +148,7 @@ fn judge_record<R: Read>(
     table: &Table,
     certificate: &Certificate,
 ) -> Outcome
-    ensures { JudgesRecord table.now certificate.now (record {
+    ensures { JudgesRecord None table.now certificate.now (record {
       before = R.untold reader.old;
       after = R.untold reader.new;
       failed_before = R.failures reader.old;
@@ -225,15 +165,16 @@ fn judge_record<R: Read>(
     }
 }
 
-/// What is said of a record, a table and a certificate, each of which a reader tells. Nothing of the record is read
-/// before the other two are there.
+/// What is said of a record, a table and a certificate, each of which a reader tells: of one end alone, or, where none is
+/// named, of both. Nothing of the record is read before the other two are there.
 fn judge<R: Read, T: Read, C: Read>(
     alloc: Global,
     entries: &mut R,
     table: &mut T,
     certificate: &mut C,
+    judged: Option<End>,
 ) -> Outcome
-    ensures { Judges (record {
+    ensures { Judges judged (record {
       before = R.untold entries.old;
       after = R.untold entries.new;
       failed_before = R.failures entries.old;
@@ -260,7 +201,10 @@ fn judge<R: Read, T: Read, C: Read>(
         Ok(certificate) => certificate,
         Err(outcome) => return outcome,
     };
-    judge_record(alloc, entries, &table, &certificate)
+    match judged {
+        None => judge_record(alloc, entries, &table, &certificate),
+        Some(end) => judge_end(alloc, entries, &table, &certificate, end),
+    }
 }
 
 /// Replays the certificate that `certificate` tells over the record that `entries` tells, by the operation table that
@@ -275,7 +219,7 @@ pub fn run_check<R: Read, T: Read, C: Read, W: Write>(
     certificate: &mut C,
     writer: &mut W,
 ) -> Result<Status, WriteFailed>
-    ensures checks { IfOk result (Checks (record {
+    ensures checks { IfOk result (Checks None (record {
       before = R.untold entries.old;
       after = R.untold entries.new;
       failed_before = R.failures entries.old;
@@ -311,6 +255,57 @@ pub fn run_check<R: Read, T: Read, C: Read, W: Write>(
     ensures counts { OnOk result (W.failures writer.new ≡ W.failures writer.old) }
     ensures failed { OnErr result (W.failures writer.new ≡ one_more (W.failures writer.old)) }
 {
-    let outcome = judge(alloc, entries, table, certificate);
+    let outcome = judge(alloc, entries, table, certificate, None);
+    write_outcome(alloc, outcome, "", writer)
+}
+
+/// The same for one end alone: whether it may have sent its part of the record, whatever its peer sent, with how many of the
+/// peer's messages are taken as unheard; or why the certificate does not show it. Here the record is read whole before it is
+/// judged.
+pub fn run_check_end<R: Read, T: Read, C: Read, W: Write>(
+    alloc: Global,
+    entries: &mut R,
+    table: &mut T,
+    certificate: &mut C,
+    end: End,
+    writer: &mut W,
+) -> Result<Status, WriteFailed>
+    ensures checks { IfOk result (Checks (Some end) (record {
+      before = R.untold entries.old;
+      after = R.untold entries.new;
+      failed_before = R.failures entries.old;
+      failed_after = R.failures entries.new;
+    })
+        (record {
+          before = T.untold table.old;
+          after = T.untold table.new;
+          failed_before = T.failures table.old;
+          failed_after = T.failures table.new;
+        })
+        (record {
+          before = C.untold certificate.old;
+          after = C.untold certificate.new;
+          failed_before = C.failures certificate.old;
+          failed_after = C.failures certificate.new;
+        })
+        (W.taken writer.old) (W.taken writer.new)) }
+    ensures lawful { result ≡ Ok Status.Fine
+        → FindsLawfulFor end (record {
+          before = R.untold entries.old;
+          after = R.untold entries.new;
+          failed_before = R.failures entries.old;
+          failed_after = R.failures entries.new;
+        })
+        (record {
+          before = T.untold table.old;
+          after = T.untold table.new;
+          failed_before = T.failures table.old;
+          failed_after = T.failures table.new;
+        })
+        (W.taken writer.old) (W.taken writer.new) }
+    ensures counts { OnOk result (W.failures writer.new ≡ W.failures writer.old) }
+    ensures failed { OnErr result (W.failures writer.new ≡ one_more (W.failures writer.old)) }
+{
+    let outcome = judge(alloc, entries, table, certificate, Some(end));
     write_outcome(alloc, outcome, "", writer)
 }

@@ -4,20 +4,25 @@
 mod asked;
 mod blaming;
 mod checking;
+mod command_line;
+mod end_checking;
 mod fault_lines;
+mod finding;
+mod given;
 mod judging;
 mod outcome;
 mod packing;
 mod showing;
 mod status;
 mod text_reading;
+mod verdicts;
 mod words;
 
 pub use asked::Request;
 pub use blaming::run_blame;
-pub use checking::run_check;
+pub use checking::{run_check, run_check_end};
 pub use fault_lines::MEMORY_LINE;
-pub use judging::run_judge;
+pub use judging::{run_judge, run_judge_end};
 pub use packing::run_pack;
 pub use showing::run_show;
 pub use status::{Status, WriteFailed};

@@ -20,6 +20,8 @@ use tcap_refute::Refutation;
 pub(crate) enum Outcome {
     /// The record, of so many entries, is lawful.
     Lawful(usize),
+    /// One end alone may have sent its part of so many entries, of which so many of its peer's are taken as unheard.
+    LawfulFor(usize, u64),
     /// The certificate does not show that it is.
     NotShown(CheckFault),
     /// An entry is at fault.
@@ -30,13 +32,16 @@ pub(crate) enum Outcome {
     Faulty(u8, u64),
 }
 
+/// Memory ran out.
+pub(crate) const OUT_OF_MEMORY: Outcome = Outcome::Faulty(99, 0);
+
 impl Outcome {
     /// How a run ends that says this.
     pub(crate) fn status(self) -> Status
         ensures { result ≡ outcome_status self }
     {
         match self {
-            Outcome::Lawful(_) => Status::Fine,
+            Outcome::Lawful(_) | Outcome::LawfulFor(_, _) => Status::Fine,
             Outcome::Refuted(_) => Status::Refuted,
             Outcome::NotShown(_) | Outcome::Undecided(_) => Status::NotShown,
             Outcome::Faulty(_, _) => Status::Fault,
@@ -96,11 +101,12 @@ fn push_undecided(text: &mut String, fault: CheckFault) -> Result<(), AllocError
 }
 
 /// Appends the line of an outcome.
-fn push_outcome(text: &mut String, outcome: Outcome) -> Result<(), AllocError>
+pub(crate) fn push_outcome(text: &mut String, outcome: Outcome) -> Result<(), AllocError>
     ensures { OnOk result (string_bytes text.new ≡ string_bytes text.old ++ outcome_line outcome) }
 {
     match outcome {
         Outcome::Lawful(count) => writeln!(text, "LAWFUL {count}"),
+        Outcome::LawfulFor(count, unheard) => writeln!(text, "LAWFUL {count} unheard {unheard}"),
         Outcome::NotShown(fault) => push_not_shown(text, fault),
         Outcome::Refuted(refutation) => push_refuted(text, refutation),
         Outcome::Undecided(fault) => push_undecided(text, fault),
@@ -109,7 +115,7 @@ fn push_outcome(text: &mut String, outcome: Outcome) -> Result<(), AllocError>
 }
 
 /// Appends the line of an outcome, and what stands behind it.
-pub(crate) fn push_with(text: &mut String, outcome: Outcome, behind: &str) -> Result<(), AllocError>
+fn push_with(text: &mut String, outcome: Outcome, behind: &str) -> Result<(), AllocError>
     ensures { OnOk result (string_bytes text.new ≡ string_bytes text.old ++ outcome_line outcome ++ behind.now) }
 {
     push_outcome(text, outcome)?;

@@ -1,18 +1,24 @@
 //! What the words of the command line ask for.
 
-ghost use Rattle.std.specs.Prelude.{◌≡◌, ◌∷◌, [], IfErr, IfOk, IsErrAnd, MatchResult, None, Some, codes, false, is_some, true};
-ghost use Rattle.clap.specs.Words.{app_of, fault_of, first_value, found_of, rule_of, shape_of, takes};
+ghost use Rattle.std.specs.Prelude.{◌≡◌, ◌∷◌, [], IfErr, IfOk, IfSome, IsErrAnd, MatchResult, None, Some, codes, false, is_some};
+ghost use Rattle.std.specs.Prelude.{option_map, true};
+ghost use Rattle.clap.specs.Words.{fault_of, first_value, found_of, takes};
 ghost use Rattle.clap.specs.Walk.{Text, texts};
-ghost use Rattle.clap.specs.declared.builder.command.Command.TheViews.{out-Command};
-ghost use Rattle.clap.specs.declared.error.kind.ErrorKind.TheVariants.{DisplayVersion, MissingRequiredArgument};
-ghost use Rattle.tcap_judge.specs.Words.{Asks, Becomes, IsBlame, IsCheck, IsFaultOf, IsJudge, IsMemory, IsPack, IsShow, begins_with_hyphen};
-ghost use Rattle.tcap_judge.specs.Words.{blame_shape, check_shape, flag_rule, is_printed, is_set, judge_shape, needed_rule, tool, words_status};
+ghost use Rattle.clap.specs.declared.error.kind.ErrorKind.TheVariants.{DisplayVersion, InvalidValue, MissingRequiredArgument};
+ghost use Rattle.tcap_record.specs.declared.entry.End.{End as Side};
+ghost use Rattle.tcap_judge.specs.Blamed.{letter};
+ghost use Rattle.tcap_judge.specs.CommandLine.{tool};
+ghost use Rattle.tcap_judge.specs.Words.{Asks, Becomes, IsBlame, IsCheck, IsCheckEnd, IsFaultOf, IsJudge, IsJudgeEnd, IsMemory, IsPack};
+ghost use Rattle.tcap_judge.specs.Words.{IsShow, begins_with_hyphen, is_letter, is_printed, is_set, words_status};
+ghost use Rattle.tcap_judge.specs.declared.asked.Request.TheVariants as asked;
 
 use crate::asked::Request;
+use crate::command_line::command;
 use clap::error::ErrorKind;
-use clap::{Arg, ArgAction, ArgMatches, Command, Error};
+use clap::{ArgMatches, Error};
 use std::alloc::{AllocError, Global};
 use std::{error, fmt};
+use tcap_record::End;
 
 /// Why words are not a request. Its `Display` is the text for the user.
 #[derive(Debug, Drop)]
@@ -83,98 +89,6 @@ impl fmt::Display for WordsFault {
 
 impl error::Error for WordsFault {}
 
-/// A positional argument that may not be left out.
-fn needed_arg<'a>(alloc: Global, id: &'a str, text: &'a str) -> Arg<'a>
-    ensures rule { rule_of result ≡ needed_rule id.entry.now }
-    ensures local { result.global ≡ false }
-{
-    Arg::new(alloc, id)
-        .required(true)
-        .action(ArgAction::Set)
-        .help(text)
-}
-
-/// A flag of this name.
-fn flag_arg<'a>(alloc: Global, name: &'a str, text: &'a str) -> Arg<'a>
-    ensures rule { rule_of result ≡ flag_rule name.entry.now }
-    ensures local { result.global ≡ false }
-{
-    Arg::new(alloc, name)
-        .long(name)
-        .action(ArgAction::SetTrue)
-        .help(text)
-}
-
-/// The subcommand `check`.
-fn check_command<'a>(alloc: Global) -> Result<Command<'a>, AllocError>
-    ensures { IfOk result (λ c. (shape_of c ≡ check_shape) × ((out-Command c).has_globals ≡ false)) }
-{
-    let record = needed_arg(alloc, "RECORD", "The file of the record");
-    let table = needed_arg(alloc, "TABLE", "The file of the operation table");
-    let cert = needed_arg(alloc, "CERT", "The file of the certificate");
-    Command::new(alloc, "check")
-        .about("Replays a certificate for a record")
-        .arg(record)?
-        .arg(table)?
-        .arg(cert)
-}
-
-/// The subcommand `judge`.
-fn judge_command<'a>(alloc: Global) -> Result<Command<'a>, AllocError>
-    ensures { IfOk result (λ c. (shape_of c ≡ judge_shape) × ((out-Command c).has_globals ≡ false)) }
-{
-    let record = needed_arg(alloc, "RECORD", "The file of the record");
-    let table = needed_arg(alloc, "TABLE", "The file of the operation table");
-    let cert = flag_arg(alloc, "cert", "Prints the certificate behind LAWFUL");
-    Command::new(alloc, "judge")
-        .about("Judges a record")
-        .arg(record)?
-        .arg(table)?
-        .arg(cert)
-}
-
-/// The subcommand `blame`.
-fn blame_command<'a>(alloc: Global) -> Result<Command<'a>, AllocError>
-    ensures { IfOk result (λ c. (shape_of c ≡ blame_shape) × ((out-Command c).has_globals ≡ false)) }
-{
-    let record = needed_arg(alloc, "RECORD", "The file of the record");
-    let table = needed_arg(alloc, "TABLE", "The file of the operation table");
-    Command::new(alloc, "blame")
-        .about("Says which end is at fault")
-        .arg(record)?
-        .arg(table)
-}
-
-/// The command line that the program takes.
-fn command<'a>(alloc: Global) -> Result<Command<'a>, AllocError>
-    ensures { IfOk result (λ c. app_of c ≡ tool) }
-{
-    let record = Arg::new(alloc, "RECORD").action(ArgAction::Set).help(
-        "The file of the record; the standard input where it is left out",
-    );
-    let lines = Arg::new(alloc, "LINES").action(ArgAction::Set).help(
-        "The file of the lines; the standard input where it is left out",
-    );
-    let show = Command::new(alloc, "show")
-        .about("Prints the entries of a record")
-        .arg(record)?;
-    let pack = Command::new(alloc, "pack")
-        .about("Makes a record of lines of hex digits")
-        .arg(lines)?;
-    let check = check_command(alloc)?;
-    let judge = judge_command(alloc)?;
-    let blame = blame_command(alloc)?;
-    Command::new(alloc, "tcapjudge")
-        .about("Judges records of TCAP messages")
-        .version("0.1.0")
-        .subcommand_required(true)
-        .subcommand(show)?
-        .subcommand(pack)?
-        .subcommand(check)?
-        .subcommand(judge)?
-        .subcommand(blame)
-}
-
 /// The value of the argument `id`, which has one.
 fn needed<'a>(found: &ArgMatches<'a>, id: &str) -> &'a str
     requires { is_some (first_value (found_of found.now) id.now) ≡ true }
@@ -191,6 +105,63 @@ fn is_set(found: &ArgMatches, id: &str) -> bool
     ensures { result ≡ is_set (first_value (found_of found.now) id.now) }
 {
     matches!(found.get_str(id), Some("true"))
+}
+
+/// The end that has this letter.
+fn end_of(word: &str) -> End
+    requires { is_letter word.now ≡ true }
+    ensures { letter result ≡ word.now }
+{
+    match word {
+        "A" => End::A,
+        "B" => End::B,
+        _ => unreachable!(),
+    }
+}
+
+/// The end that the option `--end` names, where it is given.
+fn end_given(found: &ArgMatches) -> Option<End>
+    requires { IfSome (first_value (found_of found.now) (codes "end")) (λ word. is_letter word ≡ true) }
+    ensures { option_map letter result ≡ first_value (found_of found.now) (codes "end") }
+{
+    match found.get_str("end") {
+        Some(word) => Some(end_of(word)),
+        None => None,
+    }
+}
+
+/// The request to replay a certificate, for one end where it is given.
+fn check_request<'a>(
+    side: Option<End>,
+    entries: &'a str,
+    table: &'a str,
+    cert: &'a str,
+) -> Request<'a>
+    ensures both { side ≡ None → result ≡ asked.Check entries.entry table.entry cert.entry }
+    ensures one { (end_given : Side) → side ≡ Some end_given
+        → result ≡ asked.CheckEnd end_given entries.entry table.entry cert.entry }
+{
+    match side {
+        None => Request::Check(entries, table, cert),
+        Some(side) => Request::CheckEnd(side, entries, table, cert),
+    }
+}
+
+/// The request to judge, one end where it is given.
+fn judge_request<'a>(
+    side: Option<End>,
+    entries: &'a str,
+    table: &'a str,
+    with_certificate: bool,
+) -> Request<'a>
+    ensures both { side ≡ None → result ≡ asked.Judge entries.entry table.entry with_certificate }
+    ensures one { (end_given : Side) → side ≡ Some end_given
+        → result ≡ asked.JudgeEnd end_given entries.entry table.entry with_certificate }
+{
+    match side {
+        None => Request::Judge(entries, table, with_certificate),
+        Some(side) => Request::JudgeEnd(side, entries, table, with_certificate),
+    }
 }
 
 /// What `words` ask for, as clap reads them.
@@ -212,12 +183,13 @@ fn parsed_request<'a>(alloc: Global, words: &'a [&'a str]) -> Result<Request<'a>
             let record = needed(found, "RECORD");
             let table = needed(found, "TABLE");
             let cert = needed(found, "CERT");
-            Ok(Request::Check(record, table, cert))
+            Ok(check_request(end_given(found), record, table, cert))
         }
         "judge" => {
             let record = needed(found, "RECORD");
             let table = needed(found, "TABLE");
-            Ok(Request::Judge(record, table, is_set(found, "cert")))
+            let with_certificate = is_set(found, "cert");
+            Ok(judge_request(end_given(found), record, table, with_certificate))
         }
         "blame" => {
             let record = needed(found, "RECORD");
@@ -255,6 +227,14 @@ pub fn request<'a>(alloc: Global, words: &'a [&'a str]) -> Result<Request<'a>, W
         → texts words.entry.now ≡ program ∷ codes "check" ∷ x ∷ y ∷ []
         → begins_with_hyphen x ≡ false → begins_with_hyphen y ≡ false
         → IsErrAnd result (IsFaultOf (MissingRequiredArgument ∷ [])) }
+    ensures check_end { (program x y z : Text) (side : Side)
+        → texts words.entry.now ≡ program ∷ codes "check" ∷ codes "--end" ∷ letter side ∷ x ∷ y ∷ z ∷ []
+        → begins_with_hyphen x ≡ false → begins_with_hyphen y ≡ false → begins_with_hyphen z ≡ false
+        → MatchResult result (IsCheckEnd side x y z) IsMemory }
+    ensures check_end_wrong { (program word x y z : Text)
+        → texts words.entry.now ≡ program ∷ codes "check" ∷ codes "--end" ∷ word ∷ x ∷ y ∷ z ∷ []
+        → begins_with_hyphen word ≡ false → is_letter word ≡ false → begins_with_hyphen x ≡ false
+        → IsErrAnd result (IsFaultOf (InvalidValue ∷ [])) }
     ensures judge_paths { (program x y : Text)
         → texts words.entry.now ≡ program ∷ codes "judge" ∷ x ∷ y ∷ []
         → begins_with_hyphen x ≡ false → begins_with_hyphen y ≡ false
@@ -263,6 +243,19 @@ pub fn request<'a>(alloc: Global, words: &'a [&'a str]) -> Result<Request<'a>, W
         → texts words.entry.now ≡ program ∷ codes "judge" ∷ x ∷ y ∷ codes "--cert" ∷ []
         → begins_with_hyphen x ≡ false → begins_with_hyphen y ≡ false
         → MatchResult result (IsJudge x y true) IsMemory }
+    ensures judge_end { (program x y : Text) (side : Side)
+        → texts words.entry.now ≡ program ∷ codes "judge" ∷ codes "--end" ∷ letter side ∷ x ∷ y ∷ []
+        → begins_with_hyphen x ≡ false → begins_with_hyphen y ≡ false
+        → MatchResult result (IsJudgeEnd side x y false) IsMemory }
+    ensures judge_end_cert { (program x y : Text) (side : Side)
+        → texts words.entry.now
+        ≡ program ∷ codes "judge" ∷ codes "--end" ∷ letter side ∷ x ∷ y ∷ codes "--cert" ∷ []
+        → begins_with_hyphen x ≡ false → begins_with_hyphen y ≡ false
+        → MatchResult result (IsJudgeEnd side x y true) IsMemory }
+    ensures judge_end_wrong { (program word x y : Text)
+        → texts words.entry.now ≡ program ∷ codes "judge" ∷ codes "--end" ∷ word ∷ x ∷ y ∷ []
+        → begins_with_hyphen word ≡ false → is_letter word ≡ false → begins_with_hyphen x ≡ false
+        → IsErrAnd result (IsFaultOf (InvalidValue ∷ [])) }
     ensures judge_alone { (program : Text) → texts words.entry.now ≡ program ∷ codes "judge" ∷ []
         → IsErrAnd result (IsFaultOf (MissingRequiredArgument ∷ [])) }
     ensures judge_one { (program x : Text)

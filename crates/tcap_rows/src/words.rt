@@ -4,9 +4,11 @@ use std::alloc::Global;
 use std::test::Fail;
 use tcap_judge::{Request, request};
 use tcap_msg_rows::{Row, each_row};
+use tcap_record::End;
 
-/// The columns: what the words ask for, or `wrong` or `printed`; the file that is named, or the files with blanks between them, an
-/// equals sign in front, a dash for none, or what the text has to contain; and the words, each behind a comma.
+/// The columns: what the words ask for, or `wrong` or `printed`; the file that is named, or the files with blanks
+/// between them, an equals sign in front, a dash for none, or what the text has to contain; and the words, each behind
+/// a comma.
 const WORDS: &str = "
 show;-;,tcapjudge,show
 show;=x;,tcapjudge,show,x
@@ -21,10 +23,23 @@ pack;=-x;,tcapjudge,pack,--,-x
 check;=x y z;,tcapjudge,check,x,y,z
 check;=show pack check;,tcapjudge,check,show,pack,check
 check;=x -y z;,tcapjudge,check,x,--,-y,z
+check-end-a;=x y z;,tcapjudge,check,--end,A,x,y,z
+check-end-b;=x y z;,tcapjudge,check,x,y,z,--end=B
+wrong;invalid value 'C' for '--end <END>';,tcapjudge,check,--end,C,x,y,z
+wrong;[possible values: A, B];,tcapjudge,check,--end,a,x,y,z
+wrong;a value is required for '--end <END>';,tcapjudge,check,x,y,z,--end
+wrong;cannot be used multiple times;,tcapjudge,check,--end,A,--end,B,x,y,z
+wrong;<CERT>;,tcapjudge,check,--end,A,x,y
 wrong;requires a subcommand;
 judge;=x y;,tcapjudge,judge,x,y
 certify;=x y;,tcapjudge,judge,x,y,--cert
 certify;=x y;,tcapjudge,judge,--cert,x,y
+judge-end-a;=x y;,tcapjudge,judge,--end,A,x,y
+judge-end-b;=x y;,tcapjudge,judge,x,--end,B,y
+certify-end-a;=x y;,tcapjudge,judge,--cert,--end=A,x,y
+certify-end-b;=x y;,tcapjudge,judge,--end,B,x,y,--cert
+wrong;invalid value 'AB' for '--end <END>';,tcapjudge,judge,--end,AB,x,y
+wrong;unexpected argument '--end';,tcapjudge,blame,--end,A,x,y
 wrong;<TABLE>;,tcapjudge,judge,x
 wrong;unexpected argument 'z';,tcapjudge,judge,x,y,z
 blame;=x y;,tcapjudge,blame,x,y
@@ -47,12 +62,28 @@ printed;Usage: tcapjudge;,tcapjudge,help
 printed;Usage: tcapjudge;,tcapjudge,show,--help
 printed;Usage: tcapjudge;,tcapjudge,show,x,-h
 printed;Usage: tcapjudge;,tcapjudge,pack,--help
-printed;Usage: tcapjudge check <RECORD> <TABLE> <CERT>;,tcapjudge,check,--help
+printed;Usage: tcapjudge check [OPTIONS] <RECORD> <TABLE> <CERT>;,tcapjudge,check,--help
+printed;--end <END>;,tcapjudge,check,--help
+printed;Judges that end alone, whatever its peer sends;,tcapjudge,judge,--help
 printed;tcapjudge 0.1.0;,tcapjudge,--version
 printed;tcapjudge 0.1.0;,tcapjudge,-V
 printed;Usage: tcapjudge;,tcapjudge,help,show
 printed;Usage: tcapjudge;,tcapjudge,help,pack
 ";
+
+/// The kind of a request to judge, with the certificate or without.
+fn word_of(with_certificate: bool) -> &'static str {
+    if with_certificate { "certify" } else { "judge" }
+}
+
+/// Whether the kind is that word behind which the end is named.
+fn is_of_end(kind: &str, word: &str, end: End) -> bool {
+    let letter = match end {
+        End::A => "-end-a",
+        End::B => "-end-b",
+    };
+    kind.strip_prefix(word) == Some(letter)
+}
 
 /// Whether the request, or the fault, is the wanted one.
 fn is_answered<'a>(
@@ -68,10 +99,21 @@ fn is_answered<'a>(
             let files = format!(in alloc; "{record} {table} {cert}")?;
             Ok(kind == "check" && Some(files.as_str()) == wanted.strip_prefix("="))
         }
+        Ok(Request::CheckEnd(end, record, table, cert)) => {
+            let files = format!(in alloc; "{record} {table} {cert}")?;
+            Ok(is_of_end(kind, "check", end) && Some(files.as_str()) == wanted.strip_prefix("="))
+        }
         Ok(Request::Judge(record, table, with_certificate)) => {
-            let word = if with_certificate { "certify" } else { "judge" };
             let files = format!(in alloc; "{record} {table}")?;
-            Ok(kind == word && Some(files.as_str()) == wanted.strip_prefix("="))
+            Ok(
+                kind == word_of(with_certificate)
+                    && Some(files.as_str()) == wanted.strip_prefix("="),
+            )
+        }
+        Ok(Request::JudgeEnd(end, record, table, with_certificate)) => {
+            let files = format!(in alloc; "{record} {table}")?;
+            let is_kind = is_of_end(kind, word_of(with_certificate), end);
+            Ok(is_kind && Some(files.as_str()) == wanted.strip_prefix("="))
         }
         Ok(Request::Blame(record, table)) => {
             let files = format!(in alloc; "{record} {table}")?;
@@ -107,6 +149,6 @@ impl Row for WordsRow {
 
 #[test]
 fn words(rt: HostRuntime) -> Result<(), Fail> {
-    assert_eq!(rt; each_row::<WordsRow>(rt.alloc(), WORDS)?, 44);
+    assert_eq!(rt; each_row::<WordsRow>(rt.alloc(), WORDS)?, 59);
     Ok(())
 }

@@ -7,9 +7,10 @@ use std::process::ExitCode;
 use std::{env, fs, io};
 use tcap_ber::{Counted, Read, Unopened};
 use tcap_judge::{
-    MEMORY_LINE, Request, Status, WordsFault, request, run_blame, run_check, run_judge, run_pack,
-    run_show,
+    MEMORY_LINE, Request, Status, WordsFault, request, run_blame, run_check, run_check_end,
+    run_judge, run_judge_end, run_pack, run_show,
 };
+use tcap_record::End;
 
 /// The exit status where a word of the command is not text, so that it is not for `clap` to say.
 const NO_TEXT: u8 = 4;
@@ -28,6 +29,8 @@ enum Task {
 enum Question {
     /// The verdict on the record; and the certificate that shows it to be lawful, where that is asked for.
     Verdict(bool),
+    /// The same of the messages of one end alone.
+    OfEnd(End, bool),
     /// The verdict, and which end is at fault.
     Blame,
 }
@@ -64,9 +67,16 @@ fn answer(rt: &HostRuntime, request: Request) -> io::Result<u8> {
     match request {
         Request::Show(path) => over_path(rt, Task::Show, path),
         Request::Pack(path) => over_path(rt, Task::Pack, path),
-        Request::Check(entries, table, cert) => Ok(check(rt, entries, table, cert)),
+        Request::Check(entries, table, cert) => Ok(check(rt, entries, table, cert, None)),
+        Request::CheckEnd(end, entries, table, cert) => {
+            Ok(check(rt, entries, table, cert, Some(end)))
+        }
         Request::Judge(entries, table, with_certificate) => {
             Ok(judge(rt, entries, table, Question::Verdict(with_certificate)))
+        }
+        Request::JudgeEnd(end, entries, table, with_certificate) => {
+            let question = Question::OfEnd(end, with_certificate);
+            Ok(judge(rt, entries, table, question))
         }
         Request::Blame(entries, table) => Ok(judge(rt, entries, table, Question::Blame)),
     }
@@ -118,20 +128,26 @@ fn over<R: Read>(rt: &HostRuntime, task: Task, reader: &mut R) -> io::Result<u8>
     Ok(status.number())
 }
 
-/// Replays the certificate of that path over the record of that path. The files are opened in the order in which they are
-/// read: the table, the certificate, the record.
-fn check(rt: &HostRuntime, entries: &str, table: &str, cert: &str) -> u8 {
+/// Replays the certificate of that path over the record of that path, for one end where it is given. The files are
+/// opened in the order in which they are read: the table, the certificate, the record.
+fn check(rt: &HostRuntime, entries: &str, table: &str, cert: &str, side: Option<End>) -> u8 {
     match fs::open(rt, table) {
-        Ok(file) => check_by(rt, entries, &mut Counted::new(file), cert),
-        Err(_) => check_by(rt, entries, &mut Unopened::new(), cert),
+        Ok(file) => check_by(rt, entries, &mut Counted::new(file), cert, side),
+        Err(_) => check_by(rt, entries, &mut Unopened::new(), cert, side),
     }
 }
 
 /// The same, by the operation table that `table` tells.
-fn check_by<T: Read>(rt: &HostRuntime, entries: &str, table: &mut T, cert: &str) -> u8 {
+fn check_by<T: Read>(
+    rt: &HostRuntime,
+    entries: &str,
+    table: &mut T,
+    cert: &str,
+    side: Option<End>,
+) -> u8 {
     match fs::open(rt, cert) {
-        Ok(file) => check_over(rt, entries, table, &mut Counted::new(file)),
-        Err(_) => check_over(rt, entries, table, &mut Unopened::new()),
+        Ok(file) => check_over(rt, entries, table, &mut Counted::new(file), side),
+        Err(_) => check_over(rt, entries, table, &mut Unopened::new(), side),
     }
 }
 
@@ -141,10 +157,11 @@ fn check_over<T: Read, C: Read>(
     entries: &str,
     table: &mut T,
     certificate: &mut C,
+    side: Option<End>,
 ) -> u8 {
     match fs::open(rt, entries) {
-        Ok(file) => checked(rt, &mut Counted::new(file), table, certificate),
-        Err(_) => checked(rt, &mut Unopened::new(), table, certificate),
+        Ok(file) => checked(rt, &mut Counted::new(file), table, certificate, side),
+        Err(_) => checked(rt, &mut Unopened::new(), table, certificate, side),
     }
 }
 
@@ -154,9 +171,14 @@ fn checked<R: Read, T: Read, C: Read>(
     entries: &mut R,
     table: &mut T,
     certificate: &mut C,
+    side: Option<End>,
 ) -> u8 {
     let mut writer = Counted::new(io::writer(rt));
-    match run_check(rt.alloc(), entries, table, certificate, &mut writer) {
+    let ended = match side {
+        None => run_check(rt.alloc(), entries, table, certificate, &mut writer),
+        Some(end) => run_check_end(rt.alloc(), entries, table, certificate, end, &mut writer),
+    };
+    match ended {
         Ok(status) => status.number(),
         Err(_) => Status::Fault.number(),
     }
@@ -191,6 +213,14 @@ fn judged<R: Read, T: Read>(
         Question::Verdict(with_certificate) => {
             run_judge(rt.alloc(), entries, table, with_certificate, &mut writer)
         }
+        Question::OfEnd(end, with_certificate) => run_judge_end(
+            rt.alloc(),
+            entries,
+            table,
+            end,
+            with_certificate,
+            &mut writer,
+        ),
         Question::Blame => run_blame(rt.alloc(), entries, table, &mut writer),
     };
     match ended {

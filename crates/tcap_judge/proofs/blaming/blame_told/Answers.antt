@@ -1,6 +1,6 @@
 use Rattle.std.proofs.Common.{ℕ, Ok, Err, ap, ◌∙◌}
 use Rattle.tcap_judge.specs.declared.outcome.Outcome.TheVariants.{Faulty}
-use Rattle.tcap_judge.proofs.BlamedLaws.{gives_blame}
+use Rattle.tcap_judge.proofs.BlamedLaws.{ends_said, found_none, found_said, gives_blame, shown_fault}
 use Rattle.tcap_judge.proofs.blaming.blame_told.Goals as goal
 
 pub returns-in-Ok-blame_record : goal.returns-in-Ok-blame_record
@@ -8,9 +8,10 @@ returns-in-Ok-blame_record g c =
     let read = c.in-Ok.ensures in
     let (told, tells, is_read) = read.told in
     let said = c.in-Ok-blame_record.ensures in
-    gives_blame c.blamed_is_at_fault.ensures c.args.table.now _ c.in-Ok.read.entries.items (Ok tt) _ _ _
+    let (ends, is, are, found) = said.2 in
+    gives_blame c.blamed_is_at_fault.ensures c.args.table.now _ c.in-Ok.read.entries.items (Ok tt) _ _
     (record { told = told; tells = tells; is_read = is_read; ended = read.ended; failed = read.failed })
-    said.0 said.1 said.2
+    said.0 said.1 (ends_said _ _ _ ends is are) (found_said _ _ _ ends is found)
 
 pub returns : goal.returns
 returns g c =
@@ -18,6 +19,7 @@ returns g c =
     let (told, tells, (entries, is_read)) = read.told in
     let fault = c.in-Err.fault in
     let said = c.alone-in-Err.ensures in
-    gives_blame c.blamed_is_at_fault.ensures c.args.table.now _ entries (Err fault) _ _ _
+    let outcome = said.outcome ∙ ap (λ (n : ℕ). Faulty n fault.place) c.number.ensures in
+    gives_blame c.blamed_is_at_fault.ensures c.args.table.now _ entries (Err fault) _ _
     (record { told = told; tells = tells; is_read = is_read; ended = read.ended; failed = read.failed })
-    (said.outcome ∙ ap (λ (n : ℕ). Faulty n fault.place) c.number.ensures) said.behind said.blames
+    outcome (shown_fault _ _ _ _ _ outcome) said.ends (found_none _ _ _ said.ends)

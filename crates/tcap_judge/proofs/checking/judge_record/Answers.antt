@@ -1,5 +1,6 @@
 use Rattle.std.proofs.Common.{ℕ, Ok, Err, ap, inl, inr, ◌∙◌}
 use Rattle.tcap_judge.specs.declared.outcome.Outcome.TheVariants.{Faulty}
+use Rattle.tcap_judge.proofs.LawfulLaws.{shown_by_replay}
 use Rattle.tcap_judge.proofs.checking.judge_record.Goals as goal
 
 pub returns-in-Ok : goal.returns-in-Ok
@@ -14,6 +15,7 @@ returns-in-Ok g c =
         end = Ok c.in-Ok.field-0;
         reads = all.reads;
         says = said;
+        shown = shown_by_replay table certificate all.entries c.finish.result said;
       })
     ]
 
@@ -26,4 +28,5 @@ returns g c =
       end = Err fault;
       reads = all.reads;
       says = ap (λ (n : ℕ). Faulty n fault.place) c.number.ensures;
+      shown = tt;
     })

@@ -4,7 +4,7 @@ use Rattle.clap.specs.Words.{App, app_of, with_rule}
 use Rattle.clap.specs.Simple.{app_of_fields, new_app}
 use Rattle.clap.specs.declared.builder.command.Command.{Command}
 use Rattle.clap.specs.declared.builder.command.Command.TheOpen.{Command-F}
-use Rattle.tcap_judge.proofs.words.blame_command.Goals as goal
+use Rattle.tcap_judge.proofs.command_line.blame_command.Goals as goal
 
 pub returns : goal.returns
 returns c =

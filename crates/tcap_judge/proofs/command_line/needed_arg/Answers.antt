@@ -2,7 +2,7 @@ use Rattle.std.proofs.Common.{◌∙◌, ap, true, Some}
 use Rattle.clap.specs.Words.{Rule, rule_of}
 use Rattle.clap.specs.declared.builder.arg.Arg.{Arg}
 use Rattle.clap.specs.declared.builder.action.ArgAction.TheVariants.{Set}
-use Rattle.tcap_judge.proofs.words.needed_arg.Goals as goal
+use Rattle.tcap_judge.proofs.command_line.needed_arg.Goals as goal
 
 pub returns-clause-rule : goal.returns-clause-rule
 returns-clause-rule c =

@@ -4,8 +4,8 @@ use Rattle.tcap_check.specs.declared.fault.CheckFault.{CheckFault}
 use Rattle.tcap_check.specs.declared.fault.Reason.TheVariants.{Memory}
 use Rattle.tcap_check.specs.Replayed.{fault_at}
 use Rattle.tcap_check.specs.CertificateText.{IsCertificateText}
-use Rattle.tcap_judge.proofs.checking.read_certificate.Goals.{in-Memory, in_default}
-use Rattle.tcap_judge.proofs.checking.read_certificate.Goals as goal
+use Rattle.tcap_judge.proofs.given.read_certificate.Goals.{in-Memory, in_default}
+use Rattle.tcap_judge.proofs.given.read_certificate.Goals as goal
 
 pub returns-in-Ok : goal.returns-in-Ok
 returns-in-Ok g c =

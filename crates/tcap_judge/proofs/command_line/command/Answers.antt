@@ -1,15 +1,15 @@
 use Rattle.std.proofs.Common.{◌≡◌, ◌∙◌, ◌||◌, ap, ap₂, true, false, codes, List, ℕ, Some}
 use Rattle.std.proofs.lemmas.Result.{IfOk-weaker}
-use Rattle.clap.specs.Words.{App, Rule, Text, app_of, new_rule, rule_of, shape_of, with_rule, with_subcommand}
+use Rattle.clap.specs.Words.{App, Rule, Shape, Text, app_of, new_rule, rule_of, shape_of, with_rule, with_subcommand}
 use Rattle.clap.specs.Simple.{app_of_fields, new_app}
 use Rattle.clap.specs.declared.builder.arg.Arg.{Arg}
 use Rattle.clap.specs.declared.builder.command.Command.TheViews.{out-Command}
 use Rattle.clap.specs.declared.builder.action.ArgAction.TheVariants.{Set}
-use Rattle.tcap_judge.specs.Words.{bare_tool, tool, with_path}
+use Rattle.tcap_judge.specs.CommandLine.{bare_tool, blame_shape, placeless, tool, with_path}
 use Rattle.std.specs.Borrow.{Bor}
 use Rattle.clap.specs.declared.builder.command.Command.{Command}
 use Rattle.clap.specs.declared.builder.command.Command.TheOpen.{Command-F}
-use Rattle.tcap_judge.proofs.words.command.Goals as goal
+use Rattle.tcap_judge.proofs.command_line.command.Goals as goal
 
 -- an argument made with this action and a text for help
 path_rule : (id : Text) (fresh acted told : Arg) → rule_of fresh ≡ new_rule id → acted ≡ record fresh { action = Some Set }
@@ -23,6 +23,14 @@ path_local : (fresh acted told : Arg) (text : Bor (List ℕ)) → fresh.global �
     → told.global ≡ false
 path_local fresh acted told text is_new is_acted is_told =
     ap (λ (a : Arg). a.global) is_told ∙ ap (λ (a : Arg). a.global) is_acted ∙ is_new
+
+-- the tool with these two subcommands
+abbrev with_two : Shape → Shape → App
+with_two check judge = with_subcommand (with_subcommand (with_subcommand (with_subcommand
+    (with_subcommand bare_tool (with_path (codes "show") (codes "RECORD"))) (with_path (codes "pack") (codes "LINES")))
+    check)
+    judge)
+    blame_shape
 
 pub returns : goal.returns
 unfolding tool
@@ -56,11 +64,12 @@ returns c =
     c.in_ok-pack.ensures.globals ∙ ap₂ (λ a b. a || b)
     (ap (λ (f : Command-F Command). f.has_globals) c.about-2.ensures ∙ c.new-4.ensures.local) lines_local in
     let check_is = c.in_ok-check.ensures in
+    let judge_is = c.in_ok-judge.ensures in
+    let blame_is = c.in_ok-blame.ensures in
     let with_show = c.in_ok-subcommand.ensures.shape show_local ∙ ap₂ with_subcommand bare_is show_is in
     let with_pack = c.in_ok-subcommand-2.ensures.shape pack_local ∙ ap₂ with_subcommand with_show pack_is in
-    let with_check = c.in_ok-subcommand-3.ensures.shape check_is.1 ∙ ap₂ with_subcommand with_pack check_is.0 in
-    let judge_is = c.in_ok-judge.ensures in
-    let with_judge = c.in_ok-subcommand-4.ensures.shape judge_is.1 ∙ ap₂ with_subcommand with_check judge_is.0 in
-    let blame_is = c.in_ok-blame.ensures in
-    IfOk-weaker c.subcommand-5.result _ _ (λ r h. h.shape blame_is.1 ∙ ap₂ with_subcommand with_judge blame_is.0)
-    c.subcommand-5.ensures
+    let with_check = c.in_ok-subcommand-3.ensures.shape check_is.1 ∙ ap (λ a. with_subcommand a (shape_of c.in_ok-check.check)) with_pack in
+    let with_judge = c.in_ok-subcommand-4.ensures.shape judge_is.1 ∙ ap (λ a. with_subcommand a (shape_of c.in_ok-judge.judge)) with_check in
+    IfOk-weaker c.subcommand-5.result _ _
+    (λ r h. ap placeless (h.shape blame_is.1 ∙ ap₂ with_subcommand with_judge blame_is.0)
+    ∙ ap₂ with_two check_is.0 judge_is.0) c.subcommand-5.ensures

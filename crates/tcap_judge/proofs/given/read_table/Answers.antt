@@ -6,8 +6,8 @@ use Rattle.tcap_end.specs.Table.{Table}
 use Rattle.tcap_end.specs.TableText.{IsTableOf, table_fault}
 use Rattle.tcap_judge.specs.declared.outcome.Outcome.{Outcome}
 use Rattle.tcap_judge.specs.declared.outcome.Outcome.TheVariants.{Faulty}
-use Rattle.tcap_judge.proofs.checking.read_table.Goals.{in-Memory, in_default}
-use Rattle.tcap_judge.proofs.checking.read_table.Goals as goal
+use Rattle.tcap_judge.proofs.given.read_table.Goals.{in-Memory, in_default}
+use Rattle.tcap_judge.proofs.given.read_table.Goals as goal
 
 pub returns-in-Ok : goal.returns-in-Ok
 returns-in-Ok g c =

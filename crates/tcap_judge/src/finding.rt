@@ -1,0 +1,134 @@
+//! What is said of each end of a record, and the lines of it.
+
+ghost use Rattle.std.specs.Prelude.{◌≡◌, ◌++◌, Some, OnOk};
+ghost use Rattle.std.specs.String.{string_bytes};
+ghost use Rattle.tcap_judge.specs.Blamed.{blame_status, ends_lines, finding_by, finding_line, is_blamed, is_lawful, letter, stands_behind};
+
+use crate::outcome::Outcome;
+use crate::status::Status;
+use std::alloc::AllocError;
+use tcap_record::End;
+use tcap_refute::Refutation;
+
+/// What is said of an end.
+#[derive(Clone, Copy, Debug, PartialEq, Eq)]
+pub(crate) enum Finding {
+    /// An entry is blamed on it.
+    Blamed(Refutation),
+    /// It may have sent its part of so many entries, of which so many of its peer's are taken as unheard.
+    Lawful(usize, u64),
+    /// Of so many entries none is blamed on it.
+    NotBlamed(usize),
+}
+
+/// What is said of both ends.
+#[derive(Clone, Copy, Debug, PartialEq, Eq)]
+pub(crate) struct Ends {
+    pub(crate) a: Finding,
+    pub(crate) b: Finding,
+}
+
+impl Finding {
+    /// By the verdict on the end alone, and by how many entries stand before the first that is no item.
+    pub(crate) fn new(count: usize, verdict: Outcome) -> Finding
+        ensures { result ≡ finding_by count verdict }
+    {
+        match verdict {
+            Outcome::Refuted(refutation) => Finding::Blamed(refutation),
+            Outcome::LawfulFor(all, unheard) => Finding::Lawful(all, unheard),
+            _ => Finding::NotBlamed(count),
+        }
+    }
+
+    /// Whether an entry is blamed.
+    fn is_blamed(self) -> bool
+        ensures { result ≡ is_blamed self }
+    {
+        matches!(self, Finding::Blamed(_))
+    }
+
+    /// Whether the end may have sent its part.
+    fn is_lawful(self) -> bool
+        ensures { result ≡ is_lawful self }
+    {
+        matches!(self, Finding::Lawful(_, _))
+    }
+}
+
+/// The letter of an end.
+fn letter(end: End) -> &'static str
+    ensures { result.now ≡ letter end }
+{
+    match end {
+        End::A => "A",
+        End::B => "B",
+    }
+}
+
+/// Appends the line of what is said of an end.
+fn push_finding(text: &mut String, end: End, finding: Finding) -> Result<(), AllocError>
+    ensures { OnOk result (string_bytes text.new ≡ string_bytes text.old ++ finding_line end finding) }
+{
+    let letter = letter(end);
+    match finding {
+        Finding::Blamed(refutation) => {
+            let entry = refutation.entry;
+            let number = refutation.kind.number();
+            writeln!(text, "BLAMED {letter} {entry} F{number}")
+        }
+        Finding::Lawful(count, unheard) => {
+            writeln!(text, "LAWFUL {letter} {count} unheard {unheard}")
+        }
+        Finding::NotBlamed(count) => writeln!(text, "NOT BLAMED {letter} {count}"),
+    }
+}
+
+/// Whether what is said of A stands behind what is said of B: B is blamed, and A is not, or for a later entry.
+fn stands_behind(a: Finding, b: Finding) -> bool
+    ensures { result ≡ stands_behind a b }
+{
+    match (a, b) {
+        (Finding::Blamed(a), Finding::Blamed(b)) => b.entry < a.entry,
+        (_, Finding::Blamed(_)) => true,
+        _ => false,
+    }
+}
+
+impl Ends {
+    /// Appends what is said of both: what is blamed first, the lower entry before the other, and else A before B.
+    pub(crate) fn push(self, text: &mut String) -> Result<(), AllocError>
+        ensures { OnOk result (string_bytes text.new ≡ string_bytes text.old ++ ends_lines self) }
+    {
+        if stands_behind(self.a, self.b) {
+            push_finding(text, End::B, self.b)?;
+            push_finding(text, End::A, self.a)
+        } else {
+            push_finding(text, End::A, self.a)?;
+            push_finding(text, End::B, self.b)
+        }
+    }
+
+    /// How a run ends that says this behind that outcome.
+    fn status(self, outcome: Outcome) -> Status
+        ensures { result ≡ blame_status (Some self) outcome }
+    {
+        let is_refuted = matches!(outcome, Outcome::Refuted(_));
+        if is_refuted || self.a.is_blamed() || self.b.is_blamed() {
+            Status::Refuted
+        } else if self.a.is_lawful() && self.b.is_lawful() {
+            Status::Fine
+        } else {
+            outcome.status()
+        }
+    }
+}
+
+/// How a run ends that says this.
+pub(crate) fn blame_status(ends: Option<Ends>, outcome: Outcome) -> Status
+    ensures { result ≡ blame_status ends outcome }
+{
+    match ends {
+        Some(ends) => ends.status(outcome),
+        None => outcome.status(),
+    }
+}

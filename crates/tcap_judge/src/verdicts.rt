@@ -1,0 +1,160 @@
+//! The verdict on a record that is there: on both ends, or on one alone.
+
+ghost use Rattle.std.specs.Prelude.{◌≡◌, ◌≢◌, [], ◌≤◌, length, None, Err, IfOk};
+ghost use Rattle.std.specs.String.{string_bytes};
+ghost use Rattle.tcap_check.specs.Checking.{map_ok};
+ghost use Rattle.tcap_check.specs.Replayed.{fault_at};
+ghost use Rattle.tcap_check.specs.declared.fault.Reason.TheVariants as reasons;
+ghost use Rattle.tcap_judge.specs.Judged.{IsShown, lawful_by, replayed_by};
+ghost use Rattle.tcap_judge.specs.Verdict.{IsVerdict, line_asked, line_of_certificate, named_by, proposed_by};
+
+use crate::outcome::Outcome;
+use std::alloc::{AllocError, Global};
+use tcap_blame::blame;
+use tcap_check::{Certificate, CheckFault, Reason, check, check_end};
+use tcap_end::Table;
+use tcap_record::{End, Record};
+use tcap_refute::{Refutation, refute};
+use tcap_search::{search, search_for};
+
+/// What is said of a record, and what stands behind the line of it.
+#[derive(Debug, Drop)]
+pub(crate) struct Said {
+    pub(crate) outcome: Outcome,
+    pub(crate) behind: String,
+}
+
+impl Said {
+    /// That is said, and nothing stands behind it.
+    pub(crate) fn alone(alloc: Global, outcome: Outcome) -> Said
+        ensures outcome { result.outcome ≡ outcome }
+        ensures behind { string_bytes result.behind ≡ [] }
+    {
+        Said {
+            outcome,
+            behind: String::new(alloc),
+        }
+    }
+}
+
+/// The entry that is named: the first that no end sends which keeps the rules, or the first that is blamed on that end.
+fn named(
+    alloc: Global,
+    read: &Record,
+    table: &Table,
+    judged: Option<End>,
+) -> Result<Option<Refutation>, AllocError>
+    ensures { IfOk result (λ r. r ≡ named_by judged table.now read.now.entries.items) }
+{
+    let found = match judged {
+        None => refute(alloc, read, table),
+        Some(end) => blame(alloc, read, table, end),
+    };
+    found.map_err(|_| AllocError)
+}
+
+/// The certificate that is proposed.
+fn propose(alloc: Global, read: &Record, judged: Option<End>) -> Result<Certificate, AllocError>
+    requires few { length read.now.entries.items ≤ 100000 }
+    ensures { IfOk result (λ c. c ≡ proposed_by judged read.now.entries.items) }
+{
+    let found = match judged {
+        None => search(alloc, read),
+        Some(end) => search_for(alloc, read, end),
+    };
+    found.map_err(|_| AllocError)
+}
+
+/// What a certificate shows of a record: that it is lawful, of one end alone, or, where none is named, of both.
+pub(crate) fn replay(
+    alloc: Global,
+    read: &Record,
+    table: &Table,
+    certificate: &Certificate,
+    judged: Option<End>,
+) -> Result<Outcome, CheckFault>
+    ensures exact { result ≢ Err (fault_at reasons.Memory 0) → result ≡ map_ok
+        (lawful_by judged (length read.now.entries.items))
+        (replayed_by judged table.now certificate.now read.now.entries.items) }
+    ensures shown { IfOk result (λ outcome. IsShown judged table.now read.now.entries.items outcome) }
+{
+    let count = read.entries.len();
+    match judged {
+        None => {
+            check(alloc, read, table, certificate)?;
+            Ok(Outcome::Lawful(count))
+        }
+        Some(end) => {
+            let report = check_end(alloc, read, table, certificate, end)?;
+            Ok(Outcome::LawfulFor(count, report.unheard))
+        }
+    }
+}
+
+/// The certificate on a line of its own.
+fn line_of(alloc: Global, certificate: &Certificate) -> Result<String, AllocError>
+    ensures { IfOk result (λ line. string_bytes line ≡ line_of_certificate certificate.now) }
+{
+    let mut line = certificate.to_json(alloc)?;
+    line.push_str("\n")?;
+    Ok(line)
+}
+
+/// That is said, and behind it stands the certificate that shows it, where it is asked for.
+fn shown(
+    alloc: Global,
+    outcome: Outcome,
+    certificate: &Certificate,
+    with_certificate: bool,
+) -> Result<Said, AllocError>
+    ensures { IfOk result (λ said. (said.outcome ≡ outcome)
+        × (string_bytes said.behind ≡ line_asked with_certificate certificate.now)) }
+{
+    if !with_certificate {
+        return Ok(Said::alone(alloc, outcome));
+    }
+    Ok(Said {
+        outcome,
+        behind: line_of(alloc, certificate)?,
+    })
+}
+
+/// What is said of a record of which no entry is named: what the certificate that is proposed shows.
+fn judge_by_search(
+    alloc: Global,
+    read: &Record,
+    table: &Table,
+    judged: Option<End>,
+    with_certificate: bool,
+) -> Result<Said, AllocError>
+    requires few { length read.now.entries.items ≤ 100000 }
+    requires sound { named_by judged table.now read.now.entries.items ≡ None }
+    ensures { IfOk result (λ said. IsVerdict judged table.now with_certificate read.now.entries.items said.outcome
+        (string_bytes said.behind)) }
+{
+    let certificate = propose(alloc, read, judged)?;
+    match replay(alloc, read, table, &certificate, judged) {
+        Ok(outcome) => shown(alloc, outcome, &certificate, with_certificate),
+        Err(fault) if matches!(fault.reason, Reason::Memory) => Err(AllocError),
+        Err(fault) => Ok(Said::alone(alloc, Outcome::Undecided(fault))),
+    }
+}
+
+/// What is said of a record, of one end alone, or, where none is named, of both: that an entry is at fault, or what the
+/// certificate that is proposed shows.
+pub(crate) fn judge_record(
+    alloc: Global,
+    read: &Record,
+    table: &Table,
+    judged: Option<End>,
+    with_certificate: bool,
+) -> Result<Said, AllocError>
+    requires few { length read.now.entries.items ≤ 100000 }
+    ensures { IfOk result (λ said. IsVerdict judged table.now with_certificate read.now.entries.items said.outcome
+        (string_bytes said.behind)) }
+{
+    match named(alloc, read, table, judged)? {
+        Some(refutation) => Ok(Said::alone(alloc, Outcome::Refuted(refutation))),
+        None => judge_by_search(alloc, read, table, judged, with_certificate),
+    }
+}
