@@ -23,7 +23,7 @@ fn replay_end(
 ) -> Outcome
     ensures { (result ≡ out_of_memory)
         ⊎ ((result ≡ replay_says (Some end) (length read.now.entries.items)
-            (replayed_for end table.now certificate.now read.now.entries.items))
+        (replayed_for end table.now certificate.now read.now.entries.items))
         × IsShown (Some end) table.now read.now.entries.items result) }
 {
     match replay(alloc, read, table, certificate, Some(end)) {

@@ -51,7 +51,10 @@ pub(crate) fn read_table<R: Read>(alloc: Global, reader: &mut R) -> Result<Table
 }
 
 /// The certificate that a reader tells; else what is said in its place.
-pub(crate) fn read_certificate<R: Read>(alloc: Global, reader: &mut R) -> Result<Certificate, Outcome>
+pub(crate) fn read_certificate<R: Read>(
+    alloc: Global,
+    reader: &mut R,
+) -> Result<Certificate, Outcome>
     ensures { ReadsCertificate (record {
       before = R.untold reader.old;
       after = R.untold reader.new;
