@@ -27,7 +27,7 @@ use Rattle.tcap_judge.specs.Judged.{AreLawful, IsShown}
 use Rattle.tcap_judge.specs.Checked.{Device, ReadsRecord, ReadsTable, out_of_memory}
 use Rattle.tcap_judge.specs.LawfulRecord.{TellsLawful}
 use Rattle.tcap_judge.specs.Verdict.{record_verdict}
-use Rattle.tcap_judge.specs.Blamed.{AreFound, GivesBlame, GivesBlameWith, IsBlamed, IsFound, PrintsBlame, SaysLines, blame_status, ends_of, finding_by, is_blamed, is_lawful, is_refuted, record_ends}
+use Rattle.tcap_judge.specs.Blamed.{AreFound, GivesBlame, GivesBlameWith, IsBlamed, IsFound, PrintsBlame, SaysLines, blame_status, ends_of, finding, finding_by, is_blamed, is_lawful, is_refuted, record_ends}
 use Rattle.tcap_judge.proofs.LawfulLaws.{fine_fault, spells_items, table_fault, table_text}
 
 -- ---- the ends
@@ -78,6 +78,22 @@ are_found whole table entries (findings.Lawful count unheard) (findings.Blamed r
 are_found whole table entries (findings.Lawful count unheard) (findings.NotBlamed all) by_a by_b both = cc
 are_found whole table entries (findings.Blamed r) b by_a by_b both = cc
 are_found whole table entries (findings.NotBlamed all) b by_a by_b both = cc
+
+abbrev both_ends : Finding → Finding → Ends
+both_ends a b = record { a = a; b = b }
+
+-- what is said of both
+pub ends_found : BothMayHaveSent → (table : Table) (entries : List Entry) (a b : Finding) → a ≡ finding table entries sides.A
+    → b ≡ finding table entries sides.B → IsFound sides.A table entries a → IsFound sides.B table entries b
+    → (both_ends a b ≡ ends_of table entries) × AreFound table entries (both_ends a b)
+ends_found whole table entries a b a_is b_is by_a by_b = (
+  ap₂ both_ends a_is b_is,
+  record {
+    a = by_a;
+    b = by_b;
+    both = are_found whole table entries a b by_a by_b;
+  },
+)
 
 -- ---- the record
 

@@ -12,7 +12,7 @@ use Rattle.tcap_end.specs.Table.{Table}
 use Rattle.tcap_end.specs.TableText.{IsTableOf}
 use Rattle.tcap_check.specs.declared.fault.CheckFault.{CheckFault}
 use Rattle.tcap_check.specs.World.{Item, Sent}
-use Rattle.tcap_check.specs.Run.{Event}
+use Rattle.tcap_check.specs.Run.{Event, IsLawful}
 use Rattle.tcap_check.specs.Certificate.{Certificate}
 use Rattle.tcap_check.specs.Entries.{AreItems}
 use Rattle.tcap_check.specs.Replayed.{replayed}
@@ -132,6 +132,12 @@ shown_by_replay table c entries outcome says = by (replayed table c entries) ref
         subst (IsShown None table entries) (sym said)
         (given.items, given.are, (length events, (events, given.run, given.keeps, refl)))
     by (Err fault) is said = subst (IsShown None table entries) (sym said) tt
+
+-- what two lawful ends may have sent is so, where both are judged
+pub shown_both : (judged : Option Side) (table : Table) (entries : List Entry) (moves : ℕ) → judged ≡ None
+    → (items : List Item) × AreItems entries items × IsLawful items table moves → AreLawful judged table entries
+shown_both None table entries moves is (items, are, lawful) = (items, are, (moves, lawful))
+shown_both (Some side) table entries moves is found = let bad : Some side ≡ None = is in cc
 
 -- what is said to be lawful is so
 pub shown_lawful : (judged : Option Side) (table : Table) (entries : List Entry) (outcome : Outcome) (count unheard : ℕ)

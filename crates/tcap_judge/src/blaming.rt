@@ -175,11 +175,11 @@ fn write_said<W: Write>(alloc: Global, said: &Said, writer: &mut W) -> Result<St
 /// Judges the record that `entries` tells by the operation table that `table` tells, and writes the line of `judge`;
 /// and behind it, where the record and the table have no fault, a line for each end: `BLAMED END ENTRY KIND`, its
 /// lowest entry, or quiet mark, that no run has in which this end keeps the rules, whatever its peer sends, as far as
-/// fifteen kinds tell (Q.771, Q.773, Q.774), with the lowest kind; or `NOT BLAMED END COUNT`, COUNT being how many
-/// entries stand before the first that is no message, or how many there are. What is blamed stands first, the lower
-/// entry before the other; else A stands before B. The status is that of REFUTED where an entry is blamed on an end,
-/// else that of the line of `judge`. All that grows has grown before the first octet is written. `WriteFailed` where
-/// the writer failed.
+/// fifteen kinds tell (Q.771, Q.773, Q.774), with the lowest kind; or `LAWFUL END COUNT unheard COUNT`, as `run_judge_end`
+/// says it of this end; or `NOT BLAMED END COUNT`, COUNT being how many entries stand before the first that is no message,
+/// or how many there are. What is blamed stands first, the lower entry before the other; else A stands before B. The
+/// status is that of REFUTED where an entry is refuted or blamed on an end, that of LAWFUL where both ends are, else that of
+/// the line of `judge`. All that grows has grown before the first octet is written. `WriteFailed` where the writer failed.
 pub fn run_blame<R: Read, T: Read, W: Write>(
     alloc: Global,
     entries: &mut R,

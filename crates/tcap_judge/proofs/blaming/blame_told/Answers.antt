@@ -11,7 +11,8 @@ returns-in-Ok-blame_record g c =
     let (ends, is, are, found) = said.2 in
     gives_blame c.blamed_is_at_fault.ensures c.args.table.now _ c.in-Ok.read.entries.items (Ok tt) _ _
     (record { told = told; tells = tells; is_read = is_read; ended = read.ended; failed = read.failed })
-    said.0 said.1 (ends_said _ _ _ ends is are) (found_said _ _ _ ends is found)
+    said.0 said.1 (ends_said c.args.table.now c.in-Ok.read.entries.items _ ends is are)
+    (found_said c.args.table.now c.in-Ok.read.entries.items _ ends is found)
 
 pub returns : goal.returns
 returns g c =
@@ -22,4 +23,5 @@ returns g c =
     let outcome = said.outcome ∙ ap (λ (n : ℕ). Faulty n fault.place) c.number.ensures in
     gives_blame c.blamed_is_at_fault.ensures c.args.table.now _ entries (Err fault) _ _
     (record { told = told; tells = tells; is_read = is_read; ended = read.ended; failed = read.failed })
-    outcome (shown_fault _ _ _ _ _ outcome) said.ends (found_none _ _ _ said.ends)
+    outcome (shown_fault c.args.table.now entries _ _ _ outcome) said.ends
+    (found_none c.args.table.now entries _ said.ends)
