@@ -1,5 +1,7 @@
 # make demo      shows the records of examples/ by the program, run unproved
 # make program   proves and builds the program, and prints where it lies
+# make clib      proves and builds the library for programs in C, clib/out/libtcapjudge.a and .so, and compares what it and
+#                its examples say with what the program prints
 # make test      the gate: all proofs, the must-fail edits, the tests and runs of the program, with the seconds of each
 #                part and its processor time
 # make edits     tries all edits of all crates, or of CRATES="NAME ..", over what is proved in a kept copy of the
@@ -13,7 +15,7 @@
 # make fuzz      runs the program over random and changed records, tables and certificates, for SECONDS, by default 60;
 #                SEED, and CASE of it, give the same ones again
 # make octets    runs it over messages that are cut, and over two with each octet set to each value: some minutes
-.PHONY: demo program test edits changed bench memory attack fuzz octets measured needs
+.PHONY: demo program clib test edits changed bench memory attack fuzz octets measured needs
 
 PROGRAM = crates/tcapjudge/out/tcapjudge
 SECONDS = 60
@@ -26,6 +28,9 @@ program: needs
 	@log=$$(mktemp) && { (cd crates/tcapjudge && rt run -- --help) >"$$log" 2>&1 \
 		|| { cat "$$log" >&2; rm -f "$$log"; exit 1; }; rm -f "$$log"; }
 	@echo "The proved program is $(PROGRAM)"
+
+clib: program
+	@python3 tools/clib.py
 
 test: needs
 	@python3 tools/gate.py

@@ -1,10 +1,13 @@
 """Shows that the example of each library's page is the one that is proved: the block of code in crates/tcap_NAME/README.md is,
-word for word, the file crates/tcap_uses/src/NAME.rt without its `ghost use` lines, which import the words of the clauses."""
+word for word, the file crates/tcap_uses/src/NAME.rt without its `ghost use` lines, which import the words of the clauses. So are
+the blocks of docs/LIBRARY.md, one behind the other."""
 
 import re
 import sys
 
 LIBRARIES = ["ber", "parts", "msg", "record", "end", "check", "refute", "blame", "search", "judge"]
+PAGES = {f"crates/tcap_{name}/README.md": [name] for name in LIBRARIES}
+PAGES["docs/LIBRARY.md"] = ["record", "msg", "end", "judge"]
 BLOCK = re.compile(r"^```rust\n(.*?)^```$", re.DOTALL | re.MULTILINE)
 
 
@@ -24,11 +27,11 @@ def shown(source):
 
 
 failed = []
-for name in LIBRARIES:
-    page, file = f"crates/tcap_{name}/README.md", f"crates/tcap_uses/src/{name}.rt"
-    source = text_of(file)
-    if not source or BLOCK.findall(text_of(page)) != [shown(source)]:
-        failed.append(name)
-        print(f"{page} does not show {file}", file=sys.stderr)
-print(f"{len(LIBRARIES) - len(failed)} passed, {len(failed)} failed")
+for page, names in PAGES.items():
+    files = [f"crates/tcap_uses/src/{name}.rt" for name in names]
+    sources = [text_of(file) for file in files]
+    if not all(sources) or BLOCK.findall(text_of(page)) != [shown(source) for source in sources]:
+        failed.append(page)
+        print(f"{page} does not show {' '.join(files)}", file=sys.stderr)
+print(f"{len(PAGES) - len(failed)} passed, {len(failed)} failed")
 sys.exit(bool(failed))

@@ -5,6 +5,7 @@ It checks every crate, of which only what changed is proved again; it tries the 
 tests without a proof, builds the program and runs it. It is no gate: at its end it says what it left out."""
 
 import os
+import shutil
 import signal
 import subprocess
 import sys
@@ -74,6 +75,10 @@ def main(names):
     if is_proved and copy.step("the program is built", ["make", "--silent", "program"]):
         passed.append(copy.step("runs of the program", [sys.executable, "tests/program.py"]))
         passed.append(copy.step("tests of captures", [sys.executable, "tests/captures.py"]))
+        if shutil.which("cc") and shutil.which("ar"):
+            passed.append(copy.step("the library for C", [sys.executable, "tools/clib.py"]))
+        else:
+            print("the library for C was not built: it needs cc and ar", flush=True)
     else:
         passed.append(False)
         print("the program was not run", flush=True)

@@ -1,7 +1,8 @@
 """The gate, which `make test` runs: `rt ci`, then tests/program.py on the program that `rt ci` built, then
-tests/borrows.py, tests/pages.py, and tests/captures.py on that program. What they print is passed on. Then it prints how
-many seconds each crate's proof, its tests' proof and its must-fail edits took, with their processor time, and closes with
-the line `N passed, M failed`, in which all are counted. The exit status is 0 where none failed.
+tests/borrows.py, tests/pages.py, tests/captures.py on that program, and tools/clib.py over the libraries that `rt ci`
+built. What they print is passed on. Then it prints how many seconds each crate's proof, its tests' proof and its must-fail
+edits took, with their processor time, and closes with the line `N passed, M failed`, in which all are counted. The exit
+status is 0 where none failed.
 
 `rt ci` does not say when a part begins and ends. So twice a second this looks in /proc for the runs of `rattle` that
 `rt ci` started, which a word in their environment marks, and takes a part to last from the first to the last time that
@@ -139,8 +140,10 @@ def main():
     print(f"{pages[0] + pages[1]} pages with an example, {pages[1]} that differ from what is proved")
     captures = counts_of([sys.executable, "tests/captures.py"])
     print(f"{captures[0] + captures[1]} tests of captures, {captures[1]} wrong")
+    clib = counts_of([sys.executable, "tools/clib.py", "--over-ci"])
+    print(f"{clib[0] + clib[1]} comparisons of the library for C with the program, {clib[1]} that differ")
     show_parts(parts, seconds, used)
-    others = [runs, lent, pages, captures]
+    others = [runs, lent, pages, captures, clib]
     both = [passed + sum(one[0] for one in others), failed + sum(one[1] for one in others)]
     print(f"{both[0]} passed, {both[1]} failed", flush=True)
     return int(both[1] != 0)

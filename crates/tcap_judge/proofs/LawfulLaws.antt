@@ -195,7 +195,7 @@ found_by judged table c d outcome (inl memory) fine = absurd (fine_fault outcome
 found_by judged table c d outcome (inr says) fine =
     by_end judged table c d outcome says.entries says.end says.reads says.says says.shown fine
 
-by_certificate : (judged : Option Side) (table : Table) (given : Result Certificate Outcome) (certificate d : Device)
+pub by_certificate : (judged : Option Side) (table : Table) (given : Result Certificate Outcome) (certificate d : Device)
     (outcome : Outcome) → ReadsCertificate certificate given → JudgesBy judged table given d outcome
     → outcome_status outcome ≡ statuses.Fine → IsFoundBy judged table d outcome
 by_certificate judged table (Ok c) certificate d outcome reads judges fine = found_by judged table c d outcome judges fine

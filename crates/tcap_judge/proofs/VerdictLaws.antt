@@ -51,7 +51,7 @@ verdict_is judged count (Some r) replay fine = let bad : statuses.Refuted ≡ st
 verdict_is judged count None (Ok events) fine = lawful_is judged count events fine
 verdict_is judged count None (Err fault) fine = let bad : statuses.NotShown ≡ statuses.Fine = fine in cc
 
-by_refutation : (judged : Option Side) (count : ℕ) (named : Option Refutation)
+pub by_refutation : (judged : Option Side) (count : ℕ) (named : Option Refutation)
     (replay : Result (List Event) CheckFault) (r : Refutation) → Refuted r ≡ verdict_by judged count named replay
     → named ≡ Some r
 by_refutation judged count (Some other) replay r said = let same : Refuted r ≡ Refuted other = said in cc
@@ -90,7 +90,7 @@ lawful_by_end judged table with_certificate d outcome behind entries (Ok end) re
           (behind_is ∙ ap (certificate_line judged with_certificate entries) (says ∙ lawful)),
     )
 
-lawful_record : (judged : Option Side) (table : Table) (with_certificate : Bool) (d : Device) (outcome : Outcome)
+pub lawful_record : (judged : Option Side) (table : Table) (with_certificate : Bool) (d : Device) (outcome : Outcome)
     (behind : List ℕ) → GivesVerdict judged table with_certificate d outcome behind
     → outcome_status outcome ≡ statuses.Fine → IsLawfulThen judged table with_certificate d outcome behind
 lawful_record judged table with_certificate d outcome behind (inl memory) fine =
@@ -100,11 +100,11 @@ lawful_record judged table with_certificate d outcome behind (inr says) fine =
     says.shown fine
 
 -- What is known where an entry of a record is named by this table.
-record IsNamedBy (judged : Option Side) (table : Table) (d : Device) (r : Refutation) : Type 0 where
-  entries : List Entry
-  end : Unit {0}
-  reads : ReadsRecord d entries (Ok end)
-  named : named_by judged table entries ≡ Some r
+pub record IsNamedBy (judged : Option Side) (table : Table) (d : Device) (r : Refutation) : Type 0 where
+  pub entries : List Entry
+  pub end : Unit {0}
+  pub reads : ReadsRecord d entries (Ok end)
+  pub named : named_by judged table entries ≡ Some r
 
 named_by_end : (judged : Option Side) (table : Table) (d : Device) (r : Refutation) (entries : List Entry)
     (end : Result (Unit {0}) FeedFault) → ReadsRecord d entries end → Refuted r ≡ record_verdict judged table entries end
@@ -118,7 +118,7 @@ named_by_end judged table d r entries (Ok end) reads said = record {
       (replayed_by judged table (proposed_by judged entries) entries) r said;
 }
 
-refuted_record : (judged : Option Side) (table : Table) (with_certificate : Bool) (d : Device) (r : Refutation)
+pub refuted_record : (judged : Option Side) (table : Table) (with_certificate : Bool) (d : Device) (r : Refutation)
     (behind : List ℕ) → GivesVerdict judged table with_certificate d (Refuted r) behind
     → IsNamedBy judged table d r × (behind ≡ [])
 refuted_record judged table with_certificate d r behind (inl memory) =

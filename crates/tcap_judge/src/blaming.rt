@@ -25,19 +25,20 @@ use tcap_refute::laws;
 
 /// What is said of a record, and of its ends.
 #[derive(Clone, Copy, Debug)]
-struct Said {
-    outcome: Outcome,
-    /// None where the table or the record has a fault, or memory ran out.
-    ends: Option<Ends>,
+pub struct Blame {
+    /// Of the record.
+    pub outcome: Outcome,
+    /// Of its ends. None where the table or the record has a fault, or memory ran out.
+    pub ends: Option<Ends>,
 }
 
-impl Said {
+impl Blame {
     /// That is said, and nothing of the ends.
-    fn alone(outcome: Outcome) -> Said
+    fn alone(outcome: Outcome) -> Blame
         ensures outcome { result.outcome ≡ outcome }
         ensures ends { result.ends ≡ None }
     {
-        Said {
+        Blame {
             outcome,
             ends: None,
         }
@@ -82,7 +83,7 @@ fn find_both(alloc: Global, read: &Record, table: &Table) -> Result<Ends, AllocE
 }
 
 /// What is said of a record and of its ends.
-fn blame_record(alloc: Global, read: &Record, table: &Table) -> Result<Said, AllocError>
+fn blame_record(alloc: Global, read: &Record, table: &Table) -> Result<Blame, AllocError>
     requires few { length read.now.entries.items ≤ 100000 }
     ensures { IfOk result (λ said. (said.outcome ≡ verdict table.now read.now.entries.items)
         × IsShown None table.now read.now.entries.items said.outcome
@@ -91,14 +92,14 @@ fn blame_record(alloc: Global, read: &Record, table: &Table) -> Result<Said, All
 {
     let judged = judge_record(alloc, read, table, None, false)?;
     let ends = find_both(alloc, read, table)?;
-    Ok(Said {
+    Ok(Blame {
         outcome: judged.outcome,
         ends: Some(ends),
     })
 }
 
 /// What is said of the record that `reader` tells.
-fn blame_told<R: Read>(alloc: Global, reader: &mut R, table: &Table) -> Said
+fn blame_told<R: Read>(alloc: Global, reader: &mut R, table: &Table) -> Blame
     ensures { GivesBlame table.now (record {
       before = R.untold reader.old;
       after = R.untold reader.new;
@@ -110,15 +111,15 @@ fn blame_told<R: Read>(alloc: Global, reader: &mut R, table: &Table) -> Said
     match read_record(alloc, reader) {
         Ok(read) => match blame_record(alloc, &read, table) {
             Ok(said) => said,
-            Err(AllocError) => Said::alone(OUT_OF_MEMORY),
+            Err(AllocError) => Blame::alone(OUT_OF_MEMORY),
         },
-        Err(fault) => Said::alone(Outcome::Faulty(fault.reason.number(), fault.place)),
+        Err(fault) => Blame::alone(Outcome::Faulty(fault.reason.number(), fault.place)),
     }
 }
 
-/// What is said of a record and a table, each of which a reader tells. Nothing of the record is read before the table
-/// is there.
-fn blame_by<R: Read, T: Read>(alloc: Global, entries: &mut R, table: &mut T) -> Said
+/// What is said of the record that `entries` tells, by the operation table that `table` tells, and of each of its ends.
+/// `run_blame` writes the lines of it. Nothing of the record is read before the table is there.
+pub fn blame_outcome<R: Read, T: Read>(alloc: Global, entries: &mut R, table: &mut T) -> Blame
     ensures { IsBlamed (record {
       before = R.untold entries.old;
       after = R.untold entries.new;
@@ -134,12 +135,12 @@ fn blame_by<R: Read, T: Read>(alloc: Global, entries: &mut R, table: &mut T) -> 
 {
     match read_table(alloc, table) {
         Ok(table) => blame_told(alloc, entries, &table),
-        Err(outcome) => Said::alone(outcome),
+        Err(outcome) => Blame::alone(outcome),
     }
 }
 
 /// Appends the line of the outcome, and what is said of the ends.
-fn push_said(text: &mut String, said: &Said) -> Result<(), AllocError>
+fn push_said(text: &mut String, said: &Blame) -> Result<(), AllocError>
     ensures { OnOk result (string_bytes text.new
         ≡ string_bytes text.old ++ outcome_line said.now.outcome ++ lines_behind said.now.ends) }
 {
@@ -152,7 +153,7 @@ fn push_said(text: &mut String, said: &Said) -> Result<(), AllocError>
 
 /// Writes what is said, or that memory ran out where there is none for it, and answers how the run ends. All is there
 /// before its first octet is written.
-fn write_said<W: Write>(alloc: Global, said: &Said, writer: &mut W) -> Result<Status, WriteFailed>
+fn write_said<W: Write>(alloc: Global, said: &Blame, writer: &mut W) -> Result<Status, WriteFailed>
     ensures text { IfOk result (λ status. (text : List ℕ)
         × SaysLines said.now.outcome said.now.ends text status
         × Appends (W.taken writer.old) (W.taken writer.new) text) }
@@ -202,6 +203,6 @@ pub fn run_blame<R: Read, T: Read, W: Write>(
     ensures counts { OnOk result (W.failures writer.new ≡ W.failures writer.old) }
     ensures failed { OnErr result (W.failures writer.new ≡ one_more (W.failures writer.old)) }
 {
-    let said = blame_by(alloc, entries, table);
+    let said = blame_outcome(alloc, entries, table);
     write_said(alloc, &said, writer)
 }

@@ -165,9 +165,10 @@ fn judge_record<R: Read>(
     }
 }
 
-/// What is said of a record, a table and a certificate, each of which a reader tells: of one end alone, or, where none is
-/// named, of both. Nothing of the record is read before the other two are there.
-fn judge<R: Read, T: Read, C: Read>(
+/// What is said of the record that `entries` tells, by the operation table that `table` tells and the certificate that
+/// `certificate` tells: of one end alone, or, where none is named, of both. `run_check` and `run_check_end` write the line of
+/// it. Nothing of the record is read before the other two are there.
+pub fn check_outcome<R: Read, T: Read, C: Read>(
     alloc: Global,
     entries: &mut R,
     table: &mut T,
@@ -255,7 +256,7 @@ pub fn run_check<R: Read, T: Read, C: Read, W: Write>(
     ensures counts { OnOk result (W.failures writer.new ≡ W.failures writer.old) }
     ensures failed { OnErr result (W.failures writer.new ≡ one_more (W.failures writer.old)) }
 {
-    let outcome = judge(alloc, entries, table, certificate, None);
+    let outcome = check_outcome(alloc, entries, table, certificate, None);
     write_outcome(alloc, outcome, "", writer)
 }
 
@@ -306,6 +307,6 @@ pub fn run_check_end<R: Read, T: Read, C: Read, W: Write>(
     ensures counts { OnOk result (W.failures writer.new ≡ W.failures writer.old) }
     ensures failed { OnErr result (W.failures writer.new ≡ one_more (W.failures writer.old)) }
 {
-    let outcome = judge(alloc, entries, table, certificate, Some(end));
+    let outcome = check_outcome(alloc, entries, table, certificate, Some(end));
     write_outcome(alloc, outcome, "", writer)
 }

@@ -12,7 +12,7 @@ use tcap_refute::Refutation;
 
 /// What is said of an end.
 #[derive(Clone, Copy, Debug, PartialEq, Eq)]
-pub(crate) enum Finding {
+pub enum Finding {
     /// An entry is blamed on it.
     Blamed(Refutation),
     /// It may have sent its part of so many entries, of which so many of its peer's are taken as unheard.
@@ -23,9 +23,11 @@ pub(crate) enum Finding {
 
 /// What is said of both ends.
 #[derive(Clone, Copy, Debug, PartialEq, Eq)]
-pub(crate) struct Ends {
-    pub(crate) a: Finding,
-    pub(crate) b: Finding,
+pub struct Ends {
+    /// Of A.
+    pub a: Finding,
+    /// Of B.
+    pub b: Finding,
 }
 
 impl Finding {
@@ -124,7 +126,7 @@ impl Ends {
 }
 
 /// How a run ends that says this.
-pub(crate) fn blame_status(ends: Option<Ends>, outcome: Outcome) -> Status
+pub fn blame_status(ends: Option<Ends>, outcome: Outcome) -> Status
     ensures { result ≡ blame_status ends outcome }
 {
     match ends {

@@ -1,6 +1,6 @@
 //! Judging a record without a certificate: both ends, or one alone.
 
-ghost use Rattle.std.specs.Prelude.{◌≡◌, None, Some, Ok, IfOk, OnOk, OnErr};
+ghost use Rattle.std.specs.Prelude.{◌≡◌, ℕ, List, false, None, Some, Ok, IfOk, OnOk, OnErr};
 ghost use Rattle.std.specs.String.{string_bytes};
 ghost use Rattle.tcap_ber.specs.Device.{one_more};
 ghost use Rattle.tcap_judge.specs.LawfulRecord.{FindsLawful};
@@ -66,6 +66,31 @@ fn judge<R: Read, T: Read>(
         Ok(table) => judge_told(alloc, entries, &table, judged, with_certificate),
         Err(outcome) => Said::alone(alloc, outcome),
     }
+}
+
+/// What is said of the record that `entries` tells, by the operation table that `table` tells: of one end alone, or, where none
+/// is named, of both. `run_judge` and `run_judge_end` write the line of it. Nothing of the record is read before the table is
+/// there.
+pub fn judge_outcome<R: Read, T: Read>(
+    alloc: Global,
+    entries: &mut R,
+    table: &mut T,
+    judged: Option<End>,
+) -> Outcome
+    ensures { (behind : List ℕ) × IsJudged judged false (record {
+      before = R.untold entries.old;
+      after = R.untold entries.new;
+      failed_before = R.failures entries.old;
+      failed_after = R.failures entries.new;
+    })
+        (record {
+          before = T.untold table.old;
+          after = T.untold table.new;
+          failed_before = T.failures table.old;
+          failed_after = T.failures table.new;
+        }) result behind }
+{
+    judge(alloc, entries, table, judged, false).outcome
 }
 
 /// Judges the record that `entries` tells by the operation table that `table` tells, and writes one line: the first entry

@@ -19,10 +19,12 @@ mod verdicts;
 mod words;
 
 pub use asked::Request;
-pub use blaming::run_blame;
-pub use checking::{run_check, run_check_end};
+pub use blaming::{Blame, blame_outcome, run_blame};
+pub use checking::{check_outcome, run_check, run_check_end};
 pub use fault_lines::MEMORY_LINE;
-pub use judging::{run_judge, run_judge_end};
+pub use finding::{Ends, Finding, blame_status};
+pub use judging::{judge_outcome, run_judge, run_judge_end};
+pub use outcome::{Outcome, inner_number};
 pub use packing::run_pack;
 pub use showing::run_show;
 pub use status::{Status, WriteFailed};

@@ -17,7 +17,7 @@ use tcap_refute::Refutation;
 
 /// What is said of a record.
 #[derive(Clone, Copy, Debug, PartialEq, Eq)]
-pub(crate) enum Outcome {
+pub enum Outcome {
     /// The record, of so many entries, is lawful.
     Lawful(usize),
     /// One end alone may have sent its part of so many entries, of which so many of its peer's are taken as unheard.
@@ -37,7 +37,7 @@ pub(crate) const OUT_OF_MEMORY: Outcome = Outcome::Faulty(99, 0);
 
 impl Outcome {
     /// How a run ends that says this.
-    pub(crate) fn status(self) -> Status
+    pub fn status(self) -> Status
         ensures { result ≡ outcome_status self }
     {
         match self {
@@ -49,8 +49,8 @@ impl Outcome {
     }
 }
 
-/// The number of the fault that a reason holds, where it holds one.
-fn inner_number(reason: Reason) -> Option<u8>
+/// The number of the fault that a reason holds, where it holds one: that of the end's refusal, or of the message's fault.
+pub fn inner_number(reason: Reason) -> Option<u8>
     ensures { result ≡ inner_number reason }
 {
     match reason {

@@ -1,8 +1,10 @@
-ghost use Rattle.std.specs.Prelude.{[], ◌++◌, IfOk};
+ghost use Rattle.std.specs.Prelude.{◌≡◌, [], ◌++◌, IfOk};
 ghost use Rattle.tcap_record.specs.Framed.{Framed};
+ghost use Rattle.tcap_uses.specs.Ids.{ids_in, id_in};
 
-use std::alloc::Global;
-use tcap_record::{Entry, FeedFault, Feeder};
+use std::alloc::{AllocError, Global};
+use tcap_msg::{MessageParts, TransactionId};
+use tcap_record::{Body, Entry, FeedFault, Feeder};
 
 /// The entries of a record that comes in two pieces.
 pub fn entries_of(alloc: Global, first: &[u8], second: &[u8]) -> Result<Vec<Entry>, FeedFault>
@@ -18,4 +20,28 @@ pub fn entries_of(alloc: Global, first: &[u8], second: &[u8]) -> Result<Vec<Entr
         entries.push(entry)?;
     }
     Ok(entries)
+}
+
+/// The originating transaction ID of an entry, where it is a Begin or a Continue.
+fn id_of(entry: &Entry) -> Option<TransactionId>
+    ensures { result ≡ id_in entry.now }
+{
+    match &entry.body {
+        Body::Good(message) => Some(message.otid()?.to_transaction_id()),
+        _ => None,
+    }
+}
+
+/// The originating transaction IDs of entries.
+pub fn ids_of(alloc: Global, entries: &[Entry]) -> Result<Vec<TransactionId>, AllocError>
+    // These are all, one after the other.
+    ensures all { IfOk result (λ ids. ids.items ≡ ids_in entries.now) }
+{
+    let mut ids = Vec::new(alloc);
+    for entry in entries {
+        if let Some(id) = id_of(entry) {
+            ids.push(id)?;
+        }
+    }
+    Ok(ids)
 }

@@ -3,4 +3,4 @@ use Rattle.tcap_judge.proofs.blaming.run_blame.Goals as goal
 
 pub returns-clause-blames : goal.returns-clause-blames
 returns-clause-blames g c =
-    prints_blame _ _ c.blame_by-said.result.outcome c.blame_by-said.result.ends _ _ c.write_said.result c.blame_by-said.ensures c.write_said.ensures.text
+    prints_blame _ _ c.blame_outcome-said.result.outcome c.blame_outcome-said.result.ends _ _ c.write_said.result c.blame_outcome-said.ensures c.write_said.ensures.text

@@ -1,0 +1,298 @@
+-- What is known of octets that are in memory, by what is said of them.
+use Rattle.std.proofs.Common.{◌≡◌, ℕ, List, [], ◌++◌, length, map, false, refl, sym, ap, subst, ◌∙◌, inl, inr, append-nil}
+use Rattle.std.specs.Prelude.{Option, Some, None, Result, Ok, Err}
+use Rattle.std.specs.Io.KnownBytes.{Consumes, IsAtEnd}
+use Rattle.tcap_record.specs.declared.entry.End.{End as Side}
+use Rattle.tcap_record.specs.declared.entry.End.TheVariants as sides
+use Rattle.tcap_record.specs.declared.entry.Entry.{Entry}
+use Rattle.tcap_record.specs.declared.fault.FeedFault.{FeedFault}
+use Rattle.tcap_record.specs.Reading.{IsReadAs}
+use Rattle.tcap_end.specs.Table.{Table}
+use Rattle.tcap_end.specs.TableText.{IsTableOf}
+use Rattle.tcap_check.specs.declared.fault.Reason.{Reason}
+use Rattle.tcap_check.specs.Entries.{item_of}
+use Rattle.tcap_check.specs.World.{Item}
+use Rattle.tcap_refute.specs.declared.kind.Refutation.{Refutation}
+use Rattle.tcap_refute.specs.Blame.{blamed}
+use Rattle.tcap_refute.specs.Kind.{kind_number, refuted}
+use Rattle.tcap_refute.specs.Unsendable.{IsAtFault, IsAtFaultOf}
+use Rattle.tcap_judge.specs.declared.finding.Ends.{Ends}
+use Rattle.tcap_judge.specs.declared.finding.Finding.{Finding}
+use Rattle.tcap_judge.specs.declared.finding.Finding.TheVariants as findings
+use Rattle.tcap_judge.specs.declared.outcome.Outcome.{Outcome}
+use Rattle.tcap_judge.specs.declared.outcome.Outcome.TheVariants.{Lawful, LawfulFor, NotShown, Refuted, Undecided, Faulty}
+use Rattle.tcap_judge.specs.declared.status.Status.TheVariants as statuses
+use Rattle.tcap_judge.specs.Outcome.{outcome_status}
+use Rattle.tcap_judge.specs.Judged.{AreLawful, replayed_by}
+use Rattle.tcap_judge.specs.Checked.{JudgesWith, ReadsRecord, ReadsTable}
+use Rattle.tcap_judge.specs.LawfulRecord.{SpellsRecord}
+use Rattle.tcap_judge.specs.Verdict.{GivesVerdictWith, IsAtFaultBy, certificate_line, named_by, proposed_by}
+use Rattle.tcap_judge.specs.Blamed.{AreFound, GivesBlame, GivesBlameWith, IsFound, ends_of, finding, finding_by, items_before, record_ends}
+use Rattle.tcap_judge.proofs.LawfulLaws.{IsFoundBy, by_certificate, fine_fault, found_of, no_fault, said_lawful, table_fault, table_text}
+use Rattle.tcap_judge.proofs.VerdictLaws.{NamesRightly, blames_rightly, by_refutation, lawful_record, names_rightly, refuted_record}
+use Rattle.tcap_c.specs.declared.answer.Answer.{Answer}
+use Rattle.tcap_c.specs.InMemory.{AreRight, IsAtFaultIn, IsRight, MayBeSentBy, SaysBlamed, SaysChecked, SaysJudged, blame_answers, finding_answer, in_memory, no_answer, outcome_answer, refutation_answer}
+
+-- what a reader of these octets told up to its end is all of them
+told_all : (octets left told : List ℕ) → Consumes (Some octets) (Some left) told → IsAtEnd (Some left) → told ≡ octets
+told_all octets left told consumes at = sym (consumes ∙ ap (λ (x : List ℕ). told ++ x) at ∙ append-nil told)
+
+-- the text of the table that was read
+text_is : (text left : List ℕ) (operations : Table) → ReadsTable (in_memory text left) (Ok operations)
+    → IsTableOf text (Ok operations)
+text_is text left operations reads =
+    let (octets, tells, is) = table_text (in_memory text left) operations reads in
+    subst (λ (t : List ℕ). IsTableOf t (Ok operations)) (told_all text left octets tells.0 tells.1) is
+
+may_be_sent : (judged : Option Side) (octets text left left_of_text : List ℕ) (operations : Table) (outcome : Outcome)
+    → ReadsTable (in_memory text left_of_text) (Ok operations)
+    → IsFoundBy judged operations (in_memory octets left) outcome → MayBeSentBy judged octets text
+may_be_sent judged octets text left left_of_text operations outcome reads found = record {
+  operations = operations;
+  items = found.items;
+  is_table = text_is text left_of_text operations reads;
+  spells = subst (SpellsRecord found.items) (told_all octets left found.octets found.tells.0 found.tells.1) found.spells;
+  lawful = found.lawful;
+}
+
+is_at_fault : (judged : Option Side) (octets text left left_of_text : List ℕ) (operations : Table) (entries : List Entry)
+    (end : Unit {0}) (r : Refutation) (given : Answer) → ReadsTable (in_memory text left_of_text) (Ok operations)
+    → ReadsRecord (in_memory octets left) entries (Ok end) → IsAtFaultBy judged operations entries r
+    → given.entry ≡ r.entry → given.reason ≡ kind_number r.kind → IsAtFaultIn judged octets text given
+is_at_fault judged octets text left left_of_text operations entries end r given reads told at_fault entry_is kind_is =
+    record {
+      operations = operations;
+      read = entries;
+      refutation = r;
+      is_table = text_is text left_of_text operations reads;
+      is_read = subst (λ (o : List ℕ). IsReadAs entries (Ok end) o) (told_all octets left told.told told.tells told.ended)
+          told.is_read;
+      at_fault = at_fault;
+      entry_is = entry_is;
+      kind_is = kind_is;
+    }
+
+-- ---- judging
+
+judged_lawful : (judged : Option Side) (octets text : List ℕ) (outcome : Outcome)
+    → SaysJudged judged octets text outcome → outcome_status outcome ≡ statuses.Fine → MayBeSentBy judged octets text
+judged_lawful judged octets text outcome says fine = by says.given.0 says.given.1 says.given.2
+  where
+    by : (given : Result Table Outcome) → ReadsTable (in_memory text says.left_of_text) given
+        → GivesVerdictWith judged given false (in_memory octets says.left) outcome says.behind
+        → MayBeSentBy judged octets text
+    by (Err said) reads gives =
+        absurd (fine_fault outcome said gives.0 (table_fault (in_memory text says.left_of_text) said reads) fine)
+    by (Ok operations) reads gives =
+        let (found, behind) = lawful_record judged operations false (in_memory octets says.left) outcome says.behind gives fine
+        in may_be_sent judged octets text says.left says.left_of_text operations outcome reads found
+
+judged_refuted : (judged : Option Side) → NamesRightly judged → (octets text : List ℕ) (r : Refutation)
+    → SaysJudged judged octets text (Refuted r) → IsAtFaultIn judged octets text (refutation_answer 1 r)
+judged_refuted judged rightly octets text r says = by says.given.0 says.given.1 says.given.2
+  where
+    by : (given : Result Table Outcome) → ReadsTable (in_memory text says.left_of_text) given
+        → GivesVerdictWith judged given false (in_memory octets says.left) (Refuted r) says.behind
+        → IsAtFaultIn judged octets text (refutation_answer 1 r)
+    by (Err said) reads gives =
+        let bad : statuses.Refuted ≡ statuses.Fault =
+        no_fault (Refuted r) said statuses.Refuted gives.0 (table_fault (in_memory text says.left_of_text) said reads) refl
+        in cc
+    by (Ok operations) reads gives =
+        let (named, none) = refuted_record judged operations false (in_memory octets says.left) r says.behind gives in
+        is_at_fault judged octets text says.left says.left_of_text operations named.entries named.end r
+        (refutation_answer 1 r) reads named.reads (rightly operations named.entries r named.named) refl refl
+
+-- an answer is right where what is said is
+right_of : (judged : Option Side) (octets text : List ℕ) (outcome : Outcome)
+    → (outcome_status outcome ≡ statuses.Fine → MayBeSentBy judged octets text)
+    → ((r : Refutation) → outcome ≡ Refuted r → IsAtFaultIn judged octets text (refutation_answer 1 r))
+    → IsRight judged octets text (outcome_answer outcome)
+right_of judged octets text (Lawful count) lawful refuted =
+    record { lawful = λ is. lawful refl; refuted = λ is. cc; blamed = λ is. cc }
+right_of judged octets text (LawfulFor count unheard) lawful refuted =
+    record { lawful = λ is. lawful refl; refuted = λ is. cc; blamed = λ is. cc }
+right_of judged octets text (Refuted r) lawful refuted =
+    record { lawful = λ is. cc; refuted = λ is. refuted r refl; blamed = λ is. cc }
+right_of judged octets text (Undecided fault) lawful refuted =
+    record { lawful = λ is. cc; refuted = λ is. cc; blamed = λ is. cc }
+right_of judged octets text (NotShown fault) lawful refuted =
+    record { lawful = λ is. cc; refuted = λ is. cc; blamed = λ is. cc }
+right_of judged octets text (Faulty number place) lawful refuted =
+    record { lawful = λ is. cc; refuted = λ is. cc; blamed = λ is. cc }
+
+-- the entry that is named is at fault, whoever is judged
+pub names_all : ((table : Table) (entries : List (Result Item Reason)) (r : Refutation)
+    → refuted table entries ≡ Some r → IsAtFault table entries r)
+    → ((table : Table) (side : Side) (entries : List Entry) (r : Refutation)
+    → blamed table side entries ≡ Some r → IsAtFaultOf table side (map item_of entries) r)
+    → (judged : Option Side) → NamesRightly judged
+names_all refutes blames None = names_rightly refutes
+names_all refutes blames (Some side) = blames_rightly side blames
+
+pub judged_right : (judged : Option Side) → NamesRightly judged → (octets text : List ℕ) (outcome : Outcome)
+    → SaysJudged judged octets text outcome → IsRight judged octets text (outcome_answer outcome)
+judged_right judged rightly octets text outcome says =
+    right_of judged octets text outcome (judged_lawful judged octets text outcome says)
+    (λ r is. judged_refuted judged rightly octets text r (subst (SaysJudged judged octets text) is says))
+
+-- ---- checking
+
+checked_lawful : (judged : Option Side) (octets text certificate : List ℕ) (outcome : Outcome)
+    → SaysChecked judged octets text certificate outcome → outcome_status outcome ≡ statuses.Fine
+    → MayBeSentBy judged octets text
+checked_lawful judged octets text certificate outcome says fine = by says.given.0 says.given.1 says.given.2
+  where
+    by : (given : Result Table Outcome) → ReadsTable (in_memory text says.left_of_text) given
+        → JudgesWith judged given (in_memory certificate says.left_of_certificate) (in_memory octets says.left) outcome
+        → MayBeSentBy judged octets text
+    by (Err said) reads judges =
+        absurd (fine_fault outcome said judges.0 (table_fault (in_memory text says.left_of_text) said reads) fine)
+    by (Ok operations) reads judges =
+        may_be_sent judged octets text says.left says.left_of_text operations outcome reads
+        (by_certificate judged operations judges.0 (in_memory certificate says.left_of_certificate)
+        (in_memory octets says.left) outcome judges.1 judges.2 fine)
+
+verdict_fine : (outcome : Outcome) → (outcome_answer outcome).verdict ≡ 0 → outcome_status outcome ≡ statuses.Fine
+verdict_fine (Lawful count) is = refl
+verdict_fine (LawfulFor count unheard) is = refl
+verdict_fine (Refuted r) is = cc
+verdict_fine (Undecided fault) is = cc
+verdict_fine (NotShown fault) is = cc
+verdict_fine (Faulty number place) is = cc
+
+pub checked_right : (judged : Option Side) (octets text certificate : List ℕ) (outcome : Outcome)
+    → SaysChecked judged octets text certificate outcome → (outcome_answer outcome).verdict ≡ 0
+    → MayBeSentBy judged octets text
+checked_right judged octets text certificate outcome says is =
+    checked_lawful judged octets text certificate outcome says (verdict_fine outcome is)
+
+-- ---- blaming
+
+-- what is said of the record is what judging says
+judged_too : (octets text : List ℕ) (outcome : Outcome) (ends : Option Ends) → SaysBlamed octets text outcome ends
+    → SaysJudged None octets text outcome
+judged_too octets text outcome ends says = by says.given.0 says.given.1 says.given.2
+  where
+    by : (given : Result Table Outcome) → ReadsTable (in_memory text says.left_of_text) given
+        → GivesBlameWith given (in_memory octets says.left) outcome ends → SaysJudged None octets text outcome
+    by (Err said) reads (is, none, untouched) = record {
+      left = says.left;
+      left_of_text = says.left_of_text;
+      behind = [];
+      given = (Err said, reads, (is, refl, untouched));
+    }
+    by (Ok operations) reads (inl (is, none)) = record {
+      left = says.left;
+      left_of_text = says.left_of_text;
+      behind = [];
+      given = (Ok operations, reads, inl (is, refl));
+    }
+    by (Ok operations) reads (inr told) = record {
+      left = says.left;
+      left_of_text = says.left_of_text;
+      behind = certificate_line None false told.entries outcome;
+      given = (
+        Ok operations,
+        reads,
+        inr (record {
+          entries = told.entries;
+          end = told.end;
+          reads = told.reads;
+          says = told.says;
+          behind_is = refl;
+          shown = told.shown;
+        }),
+      );
+    }
+
+-- an answer on an end is right where what is said of it is
+end_right_of : (side : Side) (octets text : List ℕ) (said : Finding)
+    → ((count unheard : ℕ) → said ≡ findings.Lawful count unheard → MayBeSentBy (Some side) octets text)
+    → ((r : Refutation) → said ≡ findings.Blamed r → IsAtFaultIn (Some side) octets text (refutation_answer 5 r))
+    → IsRight (Some side) octets text (finding_answer said)
+end_right_of side octets text (findings.Lawful count unheard) lawful blamed =
+    record { lawful = λ is. lawful count unheard refl; refuted = λ is. cc; blamed = λ is. cc }
+end_right_of side octets text (findings.Blamed r) lawful blamed =
+    record { lawful = λ is. cc; refuted = λ is. cc; blamed = λ is. blamed r refl }
+end_right_of side octets text (findings.NotBlamed count) lawful blamed =
+    record { lawful = λ is. cc; refuted = λ is. cc; blamed = λ is. cc }
+
+nothing_right : (judged : Option Side) (octets text : List ℕ) → IsRight judged octets text no_answer
+nothing_right judged octets text = record { lawful = λ is. cc; refuted = λ is. cc; blamed = λ is. cc }
+
+-- what is blamed is what the verdict on the end names
+named_by_finding : (count : ℕ) (outcome : Outcome) (r : Refutation) → finding_by count outcome ≡ findings.Blamed r
+    → outcome ≡ Refuted r
+named_by_finding count (Refuted other) r is = let same : other ≡ r = cc in ap Refuted same
+named_by_finding count (LawfulFor all unheard) r is = cc
+named_by_finding count (Lawful all) r is = cc
+named_by_finding count (NotShown fault) r is = cc
+named_by_finding count (Undecided fault) r is = cc
+named_by_finding count (Faulty number place) r is = cc
+
+-- one end, of entries that are all that was told
+end_right : (side : Side) (octets text left left_of_text : List ℕ) (operations : Table) (entries : List Entry)
+    (end : Unit {0}) (said : Finding) → ReadsTable (in_memory text left_of_text) (Ok operations)
+    → ReadsRecord (in_memory octets left) entries (Ok end) → said ≡ finding operations entries side
+    → IsFound side operations entries said
+    → ((r : Refutation) → named_by (Some side) operations entries ≡ Some r → IsAtFaultBy (Some side) operations entries r)
+    → IsRight (Some side) octets text (finding_answer said)
+end_right side octets text left left_of_text operations entries end said reads told is found rightly =
+    end_right_of side octets text said
+    (λ count unheard lawful.
+    let are : AreLawful (Some side) operations entries = subst (IsFound side operations entries) lawful found in
+    may_be_sent (Some side) octets text left left_of_text operations (said_lawful (Some side) (length entries) 0) reads
+    (found_of (Some side) operations (in_memory octets left) (said_lawful (Some side) (length entries) 0) 0 entries end told
+    are refl))
+    (λ r blamed.
+    let refuted = named_by_finding (items_before (map item_of entries)) _ r (sym is ∙ blamed) in
+    is_at_fault (Some side) octets text left left_of_text operations entries end r (refutation_answer 5 r) reads told
+    (rightly r (by_refutation (Some side) (length entries) (named_by (Some side) operations entries)
+    (replayed_by (Some side) operations (proposed_by (Some side) entries) entries) r (sym refuted))) refl refl)
+
+-- both ends, where something is said of them
+ends_right : (octets text left left_of_text : List ℕ) (operations : Table) (outcome : Outcome) (ends : Ends)
+    → ReadsTable (in_memory text left_of_text) (Ok operations)
+    → GivesBlame operations (in_memory octets left) outcome (Some ends)
+    → IsRight (Some sides.A) octets text (finding_answer ends.a) × IsRight (Some sides.B) octets text (finding_answer ends.b)
+ends_right octets text left left_of_text operations outcome ends reads (inl (is, none)) = cc
+ends_right octets text left left_of_text operations outcome ends reads (inr told) =
+    by told.end told.reads told.ends_are
+  where
+    by : (end : Result (Unit {0}) FeedFault) → ReadsRecord (in_memory octets left) told.entries end
+        → Some ends ≡ record_ends operations told.entries end
+        → IsRight (Some sides.A) octets text (finding_answer ends.a)
+        × IsRight (Some sides.B) octets text (finding_answer ends.b)
+    by (Err fault) read are = cc
+    by (Ok end) read are =
+        let same : ends ≡ ends_of operations told.entries = cc in
+        let found : AreFound operations told.entries ends = told.found ends refl in (
+          end_right sides.A octets text left left_of_text operations told.entries end ends.a reads read
+              (ap (λ (x : Ends). x.a) same) found.a (told.at_fault sides.A),
+          end_right sides.B octets text left left_of_text operations told.entries end ends.b reads read
+              (ap (λ (x : Ends). x.b) same) found.b (told.at_fault sides.B),
+        )
+
+pub blamed_right : NamesRightly None → (octets text : List ℕ) (outcome : Outcome) (ends : Option Ends)
+    → SaysBlamed octets text outcome ends → AreRight octets text (blame_answers outcome ends)
+blamed_right rightly octets text outcome None says = record {
+  both = judged_right None rightly octets text outcome (judged_too octets text outcome None says);
+  a = nothing_right (Some sides.A) octets text;
+  b = nothing_right (Some sides.B) octets text;
+}
+blamed_right rightly octets text outcome (Some ends) says =
+    let (a, b) = by says.given.0 says.given.1 says.given.2 in
+    record {
+      both = judged_right None rightly octets text outcome (judged_too octets text outcome (Some ends) says);
+      a = a;
+      b = b;
+    }
+  where
+    by : (given : Result Table Outcome) → ReadsTable (in_memory text says.left_of_text) given
+        → GivesBlameWith given (in_memory octets says.left) outcome (Some ends)
+        → IsRight (Some sides.A) octets text (finding_answer ends.a)
+        × IsRight (Some sides.B) octets text (finding_answer ends.b)
+    by (Err said) reads (is, none, untouched) = cc
+    by (Ok operations) reads gives =
+        ends_right octets text says.left says.left_of_text operations outcome ends reads gives

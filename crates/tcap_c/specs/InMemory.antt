@@ -1,0 +1,160 @@
+-- What is said of octets that are in memory, and the numbers that a program in C is given of it.
+use Rattle.std.specs.Prelude.{◌≡◌, ℕ, List, false, nat_eq, cond, Option, Some, None, Ok}
+use Rattle.tcap_record.specs.declared.entry.End.{End as Side}
+use Rattle.tcap_record.specs.declared.entry.End.TheVariants as sides
+use Rattle.tcap_record.specs.declared.entry.Entry.{Entry}
+use Rattle.tcap_record.specs.Framed.{octet_of}
+use Rattle.tcap_record.specs.Reading.{IsReadAs}
+use Rattle.tcap_end.specs.Table.{Table}
+use Rattle.tcap_end.specs.TableText.{IsTableOf}
+use Rattle.tcap_check.specs.World.{Item}
+use Rattle.tcap_check.specs.declared.fault.CheckFault.{CheckFault}
+use Rattle.tcap_check.specs.Fault.{reason_number}
+use Rattle.tcap_refute.specs.declared.kind.Refutation.{Refutation}
+use Rattle.tcap_refute.specs.Kind.{kind_number}
+use Rattle.tcap_judge.specs.declared.finding.Ends.{Ends}
+use Rattle.tcap_judge.specs.declared.finding.Finding.{Finding}
+use Rattle.tcap_judge.specs.declared.finding.Finding.TheVariants as findings
+use Rattle.tcap_judge.specs.declared.outcome.Outcome.{Outcome}
+use Rattle.tcap_judge.specs.declared.outcome.Outcome.TheVariants.{Lawful, LawfulFor, NotShown, Refuted, Undecided, Faulty}
+use Rattle.tcap_judge.specs.Shown.{status_number}
+use Rattle.tcap_judge.specs.Outcome.{inner_number, outcome_status}
+use Rattle.tcap_judge.specs.Judged.{MayBeSent}
+use Rattle.tcap_judge.specs.Checked.{Device, Judges}
+use Rattle.tcap_judge.specs.Verdict.{IsAtFaultBy, IsJudged}
+use Rattle.tcap_judge.specs.Blamed.{IsBlamed, blame_status}
+use Rattle.tcap_judge.specs.LawfulRecord.{SpellsRecord}
+use Rattle.tcap_c.specs.declared.answer.Answer.{Answer}
+use Rattle.tcap_c.specs.declared.answer.Answers.{Answers}
+
+-- who is judged, by a number: both ends by 0, one alone by its octet
+abbrev pub judged_by : ℕ → Option (Option Side)
+judged_by number = cond (nat_eq number 0) (Some None)
+    (cond (nat_eq number (octet_of sides.A)) (Some (Some sides.A))
+    (cond (nat_eq number (octet_of sides.B)) (Some (Some sides.B)) None))
+
+-- ---- what is said
+
+-- a reader of octets that are in memory, behind which so many are left: it never fails
+abbrev pub in_memory : List ℕ → List ℕ → Device
+in_memory octets left = record { before = Some octets; after = Some left; failed_before = 0; failed_after = 0 }
+
+-- what `judge` says of a record and a table, as its runs do
+pub record SaysJudged (judged : Option Side) (octets text : List ℕ) (outcome : Outcome) : Type 0 where
+  pub left : List ℕ
+  pub left_of_text : List ℕ
+  pub behind : List ℕ
+  pub given : IsJudged judged false (in_memory octets left) (in_memory text left_of_text) outcome behind
+
+-- the same of `check`, with a certificate
+pub record SaysChecked (judged : Option Side) (octets text certificate : List ℕ) (outcome : Outcome) : Type 0 where
+  pub left : List ℕ
+  pub left_of_text : List ℕ
+  pub left_of_certificate : List ℕ
+  pub given : Judges judged (in_memory octets left) (in_memory text left_of_text)
+      (in_memory certificate left_of_certificate) outcome
+
+-- the same of `blame`, which speaks of both ends too
+pub record SaysBlamed (octets text : List ℕ) (outcome : Outcome) (ends : Option Ends) : Type 0 where
+  pub left : List ℕ
+  pub left_of_text : List ℕ
+  pub given : IsBlamed (in_memory octets left) (in_memory text left_of_text) outcome ends
+
+-- ---- numbers
+
+-- a verdict, an entry, count or place, a reason or kind, the number of the fault in it, and how many messages are unheard
+abbrev pub answer : ℕ → ℕ → ℕ → ℕ → ℕ → Answer
+answer verdict entry reason inner unheard =
+    record { entry = entry; unheard = unheard; verdict = verdict; reason = reason; inner = inner }
+
+-- nothing is said
+abbrev pub no_answer : Answer
+no_answer = answer 7 0 0 0 0
+
+abbrev pub number_or_0 : Option ℕ → ℕ
+number_or_0 None = 0
+number_or_0 (Some number) = number
+
+-- where a certificate fails, and why
+abbrev pub fault_answer : ℕ → CheckFault → Answer
+fault_answer verdict fault =
+    answer verdict fault.entry (reason_number fault.reason) (number_or_0 (inner_number fault.reason)) 0
+
+-- which entry is at fault, and by which kind
+abbrev pub refutation_answer : ℕ → Refutation → Answer
+refutation_answer verdict r = answer verdict r.entry (kind_number r.kind) 0 0
+
+abbrev pub outcome_answer : Outcome → Answer
+outcome_answer (Lawful count) = answer 0 count 0 0 0
+outcome_answer (LawfulFor count unheard) = answer 0 count 0 0 unheard
+outcome_answer (Refuted r) = refutation_answer 1 r
+outcome_answer (Undecided fault) = fault_answer 2 fault
+outcome_answer (Faulty number place) = answer 3 place number 0 0
+outcome_answer (NotShown fault) = fault_answer 4 fault
+
+abbrev pub finding_answer : Finding → Answer
+finding_answer (findings.Lawful count unheard) = answer 0 count 0 0 unheard
+finding_answer (findings.Blamed r) = refutation_answer 5 r
+finding_answer (findings.NotBlamed count) = answer 6 count 0 0 0
+
+-- of the record and of each end
+abbrev pub blame_answers : Outcome → Option Ends → Answers
+blame_answers outcome None = record { both = outcome_answer outcome; a = no_answer; b = no_answer }
+blame_answers outcome (Some ends) =
+    record { both = outcome_answer outcome; a = finding_answer ends.a; b = finding_answer ends.b }
+
+-- ---- what a call gives
+
+-- the numbers of what is said, and that of the exit status
+pub record Gives (Says : Outcome → Type 0) (given : Answer) (status : ℕ) : Type 0 where
+  pub outcome : Outcome
+  pub says : Says outcome
+  pub given_is : given ≡ outcome_answer outcome
+  pub status_is : status ≡ status_number (outcome_status outcome)
+
+-- the same of `blame`
+pub record GivesBlame (octets text : List ℕ) (given : Answers) (status : ℕ) : Type 0 where
+  pub outcome : Outcome
+  pub ends : Option Ends
+  pub says : SaysBlamed octets text outcome ends
+  pub given_is : given ≡ blame_answers outcome ends
+  pub status_is : status ≡ status_number (blame_status ends outcome)
+
+-- a call that names no end and not both: nothing is said
+abbrev pub IsWrongCall : Answer → ℕ → Type 0
+IsWrongCall given status = (given ≡ no_answer) × (status ≡ 4)
+
+-- ---- what it means
+
+-- The octets spell items that may be sent by the operation table that the text is: by two lawful ends, or by one end alone
+-- its part of them.
+pub record MayBeSentBy (judged : Option Side) (octets text : List ℕ) : Type 0 where
+  pub operations : Table
+  pub items : List Item
+  pub is_table : IsTableOf text (Ok operations)
+  pub spells : SpellsRecord items octets
+  pub lawful : MayBeSent judged items operations
+
+-- The entry of this number, of those that the octets are, is at fault by the kind of that number: no end sends it which
+-- keeps the rules, or this end does not.
+pub record IsAtFaultIn (judged : Option Side) (octets text : List ℕ) (given : Answer) : Type 0 where
+  pub operations : Table
+  pub read : List Entry
+  pub refutation : Refutation
+  pub is_table : IsTableOf text (Ok operations)
+  pub is_read : IsReadAs read (Ok tt) octets
+  pub at_fault : IsAtFaultBy judged operations read refutation
+  pub entry_is : given.entry ≡ refutation.entry
+  pub kind_is : given.reason ≡ kind_number refutation.kind
+
+-- Where it is said that octets are lawful, they are; and where an entry is named as refuted or blamed, it is at fault.
+pub record IsRight (judged : Option Side) (octets text : List ℕ) (given : Answer) : Type 0 where
+  pub lawful : given.verdict ≡ 0 → MayBeSentBy judged octets text
+  pub refuted : given.verdict ≡ 1 → IsAtFaultIn judged octets text given
+  pub blamed : given.verdict ≡ 5 → IsAtFaultIn judged octets text given
+
+-- the same of the record and of each end
+pub record AreRight (octets text : List ℕ) (given : Answers) : Type 0 where
+  pub both : IsRight None octets text given.both
+  pub a : IsRight (Some sides.A) octets text given.a
+  pub b : IsRight (Some sides.B) octets text given.b

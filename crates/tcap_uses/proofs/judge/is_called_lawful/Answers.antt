@@ -1,0 +1,50 @@
+use Rattle.std.proofs.Common.{◌≡◌, ◌++◌, ℕ, List, Ok, Option, Some, None, refl, sym, ap, subst, ◌∙◌}
+use Rattle.std.proofs.lemmas.List.{append-nil}
+use Rattle.std.specs.Io.KnownBytes.{Consumes, IsAtEnd}
+use Rattle.tcap_end.specs.Table.{Table}
+use Rattle.tcap_end.specs.TableText.{IsTableOf}
+use Rattle.tcap_check.specs.World.{Item}
+use Rattle.tcap_check.specs.Run.{IsLawful}
+use Rattle.tcap_judge.specs.declared.status.Status.{Status}
+use Rattle.tcap_judge.specs.declared.status.Status.TheVariants.{Fine}
+use Rattle.tcap_judge.specs.Checked.{Device}
+use Rattle.tcap_judge.specs.LawfulRecord.{FindsLawful, SpellsRecord}
+use Rattle.tcap_uses.proofs.judge.is_called_lawful.Goals.{in-Fine, in_default}
+use Rattle.tcap_uses.proofs.judge.is_called_lawful.Goals as goal
+
+-- what a reader of known octets told up to its end is all of them
+told_all : (whole told : List ℕ) (after : Option (List ℕ)) → Consumes (Some whole) after told → IsAtEnd after
+    → told ≡ whole
+told_all whole told None consumes at = absurd consumes
+told_all whole told (Some left) consumes at =
+    sym (consumes ∙ ap (λ (x : List ℕ). told ++ x) at ∙ append-nil told)
+
+-- the same of both readers
+known_lawful : (entries table : Device) (taken taken' : Option (List ℕ)) (octets text : List ℕ)
+    → entries.before ≡ Some octets → table.before ≡ Some text → FindsLawful entries table taken taken'
+    → (items : List Item) × (operations : Table) × (moves : ℕ) × SpellsRecord items octets
+    × IsTableOf text (Ok operations) × IsLawful items operations moves
+known_lawful entries table taken taken' octets text is text_is found =
+    let told = subst (λ (o : Option (List ℕ)). Consumes o entries.after found.octets) is found.tells.0 in
+    let told_text = subst (λ (o : Option (List ℕ)). Consumes o table.after found.text) text_is found.tells_table.0 in
+    let all = told_all octets found.octets entries.after told found.tells.1 in
+    let all_text = told_all text found.text table.after told_text found.tells_table.1 in (
+      found.items,
+      found.operations,
+      found.moves,
+      subst (SpellsRecord found.items) all found.spells,
+      subst (λ (t : List ℕ). IsTableOf t (Ok found.operations)) all_text found.is_table,
+      found.lawful,
+    )
+
+pub returns : goal.returns
+returns c = record {
+  lawful = λ is.
+      let fine : c.in_ok-status.status ≡ Fine = elim c.match-matches.branch [
+        | in-Fine w ↦ w.in-Fine.is
+        | in_default w ↦ cc
+      ] in
+      let found = c.in_ok-status.ensures.lawful (ap (λ (s : Status). Ok s) fine) in
+      known_lawful _ _ _ _ c.args.octets.now c.args.table.now (rw c.new-entries.ensures.inner refl)
+      (rw c.new-of_table.ensures.inner refl) found;
+}

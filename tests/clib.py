@@ -1,0 +1,216 @@
+"""The library for programs in C, which tools/clib.py built: of the records of judged.py, blamed.py, alone.py and examples/,
+and of octets that are none, it says what the program prints, of both ends and of one alone, with and without a certificate;
+and so do its two examples, in C and in Python. Where an allocation fails, it says so, and gives back all that it took.
+Closes with `N passed, M failed`."""
+
+import ctypes
+import glob
+import os
+import subprocess
+import sys
+import tempfile
+
+import alone
+import blamed
+import judged
+import program
+
+sys.path.insert(0, "clib")
+import example  # noqa: E402
+
+PROGRAM, EXAMPLE, ARCHIVE = "crates/tcapjudge/out/tcapjudge", "clib/out/example", "clib/out/libtcapjudge.a"
+NAMES = "LAWFUL", "REFUTED", "UNDECIDED", "FAULT", "NOT SHOWN", "BLAMED", "NOT BLAMED", None
+NO_CERT = b'{"close":[],"expire":[],"fates":[],"version":1}'
+ENDS = "", "A", "B"
+
+
+class Answers(ctypes.Structure):
+    """`struct tcapjudge_answers` of tcapjudge.h."""
+
+    _fields_ = [(name, example.Answer) for name in ("both", "a", "b")]
+
+
+def line_of(answer, end, is_alone):
+    """The line of an answer, with the letter of an end where it has one; none where nothing is said."""
+    name, entry, of_end = NAMES[answer.verdict], answer.entry, f"{end} " if end else ""
+    reason = f"{answer.reason}/{answer.inner}" if answer.inner else f"{answer.reason}"
+    rest = {
+        "LAWFUL": f"{entry} unheard {answer.unheard}" if is_alone else f"{entry}",
+        "NOT BLAMED": f"{entry}",
+        "REFUTED": f"{entry} F{answer.reason}",
+        "BLAMED": f"{entry} F{answer.reason}",
+        "UNDECIDED": f"{entry} {reason}",
+        "NOT SHOWN": f"{entry} {reason}",
+        "FAULT": f"{answer.reason} {entry}",
+    }
+    return f"{name} {of_end}{rest[name]}\n" if name else ""
+
+
+class Library:
+    """The library, by ctypes."""
+
+    def __init__(self):
+        self.of = ctypes.CDLL(example.LIBRARY)
+        for word in ("judge", "check", "blame"):
+            getattr(self.of, f"tcapjudge_{word}").restype = ctypes.c_uint8
+
+    def call(self, word, kind, texts, end=None):
+        """What a word says of these texts, and its status. Fails where the octets beside the answer, or a text, change."""
+        size = ctypes.sizeof(kind)
+        room = ctypes.create_string_buffer(b"\xee" * (size + 16), size + 16)
+        held = [ctypes.create_string_buffer(text, max(len(text), 1)) for text in texts]
+        given = [part for text, octets in zip(texts, held) for part in (octets, ctypes.c_size_t(len(text)))]
+        given += [] if end is None else [ctypes.c_uint8(end)]
+        status = getattr(self.of, f"tcapjudge_{word}")(*given, ctypes.byref(room, 8))
+        assert room.raw[:8] + room.raw[-8:] == b"\xee" * 16
+        assert all(octets.raw[: len(text)] == text for text, octets in zip(texts, held))
+        return kind.from_buffer_copy(room.raw[8:-8]), status
+
+    def said(self, word, texts, end=""):
+        """The lines of what `judge` or `check` says, of both ends or of one, and its status."""
+        answer, status = self.call(word, example.Answer, texts, ord(end) if end else 0)
+        return line_of(answer, "", bool(end)).encode(), status
+
+    def blamed(self, texts):
+        """The lines of what `blame` says, and its status. What is blamed stands first, the lower entry before the other."""
+        answers, status = self.call("blame", Answers, texts)
+        ends = [("A", answers.a), ("B", answers.b)]
+        ends.sort(key=lambda it: it[1].entry if NAMES[it[1].verdict] == "BLAMED" else 1 << 64)
+        lines = line_of(answers.both, "", False) + "".join(line_of(answer, end, True) for end, answer in ends)
+        return lines.encode(), status
+
+
+class Count:
+    """How many comparisons held, and how many did not."""
+
+    def __init__(self):
+        self.passed = self.failed = 0
+
+    def same(self, name, found, wanted):
+        self.passed += found == wanted
+        self.failed += found != wanted
+        if found != wanted:
+            print(f"{name}: {found}, not {wanted}")
+
+
+def written(folder, texts):
+    """The paths of files with these octets."""
+    paths = [f"{folder}/{name}" for name in ("record", "table", "cert")[: len(texts)]]
+    for path, text in zip(paths, texts):
+        with open(path, "wb") as file:
+            file.write(text)
+    return paths
+
+
+def printed(words):
+    """What a program prints, and its status."""
+    run = subprocess.run(words, capture_output=True, check=False)
+    return run.stdout, run.returncode
+
+
+def flags_of(end):
+    return ["--end", end] if end else []
+
+
+def packed(path):
+    """The octets of the record of a file of lines."""
+    return printed([PROGRAM, "pack", path])[0]
+
+
+def octets_in(path):
+    with open(path, "rb") as file:
+        return file.read()
+
+
+def examples():
+    """Of each example its name, its octets, those of its table, and those of its certificate, where it has its own."""
+    for path in sorted(glob.glob("examples/*.hex")):
+        own = path.removesuffix(".hex")
+        yield own, packed(path), octets_in("examples/operations.json"), None
+        if os.path.exists(f"{own}.cert.json"):
+            yield own, packed(path), octets_in(f"{own}.table.json"), octets_in(f"{own}.cert.json")
+
+
+def rows():
+    """The same of each row, and of what is hostile."""
+    for number, (record, table, *_) in enumerate([*judged.rows(), *blamed.rows()]):
+        yield f"row {number}", record, table, None
+    for number, (_, record, table, cert, *_) in enumerate(alone.rows()):
+        yield f"row {number} of alone.py", record, table, cert
+    for name, record, table, _ in blamed.faults():
+        yield name, record, table, None
+    lawful, table = program.DIALOGUE, program.TABLE
+    for name, record, text, cert in (
+        ("no octets", b"", table, None),
+        ("no table", lawful, b"", None),
+        ("no certificate", lawful, table, b""),
+        ("nothing at all", b"", b"", b""),
+        ("a certificate that is none", lawful, table, b"{"),
+        ("a record that is cut", bytes.fromhex("41620348"), table, None),
+        ("a record that is none", b"\xff" * 9, table, None),
+        ("a table that is no text", lawful, b"\xff\0", None),
+    ):
+        yield name, record, text, cert
+
+
+def compare(count, library, folder, name, record, table, cert):
+    """Compares all calls over a record with what the program prints."""
+    for end in ENDS:
+        paths, flags = written(folder, [record, table]), flags_of(end)
+        wanted = printed([PROGRAM, "judge", *flags, *paths])
+        count.same(f"judge {end} {name}", library.said("judge", [record, table], end), wanted)
+        proposed = printed([PROGRAM, "judge", *flags, *paths, "--cert"])[0].split(b"\n")[1]
+        text = cert if cert is not None else proposed or NO_CERT
+        wanted = printed([PROGRAM, "check", *flags, *written(folder, [record, table, text])])
+        count.same(f"check {end} {name}", library.said("check", [record, table, text], end), wanted)
+    count.same(f"blame {name}", library.blamed([record, table]), printed([PROGRAM, "blame", *paths]))
+
+
+def run_examples(count, folder):
+    """Compares what the two examples print of each record of examples/."""
+    for name, record, table, cert in examples():
+        if cert is not None:
+            continue
+        paths = written(folder, [record, table])
+        for end in ENDS:
+            wanted, words = printed([PROGRAM, "judge", *flags_of(end), *paths]), [*paths, *filter(None, [end])]
+            count.same(f"{EXAMPLE} {end} {name}", printed([EXAMPLE, *words]), wanted)
+            count.same(f"example.py {end} {name}", printed([sys.executable, "clib/example.py", *words]), wanted)
+
+
+def wrong_calls(count, library):
+    """An octet that names no end: nothing is said, and all of the answer is written."""
+    for word, texts in ("judge", [b"", b""]), ("check", [b"", b"", b""]):
+        for end in range(256):
+            if end not in (0, ord("A"), ord("B")):
+                answer, status = library.call(word, example.Answer, texts, end)
+                found = status, NAMES[answer.verdict], answer.entry, answer.unheard, answer.reason, answer.inner
+                count.same(f"{word}, end {end}", found, (4, None, 0, 0, 0, 0))
+
+
+def fails_each(count, folder):
+    """Lets each allocation fail in turn, by tests/clib_memory.c."""
+    wraps = [f"-Wl,--wrap={name}" for name in ("malloc", "realloc", "free")]
+    words = ["cc", "-O2", "-I", "clib", "tests/clib_memory.c", ARCHIVE, *wraps, "-o", f"{folder}/memory"]
+    subprocess.run(words, check=True)
+    passed, failed = (int(word) for word in printed([f"{folder}/memory"])[0].split()[::2])
+    count.passed += passed
+    count.failed += failed
+    if failed:
+        print(f"{failed} calls whose allocations fail")
+
+
+def main():
+    count, library = Count(), Library()
+    with tempfile.TemporaryDirectory() as folder:
+        for row in [*examples(), *rows()]:
+            compare(count, library, folder, *row)
+        run_examples(count, folder)
+        fails_each(count, folder)
+    wrong_calls(count, library)
+    print(f"{count.passed} passed, {count.failed} failed")
+    return int(count.failed != 0)
+
+
+if __name__ == "__main__":
+    sys.exit(main())
