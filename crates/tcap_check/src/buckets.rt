@@ -7,7 +7,7 @@ use std::alloc::{AllocError, Global};
 
 /// A list for each of so many numbers, from 0.
 #[derive(Debug, Drop)]
-pub(crate) struct Buckets<T> {
+pub struct Buckets<T> {
     lists: Vec<Vec<T>>,
 }
 
@@ -40,7 +40,7 @@ impl<T: Drop> Buckets<T> {
     }
 
     /// The items of a number; none where there is no list of it.
-    pub(crate) fn get(&self, at: usize) -> &[T]
+    pub fn get(&self, at: usize) -> &[T]
         ensures { result.now ≡ list_at at self.now }
     {
         match self.lists.get(at) {

@@ -24,9 +24,11 @@ mod sending;
 pub mod texts;
 pub mod worked;
 
+pub use buckets::Buckets;
 pub use certificate::{Certificate, Closing, Expiry, Fate};
 pub use checker::{Checker, Report};
 pub use end_checker::{EndChecker, EndReport};
 pub use end_records::check_end;
 pub use fault::{CheckFault, Reason};
+pub use plan::Plan;
 pub use records::check;

@@ -16,12 +16,17 @@ use std::alloc::{AllocError, Global};
 /// What a certificate says: what is listed, what is delivered and what is taken, by gap and by entry; and which entries
 /// are named.
 #[derive(Debug, Drop)]
-pub(crate) struct Plan {
-    pub(crate) closings: Buckets<Closing>,
-    pub(crate) expiries: Buckets<Expiry>,
-    pub(crate) due: Buckets<u32>,
-    pub(crate) taken: Buckets<u32>,
-    pub(crate) named: Vec<bool>,
+pub struct Plan {
+    /// The listed closings of each gap, in their order.
+    pub closings: Buckets<Closing>,
+    /// The listed expiries of each gap, in their order.
+    pub expiries: Buckets<Expiry>,
+    /// The numbers of the entries that are delivered in each gap, from the lowest on.
+    pub due: Buckets<u32>,
+    /// The numbers of the entries that each entry takes as a provider's reply, from the lowest on.
+    pub taken: Buckets<u32>,
+    /// Of each entry, whether a listed event names it.
+    pub named: Vec<bool>,
 }
 
 /// Whether a fate of that entry lies behind it, and within so many entries.
@@ -180,8 +185,8 @@ fn named_entries(
 }
 
 impl Plan {
-    /// The plan of a certificate.
-    pub(crate) fn new(alloc: Global, certificate: &Certificate) -> Result<Plan, AllocError>
+    /// The plan of a certificate, whatever it says. Fails where memory runs out.
+    pub fn new(alloc: Global, certificate: &Certificate) -> Result<Plan, AllocError>
         ensures plan { IfOk result (λ plan. IsPlan certificate.now plan) }
         ensures few { length certificate.now.fates ≤ 100000 }
     {

@@ -10,7 +10,7 @@ use tcap_msg_rows::{Row, each_row, octets_of, vector};
 use tcap_record::{End, Record, read_record};
 
 /// The operations: 45 of class 1, 46 of class 2, 47 of class 3, 48 of class 4, and 50 of class 1, to which 48 may be linked.
-const TABLE: &str =
+pub(crate) const TABLE: &str =
     r#"{"operations":[{"class":1,"code":45},{"class":2,"code":46},{"class":3,"code":47},{"class":4,"code":48},{"class":1,"code":50,"linked":[48]}]}"#;
 
 /// The same, where an invocation of 45 outlasts the record.
@@ -80,7 +80,7 @@ fn push_entry(alloc: Global, octets: &mut Vec<u8>, entry: &str) -> Result<(), Fa
 }
 
 /// The record of these entries.
-fn record_of(alloc: Global, entries: &str) -> Result<Record, Fail> {
+pub(crate) fn record_of(alloc: Global, entries: &str) -> Result<Record, Fail> {
     let mut octets = Vec::new(alloc);
     for entry in entries.split(',') {
         if !entry.is_empty() {
@@ -105,7 +105,7 @@ fn checked(
 }
 
 /// Writes the entry and the number of a reason, and that of the inner one.
-fn write_fault(text: &mut String, fault: CheckFault) -> Result<(), Fail> {
+pub(crate) fn write_fault(text: &mut String, fault: CheckFault) -> Result<(), Fail> {
     write!(text, "{} {}", fault.entry, fault.reason.number())?;
     match fault.reason {
         Reason::SendRefused(inner) | Reason::HiddenRefused(inner) => write!(

@@ -6,3 +6,5 @@
 mod certificates;
 #[cfg(test)]
 mod checks;
+#[cfg(test)]
+mod runs;

@@ -1,0 +1,3 @@
+pub mod LossLaws
+pub mod PlayedGaps
+pub mod PlayedLaws

@@ -1,0 +1,5 @@
+pub mod Steps
+pub mod Playing
+pub mod Gaps
+pub mod Sending
+pub mod Running

@@ -1,0 +1,91 @@
+-- What is kept of a run under way, and what it means that a call goes on as the certificate gives it.
+use Rattle.std.specs.Prelude.{◌≡◌, ℕ, Bool, true, false, List, [], ◌∷◌, Option, Some, None, Result, Ok, Err, OnOk, slice_get, cond, ◌==◌, option_map}
+use Rattle.std.specs.Result.{result_ok}
+use Rattle.tcap_record.specs.declared.entry.End.{End as Side}
+use Rattle.tcap_record.specs.declared.entry.End.TheVariants as sides
+use Rattle.tcap_end.specs.Table.{Table}
+use Rattle.tcap_end.specs.Message.{receive}
+use Rattle.tcap_check.specs.Run.{Event, after_quiet, where_so}
+use Rattle.tcap_end.specs.declared.fault.EndFault.{EndFault}
+use Rattle.tcap_end.specs.End.{End}
+use Rattle.tcap_check.specs.declared.certificate.Fate.{Fate}
+use Rattle.tcap_check.specs.declared.certificate.Fate.TheVariants.{Lost}
+use Rattle.tcap_check.specs.declared.fault.CheckFault.{CheckFault}
+use Rattle.tcap_check.specs.World.{OnItsWay, World, channel_from}
+use Rattle.tcap_check.specs.Replayed.{Replay, with_step}
+use Rattle.tcap_runs.specs.declared.channel.OnWay.{OnWay}
+use Rattle.tcap_runs.specs.declared.playing.Playing.{Playing}
+use Rattle.tcap_runs.specs.Steps.{on_its_way}
+
+-- ---- what is kept
+
+abbrev pub world_of : Playing → World
+world_of p = record { a = p.a; b = p.b; from_a = p.from_a; from_b = p.from_b; sent = p.sent }
+
+-- the replay that it stands for
+abbrev pub replay_of : Playing → Replay
+replay_of p = record { events = p.steps; world = world_of p }
+
+abbrev pub channel_at : Side → Playing → List OnItsWay
+channel_at side p = channel_from side (world_of p)
+
+-- ---- what a call does
+
+-- Where the certificate gives what is behind a step, the call leaves that.
+abbrev pub Goes : {E : Type 0} → Result Replay CheckFault → Result (Unit {0}) E → Replay → Type 0
+Goes step result left = OnOk result ((r : Replay) → step ≡ Ok r → left ≡ r)
+
+-- The call takes a step.
+abbrev pub Takes : {E : Type 0} → Option Replay → Result (Unit {0}) E → Replay → Type 0
+Takes step result left = OnOk result (step ≡ Some left)
+
+-- The call leaves what is behind a step, where there is one.
+abbrev pub GoesSome : {E : Type 0} → Option Replay → Result (Unit {0}) E → Replay → Type 0
+GoesSome step result left = OnOk result ((r : Replay) → step ≡ Some r → left ≡ r)
+
+abbrev pub end_of : Side → Playing → End
+end_of sides.A p = p.a
+end_of sides.B p = p.b
+
+abbrev pub with_end_of : Side → End → Playing → Playing
+with_end_of sides.A e p = record p { a = e }
+with_end_of sides.B e p = record p { b = e }
+
+-- the end behind a step, where there is one
+abbrev pub end_moved : Side → Result End EndFault → Playing → Playing
+end_moved side (Ok e) p = with_end_of side e p
+end_moved side (Err reason) p = p
+
+-- ---- channels
+
+-- the number of the oldest
+abbrev pub first_number : List OnItsWay → Option ℕ
+first_number [] = None
+first_number (first ∷ more) = Some first.number
+
+-- the oldest
+abbrev pub first_of : List OnItsWay → Option OnItsWay
+first_of [] = None
+first_of (first ∷ more) = Some first
+
+-- the end behind the receipt of the oldest, where that has this number
+abbrev pub heard : Table → ℕ → List OnItsWay → End → Option End
+heard table number [] e = None
+heard table number (m ∷ more) e = where_so (m.number == number) (result_ok (receive table e m.message))
+
+abbrev pub is_lost_fate : Option Fate → Bool
+is_lost_fate (Some Lost) = true
+is_lost_fate _ = false
+
+-- whether the message of that number is lost
+abbrev pub is_lost : List Fate → ℕ → Bool
+is_lost fates number = is_lost_fate (slice_get fates number)
+
+-- the number of the oldest, where it is lost
+abbrev pub first_lost : List Fate → List OnItsWay → Option ℕ
+first_lost fates [] = None
+first_lost fates (first ∷ more) = cond (is_lost fates first.number) (Some first.number) None
+
+-- a quiet mark, whatever the operations are
+abbrev pub quiet_played : Replay → Option Replay
+quiet_played r = option_map (with_step Event.Quiet r) (after_quiet r.world)

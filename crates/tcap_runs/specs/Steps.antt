@@ -1,0 +1,30 @@
+-- What the steps of a run, and what is kept of messages, stand for.
+use Rattle.std.specs.Prelude.{ℕ, List, [], ◌∷◌, map}
+use Rattle.tcap_msg.specs.declared.message.Message.{Message}
+use Rattle.tcap_runs.specs.declared.step.Step.{Step}
+use Rattle.tcap_runs.specs.declared.step.Step.TheVariants as steps
+use Rattle.tcap_runs.specs.declared.channel.OnWay.{OnWay}
+use Rattle.tcap_runs.specs.declared.items.Kept.{Kept}
+use Rattle.tcap_runs.specs.declared.items.Kept.TheVariants as kept
+use Rattle.tcap_check.specs.World.{Item, OnItsWay, Sent}
+use Rattle.tcap_check.specs.Run.{Event, Sends, Receives, Replies, Loses, Expires, Closes}
+
+abbrev pub event_of : Step → Event
+event_of (steps.Sends side message) = Sends side message
+event_of (steps.Receives side number) = Receives side number
+event_of (steps.Replies side number) = Replies side number
+event_of (steps.Loses side number) = Loses side number
+event_of (steps.Expires side name id) = Expires side name id
+event_of (steps.Closes side name) = Closes side name
+event_of steps.Quiet = Event.Quiet
+
+abbrev pub on_its_way : OnWay → OnItsWay
+on_its_way w = record { number = w.number; message = w.message }
+
+abbrev pub item_of : Kept → Item
+item_of (kept.Message side message) = Sent side message
+item_of kept.Quiet = Item.Quiet
+
+-- what steps stand for
+abbrev pub events_of : List Step → List Event
+events_of list = map event_of list

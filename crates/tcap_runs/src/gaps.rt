@@ -1,0 +1,149 @@
+//! What happens in a gap between two entries: what is listed for it, and what is delivered in it.
+
+ghost use Rattle.std.specs.Prelude.{◌≡◌};
+ghost use Rattle.tcap_runs.specs.Playing.{Takes, replay_of};
+ghost use Rattle.tcap_runs.specs.Gaps.{closing_played, delivery_played, expiry_played, gap_played, half_named, invocation_named, plays, sender_of};
+
+use crate::items::{Items, Kept};
+use crate::playing::{Playing, Stopped, other};
+use tcap_check::{Certificate, Closing, Expiry};
+use tcap_end::{HalfName, Table};
+use tcap_msg::{Kind, MessageParts};
+use tcap_parts::ComponentView;
+use tcap_record::End;
+
+/// The half that a closing names: that of the transaction that its entry, a Begin, began; by its own ID for who sent the
+/// Begin, else by its peer's.
+fn half_named(sent: &Items, x: &Closing) -> Option<HalfName>
+    ensures { result ≡ half_named sent.now x.now }
+{
+    let Kept::Message(sender, message) = sent.get(x.entry as usize)? else {
+        return None;
+    };
+    match (message.kind(), message.otid()) {
+        (Kind::Begin, Some(otid)) if x.side == *sender => {
+            Some(HalfName::Own(otid.to_transaction_id()))
+        }
+        (Kind::Begin, Some(otid)) => Some(HalfName::Peer(otid.to_transaction_id())),
+        _ => None,
+    }
+}
+
+/// The invocation that an expiry names: its half, by the originating ID of its entry, a Begin or a Continue, and the invoke
+/// ID of the component.
+fn invocation_named(sent: &Items, x: &Expiry) -> Option<(HalfName, i8)>
+    ensures { result ≡ invocation_named sent.now x.now }
+{
+    let Kept::Message(_, message) = sent.get(x.entry as usize)? else {
+        return None;
+    };
+    let otid = message.otid()?;
+    let component = x.component as usize;
+    if component >= message.count() {
+        return None;
+    }
+    match message.component(component) {
+        ComponentView::Invoke { id, .. } => Some((HalfName::Own(otid.to_transaction_id()), id)),
+        _ => None,
+    }
+}
+
+/// Who sent the message of that number.
+fn sender(sent: &Items, number: usize) -> Option<End>
+    ensures { result ≡ sender_of sent.now number }
+{
+    match sent.get(number)? {
+        Kept::Message(side, _) => Some(*side),
+        Kept::Quiet => None,
+    }
+}
+
+impl Playing {
+    /// Closes the half that a closing names.
+    fn close_listed(&mut self, table: &Table, x: &Closing) -> Result<(), Stopped>
+        ensures { Takes (closing_played table.now x.now (replay_of self.old)) result (replay_of self.new) }
+    {
+        match half_named(&self.sent, x) {
+            Some(name) => self.close(table, x.side, name),
+            None => Err(Stopped),
+        }
+    }
+
+    /// Ends the invocation that an expiry names.
+    fn expire_listed(&mut self, table: &Table, x: &Expiry) -> Result<(), Stopped>
+        ensures { Takes (expiry_played table.now x.now (replay_of self.old)) result (replay_of self.new) }
+    {
+        match invocation_named(&self.sent, x) {
+            Some((name, id)) => self.expire(table, x.side, name, id),
+            None => Err(Stopped),
+        }
+    }
+
+    /// Delivers the message of that number; nothing where that is none.
+    fn deliver_due(
+        &mut self,
+        table: &Table,
+        certificate: &Certificate,
+        number: usize,
+    ) -> Result<(), Stopped>
+        ensures { Takes (delivery_played table.now certificate.now number (replay_of self.old)) result (replay_of self.new) }
+    {
+        match sender(&self.sent, number) {
+            Some(side) => self.deliver(table, certificate, other(side), number),
+            None => Ok(()),
+        }
+    }
+
+    /// Closes the halves that closings name, one after the other.
+    fn close_all(&mut self, table: &Table, closings: &[Closing]) -> Result<(), Stopped>
+        ensures { Takes (plays (closing_played table.now) closings.now (replay_of self.old)) result (replay_of self.new) }
+    {
+        for x in closings {
+            self.close_listed(table, x)?;
+        }
+        Ok(())
+    }
+
+    /// Ends the invocations that expiries name, one after the other.
+    fn expire_all(&mut self, table: &Table, expiries: &[Expiry]) -> Result<(), Stopped>
+        ensures { Takes (plays (expiry_played table.now) expiries.now (replay_of self.old)) result (replay_of self.new) }
+    {
+        for x in expiries {
+            self.expire_listed(table, x)?;
+        }
+        Ok(())
+    }
+
+    /// Delivers messages, one after the other.
+    fn deliver_all(
+        &mut self,
+        table: &Table,
+        certificate: &Certificate,
+        numbers: &[u32],
+    ) -> Result<(), Stopped>
+        ensures { Takes (plays (delivery_played table.now certificate.now) numbers.now (replay_of self.old)) result
+            (replay_of self.new) }
+    {
+        for number in numbers {
+            self.deliver_due(table, certificate, *number as usize)?;
+        }
+        Ok(())
+    }
+
+    /// What happens in a gap: its closings, its expiries and its deliveries.
+    pub(crate) fn pass_gap(
+        &mut self,
+        table: &Table,
+        certificate: &Certificate,
+        closings: &[Closing],
+        expiries: &[Expiry],
+        due: &[u32],
+    ) -> Result<(), Stopped>
+        ensures { Takes (gap_played table.now certificate.now closings.now expiries.now due.now (replay_of self.old)) result
+            (replay_of self.new) }
+    {
+        self.close_all(table, closings)?;
+        self.expire_all(table, expiries)?;
+        self.deliver_all(table, certificate, due)
+    }
+}

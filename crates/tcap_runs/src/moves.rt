@@ -1,0 +1,184 @@
+//! The steps of a run: losses, what is delivered, what happens unseen, and quiet marks (Q.774 3.2 and 3.3).
+
+ghost use Rattle.std.specs.Prelude.{◌≡◌, [], ◌∷◌, OnOk, Some, is_ok};
+ghost use Rattle.tcap_check.specs.Run.{Closes, Expires, Receives};
+ghost use Rattle.tcap_check.specs.World.{other};
+ghost use Rattle.tcap_check.specs.Replayed.{losing, lost_from_both, lost_from_front, or_same, stepped};
+ghost use Rattle.tcap_end.specs.Hidden.{expire};
+ghost use Rattle.tcap_runs.specs.Playing.{Takes, end_moved, end_of, heard, quiet_played, replay_of};
+
+use crate::channel::Channel;
+use crate::items::Kept;
+use crate::playing::{Playing, Stopped, copy_name, other};
+use crate::step::Step;
+use tcap_check::Certificate;
+use tcap_end::{EndState, HalfName, Table};
+use tcap_record::End;
+
+/// An end receives the oldest message of a channel, which has to be that of the number.
+fn hear(
+    end: &mut EndState,
+    table: &Table,
+    channel: &Channel,
+    number: usize,
+) -> Result<(), Stopped>
+    ensures { OnOk result (heard table.now number channel.now end.old ≡ Some end.new) }
+{
+    let Some(first) = channel.first() else {
+        return Err(Stopped);
+    };
+    if first.number != number {
+        return Err(Stopped);
+    }
+    match end.receive(table, &first.message) {
+        Ok(()) => Ok(()),
+        Err(_) => Err(Stopped),
+    }
+}
+
+impl Playing {
+    /// The oldest message on its way from an end, which is that of the number, is lost.
+    fn lose(&mut self, side: End, number: usize) -> Result<(), Stopped>
+        ensures { OnOk result (replay_of self.new ≡ losing side (number ∷ []) (replay_of self.old)) }
+    {
+        self.drop_first(side);
+        self.steps.push(Step::Loses(side, number as u64))?;
+        Ok(())
+    }
+
+    /// The messages at the front of what is on its way from an end whose fate says so are lost.
+    pub(crate) fn lose_front(
+        &mut self,
+        certificate: &Certificate,
+        side: End,
+    ) -> Result<(), Stopped>
+        ensures { OnOk result (replay_of self.new ≡ lost_from_front certificate.now side (replay_of self.old)) }
+    {
+        for _ in 0..self.channel(side).len() {
+            match self.first_lost(certificate, side) {
+                Some(number) => self.lose(side, number)?,
+                None => return Ok(()),
+            }
+        }
+        Ok(())
+    }
+
+    /// A half of an end closes unseen.
+    pub(crate) fn close(
+        &mut self,
+        table: &Table,
+        side: End,
+        name: HalfName,
+    ) -> Result<(), Stopped>
+        ensures { Takes (stepped table.now (Closes side name) (replay_of self.old)) result (replay_of self.new) }
+    {
+        let own = copy_name(&name);
+        let closed = match side {
+            End::A => self.a.close(table, own),
+            End::B => self.b.close(table, own),
+        };
+        if closed.is_err() {
+            return Err(Stopped);
+        }
+        self.steps.push(Step::Closes(side, name))?;
+        Ok(())
+    }
+
+    /// Ends an own invocation of an end unseen; answers whether that may be.
+    fn expired(&mut self, table: &Table, side: End, name: &HalfName, id: i8) -> bool
+        ensures answer { result ≡ is_ok (expire table.now (end_of side self.old) name.now id) }
+        ensures left { self.new ≡ end_moved side (expire table.now (end_of side self.old) name.now id) self.old }
+    {
+        let own = copy_name(name);
+        let ended = match side {
+            End::A => self.a.expire(table, own, id),
+            End::B => self.b.expire(table, own, id),
+        };
+        ended.is_ok()
+    }
+
+    /// An own invocation of an end ends unseen.
+    pub(crate) fn expire(
+        &mut self,
+        table: &Table,
+        side: End,
+        name: HalfName,
+        id: i8,
+    ) -> Result<(), Stopped>
+        ensures { Takes (stepped table.now (Expires side name id) (replay_of self.old)) result (replay_of self.new) }
+    {
+        if !self.expired(table, side, &name, id) {
+            return Err(Stopped);
+        }
+        self.steps.push(Step::Expires(side, name, id))?;
+        Ok(())
+    }
+
+    /// The same, where that may be.
+    pub(crate) fn try_expire(
+        &mut self,
+        table: &Table,
+        side: End,
+        name: &HalfName,
+        id: i8,
+    ) -> Result<(), Stopped>
+        ensures { OnOk result (replay_of self.new
+            ≡ or_same (replay_of self.old) (stepped table.now (Expires side name.now id) (replay_of self.old))) }
+    {
+        if self.expired(table, side, name, id) {
+            self.steps.push(Step::Expires(side, copy_name(name), id))?;
+        }
+        Ok(())
+    }
+
+    /// An end receives the oldest message on its way to it, which has to be that of the number.
+    fn receive(&mut self, table: &Table, side: End, number: usize) -> Result<(), Stopped>
+        ensures { Takes (stepped table.now (Receives side number) (replay_of self.old)) result (replay_of self.new) }
+    {
+        match side {
+            End::A => hear(&mut self.a, table, &self.from_b, number)?,
+            End::B => hear(&mut self.b, table, &self.from_a, number)?,
+        }
+        self.drop_first(other(side));
+        self.steps.push(Step::Receives(side, number as u64))?;
+        Ok(())
+    }
+
+    /// An end receives the message of that number; what is lost before it is lost first.
+    pub(crate) fn deliver(
+        &mut self,
+        table: &Table,
+        certificate: &Certificate,
+        side: End,
+        number: usize,
+    ) -> Result<(), Stopped>
+        ensures { Takes (stepped table.now (Receives side number)
+            (lost_from_front certificate.now (other side) (replay_of self.old))) result (replay_of self.new) }
+    {
+        self.lose_front(certificate, other(side))?;
+        self.receive(table, side, number)
+    }
+
+    /// What is lost at the front of what is on its way from both ends.
+    pub(crate) fn lose_both(&mut self, certificate: &Certificate) -> Result<(), Stopped>
+        ensures { OnOk result (replay_of self.new ≡ lost_from_both certificate.now (replay_of self.old)) }
+    {
+        self.lose_front(certificate, End::A)?;
+        self.lose_front(certificate, End::B)
+    }
+
+    /// All is quiet: nothing is on its way, and all halves are closed.
+    pub(crate) fn be_quiet(&mut self) -> Result<(), Stopped>
+        ensures { Takes (quiet_played (replay_of self.old)) result (replay_of self.new) }
+    {
+        if self.from_a.len() != 0 || self.from_b.len() != 0 {
+            return Err(Stopped);
+        }
+        if self.a.quiet().is_err() || self.b.quiet().is_err() {
+            return Err(Stopped);
+        }
+        self.sent.push(Kept::Quiet)?;
+        self.steps.push(Step::Quiet)?;
+        Ok(())
+    }
+}

@@ -1,0 +1,115 @@
+//! A run under way: both ends, what is on its way, what was sent, and the steps so far.
+
+ghost use Rattle.std.specs.Prelude.{◌≡◌, drop};
+ghost use Rattle.tcap_check.specs.World.{other, with_channel};
+ghost use Rattle.tcap_check.specs.Replayed.{nothing_replayed};
+ghost use Rattle.tcap_runs.specs.Playing.{channel_at, first_lost, is_lost, replay_of, world_of};
+
+use crate::channel::Channel;
+use crate::items::{Items, Kept};
+use crate::step::Step;
+use crate::steps::Steps;
+use std::alloc::{AllocError, Global};
+use tcap_check::{Certificate, Fate};
+use tcap_end::{EndState, HalfName, Table};
+use tcap_msg::{Message, MessageParts};
+use tcap_record::End;
+
+/// Memory ran out; or there is no such step, which is not so where the certificate gives a run.
+#[derive(Clone, Copy, Debug, PartialEq, Eq)]
+pub(crate) struct Stopped;
+
+impl From<AllocError> for Stopped {
+    ghost from_gives = { λ _ _. Unit {0} };
+
+    fn from(_: AllocError) -> Stopped {
+        Stopped
+    }
+}
+
+/// A run under way.
+#[derive(Debug, Drop)]
+pub(crate) struct Playing {
+    pub(crate) steps: Steps,
+    pub(crate) a: EndState,
+    pub(crate) b: EndState,
+    pub(crate) from_a: Channel,
+    pub(crate) from_b: Channel,
+    pub(crate) sent: Items,
+}
+
+/// The end that is not this one.
+pub(crate) fn other(side: End) -> End
+    ensures { result ≡ other side }
+{
+    match side {
+        End::A => End::B,
+        End::B => End::A,
+    }
+}
+
+/// The same name, once more.
+pub(crate) fn copy_name(name: &HalfName) -> HalfName
+    ensures { result ≡ name.now }
+{
+    match name {
+        HalfName::Own(id) => HalfName::Own(id.view().to_transaction_id()),
+        HalfName::Peer(id) => HalfName::Peer(id.view().to_transaction_id()),
+    }
+}
+
+/// Whether the message of that number is lost.
+fn is_lost(certificate: &Certificate, number: usize) -> bool
+    ensures { result ≡ is_lost certificate.now.fates number }
+{
+    matches!(certificate.fates().get(number), Some(Fate::Lost))
+}
+
+impl Playing {
+    /// Nothing happened yet.
+    pub(crate) fn new(alloc: Global) -> Playing
+        ensures { replay_of result ≡ nothing_replayed }
+    {
+        Playing {
+            steps: Steps::new(alloc),
+            a: EndState::new(alloc),
+            b: EndState::new(alloc),
+            from_a: Channel::new(alloc),
+            from_b: Channel::new(alloc),
+            sent: Items::new(alloc),
+        }
+    }
+
+    /// What is on its way from an end.
+    pub(crate) fn channel(&self, side: End) -> &Channel
+        ensures { result.now ≡ channel_at side self.now }
+    {
+        match side {
+            End::A => &self.from_a,
+            End::B => &self.from_b,
+        }
+    }
+
+    /// The oldest message that is on its way from an end is taken, if there is one.
+    pub(crate) fn drop_first(&mut self, side: End)
+        ensures left { world_of self.new ≡ with_channel side (drop 1 (channel_at side self.old)) (world_of self.old) }
+        ensures steps { self.new.steps ≡ self.old.steps }
+    {
+        let _ = match side {
+            End::A => self.from_a.pop(),
+            End::B => self.from_b.pop(),
+        };
+    }
+
+    /// The number of the oldest message that is on its way from an end, where it is lost.
+    pub(crate) fn first_lost(&self, certificate: &Certificate, side: End) -> Option<usize>
+        ensures { result ≡ first_lost certificate.now.fates (channel_at side self.now) }
+    {
+        let number = self.channel(side).first_number()?;
+        if is_lost(certificate, number) {
+            Some(number)
+        } else {
+            None
+        }
+    }
+}

@@ -1,0 +1,150 @@
+//! What an end, or its provider, sends (Q.774 3.2 and 3.3).
+
+ghost use Rattle.std.specs.Prelude.{◌≡◌, OnOk, Ok, filter_map};
+ghost use Rattle.tcap_parts.specs.Meaning.{component_of};
+ghost use Rattle.tcap_msg.specs.Parts.{components_in};
+ghost use Rattle.tcap_check.specs.World.{other};
+ghost use Rattle.tcap_check.specs.Run.{joined};
+ghost use Rattle.tcap_check.specs.Follows.{invoke_id, invoking_half};
+ghost use Rattle.tcap_check.specs.Replayed.{implied, implied_over, lost_from_front, send_replayed};
+ghost use Rattle.tcap_runs.specs.Playing.{replay_of, world_of};
+ghost use Rattle.tcap_runs.specs.Sending.{implied_by, reply_played};
+
+use crate::items::Kept;
+use crate::playing::{Playing, Stopped, other};
+use crate::step::Step;
+use std::alloc::{AllocError, Global};
+use tcap_check::Certificate;
+use tcap_end::{HalfName, Table};
+use tcap_msg::{Kind, MessageParts};
+use tcap_parts::ComponentView;
+use tcap_record::End;
+
+/// The half over which a message is sent that carries Invokes over one: by its own ID for a Begin or a Continue, by its
+/// peer's for an End.
+fn invoking_half<M: MessageParts>(message: &M) -> Option<HalfName>
+    ensures { result ≡ invoking_half (M.meaning message.now) }
+{
+    match (message.kind(), message.otid(), message.dtid()) {
+        (Kind::Begin | Kind::Continue, Some(otid), _) => {
+            Some(HalfName::Own(otid.to_transaction_id()))
+        }
+        (Kind::End, _, Some(dtid)) => Some(HalfName::Peer(dtid.to_transaction_id())),
+        _ => None,
+    }
+}
+
+impl Playing {
+    /// Ends the earlier invocation whose ID a component invokes anew over that half, where that may be.
+    fn end_invoked(
+        &mut self,
+        table: &Table,
+        side: End,
+        name: &HalfName,
+        component: ComponentView,
+    ) -> Result<(), Stopped>
+        ensures { OnOk result (replay_of self.new
+            ≡ implied_by table.now side name.now (invoke_id (component_of component.entry)) (replay_of self.old)) }
+    {
+        match component {
+            ComponentView::Invoke { id, .. } => self.try_expire(table, side, name, id),
+            _ => Ok(()),
+        }
+    }
+
+    /// Ends each earlier invocation whose ID a message invokes anew over that half, where that may be.
+    fn end_all_invoked<M: MessageParts>(
+        &mut self,
+        table: &Table,
+        side: End,
+        name: &HalfName,
+        message: &M,
+    ) -> Result<(), Stopped>
+        ensures { OnOk result (replay_of self.new ≡ implied table.now side name.now
+            (filter_map invoke_id (components_in (M.meaning message.now))) (replay_of self.old)) }
+    {
+        for component in message.components() {
+            self.end_invoked(table, side, name, component)?;
+        }
+        Ok(())
+    }
+
+    /// Ends what the Invokes of a message need.
+    fn end_implied<M: MessageParts>(
+        &mut self,
+        table: &Table,
+        side: End,
+        message: &M,
+    ) -> Result<(), Stopped>
+        ensures { OnOk result (replay_of self.new
+            ≡ implied_over table.now side (M.meaning message.now) (invoking_half (M.meaning message.now)) (replay_of self.old)) }
+    {
+        match invoking_half(message) {
+            Some(name) => self.end_all_invoked(table, side, &name, message),
+            None => Ok(()),
+        }
+    }
+
+    /// A message that an end sent, or its provider, joins what is on its way and what was sent.
+    fn join<M: MessageParts>(
+        &mut self,
+        alloc: Global,
+        side: End,
+        message: &M,
+    ) -> Result<(), AllocError>
+        ensures joined { OnOk result (world_of self.new ≡ joined side (M.meaning message.now) (world_of self.old)) }
+        ensures steps { self.new.steps ≡ self.old.steps }
+    {
+        let number = self.sent.len();
+        match side {
+            End::A => self.from_a.push(number, message.to_message(alloc)?)?,
+            End::B => self.from_b.push(number, message.to_message(alloc)?)?,
+        }
+        self.sent.push(Kept::Message(side, message.to_message(alloc)?))
+    }
+
+    /// An end sends a message.
+    pub(crate) fn send<M: MessageParts>(
+        &mut self,
+        alloc: Global,
+        table: &Table,
+        side: End,
+        message: &M,
+    ) -> Result<(), Stopped>
+        ensures { OnOk result (send_replayed table.now side (M.meaning message.now) (implied_over table.now side
+            (M.meaning message.now) (invoking_half (M.meaning message.now)) (replay_of self.old)) ≡ Ok (replay_of self.new)) }
+    {
+        self.end_implied(table, side, message)?;
+        let sent = match side {
+            End::A => self.a.send(table, message),
+            End::B => self.b.send(table, message),
+        };
+        if sent.is_err() {
+            return Err(Stopped);
+        }
+        self.join(alloc, side, message)?;
+        self.steps
+            .push(Step::Sends(side, message.to_message(alloc)?))?;
+        Ok(())
+    }
+
+    /// The provider of an end answers the oldest message on its way to it, which has that number, by an Abort; what is lost
+    /// before it is lost first.
+    pub(crate) fn reply<M: MessageParts>(
+        &mut self,
+        alloc: Global,
+        certificate: &Certificate,
+        side: End,
+        abort: &M,
+        number: usize,
+    ) -> Result<(), Stopped>
+        ensures { OnOk result (replay_of self.new
+            ≡ reply_played side (M.meaning abort.now) number (lost_from_front certificate.now (other side) (replay_of self.old))) }
+    {
+        self.lose_front(certificate, other(side))?;
+        self.drop_first(other(side));
+        self.join(alloc, side, abort)?;
+        self.steps.push(Step::Replies(side, number as u64))?;
+        Ok(())
+    }
+}
