@@ -57,6 +57,20 @@ SHOWN_COMPONENTS = [
 ]
 
 
+# An entry that is no message between two that are, and what is said of it.
+BAD = BEGIN + "B 620D4801016C08A10602010130012D\n" + "A 6203480102\n"
+SHOWN_BAD = [
+    "0 A Begin otid=01\n",
+    "1 B FAULT 8 19\n  why: unexpected tag; place 12 of the message; Begin / components / Invoke / operation code; "
+    "octets 01 6c 08 a1 06 02 01 01 [30] 01 2d; Begin otid=01\n",
+    "2 A Begin otid=02\n",
+]
+TABLED = (
+    "op=45 class=1\nop=46 class=2\nop=47 class=3\nop=48 class=4\nop=50 class=1 linked=48\n"
+    "op=g:2a0304 class=1 linked=g:2a0305\n"
+)
+
+
 def octets_of(lines):
     """The record of lines."""
     words = [line.split() for line in lines.splitlines() if not line.startswith("#")]
@@ -139,6 +153,20 @@ def look_at_runs(library, folder):
         # Where the words find no memory, its line is on standard output.
         wanted, others = said(record, 0), [*cut_pack(record), said(NO_MEMORY, 3)]
         tell("pack", *look("pack", library, [PROGRAM, "pack"], lines.encode(), wanted, others), wanted)
+    wanted = said("".join(SHOWN_BAD), 3)
+    for words, given in (["show", "--why"], octets_of(BAD)), (["show", "--lines", "--why"], BAD.encode()):
+        name = " ".join(words)
+        tell(name, *look(name, library, [PROGRAM, *words], given, wanted, cut(SHOWN_BAD)), wanted)
+    # What is behind the line of a fault of `pack` may be left out.
+    record, line = octets_of(BEGIN), b"FAULT 24 2\n"
+    wanted = said(record, 3, line + b"  why: the element is cut; column 5\n")
+    others = [*cut_pack(record), said(NO_MEMORY, 3), said(record, 3, line)]
+    tell("pack, cut", *look("pack", library, [PROGRAM, "pack"], (BEGIN + "A 62\n").encode(), wanted, others), wanted)
+    with open(f"{folder}/tabled", "wb") as file:
+        file.write(TABLE)
+    wanted = said(TABLED, 0)
+    command = [PROGRAM, "table", f"{folder}/tabled"]
+    tell("table", *look("table", library, command, b"", wanted, [said(NO_MEMORY, 3)]), wanted)
     for number, (words, files, out, status) in enumerate(CHECKED):
         word, *flags = words.split()
         paths = []

@@ -99,7 +99,9 @@ class Program:
         """The lines of a run over files: they are as they may be, and the status is theirs."""
         out, error, status = self.run(word, *words)
         text = out.decode()
-        must(error == b"", f"{word} {words} says {error} on standard error")
+        # A hint may stand there, of a record that begins as something else does.
+        is_hint = word == "show" and status == 3 and re.fullmatch(rb"  hint: [^\n]+\n", error)
+        must(error == b"" or is_hint, f"{word} {words} says {error} on standard error")
         must(re.fullmatch(LINES[word], text), f"{word} {words} prints {text!r}")
         first = text.split(" ")[0].strip()
         if word == "show":
@@ -437,7 +439,7 @@ def look_at_pieces(program, case):
         whole = program.run(word, given=octets)
         must(program.run(word, program.file("whole", octets)) == whole, f"{word} says another thing of a file")
         must(in_pieces(program, word, octets, rng) == whole, f"{word} says another thing of pieces")
-    must(re.fullmatch(rb"|FAULT 24 [1-9]\d*\n", whole[1]), f"pack says {whole[1]!r} on standard error")
+    must(re.fullmatch(rb"|FAULT 24 [1-9]\d*\n  why: [^\n]+; column [1-9]\d*\n", whole[1]), f"pack says {whole[1]!r} on standard error")
     must(whole[2] == (3 if whole[1] else 0), f"pack ends with {whole[2]} behind {whole[1]!r}")
     program.said["pack FAULT 24" if whole[1] else "pack, all"] += 1
     if not is_broken and case.is_whole:

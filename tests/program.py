@@ -67,7 +67,7 @@ ROWS = [
     (["show", NONE], BEGIN, b"FAULT 23 0\n", b"", 3),
     (["show", "x", "y"], b"", b"", SOME, 4),
     (["pack"], LINES, BEGIN, b"", 0),
-    (["pack"], LINES + b"b 6203480101\n", BEGIN, b"FAULT 24 3\n", 3),
+    (["pack"], LINES + b"b 6203480101\n", BEGIN, b"FAULT 24 3\n  why: no end; column 1\n", 3),
     (["pack", "LINES"], b"", BEGIN, b"", 0),
     (["pack", NONE], LINES, b"", b"FAULT 23 0\n", 3),
     (["pack", "x", "y"], b"", b"", SOME, 4),

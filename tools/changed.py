@@ -74,6 +74,7 @@ def main(names):
             passed.append(copy.step(what, ["rt", "try", "--test"], f"crates/{crate.name}"))
     if is_proved and copy.step("the program is built", ["make", "--silent", "program"]):
         passed.append(copy.step("runs of the program", [sys.executable, "tests/program.py"]))
+        passed.append(copy.step("faults in words", [sys.executable, "tests/words.py"]))
         passed.append(copy.step("tests of captures", [sys.executable, "tests/captures.py"]))
         if shutil.which("cc") and shutil.which("ar"):
             passed.append(copy.step("the library for C", [sys.executable, "tools/clib.py"]))

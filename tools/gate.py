@@ -1,5 +1,5 @@
-"""The gate, which `make test` runs: `rt ci`, then tests/program.py on the program that `rt ci` built, then
-tests/borrows.py, tests/pages.py, tests/captures.py on that program, and tools/clib.py over the libraries that `rt ci`
+"""The gate, which `make test` runs: `rt ci`, then tests/program.py and tests/words.py on the program that
+`rt ci` built, then tests/borrows.py, tests/pages.py, tests/captures.py on that program, and tools/clib.py over the libraries that `rt ci`
 built. What they print is passed on. Then it prints how many seconds each crate's proof, its tests' proof and its must-fail
 edits took, with their processor time, and closes with the line `N passed, M failed`, in which all are counted. The exit
 status is 0 where none failed.
@@ -131,8 +131,10 @@ def main():
     if os.path.exists(PROGRAM):
         runs = counts_of([sys.executable, "tests/program.py"])
         print(f"{runs[0] + runs[1]} runs of the program, {runs[1]} wrong")
+        words = counts_of([sys.executable, "tests/words.py"])
+        print(f"{words[0] + words[1]} faults in words, {words[1]} wrong")
     else:
-        runs = 0, 1
+        runs, words = (0, 1), (0, 1)
         print("rt ci built no program, so it was not run")
     lent = counts_of([sys.executable, "tests/borrows.py"])
     print(f"feeding while an entry is lent: {'refused' if lent[0] else 'NOT refused'}")
@@ -143,7 +145,7 @@ def main():
     clib = counts_of([sys.executable, "tools/clib.py", "--over-ci"])
     print(f"{clib[0] + clib[1]} comparisons of the library for C with the program, {clib[1]} that differ")
     show_parts(parts, seconds, used)
-    others = [runs, lent, pages, captures, clib]
+    others = [runs, words, lent, pages, captures, clib]
     both = [passed + sum(one[0] for one in others), failed + sum(one[1] for one in others)]
     print(f"{both[0]} passed, {both[1]} failed", flush=True)
     return int(both[1] != 0)

@@ -7,8 +7,8 @@ use Rattle.clap.specs.Faults.{check_fault, defaults_fault, fault_of, level_fault
 use Rattle.clap.specs.Takes.{default_passes, is_valid, level_passes, settle_passes, takes, turn_passes}
 use Rattle.clap.specs.Walk.{Held, Text, Walk, arg_by_index, finished, first_of, nothing_held, settled, to_positional, walk_from, walked}
 use Rattle.clap.specs.declared.error.kind.ErrorKind.TheVariants as kind
-use Rattle.tcap_judge.specs.CommandLine.{tool, with_path}
-use Rattle.tcap_judge.specs.Words.{begins_with_hyphen, checked_paths, end_value, named_with, named_with_paths}
+use Rattle.tcap_judge.specs.CommandLine.{show_shape, tool, with_path}
+use Rattle.tcap_judge.specs.Words.{begins_with_hyphen, checked_paths, end_value, named_with, named_with_flags, named_with_paths, shown_path}
 use Rattle.tcap_judge.proofs.Paths.{fault_at, level, moved, moved_at, turned_at, walk_at}
 use Rattle.tcap_judge.proofs.Tool.{check_built, sub_built}
 
@@ -24,7 +24,7 @@ pub show_path_taken : (program path : Text) → begins_with_hyphen path ≡ fals
     → takes tool (program ∷ codes "show" ∷ path ∷ []) ≡ true
 unfolding tool clap_on_literals
 show_path_taken program path plain =
-    ap (λ b. b && true) (level path plain (sub_built (with_path (codes "show") (codes "RECORD"))))
+    ap (λ b. b && true) (level path plain (sub_built show_shape))
 
 pub pack_path_taken : (program path : Text) → begins_with_hyphen path ≡ false
     → takes tool (program ∷ codes "pack" ∷ path ∷ []) ≡ true
@@ -33,7 +33,7 @@ pack_path_taken program path plain =
     ap (λ b. b && true) (level path plain (sub_built (with_path (codes "pack") (codes "LINES"))))
 
 pub show_named : (program : Text)
-    → named_with (codes "RECORD") (program ∷ codes "show" ∷ []) ≡ Some (codes "show", None)
+    → named_with_flags (program ∷ codes "show" ∷ []) ≡ Some (codes "show", (None, false, false))
 unfolding tool clap_on_literals
 show_named program = refl
 
@@ -45,12 +45,14 @@ pack_named program = refl
 abbrev named_at : Text → Text → Walk → Option (Text × Option Text)
 named_at name id w = Some (name, first_of id (finished (sub_built (with_path name id)).rules w.held))
 
+-- the same of the path and the flags of `show`
+abbrev shown_at : Walk → Option (Text × (Option Text × Bool × Bool))
+shown_at w = Some (codes "show", shown_path (finished (sub_built show_shape).rules w.held))
+
 pub show_path_named : (program path : Text) → begins_with_hyphen path ≡ false
-    → named_with (codes "RECORD") (program ∷ codes "show" ∷ path ∷ []) ≡ Some (codes "show", Some path)
+    → named_with_flags (program ∷ codes "show" ∷ path ∷ []) ≡ Some (codes "show", (Some path, false, false))
 unfolding tool clap_on_literals
-show_path_named program path plain =
-    ap (named_at (codes "show") (codes "RECORD"))
-    (moved path plain (sub_built (with_path (codes "show") (codes "RECORD"))).rules)
+show_path_named program path plain = ap shown_at (moved path plain (sub_built show_shape).rules)
 
 pub pack_path_named : (program path : Text) → begins_with_hyphen path ≡ false
     → named_with (codes "LINES") (program ∷ codes "pack" ∷ path ∷ []) ≡ Some (codes "pack", Some path)

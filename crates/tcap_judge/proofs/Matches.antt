@@ -13,7 +13,7 @@ use Rattle.clap.specs.declared.parser.matches.Found.{Found}
 use Rattle.tcap_record.specs.declared.entry.End.{End as Side}
 use Rattle.tcap_judge.specs.Blamed.{letter}
 use Rattle.tcap_judge.specs.CommandLine.{tool}
-use Rattle.tcap_judge.specs.Words.{Asks, blamed_paths, checked_paths, end_value, is_letter, is_set, judged_paths, named_with, named_with_flag, named_with_paths, named_with_two, path_text}
+use Rattle.tcap_judge.specs.Words.{Asks, blamed_paths, checked_paths, end_value, is_letter, is_set, judged_paths, named_with, named_with_flag, named_with_flags, named_with_paths, named_with_two, path_text, shown_path}
 use Rattle.tcap_judge.specs.declared.asked.Request.{Request}
 use Rattle.tcap_judge.specs.declared.asked.Request.TheVariants.{Check, CheckEnd, Judge, JudgeEnd}
 use Rattle.tcap_judge.proofs.Requests.{some_same}
@@ -62,20 +62,23 @@ no_name o (inl is) none = let bad : None ≡ Some (codes "show") = none ∙ is i
 no_name o (inr (inl is)) none = let bad : None ≡ Some (codes "pack") = none ∙ is in cc
 no_name o (inr (inr (inl is))) none = let bad : None ≡ Some (codes "check") = none ∙ is in cc
 no_name o (inr (inr (inr (inl is)))) none = let bad : None ≡ Some (codes "judge") = none ∙ is in cc
-no_name o (inr (inr (inr (inr is)))) none = let bad : None ≡ Some (codes "blame") = none ∙ is in cc
+no_name o (inr (inr (inr (inr (inl is))))) none = let bad : None ≡ Some (codes "blame") = none ∙ is in cc
+no_name o (inr (inr (inr (inr (inr is))))) none = let bad : None ≡ Some (codes "table") = none ∙ is in cc
 
 pub other_name : (o : Option Text) (name : Text) → IsKnown o → Some name ≡ o → (name ≡ codes "show" → ⊥)
     → (name ≡ codes "pack" → ⊥) → (name ≡ codes "check" → ⊥) → (name ≡ codes "judge" → ⊥)
-    → (name ≡ codes "blame" → ⊥) → ⊥
-other_name o name (inl is) at not_show not_pack not_check not_judge not_blame = not_show (some_same _ _ (at ∙ is))
-other_name o name (inr (inl is)) at not_show not_pack not_check not_judge not_blame =
+    → (name ≡ codes "blame" → ⊥) → (name ≡ codes "table" → ⊥) → ⊥
+other_name o name (inl is) at not_show not_pack not_check not_judge not_blame not_table = not_show (some_same _ _ (at ∙ is))
+other_name o name (inr (inl is)) at not_show not_pack not_check not_judge not_blame not_table =
     not_pack (some_same _ _ (at ∙ is))
-other_name o name (inr (inr (inl is))) at not_show not_pack not_check not_judge not_blame =
+other_name o name (inr (inr (inl is))) at not_show not_pack not_check not_judge not_blame not_table =
     not_check (some_same _ _ (at ∙ is))
-other_name o name (inr (inr (inr (inl is)))) at not_show not_pack not_check not_judge not_blame =
+other_name o name (inr (inr (inr (inl is)))) at not_show not_pack not_check not_judge not_blame not_table =
     not_judge (some_same _ _ (at ∙ is))
-other_name o name (inr (inr (inr (inr is)))) at not_show not_pack not_check not_judge not_blame =
+other_name o name (inr (inr (inr (inr (inl is))))) at not_show not_pack not_check not_judge not_blame not_table =
     not_blame (some_same _ _ (at ∙ is))
+other_name o name (inr (inr (inr (inr (inr is))))) at not_show not_pack not_check not_judge not_blame not_table =
+    not_table (some_same _ _ (at ∙ is))
 
 -- ---- the matches of `check`, `judge` and `blame`
 
@@ -138,7 +141,54 @@ blame_there m words name f same clear is_name is_rows is_blame =
       ap is_some (first_value-rows f (codes "TABLE")) ∙ there.1,
     )
 
+pub table_there : (m : ArgMatches) (words : List Text) (name : Text) (f : Found)
+    → subcommand_rows_of m ≡ subcommand_of tool words
+    → fault_of tool words ≡ []
+    → Some name ≡ subcommand_name_of m
+    → Some (rows_of f) ≡ option_map (λ p. p.1) (subcommand_rows_of m) → name ≡ codes "table"
+    → is_some (first_value f (codes "TABLE")) ≡ true
+table_there m words name f same clear is_name is_rows is_table =
+    ap is_some (first_value-rows f (codes "TABLE"))
+    ∙ (needed_there words (codes "table", rows_of f) clear
+    (entered_at m words name (codes "table") f same is_name is_rows is_table)).3 refl
+
 -- and they are what the words ask for
+pub show_asked_of : (m : ArgMatches) (words : List Text) (name : Text) (f : Found) (r : Option (Bor Text)) (b d : Bool)
+    → subcommand_rows_of m ≡ subcommand_of tool words
+    → Some name ≡ subcommand_name_of m
+    → Some (rows_of f) ≡ option_map (λ p. p.1) (subcommand_rows_of m) → name ≡ codes "show"
+    → path_text r ≡ first_value f (codes "RECORD") → b ≡ is_set (first_value f (codes "why"))
+    → d ≡ is_set (first_value f (codes "lines"))
+    → named_with_flags words ≡ Some (codes "show", (path_text r, b, d))
+show_asked_of m words name f r b d same is_name is_rows is_show is_path is_b is_d =
+    ap (option_map (λ p. (p.0, shown_path p.1)))
+    (entered_at m words name (codes "show") f same is_name is_rows is_show)
+    ∙ ap (λ (o : Option Text). shown o (is_set (first_of (codes "why") rows)) (is_set (first_of (codes "lines") rows)))
+    (sym (is_path ∙ first_value-rows f (codes "RECORD")))
+    ∙ ap (λ (x : Bool). shown (path_text r) x (is_set (first_of (codes "lines") rows)))
+    (sym (is_b ∙ ap is_set (first_value-rows f (codes "why"))))
+    ∙ ap (λ (x : Bool). shown (path_text r) b x) (sym (is_d ∙ ap is_set (first_value-rows f (codes "lines"))))
+  where
+    rows : List Row
+    rows = rows_of f
+
+    shown : Option Text → Bool → Bool → Option (Text × (Option Text × Bool × Bool))
+    shown o x y = Some (codes "show", (o, x, y))
+
+pub table_asked_of : (m : ArgMatches) (words : List Text) (name : Text) (f : Found) (x : Text)
+    → subcommand_rows_of m ≡ subcommand_of tool words
+    → Some name ≡ subcommand_name_of m
+    → Some (rows_of f) ≡ option_map (λ p. p.1) (subcommand_rows_of m) → name ≡ codes "table"
+    → Some x ≡ first_value f (codes "TABLE")
+    → named_with (codes "TABLE") words ≡ Some (codes "table", Some x)
+table_asked_of m words name f x same is_name is_rows is_table is_x =
+    ap (option_map (λ p. (p.0, first_of (codes "TABLE") p.1)))
+    (entered_at m words name (codes "table") f same is_name is_rows is_table)
+    ∙ ap (λ (o : Option Text). one o) (sym (is_x ∙ first_value-rows f (codes "TABLE")))
+  where
+    one : Option Text → Option (Text × Option Text)
+    one o = Some (codes "table", o)
+
 pub check_asked_of : (m : ArgMatches) (words : List Text) (name : Text) (f : Found) (x y z : Text)
     → subcommand_rows_of m ≡ subcommand_of tool words
     → Some name ≡ subcommand_name_of m

@@ -10,9 +10,9 @@ use Rattle.tcap_record.specs.declared.entry.End.{End as Side}
 use Rattle.tcap_record.specs.declared.entry.End.TheVariants as sides
 use Rattle.tcap_judge.specs.Blamed.{letter}
 use Rattle.tcap_judge.specs.CommandLine.{tool}
-use Rattle.tcap_judge.specs.Words.{Asks, IsBlame, IsCheck, IsCheckEnd, IsFaultOf, IsJudge, IsJudgeEnd, IsMemory, IsPack, IsShow, blamed_paths, checked_paths, end_value, judged_paths, named_with, named_with_flag, named_with_paths, named_with_two}
+use Rattle.tcap_judge.specs.Words.{Asks, IsBlame, IsCheck, IsCheckEnd, IsFaultOf, IsJudge, IsJudgeEnd, IsMemory, IsPack, IsShow, blamed_paths, checked_paths, end_value, judged_paths, named_with, named_with_flag, named_with_flags, named_with_paths, named_with_two, path_text, shown_path}
 use Rattle.tcap_judge.specs.declared.asked.Request.{Request}
-use Rattle.tcap_judge.specs.declared.asked.Request.TheVariants.{Show, Pack, Check, CheckEnd, Judge, JudgeEnd, Blame}
+use Rattle.tcap_judge.specs.declared.asked.Request.TheVariants.{Show, Pack, Check, CheckEnd, Judge, JudgeEnd, Blame, Table}
 use Rattle.tcap_judge.specs.declared.words.WordsFault.{WordsFault}
 use Rattle.tcap_judge.proofs.Tool.{apart}
 
@@ -46,22 +46,24 @@ name_kept reads (Some p) = refl
 
 -- the word of a request
 abbrev word_of : Request → Text
-word_of (Show path) = codes "show"
+word_of (Show path why lines) = codes "show"
 word_of (Pack path) = codes "pack"
 word_of (Check x y z) = codes "check"
 word_of (CheckEnd side x y z) = codes "check"
 word_of (Judge x y flag) = codes "judge"
 word_of (JudgeEnd side x y flag) = codes "judge"
 word_of (Blame x y) = codes "blame"
+word_of (Table x) = codes "table"
 
 word_asked : (words : List Text) (r : Request) → Asks words r → name_in (subcommand_of tool words) ≡ Some (word_of r)
-word_asked words (Show path) asks = name_kept (first_of (codes "RECORD")) (subcommand_of tool words) ∙ ap name_in asks
+word_asked words (Show path why lines) asks = name_kept shown_path (subcommand_of tool words) ∙ ap name_in asks
 word_asked words (Pack path) asks = name_kept (first_of (codes "LINES")) (subcommand_of tool words) ∙ ap name_in asks
 word_asked words (Check x y z) asks = name_kept checked_paths (subcommand_of tool words) ∙ ap name_in asks.0
 word_asked words (CheckEnd side x y z) asks = name_kept checked_paths (subcommand_of tool words) ∙ ap name_in asks.0
 word_asked words (Judge x y flag) asks = name_kept judged_paths (subcommand_of tool words) ∙ ap name_in asks.0
 word_asked words (JudgeEnd side x y flag) asks = name_kept judged_paths (subcommand_of tool words) ∙ ap name_in asks.0
 word_asked words (Blame x y) asks = name_kept blamed_paths (subcommand_of tool words) ∙ ap name_in asks
+word_asked words (Table x) asks = name_kept (first_of (codes "TABLE")) (subcommand_of tool words) ∙ ap name_in asks
 
 -- words name one subcommand
 one_word : {X : Type 0} (reads : List Row → X) (words : List Text) (name : Text) (x : X) (r : Request)
@@ -69,31 +71,45 @@ one_word : {X : Type 0} (reads : List Row → X) (words : List Text) (name : Tex
 one_word reads words name x r is asks =
     some_same _ _ (sym (ap name_in is) ∙ sym (name_kept reads (subcommand_of tool words)) ∙ word_asked words r asks)
 
-show_only : (words : List Text) (text : Option Text) (r : Request)
-    → named_with (codes "RECORD") words ≡ Some (codes "show", text) → Asks words r → IsShow text r
-show_only words text (Show path) is asks = some_same _ _ (ap value_in (sym asks ∙ is))
-show_only words text (Pack path) is asks =
-    apart (codes "show") (codes "pack") refl refl (one_word (first_of (codes "RECORD")) words _ _ (Pack path) is asks)
-show_only words text (Check a b c) is asks =
+-- the path and the flags of `show`
+abbrev shown : Option Text → Bool → Bool → Option (Text × (Option Text × Bool × Bool))
+shown text b d = Some (codes "show", (text, b, d))
+
+shown_same : (p q : Option Text) (a b c d : Bool) → shown p a b ≡ shown q c d → (p ≡ q) × (a ≡ c) × (b ≡ d)
+shown_same p q a b c d e = (
+  some_same _ _ (ap (option_map (λ (x : Text × (Option Text × Bool × Bool)). x.1.0)) e),
+  some_same _ _ (ap (option_map (λ (x : Text × (Option Text × Bool × Bool)). x.1.1)) e),
+  some_same _ _ (ap (option_map (λ (x : Text × (Option Text × Bool × Bool)). x.1.2)) e),
+)
+
+show_only : (words : List Text) (text : Option Text) (b d : Bool) (r : Request)
+    → named_with_flags words ≡ Some (codes "show", (text, b, d)) → Asks words r → IsShow text b d r
+show_only words text b d (Show path why lines) is asks =
+    shown_same (path_text path) text why lines b d (sym asks ∙ is)
+show_only words text f g (Pack path) is asks =
+    apart (codes "show") (codes "pack") refl refl (one_word shown_path words _ _ (Pack path) is asks)
+show_only words text f g (Table t) is asks =
+    apart (codes "show") (codes "table") refl refl (one_word shown_path words _ _ (Table t) is asks)
+show_only words text f g (Check a b c) is asks =
     apart (codes "show") (codes "check") refl refl
-    (one_word (first_of (codes "RECORD")) words _ _ (Check a b c) is asks)
-show_only words text (CheckEnd side a b c) is asks =
+    (one_word shown_path words _ _ (Check a b c) is asks)
+show_only words text f g (CheckEnd side a b c) is asks =
     apart (codes "show") (codes "check") refl refl
-    (one_word (first_of (codes "RECORD")) words _ _ (CheckEnd side a b c) is asks)
-show_only words text (Judge a b set) is asks =
+    (one_word shown_path words _ _ (CheckEnd side a b c) is asks)
+show_only words text f g (Judge a b set) is asks =
     apart (codes "show") (codes "judge") refl refl
-    (one_word (first_of (codes "RECORD")) words _ _ (Judge a b set) is asks)
-show_only words text (JudgeEnd side a b set) is asks =
+    (one_word shown_path words _ _ (Judge a b set) is asks)
+show_only words text f g (JudgeEnd side a b set) is asks =
     apart (codes "show") (codes "judge") refl refl
-    (one_word (first_of (codes "RECORD")) words _ _ (JudgeEnd side a b set) is asks)
-show_only words text (Blame a b) is asks =
-    apart (codes "show") (codes "blame") refl refl (one_word (first_of (codes "RECORD")) words _ _ (Blame a b) is asks)
+    (one_word shown_path words _ _ (JudgeEnd side a b set) is asks)
+show_only words text f g (Blame a b) is asks =
+    apart (codes "show") (codes "blame") refl refl (one_word shown_path words _ _ (Blame a b) is asks)
 
 pack_only : (words : List Text) (text : Option Text) (r : Request)
     → named_with (codes "LINES") words ≡ Some (codes "pack", text) → Asks words r → IsPack text r
 pack_only words text (Pack path) is asks = some_same _ _ (ap value_in (sym asks ∙ is))
-pack_only words text (Show path) is asks =
-    apart (codes "pack") (codes "show") refl refl (one_word (first_of (codes "LINES")) words _ _ (Show path) is asks)
+pack_only words text (Show path why lines) is asks =
+    apart (codes "pack") (codes "show") refl refl (one_word (first_of (codes "LINES")) words _ _ (Show path why lines) is asks)
 pack_only words text (Check a b c) is asks =
     apart (codes "pack") (codes "check") refl refl (one_word (first_of (codes "LINES")) words _ _ (Check a b c) is asks)
 pack_only words text (CheckEnd side a b c) is asks =
@@ -107,6 +123,8 @@ pack_only words text (JudgeEnd side a b set) is asks =
     (one_word (first_of (codes "LINES")) words _ _ (JudgeEnd side a b set) is asks)
 pack_only words text (Blame a b) is asks =
     apart (codes "pack") (codes "blame") refl refl (one_word (first_of (codes "LINES")) words _ _ (Blame a b) is asks)
+pack_only words text (Table t) is asks =
+    apart (codes "pack") (codes "table") refl refl (one_word (first_of (codes "LINES")) words _ _ (Table t) is asks)
 
 -- the three paths of `check`
 abbrev three : Text → Text → Text → Option (Text × (Option Text × Option Text × Option Text))
@@ -124,10 +142,12 @@ check_only : (words : List Text) (x y z : Text) (r : Request)
     → Asks words r → IsCheck x y z r
 check_only words x y z (Check a b c) is none asks = three_same a.now b.now c.now x y z (sym asks.0 ∙ is)
 check_only words x y z (CheckEnd side a b c) is none asks = none_not _ _ none asks.1
-check_only words x y z (Show path) is none asks =
-    apart (codes "check") (codes "show") refl refl (one_word checked_paths words _ _ (Show path) is asks)
+check_only words x y z (Show path why lines) is none asks =
+    apart (codes "check") (codes "show") refl refl (one_word checked_paths words _ _ (Show path why lines) is asks)
 check_only words x y z (Pack path) is none asks =
     apart (codes "check") (codes "pack") refl refl (one_word checked_paths words _ _ (Pack path) is asks)
+check_only words x y z (Table t) is none asks =
+    apart (codes "check") (codes "table") refl refl (one_word checked_paths words _ _ (Table t) is asks)
 check_only words x y z (Judge a b set) is none asks =
     apart (codes "check") (codes "judge") refl refl (one_word checked_paths words _ _ (Judge a b set) is asks)
 check_only words x y z (JudgeEnd side a b set) is none asks =
@@ -142,10 +162,12 @@ check_end_only words side x y z (CheckEnd judged a b c) is at asks =
     let paths = three_same a.now b.now c.now x y z (sym asks.0 ∙ is) in
     (letter_same judged side (some_same _ _ (sym asks.1 ∙ at)), paths.0, paths.1, paths.2)
 check_end_only words side x y z (Check a b c) is at asks = none_not _ _ asks.1 at
-check_end_only words other x y z (Show path) is at asks =
-    apart (codes "check") (codes "show") refl refl (one_word checked_paths words _ _ (Show path) is asks)
+check_end_only words other x y z (Show path why lines) is at asks =
+    apart (codes "check") (codes "show") refl refl (one_word checked_paths words _ _ (Show path why lines) is asks)
 check_end_only words other x y z (Pack path) is at asks =
     apart (codes "check") (codes "pack") refl refl (one_word checked_paths words _ _ (Pack path) is asks)
+check_end_only words other x y z (Table t) is at asks =
+    apart (codes "check") (codes "table") refl refl (one_word checked_paths words _ _ (Table t) is asks)
 check_end_only words other x y z (Judge a b set) is at asks =
     apart (codes "check") (codes "judge") refl refl (one_word checked_paths words _ _ (Judge a b set) is asks)
 check_end_only words other x y z (JudgeEnd side a b set) is at asks =
@@ -170,10 +192,12 @@ judge_only : (words : List Text) (x y : Text) (flag : Bool) (r : Request)
     → Asks words r → IsJudge x y flag r
 judge_only words x y flag (Judge a b set) is none asks = two_same a.now b.now set x y flag (sym asks.0 ∙ is)
 judge_only words x y flag (JudgeEnd side a b set) is none asks = none_not _ _ none asks.1
-judge_only words x y flag (Show path) is none asks =
-    apart (codes "judge") (codes "show") refl refl (one_word judged_paths words _ _ (Show path) is asks)
+judge_only words x y flag (Show path why lines) is none asks =
+    apart (codes "judge") (codes "show") refl refl (one_word judged_paths words _ _ (Show path why lines) is asks)
 judge_only words x y flag (Pack path) is none asks =
     apart (codes "judge") (codes "pack") refl refl (one_word judged_paths words _ _ (Pack path) is asks)
+judge_only words x y flag (Table t) is none asks =
+    apart (codes "judge") (codes "table") refl refl (one_word judged_paths words _ _ (Table t) is asks)
 judge_only words x y flag (Check a b c) is none asks =
     apart (codes "judge") (codes "check") refl refl (one_word judged_paths words _ _ (Check a b c) is asks)
 judge_only words x y flag (CheckEnd side a b c) is none asks =
@@ -188,10 +212,12 @@ judge_end_only words side x y flag (JudgeEnd judged a b set) is at asks =
     let given = two_same a.now b.now set x y flag (sym asks.0 ∙ is) in
     (letter_same judged side (some_same _ _ (sym asks.1 ∙ at)), given.0, given.1, given.2)
 judge_end_only words side x y flag (Judge a b set) is at asks = none_not _ _ asks.1 at
-judge_end_only words other x y flag (Show path) is at asks =
-    apart (codes "judge") (codes "show") refl refl (one_word judged_paths words _ _ (Show path) is asks)
+judge_end_only words other x y flag (Show path why lines) is at asks =
+    apart (codes "judge") (codes "show") refl refl (one_word judged_paths words _ _ (Show path why lines) is asks)
 judge_end_only words other x y flag (Pack path) is at asks =
     apart (codes "judge") (codes "pack") refl refl (one_word judged_paths words _ _ (Pack path) is asks)
+judge_end_only words other x y flag (Table t) is at asks =
+    apart (codes "judge") (codes "table") refl refl (one_word judged_paths words _ _ (Table t) is asks)
 judge_end_only words other x y flag (Check a b c) is at asks =
     apart (codes "judge") (codes "check") refl refl (one_word judged_paths words _ _ (Check a b c) is asks)
 judge_end_only words other x y flag (CheckEnd side a b c) is at asks =
@@ -212,10 +238,12 @@ pair_same a b x y e = (
 blame_only : (words : List Text) (x y : Text) (r : Request)
     → named_with_two words ≡ Some (codes "blame", (Some x, Some y)) → Asks words r → IsBlame x y r
 blame_only words x y (Blame a b) is asks = pair_same a.now b.now x y (sym asks ∙ is)
-blame_only words x y (Show path) is asks =
-    apart (codes "blame") (codes "show") refl refl (one_word blamed_paths words _ _ (Show path) is asks)
+blame_only words x y (Show path why lines) is asks =
+    apart (codes "blame") (codes "show") refl refl (one_word blamed_paths words _ _ (Show path why lines) is asks)
 blame_only words x y (Pack path) is asks =
     apart (codes "blame") (codes "pack") refl refl (one_word blamed_paths words _ _ (Pack path) is asks)
+blame_only words x y (Table t) is asks =
+    apart (codes "blame") (codes "table") refl refl (one_word blamed_paths words _ _ (Table t) is asks)
 blame_only words x y (Check a b c) is asks =
     apart (codes "blame") (codes "check") refl refl (one_word blamed_paths words _ _ (Check a b c) is asks)
 blame_only words x y (CheckEnd side a b c) is asks =
@@ -236,10 +264,10 @@ module _ (words known : List Text) (r : Result Request WordsFault) (is : words �
       go (Ok x) asks memory = only x asks
       go (Err e) asks memory = memory (ap (takes tool) is ∙ taken)
 
-  pub show_asked : (text : Option Text) → named_with (codes "RECORD") known ≡ Some (codes "show", text)
-      → MatchResult r (IsShow text) IsMemory
-  show_asked text named =
-      asked (IsShow text) (λ x. show_only words text x (ap (named_with (codes "RECORD")) is ∙ named))
+  pub show_asked : (text : Option Text) (b d : Bool) → named_with_flags known ≡ Some (codes "show", (text, b, d))
+      → MatchResult r (IsShow text b d) IsMemory
+  show_asked text b d named =
+      asked (IsShow text b d) (λ x. show_only words text b d x (ap named_with_flags is ∙ named))
 
   pub pack_asked : (text : Option Text) → named_with (codes "LINES") known ≡ Some (codes "pack", text)
       → MatchResult r (IsPack text) IsMemory

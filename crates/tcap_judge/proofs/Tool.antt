@@ -13,7 +13,7 @@ use Rattle.clap.specs.Values.{kind_of}
 use Rattle.clap.specs.Walk.{Row, Rule, Text, finished, first_of, nothing_held, rows_after, settled, walk, walk_from}
 use Rattle.clap.specs.declared.error.Error.{Error}
 use Rattle.clap.specs.declared.error.kind.ErrorKind.TheVariants as kind
-use Rattle.tcap_judge.specs.CommandLine.{blame_shape, check_shape, end_rule, ends_parser, flag_rule, judge_shape, needed_rule, tool, with_path}
+use Rattle.tcap_judge.specs.CommandLine.{blame_shape, check_shape, end_rule, ends_parser, flag_rule, judge_shape, needed_rule, show_shape, table_shape, tool, with_path}
 use Rattle.tcap_judge.specs.Words.{Becomes, IsFaultOf, IsMemory, is_letter}
 use Rattle.tcap_judge.specs.declared.words.WordsFault.{WordsFault}
 use Rattle.tcap_judge.specs.declared.words.WordsFault.TheVariants.{Words, Memory}
@@ -62,11 +62,12 @@ level_clear s names words has below e =
 pub apart : (a b : Text) → bytes_eq a a ≡ true → bytes_eq a b ≡ false → a ≡ b → ⊥
 apart a b same other e = let bad : true ≡ false = sym same ∙ ap (bytes_eq a) e ∙ other in cc
 
--- the subcommand is one of the five
+-- the subcommand is one of the six
 abbrev pub IsKnown : Option Text → Type 0
 IsKnown name = (name ≡ Some (codes "show"))
     ⊎ ((name ≡ Some (codes "pack"))
-    ⊎ ((name ≡ Some (codes "check")) ⊎ ((name ≡ Some (codes "judge")) ⊎ (name ≡ Some (codes "blame")))))
+    ⊎ ((name ≡ Some (codes "check")) ⊎ ((name ≡ Some (codes "judge"))
+    ⊎ ((name ≡ Some (codes "blame")) ⊎ (name ≡ Some (codes "table"))))))
 
 abbrev name_of : Option (Text × List Row) → Option Text
 name_of = option_map (λ p. p.0)
@@ -83,29 +84,32 @@ named words e =
     go stop (finished top.rules (walk top.rules names nothing_held args).held)
     (walk_not top names (walk_from nothing_held) args refl tt clear.0) clear.1
   where
-    at : (p : Text × List Text) (rows : List Row) (show pack check judge blame help : Bool)
+    at : (p : Text × List Text) (rows : List Row) (show pack check judge blame table help : Bool)
         → bytes_eq (codes "show") p.0 ≡ show
         → bytes_eq (codes "pack") p.0 ≡ pack
         → bytes_eq (codes "check") p.0 ≡ check
         → bytes_eq (codes "judge") p.0 ≡ judge
         → bytes_eq (codes "blame") p.0 ≡ blame
+        → bytes_eq (codes "table") p.0 ≡ table
         → bytes_eq (codes "help") p.0 ≡ help → help ≡ false
         → check_fault (built tool).top rows (is_some (entered (built tool) (Some p))) ≡ []
         → IsKnown (name_of (entered (built tool) (Some p)))
-    at p rows true pack check judge blame help is_show is_pack is_check is_judge is_blame is_help off e =
+    at p rows true pack check judge blame table help is_show is_pack is_check is_judge is_blame is_table is_help off e =
         inl (rw is_show refl)
-    at p rows false true check judge blame help is_show is_pack is_check is_judge is_blame is_help off e =
+    at p rows false true check judge blame table help is_show is_pack is_check is_judge is_blame is_table is_help off e =
         inr (inl (rw (is_show, is_pack) refl))
-    at p rows false false true judge blame help is_show is_pack is_check is_judge is_blame is_help off e =
+    at p rows false false true judge blame table help is_show is_pack is_check is_judge is_blame is_table is_help off e =
         inr (inr (inl (rw (is_show, is_pack, is_check) refl)))
-    at p rows false false false true blame help is_show is_pack is_check is_judge is_blame is_help off e =
+    at p rows false false false true blame table help is_show is_pack is_check is_judge is_blame is_table is_help off e =
         inr (inr (inr (inl (rw (is_show, is_pack, is_check, is_judge) refl))))
-    at p rows false false false false true help is_show is_pack is_check is_judge is_blame is_help off e =
-        inr (inr (inr (inr (rw (is_show, is_pack, is_check, is_judge, is_blame) refl))))
-    at p rows false false false false false true is_show is_pack is_check is_judge is_blame is_help off e = cc
-    at p rows false false false false false false is_show is_pack is_check is_judge is_blame is_help off e =
+    at p rows false false false false true table help is_show is_pack is_check is_judge is_blame is_table is_help off e =
+        inr (inr (inr (inr (inl (rw (is_show, is_pack, is_check, is_judge, is_blame) refl)))))
+    at p rows false false false false false true help is_show is_pack is_check is_judge is_blame is_table is_help off e =
+        inr (inr (inr (inr (inr (rw (is_show, is_pack, is_check, is_judge, is_blame, is_table) refl)))))
+    at p rows false false false false false false true is_show is_pack is_check is_judge is_blame is_table is_help off e = cc
+    at p rows false false false false false false false is_show is_pack is_check is_judge is_blame is_table is_help off e =
         let bad : kind.MissingSubcommand ∷ [] ≡ [] =
-        rw (is_show, is_pack, is_check, is_judge, is_blame, is_help) at e in cc
+        rw (is_show, is_pack, is_check, is_judge, is_blame, is_table, is_help) at e in cc
 
     differs : (p : Text × List Text) → NotHelp (Some p) → (help : Bool) → bytes_eq (codes "help") p.0 ≡ help
         → help ≡ false
@@ -121,8 +125,8 @@ named words e =
     go None rows not_help e = let bad : kind.MissingSubcommand ∷ [] ≡ [] = e in cc
     go (Some p) rows not_help e =
         at p rows (bytes_eq (codes "show") p.0) (bytes_eq (codes "pack") p.0) (bytes_eq (codes "check") p.0)
-        (bytes_eq (codes "judge") p.0) (bytes_eq (codes "blame") p.0) (bytes_eq (codes "help") p.0) refl refl refl refl
-        refl refl (differs p not_help (bytes_eq (codes "help") p.0) refl) e
+        (bytes_eq (codes "judge") p.0) (bytes_eq (codes "blame") p.0) (bytes_eq (codes "table") p.0)
+        (bytes_eq (codes "help") p.0) refl refl refl refl refl refl refl (differs p not_help (bytes_eq (codes "help") p.0) refl) e
 
 -- ---- the paths of `check`, `judge` and `blame`
 
@@ -139,6 +143,9 @@ judge_built = sub_built judge_shape
 
 abbrev pub blame_built : Shape
 blame_built = sub_built blame_shape
+
+abbrev pub table_built : Shape
+table_built = sub_built table_shape
 
 -- the paths that all need are there
 abbrev pub HasTwoPaths : List Row → Type 0
@@ -184,6 +191,13 @@ two_given rows false y is_x is_y e =
     let bad : kind.MissingRequiredArgument ∷ [] ≡ [] = rw is_x at e in cc
 two_given rows true false is_x is_y e =
     let bad : kind.MissingRequiredArgument ∷ [] ≡ [] = rw (is_x, is_y) at e in cc
+
+one_given : (rows : List Row) (x : Bool) → is_given (codes "TABLE") rows ≡ x → check_fault table_built rows false ≡ []
+    → x ≡ true
+unfolding tool
+one_given rows true is_x e = refl
+one_given rows false is_x e =
+    let bad : kind.MissingRequiredArgument ∷ [] ≡ [] = rw is_x at e in cc
 
 -- the values that pass the parser of `--end` are letters of ends
 ends_fit : (ignore_case : Bool) (values : List Text) → ignore_case ≡ false
@@ -252,6 +266,13 @@ blame_good = (
   ),
 )
 
+table_good : AllGood table_built.rules
+unfolding tool
+table_good = (
+  (path_fits (codes "TABLE") refl, inl refl),
+  ((help_fits, inr (inl refl)), tt),
+)
+
 -- behind words at which a subcommand has no fault, its rows have values, and its last checks find nothing
 level_valued : (s : Shape) → AllGood s.rules → (words : List Text) → level_fault s [] nothing_held words false [] ≡ []
     → Valued (rows_after s.rules [] words) × (check_fault s (rows_after s.rules [] words) false ≡ [])
@@ -294,6 +315,13 @@ blame_paths words e =
     let given = two_given rows _ _ refl refl level.1 in
     (first_there (codes "RECORD") rows level.0 given.0, first_there (codes "TABLE") rows level.0 given.1)
 
+table_path : (words : List Text) → level_fault table_built [] nothing_held words false [] ≡ []
+    → is_some (first_of (codes "TABLE") (rows_after table_built.rules [] words)) ≡ true
+table_path words e =
+    let rows = rows_after table_built.rules [] words in
+    let level = level_valued table_built table_good words e in
+    first_there (codes "TABLE") rows level.0 (one_given rows _ refl level.1)
+
 same_some : {X : Type 0} (x y : X) → Some x ≡ Some y → x ≡ y
 same_some x y e = cc
 
@@ -305,12 +333,17 @@ abbrev pub HasNeeded : Text × List Row → Type 0
 HasNeeded found = (found.0 ≡ codes "check" → HasPaths found.1 × HasLetter found.1)
     × (found.0 ≡ codes "judge" → HasTwoPaths found.1 × HasLetter found.1)
     × (found.0 ≡ codes "blame" → HasTwoPaths found.1)
+    × (found.0 ≡ codes "table" → is_some (first_of (codes "TABLE") found.1) ≡ true)
 
 -- another subcommand needs nothing
 needs_nothing : (found : Text × List Row) → (found.0 ≡ codes "check" → ⊥) → (found.0 ≡ codes "judge" → ⊥)
-    → (found.0 ≡ codes "blame" → ⊥) → HasNeeded found
-needs_nothing found not_check not_judge not_blame =
-    (λ e. absurd (not_check e), λ e. absurd (not_judge e), λ e. absurd (not_blame e))
+    → (found.0 ≡ codes "blame" → ⊥) → (found.0 ≡ codes "table" → ⊥) → HasNeeded found
+needs_nothing found not_check not_judge not_blame not_table = (
+  λ e. absurd (not_check e),
+  λ e. absurd (not_judge e),
+  λ e. absurd (not_blame e),
+  λ e. absurd (not_table e),
+)
 
 -- words with no fault give what the subcommand needs
 pub needed_there : (words : List Text) (found : Text × List Row) → fault_of tool words ≡ []
@@ -325,27 +358,30 @@ needed_there words found e is =
     let b = or_empty (entered_fault (built tool) stop) _ a.1 in
     go stop b.0 is
   where
-    at : (p : Text × List Text) (show pack check judge blame help : Bool) → bytes_eq (codes "show") p.0 ≡ show
+    at : (p : Text × List Text) (show pack check judge blame table help : Bool) → bytes_eq (codes "show") p.0 ≡ show
         → bytes_eq (codes "pack") p.0 ≡ pack
         → bytes_eq (codes "check") p.0 ≡ check
         → bytes_eq (codes "judge") p.0 ≡ judge
         → bytes_eq (codes "blame") p.0 ≡ blame
+        → bytes_eq (codes "table") p.0 ≡ table
         → bytes_eq (codes "help") p.0 ≡ help
         → entered_fault (built tool) (Some p) ≡ []
         → entered (built tool) (Some p) ≡ Some found → HasNeeded found
-    at p true pack check judge blame help is_show is_pack is_check is_judge is_blame is_help e is =
-        let rows = rows_at (sub_built (with_path (codes "show") (codes "RECORD"))) p.1 in
+    at p true pack check judge blame table help is_show is_pack is_check is_judge is_blame is_table is_help e is =
+        let rows = rows_at (sub_built show_shape) p.1 in
         let it : Some rows ≡ Some found = rw is_show at is in
         subst HasNeeded (same_some rows found it)
         (needs_nothing rows (apart (codes "show") (codes "check") refl refl)
-        (apart (codes "show") (codes "judge") refl refl) (apart (codes "show") (codes "blame") refl refl))
-    at p false true check judge blame help is_show is_pack is_check is_judge is_blame is_help e is =
+        (apart (codes "show") (codes "judge") refl refl) (apart (codes "show") (codes "blame") refl refl)
+        (apart (codes "show") (codes "table") refl refl))
+    at p false true check judge blame table help is_show is_pack is_check is_judge is_blame is_table is_help e is =
         let rows = rows_at (sub_built (with_path (codes "pack") (codes "LINES"))) p.1 in
         let it : Some rows ≡ Some found = rw (is_show, is_pack) at is in
         subst HasNeeded (same_some rows found it)
         (needs_nothing rows (apart (codes "pack") (codes "check") refl refl)
-        (apart (codes "pack") (codes "judge") refl refl) (apart (codes "pack") (codes "blame") refl refl))
-    at p false false true judge blame help is_show is_pack is_check is_judge is_blame is_help e is =
+        (apart (codes "pack") (codes "judge") refl refl) (apart (codes "pack") (codes "blame") refl refl)
+        (apart (codes "pack") (codes "table") refl refl))
+    at p false false true judge blame table help is_show is_pack is_check is_judge is_blame is_table is_help e is =
         let it : Some (rows_at check_built p.1) ≡ Some found = rw (is_show, is_pack, is_check) at is in
         let clear : level_fault check_built [] nothing_held p.1 false [] ≡ [] =
         rw (is_show, is_pack, is_check) at e in
@@ -353,8 +389,9 @@ needed_there words found e is =
           λ e. check_paths p.1 clear,
           λ e. absurd (apart (codes "check") (codes "judge") refl refl e),
           λ e. absurd (apart (codes "check") (codes "blame") refl refl e),
+          λ e. absurd (apart (codes "check") (codes "table") refl refl e),
         )
-    at p false false false true blame help is_show is_pack is_check is_judge is_blame is_help e is =
+    at p false false false true blame table help is_show is_pack is_check is_judge is_blame is_table is_help e is =
         let it : Some (rows_at judge_built p.1) ≡ Some found = rw (is_show, is_pack, is_check, is_judge) at is in
         let clear : level_fault judge_built [] nothing_held p.1 false [] ≡ [] =
         rw (is_show, is_pack, is_check, is_judge) at e in
@@ -362,8 +399,9 @@ needed_there words found e is =
           λ e. absurd (apart (codes "judge") (codes "check") refl refl e),
           λ e. judge_paths p.1 clear,
           λ e. absurd (apart (codes "judge") (codes "blame") refl refl e),
+          λ e. absurd (apart (codes "judge") (codes "table") refl refl e),
         )
-    at p false false false false true help is_show is_pack is_check is_judge is_blame is_help e is =
+    at p false false false false true table help is_show is_pack is_check is_judge is_blame is_table is_help e is =
         let it : Some (rows_at blame_built p.1) ≡ Some found =
         rw (is_show, is_pack, is_check, is_judge, is_blame) at is in
         let clear : level_fault blame_built [] nothing_held p.1 false [] ≡ [] =
@@ -372,20 +410,33 @@ needed_there words found e is =
           λ e. absurd (apart (codes "blame") (codes "check") refl refl e),
           λ e. absurd (apart (codes "blame") (codes "judge") refl refl e),
           λ e. blame_paths p.1 clear,
+          λ e. absurd (apart (codes "blame") (codes "table") refl refl e),
         )
-    at p false false false false false true is_show is_pack is_check is_judge is_blame is_help e is =
+    at p false false false false false true help is_show is_pack is_check is_judge is_blame is_table is_help e is =
+        let it : Some (rows_at table_built p.1) ≡ Some found =
+        rw (is_show, is_pack, is_check, is_judge, is_blame, is_table) at is in
+        let clear : level_fault table_built [] nothing_held p.1 false [] ≡ [] =
+        rw (is_show, is_pack, is_check, is_judge, is_blame, is_table) at e in
+        subst HasNeeded (same_some _ _ it) (
+          λ e. absurd (apart (codes "table") (codes "check") refl refl e),
+          λ e. absurd (apart (codes "table") (codes "judge") refl refl e),
+          λ e. absurd (apart (codes "table") (codes "blame") refl refl e),
+          λ e. table_path p.1 clear,
+        )
+    at p false false false false false false true is_show is_pack is_check is_judge is_blame is_table is_help e is =
         let rows = rows_at (sub_built help_shape) p.1 in
-        let it : Some rows ≡ Some found = rw (is_show, is_pack, is_check, is_judge, is_blame, is_help) at is in
+        let it : Some rows ≡ Some found = rw (is_show, is_pack, is_check, is_judge, is_blame, is_table, is_help) at is in
         subst HasNeeded (same_some rows found it)
         (needs_nothing rows (apart (codes "help") (codes "check") refl refl)
-        (apart (codes "help") (codes "judge") refl refl) (apart (codes "help") (codes "blame") refl refl))
-    at p false false false false false false is_show is_pack is_check is_judge is_blame is_help e is =
-        absurd (not_some found (rw (is_show, is_pack, is_check, is_judge, is_blame, is_help) at is))
+        (apart (codes "help") (codes "judge") refl refl) (apart (codes "help") (codes "blame") refl refl)
+        (apart (codes "help") (codes "table") refl refl))
+    at p false false false false false false false is_show is_pack is_check is_judge is_blame is_table is_help e is =
+        absurd (not_some found (rw (is_show, is_pack, is_check, is_judge, is_blame, is_table, is_help) at is))
 
     go : (stop : Option (Text × List Text)) → entered_fault (built tool) stop ≡ []
         → entered (built tool) stop ≡ Some found → HasNeeded found
     go None e is = absurd (not_some found is)
     go (Some p) e is =
         at p (bytes_eq (codes "show") p.0) (bytes_eq (codes "pack") p.0) (bytes_eq (codes "check") p.0)
-        (bytes_eq (codes "judge") p.0) (bytes_eq (codes "blame") p.0) (bytes_eq (codes "help") p.0) refl refl refl refl
-        refl refl e is
+        (bytes_eq (codes "judge") p.0) (bytes_eq (codes "blame") p.0) (bytes_eq (codes "table") p.0)
+        (bytes_eq (codes "help") p.0) refl refl refl refl refl refl refl e is

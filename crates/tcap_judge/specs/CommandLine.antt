@@ -17,10 +17,13 @@ at_first x = record { ref_ptr = (0, 0); now = x }
 abbrev pub bare_tool : App
 bare_tool = on_top (λ s. record s { has_version = true; subcommand_required = true }) (new_app (codes "tcapjudge"))
 
+-- a positional argument that may be left out
+abbrev pub left_out_rule : Text → Rule
+left_out_rule id = record (new_rule id) { action = Some Set }
+
 -- a subcommand with one positional argument, which may be left out
 abbrev pub with_path : Text → Text → Shape
-with_path name id =
-    record (new_shape name) { rules = record (new_rule id) { action = Some Set } ∷ [] }
+with_path name id = record (new_shape name) { rules = left_out_rule id ∷ [] }
 
 -- a positional argument that may not be left out
 abbrev pub needed_rule : Text → Rule
@@ -61,13 +64,24 @@ blame_shape = record (new_shape (codes "blame")) {
   rules = needed_rule (codes "RECORD") ∷ needed_rule (codes "TABLE") ∷ [];
 }
 
+-- the subcommand of one path, which may be left out, and two flags
+abbrev pub show_shape : Shape
+show_shape = record (new_shape (codes "show")) {
+  rules = left_out_rule (codes "RECORD") ∷ flag_rule (codes "why") ∷ flag_rule (codes "lines") ∷ [];
+}
+
+-- the subcommand of one path
+abbrev pub table_shape : Shape
+table_shape = record (new_shape (codes "table")) { rules = needed_rule (codes "TABLE") ∷ [] }
+
 -- the program with its subcommands
 unfoldable pub tool : App
-tool = with_subcommand (with_subcommand (with_subcommand (with_subcommand
-    (with_subcommand bare_tool (with_path (codes "show") (codes "RECORD"))) (with_path (codes "pack") (codes "LINES")))
+tool = with_subcommand (with_subcommand (with_subcommand (with_subcommand (with_subcommand
+    (with_subcommand bare_tool show_shape) (with_path (codes "pack") (codes "LINES")))
     check_shape)
     judge_shape)
-    blame_shape
+    blame_shape)
+    table_shape
 
 -- ---- the same command line, wherever the values of its options stand
 

@@ -12,7 +12,7 @@ use Rattle.tcap_record.specs.declared.entry.End.TheVariants as sides
 use Rattle.tcap_judge.specs.Blamed.{letter}
 use Rattle.tcap_judge.specs.CommandLine.{tool}
 use Rattle.tcap_judge.specs.declared.asked.Request.{Request}
-use Rattle.tcap_judge.specs.declared.asked.Request.TheVariants.{Show, Pack, Check, CheckEnd, Judge, JudgeEnd, Blame}
+use Rattle.tcap_judge.specs.declared.asked.Request.TheVariants.{Show, Pack, Check, CheckEnd, Judge, JudgeEnd, Blame, Table}
 use Rattle.tcap_judge.specs.declared.words.WordsFault.{WordsFault}
 use Rattle.tcap_judge.specs.declared.words.WordsFault.TheVariants.{Words, Memory}
 
@@ -54,14 +54,23 @@ named_with_two words = option_map (λ p. (p.0, blamed_paths p.1)) (subcommand_of
 abbrev pub end_value : List Text → Option Text
 end_value words = option_and_then (λ p. first_of (codes "end") p.1) (subcommand_of tool words)
 
+-- the first value of the argument of `show`, and whether its flags are set
+abbrev pub shown_path : List Row → Option Text × Bool × Bool
+shown_path rows =
+    (first_of (codes "RECORD") rows, is_set (first_of (codes "why") rows), is_set (first_of (codes "lines") rows))
+
+-- the subcommand that the words name, and these
+abbrev pub named_with_flags : List Text → Option (Text × (Option Text × Bool × Bool))
+named_with_flags words = option_map (λ p. (p.0, shown_path p.1)) (subcommand_of tool words)
+
 -- the text of a path
 abbrev pub path_text : Option (Bor Text) → Option Text
 path_text = option_map (λ s. s.now)
 
 -- the words ask for this
 abbrev pub Asks : List Text → Request → Type 0
-Asks words (Show path) =
-    named_with (codes "RECORD") words ≡ Some (codes "show", path_text path)
+Asks words (Show path with_reasons of_lines) =
+    named_with_flags words ≡ Some (codes "show", (path_text path, with_reasons, of_lines))
 Asks words (Pack path) =
     named_with (codes "LINES") words ≡ Some (codes "pack", path_text path)
 Asks words (Check taken table cert) =
@@ -77,11 +86,12 @@ Asks words (JudgeEnd side taken table with_certificate) =
     (named_with_flag words ≡ Some (codes "judge", (Some taken.now, Some table.now, with_certificate)))
     × (end_value words ≡ Some (letter side))
 Asks words (Blame taken table) = named_with_two words ≡ Some (codes "blame", (Some taken.now, Some table.now))
+Asks words (Table table) = named_with (codes "TABLE") words ≡ Some (codes "table", Some table.now)
 
--- to show what this path names
-abbrev pub IsShow : Option Text → Request → Type 0
-IsShow text (Show path) = path_text path ≡ text
-IsShow text _ = ⊥
+-- to show what this path names, with these flags
+abbrev pub IsShow : Option Text → Bool → Bool → Request → Type 0
+IsShow text b d (Show path with_reasons of_lines) = (path_text path ≡ text) × (with_reasons ≡ b) × (of_lines ≡ d)
+IsShow text b d _ = ⊥
 
 -- to pack what this path names
 abbrev pub IsPack : Option Text → Request → Type 0

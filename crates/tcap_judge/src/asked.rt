@@ -5,8 +5,9 @@ use tcap_record::End;
 /// What the program is asked to do.
 #[derive(Clone, Copy, Debug, PartialEq, Eq)]
 pub enum Request<'a> {
-    /// Print the entries of the record in the file of this path, or on standard input.
-    Show(Option<&'a str>),
+    /// Print the entries of the record in the file of this path, or on standard input; whether it is said why an entry
+    /// or the record is refused; and whether the file holds the lines of hex digits of a record.
+    Show(Option<&'a str>, bool, bool),
     /// Make a record of the lines of hex digits in the file of this path, or on standard input.
     Pack(Option<&'a str>),
     /// Replay a certificate for a record: the paths of the record, of the operation table and of the certificate.
@@ -19,4 +20,6 @@ pub enum Request<'a> {
     JudgeEnd(End, &'a str, &'a str, bool),
     /// Say which end is at fault: the paths of the record and of the operation table.
     Blame(&'a str, &'a str),
+    /// Print the rows of the operation table in the file of this path.
+    Table(&'a str),
 }

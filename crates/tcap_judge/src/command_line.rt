@@ -1,13 +1,22 @@
 //! The command line of the program: its subcommands, and the arguments of each.
 
-ghost use Rattle.std.specs.Prelude.{◌≡◌, IfOk, false};
+ghost use Rattle.std.specs.Prelude.{◌≡◌, IfOk, codes, false};
 ghost use Rattle.clap.specs.Words.{app_of, rule_of, shape_of};
 ghost use Rattle.clap.specs.declared.builder.command.Command.TheViews.{out-Command};
-ghost use Rattle.tcap_judge.specs.CommandLine.{blame_shape, check_shape, end_rule, flag_rule, judge_shape, needed_rule};
+ghost use Rattle.tcap_judge.specs.CommandLine.{blame_shape, check_shape, end_rule, flag_rule, judge_shape, left_out_rule};
+ghost use Rattle.tcap_judge.specs.CommandLine.{needed_rule, show_shape, table_shape, with_path};
 ghost use Rattle.tcap_judge.specs.CommandLine.{placeless, placeless_rule, placeless_shape, tool};
 
 use clap::{Arg, ArgAction, Command};
 use std::alloc::{AllocError, Global};
+
+/// What the exit statuses mean.
+static STATUSES: &str = "Exit statuses:
+  0  nothing is wrong: LAWFUL, or all was printed or packed
+  1  REFUTED, or BLAMED
+  2  NOT SHOWN, or UNDECIDED
+  3  a line of fault was printed, or the output could not be written
+  4  the words of the command are wrong";
 
 /// A positional argument that may not be left out.
 fn needed_arg<'a>(alloc: Global, id: &'a str, text: &'a str) -> Arg<'a>
@@ -18,6 +27,14 @@ fn needed_arg<'a>(alloc: Global, id: &'a str, text: &'a str) -> Arg<'a>
         .required(true)
         .action(ArgAction::Set)
         .help(text)
+}
+
+/// A positional argument that may be left out.
+fn left_out_arg<'a>(alloc: Global, id: &'a str, text: &'a str) -> Arg<'a>
+    ensures rule { rule_of result ≡ left_out_rule id.entry.now }
+    ensures local { result.global ≡ false }
+{
+    Arg::new(alloc, id).action(ArgAction::Set).help(text)
 }
 
 /// A flag of this name.
@@ -56,6 +73,7 @@ fn check_command<'a>(alloc: Global) -> Result<Command<'a>, AllocError>
     let cert = needed_arg(alloc, "CERT", "The file of the certificate");
     Command::new(alloc, "check")
         .about("Replays a certificate for a record")
+        .after_help("Example: tcapjudge check record table.json cert.json")
         .arg(record)?
         .arg(table)?
         .arg(cert)?
@@ -71,6 +89,7 @@ fn judge_command<'a>(alloc: Global) -> Result<Command<'a>, AllocError>
     let cert = flag_arg(alloc, "cert", "Prints the certificate behind LAWFUL");
     Command::new(alloc, "judge")
         .about("Judges a record")
+        .after_help("Example: tcapjudge judge record table.json --cert")
         .arg(record)?
         .arg(table)?
         .arg(cert)?
@@ -85,7 +104,58 @@ fn blame_command<'a>(alloc: Global) -> Result<Command<'a>, AllocError>
     let table = needed_arg(alloc, "TABLE", "The file of the operation table");
     Command::new(alloc, "blame")
         .about("Says which end is at fault")
+        .after_help("Example: tcapjudge blame record table.json")
         .arg(record)?
+        .arg(table)
+}
+
+/// The subcommand `show`.
+fn show_command<'a>(alloc: Global) -> Result<Command<'a>, AllocError>
+    ensures { IfOk result (λ c. (shape_of c ≡ show_shape) × ((out-Command c).has_globals ≡ false)) }
+{
+    let record = left_out_arg(
+        alloc,
+        "RECORD",
+        "The file of the record; the standard input where it is left out",
+    );
+    let why = flag_arg(
+        alloc,
+        "why",
+        "Says in words why an entry or the record is refused",
+    );
+    let lines = flag_arg(alloc, "lines", "Takes lines of hex digits, as `pack` does");
+    Command::new(alloc, "show")
+        .about("Prints the entries of a record")
+        .after_help("Example: tcapjudge show --why record")
+        .arg(record)?
+        .arg(why)?
+        .arg(lines)
+}
+
+/// The subcommand `pack`.
+fn pack_command<'a>(alloc: Global) -> Result<Command<'a>, AllocError>
+    ensures { IfOk result (λ c. (shape_of c ≡ with_path (codes "pack") (codes "LINES"))
+        × ((out-Command c).has_globals ≡ false)) }
+{
+    let lines = left_out_arg(
+        alloc,
+        "LINES",
+        "The file of the lines; the standard input where it is left out",
+    );
+    Command::new(alloc, "pack")
+        .about("Makes a record of lines of hex digits")
+        .after_help("Example: tcapjudge pack dialogue.hex > record")
+        .arg(lines)
+}
+
+/// The subcommand `table`.
+fn table_command<'a>(alloc: Global) -> Result<Command<'a>, AllocError>
+    ensures { IfOk result (λ c. (shape_of c ≡ table_shape) × ((out-Command c).has_globals ≡ false)) }
+{
+    let table = needed_arg(alloc, "TABLE", "The file of the operation table");
+    Command::new(alloc, "table")
+        .about("Prints the rows of an operation table")
+        .after_help("Example: tcapjudge table table.json")
         .arg(table)
 }
 
@@ -93,28 +163,21 @@ fn blame_command<'a>(alloc: Global) -> Result<Command<'a>, AllocError>
 pub(crate) fn command<'a>(alloc: Global) -> Result<Command<'a>, AllocError>
     ensures { IfOk result (λ c. placeless (app_of c) ≡ tool) }
 {
-    let record = Arg::new(alloc, "RECORD").action(ArgAction::Set).help(
-        "The file of the record; the standard input where it is left out",
-    );
-    let lines = Arg::new(alloc, "LINES").action(ArgAction::Set).help(
-        "The file of the lines; the standard input where it is left out",
-    );
-    let show = Command::new(alloc, "show")
-        .about("Prints the entries of a record")
-        .arg(record)?;
-    let pack = Command::new(alloc, "pack")
-        .about("Makes a record of lines of hex digits")
-        .arg(lines)?;
+    let show = show_command(alloc)?;
+    let pack = pack_command(alloc)?;
     let check = check_command(alloc)?;
     let judge = judge_command(alloc)?;
     let blame = blame_command(alloc)?;
+    let table = table_command(alloc)?;
     Command::new(alloc, "tcapjudge")
         .about("Judges records of TCAP messages")
         .version("0.1.0")
         .subcommand_required(true)
+        .after_help(STATUSES)
         .subcommand(show)?
         .subcommand(pack)?
         .subcommand(check)?
         .subcommand(judge)?
-        .subcommand(blame)
+        .subcommand(blame)?
+        .subcommand(table)
 }

@@ -177,7 +177,12 @@ fn parsed_request<'a>(alloc: Global, words: &'a [&'a str]) -> Result<Request<'a>
         unreachable!()
     };
     match name {
-        "show" => Ok(Request::Show(found.get_str("RECORD"))),
+        "show" => {
+            let path = found.get_str("RECORD");
+            let with_reasons = is_set(found, "why");
+            let of_lines = is_set(found, "lines");
+            Ok(Request::Show(path, with_reasons, of_lines))
+        }
         "pack" => Ok(Request::Pack(found.get_str("LINES"))),
         "check" => {
             let record = needed(found, "RECORD");
@@ -196,6 +201,10 @@ fn parsed_request<'a>(alloc: Global, words: &'a [&'a str]) -> Result<Request<'a>
             let table = needed(found, "TABLE");
             Ok(Request::Blame(record, table))
         }
+        "table" => {
+            let table = needed(found, "TABLE");
+            Ok(Request::Table(table))
+        }
         _ => unreachable!(),
     }
 }
@@ -205,10 +214,10 @@ pub fn request<'a>(alloc: Global, words: &'a [&'a str]) -> Result<Request<'a>, W
     ensures asks { IfOk result (Asks (texts words.entry.now)) }
     ensures taken { takes tool (texts words.entry.now) ≡ true → IfErr result IsMemory }
     ensures show { (program : Text) → texts words.entry.now ≡ program ∷ codes "show" ∷ []
-        → MatchResult result (IsShow None) IsMemory }
+        → MatchResult result (IsShow None false false) IsMemory }
     ensures show_path { (program path : Text)
         → texts words.entry.now ≡ program ∷ codes "show" ∷ path ∷ []
-        → begins_with_hyphen path ≡ false → MatchResult result (IsShow (Some path)) IsMemory }
+        → begins_with_hyphen path ≡ false → MatchResult result (IsShow (Some path) false false) IsMemory }
     ensures pack { (program : Text) → texts words.entry.now ≡ program ∷ codes "pack" ∷ []
         → MatchResult result (IsPack None) IsMemory }
     ensures pack_path { (program path : Text)

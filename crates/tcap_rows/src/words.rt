@@ -16,6 +16,19 @@ show;=;,tcapjudge,show,
 show;=pack;,tcapjudge,show,pack
 show;=help;,tcapjudge,show,help
 show;=-x;,tcapjudge,show,--,-x
+why;-;,tcapjudge,show,--why
+why;=x;,tcapjudge,show,--why,x
+why;=x;,tcapjudge,show,x,--why
+lines;-;,tcapjudge,show,--lines
+lines;=x;,tcapjudge,show,x,--lines
+why lines;=x;,tcapjudge,show,--lines,x,--why
+why lines;-;,tcapjudge,show,--why,--lines
+wrong;cannot be used multiple times;,tcapjudge,show,--why,--why
+wrong;unexpected argument '--why';,tcapjudge,pack,--why
+table;=x;,tcapjudge,table,x
+table;=-x;,tcapjudge,table,--,-x
+wrong;<TABLE>;,tcapjudge,table
+wrong;unexpected argument 'y';,tcapjudge,table,x,y
 pack;-;,tcapjudge,pack
 pack;=x;,tcapjudge,pack,x
 pack;=show;,tcapjudge,pack,show
@@ -69,11 +82,28 @@ printed;tcapjudge 0.1.0;,tcapjudge,--version
 printed;tcapjudge 0.1.0;,tcapjudge,-V
 printed;Usage: tcapjudge;,tcapjudge,help,show
 printed;Usage: tcapjudge;,tcapjudge,help,pack
+printed;Exit statuses:;,tcapjudge,help
+printed;Example: tcapjudge show --why record;,tcapjudge,show,--help
+printed;Example: tcapjudge pack dialogue.hex > record;,tcapjudge,help,pack
+printed;Example: tcapjudge check record table.json cert.json;,tcapjudge,check,-h
+printed;Example: tcapjudge judge record table.json --cert;,tcapjudge,judge,-h
+printed;Example: tcapjudge blame record table.json;,tcapjudge,blame,-h
+printed;Example: tcapjudge table table.json;,tcapjudge,table,--help
 ";
 
 /// The kind of a request to judge, with the certificate or without.
 fn word_of(with_certificate: bool) -> &'static str {
     if with_certificate { "certify" } else { "judge" }
+}
+
+/// The kind of a request to show, with these flags.
+fn show_word(why: bool, lines: bool) -> &'static str {
+    match (why, lines) {
+        (false, false) => "show",
+        (true, false) => "why",
+        (false, true) => "lines",
+        (true, true) => "why lines",
+    }
 }
 
 /// Whether the kind is that word behind which the end is named.
@@ -93,7 +123,9 @@ fn is_answered<'a>(
     wanted: &str,
 ) -> Result<bool, Fail> {
     match request(alloc, words) {
-        Ok(Request::Show(file)) => Ok(kind == "show" && file == wanted.strip_prefix("=")),
+        Ok(Request::Show(file, why, lines)) => {
+            Ok(kind == show_word(why, lines) && file == wanted.strip_prefix("="))
+        }
         Ok(Request::Pack(file)) => Ok(kind == "pack" && file == wanted.strip_prefix("=")),
         Ok(Request::Check(record, table, cert)) => {
             let files = format!(in alloc; "{record} {table} {cert}")?;
@@ -119,6 +151,7 @@ fn is_answered<'a>(
             let files = format!(in alloc; "{record} {table}")?;
             Ok(kind == "blame" && Some(files.as_str()) == wanted.strip_prefix("="))
         }
+        Ok(Request::Table(file)) => Ok(kind == "table" && Some(file) == wanted.strip_prefix("=")),
         Err(fault) => {
             let said = format!(in alloc; "{fault}")?;
             let is_kind = kind
@@ -149,6 +182,6 @@ impl Row for WordsRow {
 
 #[test]
 fn words(rt: HostRuntime) -> Result<(), Fail> {
-    assert_eq!(rt; each_row::<WordsRow>(rt.alloc(), WORDS)?, 59);
+    assert_eq!(rt; each_row::<WordsRow>(rt.alloc(), WORDS)?, 79);
     Ok(())
 }

@@ -2,13 +2,15 @@
 //! the library `tcap_judge`.
 #![tactic(auto)]
 
+use std::alloc::Global;
 use std::io::BufWriter;
 use std::process::ExitCode;
 use std::{env, fs, io};
-use tcap_ber::{Counted, Read, Unopened};
+use tcap_ber::{Counted, Read, Unopened, Write};
+use tcap_explain::{Kept, Noted, Told, run_lines, run_table, run_why, write_hint, write_rule};
 use tcap_judge::{
-    MEMORY_LINE, Request, Status, WordsFault, request, run_blame, run_check, run_check_end,
-    run_judge, run_judge_end, run_pack, run_show,
+    MEMORY_LINE, Request, Status, WordsFault, WriteFailed, request, run_blame, run_check,
+    run_check_end, run_judge, run_judge_end, run_pack, run_show,
 };
 use tcap_record::End;
 
@@ -20,8 +22,14 @@ const NO_TEXT: u8 = 4;
 enum Task {
     /// They are a record, of which the entries are printed.
     Show,
+    /// The same, and it is said in words why an entry or the record is refused.
+    Why,
     /// They are lines of hex digits, of which a record is made.
     Pack,
+    /// They are such lines, of which the record's entries are printed; and whether it is said why one is refused.
+    Lines(bool),
+    /// They are an operation table, of which the rows are printed.
+    Table,
 }
 
 /// What is asked of a record and an operation table.
@@ -65,7 +73,9 @@ fn run(rt: &HostRuntime) -> io::Result<u8> {
 /// Does what is asked for.
 fn answer(rt: &HostRuntime, request: Request) -> io::Result<u8> {
     match request {
-        Request::Show(path) => over_path(rt, Task::Show, path),
+        Request::Show(path, why, true) => over_path(rt, Task::Lines(why), path),
+        Request::Show(path, true, false) => over_path(rt, Task::Why, path),
+        Request::Show(path, false, false) => over_path(rt, Task::Show, path),
         Request::Pack(path) => over_path(rt, Task::Pack, path),
         Request::Check(entries, table, cert) => Ok(check(rt, entries, table, cert, None)),
         Request::CheckEnd(end, entries, table, cert) => {
@@ -79,44 +89,38 @@ fn answer(rt: &HostRuntime, request: Request) -> io::Result<u8> {
             Ok(judge(rt, entries, table, question))
         }
         Request::Blame(entries, table) => Ok(judge(rt, entries, table, Question::Blame)),
+        Request::Table(path) => over_path(rt, Task::Table, Some(path)),
     }
 }
 
 /// Does the task over the file of that path, or the standard input.
 fn over_path(rt: &HostRuntime, task: Task, path: Option<&str>) -> io::Result<u8> {
     let Some(path) = path else {
-        return over(rt, task, &mut Counted::new(rt.reader()));
+        return over(rt, task, Counted::new(rt.reader()));
     };
     match fs::open(rt, path) {
-        Ok(file) => over(rt, task, &mut Counted::new(file)),
-        Err(_) => over(rt, task, &mut Unopened::new()),
+        Ok(file) => over(rt, task, Counted::new(file)),
+        Err(_) => over(rt, task, Unopened::new()),
     }
 }
 
 /// Says that there is no memory, where faults of the task go.
 fn no_memory(rt: &HostRuntime, task: Task) -> io::Result<u8> {
     match task {
-        Task::Show => print!(rt; "{MEMORY_LINE}")?,
         Task::Pack => eprint!(rt; "{MEMORY_LINE}")?,
+        _ => print!(rt; "{MEMORY_LINE}")?,
     }
     Ok(Status::Fault.number())
 }
 
 /// Does the task with what `reader` tells.
-fn over<R: Read>(rt: &HostRuntime, task: Task, reader: &mut R) -> io::Result<u8> {
+fn over<R: Read + Drop>(rt: &HostRuntime, task: Task, reader: R) -> io::Result<u8> {
     let Ok(buffer) = BufWriter::new(rt.alloc(), io::writer(rt)) else {
         return no_memory(rt, task);
     };
     let mut writer = Counted::new(buffer);
-    let ended = match task {
-        Task::Show => run_show(rt.alloc(), reader, &mut writer),
-        Task::Pack => run_pack(
-            rt.alloc(),
-            reader,
-            &mut writer,
-            &mut Counted::new(rt.stderr()),
-        ),
-    };
+    let faults = Counted::new(rt.stderr());
+    let ended = done(rt.alloc(), task, reader, &mut writer, faults);
     // Where standard error takes nothing, what was packed goes out all the same.
     let is_written = writer.failures() == 0 && writer.flush().is_ok();
     let status = match ended {
@@ -126,6 +130,77 @@ fn over<R: Read>(rt: &HostRuntime, task: Task, reader: &mut R) -> io::Result<u8>
     // Behind a failure nothing more is written: what the buffer still holds is dropped.
     let _ = writer.into_inner().into_parts();
     Ok(status.number())
+}
+
+/// Does the task with what `reader` tells, and says what else is known of a fault.
+fn done<R: Read + Drop, W: Write, F: Write + Drop>(
+    alloc: Global,
+    task: Task,
+    reader: R,
+    writer: &mut W,
+    faults: F,
+) -> Result<Status, WriteFailed> {
+    match task {
+        Task::Show => {
+            let mut faults = faults;
+            show(alloc, reader, writer, &mut faults)
+        }
+        Task::Why => show_why(alloc, reader, writer),
+        Task::Pack => make_record(alloc, reader, writer, faults),
+        Task::Lines(why) => {
+            let mut reader = reader;
+            run_lines(alloc, &mut reader, why, writer)
+        }
+        Task::Table => {
+            let mut reader = reader;
+            run_table(alloc, &mut reader, writer)
+        }
+    }
+}
+
+/// Prints the entries of a record; behind a fault `faults` is told what the octets look like.
+fn show<R: Read + Drop, W: Write, F: Write>(
+    alloc: Global,
+    reader: R,
+    writer: &mut W,
+    faults: &mut F,
+) -> Result<Status, WriteFailed> {
+    let mut noted = Noted::new(alloc, reader);
+    let status = run_show(alloc, &mut noted, writer)?;
+    if status == Status::Fault {
+        write_hint(noted.first(), faults)?;
+    }
+    Ok(status)
+}
+
+/// Prints the entries of a record, why one is refused, and behind a fault what the octets look like.
+fn show_why<R: Read + Drop, W: Write>(
+    alloc: Global,
+    reader: R,
+    writer: &mut W,
+) -> Result<Status, WriteFailed> {
+    let mut noted = Noted::new(alloc, reader);
+    let status = run_why(alloc, &mut noted, writer)?;
+    if status == Status::Fault {
+        write_hint(noted.first(), writer)?;
+    }
+    Ok(status)
+}
+
+/// Makes a record of lines; behind the fault of a line `faults` is told which rule it breaks.
+fn make_record<R: Read + Drop, W: Write, F: Write + Drop>(
+    alloc: Global,
+    reader: R,
+    writer: &mut W,
+    faults: F,
+) -> Result<Status, WriteFailed> {
+    let mut kept = Kept::new(alloc, reader);
+    let mut told = Told::new(faults);
+    let status = run_pack(alloc, &mut kept, writer, &mut told)?;
+    if status == Status::Fault {
+        write_rule(alloc, &kept, &mut told)?;
+    }
+    Ok(status)
 }
 
 /// Replays the certificate of that path over the record of that path, for one end where it is given. The files are

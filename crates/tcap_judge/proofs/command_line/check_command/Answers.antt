@@ -15,11 +15,13 @@ with_last last = record (new_shape (codes "check")) {
 
 pub returns : goal.returns
 returns c =
-    let about_is : app_of c.about.result ≡ new_app (codes "check") = ap app_of_fields c.about.ensures ∙ c.new.ensures.app in
+    let about_is : app_of c.after_help.result ≡ new_app (codes "check") =
+    ap app_of_fields c.after_help.ensures ∙ ap app_of_fields c.about.ensures ∙ c.new.ensures.app in
     let with_record = c.in_ok-arg.ensures.shape c.needed_arg-record.ensures.local ∙ ap₂ with_rule about_is c.needed_arg-record.ensures.rule in
     let with_table = c.in_ok-arg-2.ensures.shape c.needed_arg-table.ensures.local ∙ ap₂ with_rule with_record c.needed_arg-table.ensures.rule in
     let about_local =
-    ap (λ (f : Command-F Command). f.has_globals) c.about.ensures ∙ c.new.ensures.local in
+    ap (λ (f : Command-F Command). f.has_globals) c.after_help.ensures
+    ∙ ap (λ (f : Command-F Command). f.has_globals) c.about.ensures ∙ c.new.ensures.local in
     let record_local = c.in_ok-arg.ensures.globals ∙ ap₂ (λ a b. a || b) about_local c.needed_arg-record.ensures.local in
     let table_local = c.in_ok-arg-2.ensures.globals ∙ ap₂ (λ a b. a || b) record_local c.needed_arg-table.ensures.local in
     let with_cert = c.in_ok-arg-3.ensures.shape c.needed_arg-cert.ensures.local ∙ ap₂ with_rule with_table c.needed_arg-cert.ensures.rule in

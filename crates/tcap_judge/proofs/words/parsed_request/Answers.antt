@@ -8,7 +8,7 @@ use Rattle.clap.specs.Simple.{HasMatchesOf, subcommand_of, subcommand_rows_of}
 use Rattle.clap.specs.declared.builder.command.Command.{Command}
 use Rattle.clap.specs.declared.parser.matches.ArgMatches.{ArgMatches}
 use Rattle.tcap_judge.specs.CommandLine.{placeless, tool}
-use Rattle.tcap_judge.proofs.Matches.{asked_of, blame_asked_of, blame_there, check_asked_of, check_made, check_there, end_named, has_name, judge_asked_of, judge_made, judge_there, no_name, other_name}
+use Rattle.tcap_judge.proofs.Matches.{asked_of, blame_asked_of, blame_there, check_asked_of, check_made, check_there, end_named, has_name, judge_asked_of, judge_made, judge_there, no_name, other_name, show_asked_of, table_asked_of, table_there}
 use Rattle.tcap_judge.proofs.PlacelessCommands.{fault_of_same, simple_and_free_same, simple_same, subcommand_same, takes_same}
 use Rattle.tcap_judge.proofs.Tool.{IsKnown, as_fault, became_memory, tool_simple, tool_is_simple}
 use Rattle.tcap_judge.proofs.words.parsed_request.Goals as goal
@@ -63,23 +63,25 @@ unreachable-requires-in_default-name c =
     other_name _ c.in-Some.name.now
     (known c.in_ok-command.command (texts c.args.words.now) c.in_ok-matches.matches c.in_ok-command.ensures met.matches met.kinds)
     c.in-Some.ensures.name c.in_default-name.not-show c.in_default-name.not-pack c.in_default-name.not-check
-    c.in_default-name.not-judge c.in_default-name.not-blame
+    c.in_default-name.not-judge c.in_default-name.not-blame c.in_default-name.not-table
 
 pub returns-in-show-clause-asks : goal.returns-in-show-clause-asks
 returns-in-show-clause-asks c =
     let words = texts c.args.words.now in
     let m = c.in_ok-matches.matches in
-    asked_of m words (codes "RECORD") c.in-Some.name.now (codes "show") (found_of c.in-Some.found.now) c.get_str.result
+    show_asked_of m words c.in-Some.name.now (found_of c.in-Some.found.now) c.get_str-path.result
+    c.is_set-with_reasons.result c.is_set-of_lines.result
     (rows c.in_ok-command.command words m c.in_ok-command.ensures c.in_ok-matches.ensures.matches)
-    c.in-Some.ensures.name c.in-Some.ensures.rows c.in-show.is c.get_str.ensures
+    c.in-Some.ensures.name c.in-Some.ensures.rows c.in-show.is c.get_str-path.ensures c.is_set-with_reasons.ensures
+    c.is_set-of_lines.ensures
 
 pub returns-in-pack-clause-asks : goal.returns-in-pack-clause-asks
 returns-in-pack-clause-asks c =
     let words = texts c.args.words.now in
     let m = c.in_ok-matches.matches in
-    asked_of m words (codes "LINES") c.in-Some.name.now (codes "pack") (found_of c.in-Some.found.now) c.get_str-in-pack.result
+    asked_of m words (codes "LINES") c.in-Some.name.now (codes "pack") (found_of c.in-Some.found.now) c.get_str.result
     (rows c.in_ok-command.command words m c.in_ok-command.ensures c.in_ok-matches.ensures.matches)
-    c.in-Some.ensures.name c.in-Some.ensures.rows c.in-pack.is c.get_str-in-pack.ensures
+    c.in-Some.ensures.name c.in-Some.ensures.rows c.in-pack.is c.get_str.ensures
 
 pub returns-in-show-clause-faults : goal.returns-in-show-clause-faults
 returns-in-show-clause-faults c =
@@ -221,3 +223,24 @@ returns-in-blame-clause-asks c =
     (rows c.in_ok-command.command words m c.in_ok-command.ensures c.in_ok-matches.ensures.matches)
     c.in-Some.ensures.name c.in-Some.ensures.rows c.in-blame.is c.needed-record-in-blame.ensures
     c.needed-table-in-blame.ensures
+
+pub returns-in-table-clause-faults : goal.returns-in-table-clause-faults
+returns-in-table-clause-faults c =
+    clear c.in_ok-command.command (texts c.args.words.now) c.in_ok-command.ensures c.in_ok-matches.ensures.kinds
+
+pub needed-table-requires-in-table : goal.needed-table-requires-in-table
+needed-table-requires-in-table c =
+    let words = texts c.args.words.now in
+    let m = c.in_ok-matches.matches in
+    table_there m words c.in-Some.name.now (found_of c.in-Some.found.now)
+    (rows c.in_ok-command.command words m c.in_ok-command.ensures c.in_ok-matches.ensures.matches)
+    (clear c.in_ok-command.command words c.in_ok-command.ensures c.in_ok-matches.ensures.kinds)
+    c.in-Some.ensures.name c.in-Some.ensures.rows c.in-table.is
+
+pub returns-in-table-clause-asks : goal.returns-in-table-clause-asks
+returns-in-table-clause-asks c =
+    let words = texts c.args.words.now in
+    let m = c.in_ok-matches.matches in
+    table_asked_of m words c.in-Some.name.now (found_of c.in-Some.found.now) c.needed-table-in-table.result.now
+    (rows c.in_ok-command.command words m c.in_ok-command.ensures c.in_ok-matches.ensures.matches)
+    c.in-Some.ensures.name c.in-Some.ensures.rows c.in-table.is c.needed-table-in-table.ensures

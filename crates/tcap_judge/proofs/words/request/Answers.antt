@@ -12,12 +12,12 @@ use Rattle.tcap_judge.proofs.words.request.Goals as goal
 pub returns-clause-show : goal.returns-clause-show
 returns-clause-show c program is =
     show_asked (texts c.args.words.now) _ c.parsed_request.result is (show_taken program)
-    c.parsed_request.ensures.asks c.parsed_request.ensures.taken None (show_named program)
+    c.parsed_request.ensures.asks c.parsed_request.ensures.taken None false false (show_named program)
 
 pub returns-clause-show_path : goal.returns-clause-show_path
 returns-clause-show_path c program path is plain =
     show_asked (texts c.args.words.now) _ c.parsed_request.result is (show_path_taken program path plain)
-    c.parsed_request.ensures.asks c.parsed_request.ensures.taken (Some path) (show_path_named program path plain)
+    c.parsed_request.ensures.asks c.parsed_request.ensures.taken (Some path) false false (show_path_named program path plain)
 
 pub returns-clause-pack : goal.returns-clause-pack
 returns-clause-pack c program is =

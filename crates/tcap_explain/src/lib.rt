@@ -1,0 +1,31 @@
+//! Faults in words: where in its message a fault stands and what stands there, which rule a line of digits breaks, what
+//! an operation table holds, and what input was given by mistake.
+#![tactic(auto)]
+
+mod around;
+mod digits;
+mod hints;
+mod kept;
+mod lines;
+mod names;
+mod noted;
+mod part_tables;
+mod parts;
+mod path;
+mod rules;
+mod showing;
+mod stop;
+mod table_faults;
+mod table_rows;
+mod tables;
+mod told;
+mod why;
+
+pub use hints::write_hint;
+pub use kept::Kept;
+pub use lines::run_lines;
+pub use noted::Noted;
+pub use rules::write_rule;
+pub use tables::run_table;
+pub use told::Told;
+pub use why::run_why;

@@ -1,0 +1,139 @@
+//! The rows of an operation table.
+
+use crate::digits::push_hex;
+use serde_json::Value;
+use std::alloc::{AllocError, Global};
+use std::collections::BTreeMap;
+use tcap_ber::ObjectIdView;
+use tcap_end::Table;
+use tcap_parts::CodeView;
+
+/// The rows of a table in the order of their codes: the local ones by their numbers, then the global ones by their octets.
+#[derive(Debug, Drop)]
+struct Order {
+    locals: BTreeMap<i32, usize>,
+    globals: BTreeMap<Vec<u8>, usize>,
+}
+
+/// The number of a local code.
+fn local_of(value: &Value) -> Option<i32> {
+    i32::try_from(value.as_number()?.as_i128()?).ok()
+}
+
+/// The octets of a global code.
+fn global_of(alloc: Global, value: &Value) -> Result<Option<Vec<u8>>, AllocError> {
+    let Some(digits) = value.as_str() else {
+        return Ok(None);
+    };
+    match hex::decode(alloc, digits) {
+        Ok(octets) => Ok(Some(octets)),
+        Err(hex::FromHexError::OutOfMemory) => Err(AllocError),
+        Err(_) => Ok(None),
+    }
+}
+
+/// Appends a code.
+fn push_code(alloc: Global, text: &mut String, value: &Value) -> Result<(), AllocError> {
+    if let Some(local) = local_of(value) {
+        return write!(text, "{local}");
+    }
+    if let Some(octets) = global_of(alloc, value)? {
+        text.push_str("g:")?;
+        push_hex(text, &octets)?;
+    }
+    Ok(())
+}
+
+/// Appends the codes that are linked, in the order of the table.
+fn push_linked(alloc: Global, text: &mut String, codes: &[Value]) -> Result<(), AllocError> {
+    for (number, code) in codes.iter().enumerate() {
+        text.push_str(if number == 0 { " linked=" } else { "," })?;
+        push_code(alloc, text, code)?;
+    }
+    Ok(())
+}
+
+/// The numbers of the rows, by their codes.
+fn order_of(alloc: Global, rows: &[Value]) -> Result<Order, AllocError> {
+    let mut order = Order {
+        locals: BTreeMap::new(alloc),
+        globals: BTreeMap::new(alloc),
+    };
+    for (number, row) in rows.iter().enumerate() {
+        let Some(code) = row.get("code") else {
+            continue;
+        };
+        if let Some(local) = local_of(code) {
+            order.locals.insert(local, number)?;
+        } else if let Some(octets) = global_of(alloc, code)? {
+            order.globals.insert(octets, number)?;
+        }
+    }
+    Ok(order)
+}
+
+/// Appends the line of the row of an operation.
+fn push_row(
+    alloc: Global,
+    text: &mut String,
+    table: &Table,
+    code: CodeView,
+    row: &Value,
+) -> Result<(), AllocError> {
+    if let Some(class) = table.class_of(code) {
+        text.push_str("op=")?;
+        if let Some(value) = row.get("code") {
+            push_code(alloc, text, value)?;
+        }
+        write!(text, " class={class}")?;
+        if let Some(codes) = row.get("linked").and_then(Value::as_array) {
+            push_linked(alloc, text, codes)?;
+        }
+        if !table.expires(code) {
+            text.push_str(" expires=false")?;
+        }
+        text.push_str("\n")?;
+    }
+    Ok(())
+}
+
+/// Appends the lines of the rows in the order of their codes.
+fn push_ordered(
+    alloc: Global,
+    text: &mut String,
+    table: &Table,
+    rows: &[Value],
+) -> Result<(), AllocError> {
+    let order = order_of(alloc, rows)?;
+    for (local, number) in &order.locals {
+        if let Some(row) = rows.get(*number) {
+            push_row(alloc, text, table, CodeView::Local(*local), row)?;
+        }
+    }
+    for (octets, number) in &order.globals {
+        if let (Some(row), Some(id)) = (rows.get(*number), ObjectIdView::new(octets)) {
+            push_row(alloc, text, table, CodeView::Global(id), row)?;
+        }
+    }
+    Ok(())
+}
+
+/// Appends the lines of a table of this text: one for each row, in the order of the codes, and one more where
+/// transactions may be closed by prearrangement.
+pub(crate) fn push_table(
+    alloc: Global,
+    text: &mut String,
+    table: &Table,
+    octets: &[u8],
+) -> Result<(), AllocError> {
+    let Ok(value) = Value::from_slice(alloc, octets) else {
+        return Err(AllocError);
+    };
+    if let Some(rows) = value.get("operations").and_then(Value::as_array) {
+        push_ordered(alloc, text, table, rows)?;
+    }
+    if table.prearranged() {
+        text.push_str("prearranged=true\n")?;
+    }
+    Ok(())
+}
