@@ -85,6 +85,7 @@ first_in fates (m ∷ more) number is = by (slice_get fates m.number) refl
   where
     found : Option Fate → Option ℕ
     found f = cond (is_lost_fate f) (Some m.number) None
+
     by : (fate : Option Fate) → slice_get fates m.number ≡ fate
         → lost_front fates (m ∷ more) ≡ number ∷ lost_front fates more
     by None e = let no : None ≡ Some number = sym (ap found e) ∙ is in cc
@@ -110,6 +111,7 @@ one_lost c side r number is =
     dropped : (count : ℕ) (messages : List OnItsWay) → drop count (drop 1 messages) ≡ drop (suc count) messages
     dropped count [] = drop_none count ∙ sym (drop_none (suc count))
     dropped count (m ∷ more) = refl
+
     twice : (numbers : List ℕ) → losing side numbers (losing side (number ∷ []) r) ≡ losing side (number ∷ numbers) r
     twice numbers = ap₂ (λ (events : List Event) (world : World). let r : Replay = record { events = events; world = world } in r)
         (append_assoc r.events (Loses side number ∷ []) (map (Loses side) numbers))

@@ -189,6 +189,7 @@ module _ (table : Table) (c : Certificate) (gap : ℕ) where
     where
       behind : Stand r.world.sent (n + 1) items
       behind = more_stand r.world.sent items (Sent side message) n at
+
       by : (b : Bool)
           → ((mid : Replay) → mid.world.sent ≡ r.world.sent → deliveries_replayed table c gap (n + 1) fates items mid ≡ Ok next
           → plays (delivery_played table c) (due_in gap (n + 1) fates) mid ≡ Some next)

@@ -16,12 +16,7 @@ use tcap_end::{EndState, HalfName, Table};
 use tcap_record::End;
 
 /// An end receives the oldest message of a channel, which has to be that of the number.
-fn hear(
-    end: &mut EndState,
-    table: &Table,
-    channel: &Channel,
-    number: usize,
-) -> Result<(), Stopped>
+fn hear(end: &mut EndState, table: &Table, channel: &Channel, number: usize) -> Result<(), Stopped>
     ensures { OnOk result (heard table.now number channel.now end.old ≡ Some end.new) }
 {
     let Some(first) = channel.first() else {
@@ -47,11 +42,7 @@ impl Playing {
     }
 
     /// The messages at the front of what is on its way from an end whose fate says so are lost.
-    pub(crate) fn lose_front(
-        &mut self,
-        certificate: &Certificate,
-        side: End,
-    ) -> Result<(), Stopped>
+    pub(crate) fn lose_front(&mut self, certificate: &Certificate, side: End) -> Result<(), Stopped>
         ensures { OnOk result (replay_of self.new ≡ lost_from_front certificate.now side (replay_of self.old)) }
     {
         for _ in 0..self.channel(side).len() {
@@ -64,12 +55,7 @@ impl Playing {
     }
 
     /// A half of an end closes unseen.
-    pub(crate) fn close(
-        &mut self,
-        table: &Table,
-        side: End,
-        name: HalfName,
-    ) -> Result<(), Stopped>
+    pub(crate) fn close(&mut self, table: &Table, side: End, name: HalfName) -> Result<(), Stopped>
         ensures { Takes (stepped table.now (Closes side name) (replay_of self.old)) result (replay_of self.new) }
     {
         let own = copy_name(&name);

@@ -100,7 +100,8 @@ impl Playing {
             End::A => self.from_a.push(number, message.to_message(alloc)?)?,
             End::B => self.from_b.push(number, message.to_message(alloc)?)?,
         }
-        self.sent.push(Kept::Message(side, message.to_message(alloc)?))
+        self.sent
+            .push(Kept::Message(side, message.to_message(alloc)?))
     }
 
     /// An end sends a message.
