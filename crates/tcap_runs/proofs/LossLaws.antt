@@ -1,5 +1,5 @@
 -- What is lost at the front of a channel, one message after the other.
-use Rattle.std.proofs.Common.{◌≡◌, ℕ, zero, suc, ◌+◌, List, [], ◌∷◌, ◌++◌, map, drop, length, Option, Some, None, refl, sym, ap, ap₂, ◌∙◌, arith}
+use Rattle.std.proofs.Common.{◌≡◌, ℕ, zero, suc, ◌+◌, List, [], ◌∷◌, map, drop, length, Option, Some, None, refl, sym, ap, ap₂, ◌∙◌, arith}
 use Rattle.std.specs.Prelude.{slice_get, cond}
 use Rattle.std.proofs.lemmas.List.{append-nil, append_assoc}
 use Rattle.tcap_record.specs.declared.entry.End.{End as Side}
@@ -10,7 +10,7 @@ use Rattle.tcap_check.specs.World.{OnItsWay, World, channel_from, with_channel}
 use Rattle.tcap_check.specs.Run.{Event, Loses}
 use Rattle.tcap_check.specs.Certificate.{Certificate}
 use Rattle.tcap_check.specs.Replayed.{Replay, if_lost, losing, lost_from_front, lost_front}
-use Rattle.tcap_runs.specs.Playing.{first_lost, is_lost, is_lost_fate}
+use Rattle.tcap_runs.specs.Playing.{first_lost, is_lost_fate}
 
 -- ---- channels
 

@@ -1,8 +1,6 @@
 -- What a certificate gives in a gap, the steps alone give too.
-use Rattle.std.proofs.Common.{◌≡◌, ℕ, suc, ℤ, ◌+◌, ◌==◌, Bool, true, false, cond, List, [], ◌∷◌, ◌++◌, drop, take, filter, length, Option, Some, None, Result, Ok, Err, refl, sym, ap, ◌∙◌, append-nil, arith}
+use Rattle.std.proofs.Common.{◌≡◌, ℕ, suc, ℤ, ◌+◌, ◌==◌, Bool, true, false, cond, List, [], ◌∷◌, ◌++◌, drop, take, filter, Option, Some, None, Ok, refl, sym, ap, ◌∙◌, append-nil, arith}
 use Rattle.std.specs.Prelude.{nat_lt, ok_or, slice_get}
-use Rattle.tcap_parts.specs.declared.component.Component.{Component}
-use Rattle.tcap_msg.specs.declared.message.Message.{Message}
 use Rattle.tcap_msg.specs.declared.message.Message.TheVariants.{Unidirectional, Begin, Continue, End as EndMessage, Abort}
 use Rattle.tcap_msg.specs.Parts.{components_in}
 use Rattle.tcap_record.specs.declared.entry.End.{End as Side}
@@ -27,7 +25,7 @@ use Rattle.tcap_check.specs.Replayed.{Replay, closings_replayed, deliveries_repl
 use Rattle.tcap_check.proofs.RunLaws.{grows, some_is, then_some, where_some}
 use Rattle.tcap_check.proofs.ReplayLaws.{IsGapEvent, closings_replay, expiries_replay, gap_event}
 use Rattle.tcap_runs.specs.Running.{next_gap}
-use Rattle.tcap_runs.specs.Gaps.{closing_played, delivery_by, delivery_played, expiry_played, gap_played, half_in, half_named, invocation_in, invocation_named, plays, sender_in, sender_of}
+use Rattle.tcap_runs.specs.Gaps.{closing_played, delivery_by, delivery_played, expiry_played, half_in, half_named, invocation_in, invocation_named, plays, sender_in}
 
 -- ---- what is listed
 

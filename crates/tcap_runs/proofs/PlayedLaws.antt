@@ -1,6 +1,6 @@
 -- Where a certificate gives a run, the steps alone give it too.
-use Rattle.std.proofs.Common.{◌≡◌, ℕ, ◌+◌, ◌==◌, Bool, true, false, List, [], ◌∷◌, ◌++◌, drop, map, length, Option, Some, None, Result, Ok, Err, refl, sym, ap, ap₂, ◌∙◌, append-nil}
-use Rattle.std.specs.Prelude.{nat_lt, not, ok_or, option_map, slice_get}
+use Rattle.std.proofs.Common.{◌≡◌, ℕ, ◌+◌, ◌==◌, List, [], ◌∷◌, ◌++◌, drop, map, length, Option, Some, None, Result, Ok, Err, refl, sym, ap, ap₂, ◌∙◌, append-nil}
+use Rattle.std.specs.Prelude.{not, ok_or, option_map, slice_get}
 use Rattle.std.specs.Result.{result_ok}
 use Rattle.tcap_msg.specs.declared.message.AbortReason.TheVariants.{Cause, Dialogue as ByDialogue}
 use Rattle.tcap_msg.specs.declared.message.Message.{Message}
@@ -10,10 +10,10 @@ use Rattle.tcap_record.specs.declared.entry.End.{End as Side}
 use Rattle.tcap_record.specs.declared.entry.End.TheVariants as sides
 use Rattle.tcap_record.specs.declared.entry.Entry.{Entry}
 use Rattle.tcap_end.specs.Table.{Table}
-use Rattle.tcap_end.specs.Step.{◌>>◌, ◌>>=◌}
+use Rattle.tcap_end.specs.Step.{◌>>◌}
 use Rattle.tcap_end.proofs.AnsweringLaws.{needs_ok, ok_same, some_ok, then_ok}
-use Rattle.tcap_check.specs.World.{Item, OnItsWay, Sent, World, channel_from, other, with_channel}
-use Rattle.tcap_check.specs.Run.{Event, Replies, Quiet, after, after_quiet, joined, then_so}
+use Rattle.tcap_check.specs.World.{Item, OnItsWay, Sent, World, other, with_channel}
+use Rattle.tcap_check.specs.Run.{Event, Replies, after, joined, then_so}
 use Rattle.tcap_check.specs.declared.certificate.Fate.{Fate}
 use Rattle.tcap_check.specs.declared.fault.CheckFault.{CheckFault}
 use Rattle.tcap_check.specs.declared.fault.Reason.{Reason}
@@ -22,8 +22,8 @@ use Rattle.tcap_check.specs.declared.checker.Report.{Report}
 use Rattle.tcap_check.specs.Checking.{map_ok, reported}
 use Rattle.tcap_check.specs.Certificate.{Certificate}
 use Rattle.tcap_check.specs.Entries.{item_of}
-use Rattle.tcap_check.specs.Follows.{invoking_half, sending, sending_by, taken_by}
-use Rattle.tcap_check.specs.Replayed.{Replay, certificate_fits, entries_replayed, entry_replayed, fault_at, gap_replayed, happens, implied_over, is_abort, is_gap, is_nothing, is_overtaking, item_replayed, lost_from_both, lost_from_front, message_by, message_replayed, next_entry, nothing_replayed, reply_replayed, replayed, send_replayed, sent_replayed, stepped, with_step}
+use Rattle.tcap_check.specs.Follows.{invoking_half, sending_by, taken_by}
+use Rattle.tcap_check.specs.Replayed.{Replay, certificate_fits, entries_replayed, entry_replayed, fault_at, gap_replayed, happens, implied_over, is_abort, is_gap, is_nothing, is_overtaking, item_replayed, lost_from_both, lost_from_front, message_by, next_entry, nothing_replayed, reply_replayed, replayed, send_replayed, sent_replayed, stepped, with_step}
 use Rattle.tcap_check.proofs.RunLaws.{map_some, reply, some_is}
 use Rattle.tcap_check.proofs.ChannelLaws.{get_new}
 use Rattle.tcap_check.proofs.ReplaySteps.{losing_replays}

@@ -1,6 +1,5 @@
 -- What the listed events of a gap name, and what is delivered in it.
-use Rattle.std.specs.Prelude.{ℕ, ℤ, ◌+◌, List, [], ◌∷◌, slice_get, Option, Some, None, ◌==◌, cond}
-use Rattle.tcap_msg.specs.declared.message.Message.{Message}
+use Rattle.std.specs.Prelude.{ℕ, ℤ, List, [], ◌∷◌, slice_get, Option, Some, None}
 use Rattle.tcap_msg.specs.declared.message.Message.TheVariants.{Begin}
 use Rattle.tcap_msg.specs.Parts.{components_in}
 use Rattle.tcap_record.specs.declared.entry.End.{End as Side}

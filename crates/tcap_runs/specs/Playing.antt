@@ -13,9 +13,7 @@ use Rattle.tcap_check.specs.declared.certificate.Fate.TheVariants.{Lost}
 use Rattle.tcap_check.specs.declared.fault.CheckFault.{CheckFault}
 use Rattle.tcap_check.specs.World.{OnItsWay, World, channel_from}
 use Rattle.tcap_check.specs.Replayed.{Replay, with_step}
-use Rattle.tcap_runs.specs.declared.channel.OnWay.{OnWay}
 use Rattle.tcap_runs.specs.declared.playing.Playing.{Playing}
-use Rattle.tcap_runs.specs.Steps.{on_its_way}
 
 -- ---- what is kept
 

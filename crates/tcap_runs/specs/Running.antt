@@ -1,5 +1,5 @@
 -- The run of a certificate, where there is nothing against it but the steps themselves.
-use Rattle.std.specs.Prelude.{ℕ, List, [], ◌∷◌, filter, length, Option, Some, None, Result, Ok, Err, ◌==◌, option_map}
+use Rattle.std.specs.Prelude.{ℕ, List, [], ◌∷◌, filter, Option, Some, None, Result, Ok, Err, ◌==◌, option_map}
 use Rattle.std.specs.Result.{result_ok}
 use Rattle.tcap_msg.specs.declared.message.Message.{Message}
 use Rattle.tcap_msg.specs.Parts.{cause_in}

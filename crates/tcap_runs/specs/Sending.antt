@@ -1,12 +1,12 @@
 -- What an end, or its provider, sends.
-use Rattle.std.specs.Prelude.{ℕ, ℤ, List, drop, Option, Some, None}
+use Rattle.std.specs.Prelude.{ℕ, ℤ, drop, Option, Some, None}
 use Rattle.tcap_msg.specs.declared.message.Message.{Message}
 use Rattle.tcap_record.specs.declared.entry.End.{End as Side}
 use Rattle.tcap_end.specs.declared.half.HalfName.{HalfName}
 use Rattle.tcap_end.specs.Table.{Table}
 use Rattle.tcap_check.specs.World.{channel_from, other, with_channel}
 use Rattle.tcap_check.specs.Run.{Expires, Replies, joined}
-use Rattle.tcap_check.specs.Replayed.{Replay, implied, or_same, stepped, with_step}
+use Rattle.tcap_check.specs.Replayed.{Replay, or_same, stepped, with_step}
 
 -- the earlier invocation of that ID ends, where that may be
 abbrev pub implied_by : Table → Side → HalfName → Option ℤ → Replay → Replay

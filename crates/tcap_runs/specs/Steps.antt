@@ -1,6 +1,5 @@
 -- What the steps of a run, and what is kept of messages, stand for.
-use Rattle.std.specs.Prelude.{ℕ, List, [], ◌∷◌, map}
-use Rattle.tcap_msg.specs.declared.message.Message.{Message}
+use Rattle.std.specs.Prelude.{List, map}
 use Rattle.tcap_runs.specs.declared.step.Step.{Step}
 use Rattle.tcap_runs.specs.declared.step.Step.TheVariants as steps
 use Rattle.tcap_runs.specs.declared.channel.OnWay.{OnWay}

@@ -1,4 +1,4 @@
-use Rattle.std.proofs.Common.{◌≡◌, sym}
+use Rattle.std.proofs.Common.{sym}
 use Rattle.tcap_runs.specs.Steps.{events_of}
 use Rattle.tcap_runs.proofs.PlayedLaws.{run_is}
 use Rattle.tcap_runs.proofs.running.run_of.Goals as goal
