@@ -29,12 +29,13 @@ enum {
     TCAPJUDGE_NOT_SHOWN = 4,  /* only check */
     TCAPJUDGE_BLAMED = 5,     /* only of an end, by blame */
     TCAPJUDGE_NOT_BLAMED = 6, /* only of an end, by blame */
-    TCAPJUDGE_NOTHING = 7     /* nothing is said: of an end where the record or the table has a fault; or a wrong call */
+    TCAPJUDGE_NOTHING = 7     /* nothing is said: of an end where the record or the table has a fault or memory ran out; or of
+                               * a wrong call */
 };
 
 /* What a call returns: the exit status of tcapjudge. */
 enum {
-    TCAPJUDGE_STATUS_LAWFUL = 0,
+    TCAPJUDGE_STATUS_LAWFUL = 0,    /* by blame: both ends are, or the record is and no end is blamed */
     TCAPJUDGE_STATUS_REFUTED = 1,   /* refuted, or an end is blamed */
     TCAPJUDGE_STATUS_UNDECIDED = 2, /* undecided, not shown */
     TCAPJUDGE_STATUS_FAULT = 3,     /* of the table, the certificate or the record; or memory ran out */
@@ -42,7 +43,8 @@ enum {
 };
 
 struct tcapjudge_answer {
-    uint64_t entry;   /* LAWFUL, NOT_BLAMED: how many entries; FAULT: the place; else the entry's number, counted from 0 */
+    uint64_t entry;   /* LAWFUL: how many entries; NOT_BLAMED: how many before the first that is no message, or all;
+                       * FAULT: the place; else the entry's number, counted from 0 */
     uint64_t unheard; /* LAWFUL of one end: how many messages of its peer are taken as unheard; else 0 */
     uint8_t verdict;  /* one of the first list */
     uint8_t reason;   /* REFUTED, BLAMED: the kind, 1 to 15; UNDECIDED, NOT_SHOWN, FAULT: the reason, 99 for memory; else 0 */

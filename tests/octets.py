@@ -43,7 +43,7 @@ def look_at_cut(program, record, count):
     """The record's first octets, so many."""
     show, check, judge, blame = said_of(program, record[:count], 0)
     if count == 0:
-        wanted = "", "LAWFUL 0\n", "LAWFUL 0\n", "LAWFUL 0\nNOT BLAMED A 0\nNOT BLAMED B 0\n"
+        wanted = "", "LAWFUL 0\n", "LAWFUL 0\n", "LAWFUL 0\nLAWFUL A 0 unheard 0\nLAWFUL B 0 unheard 0\n"
     else:
         wanted = (f"FAULT 21 {count}\n",) * 4
     found = show, check, judge, blame

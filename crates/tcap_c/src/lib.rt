@@ -68,8 +68,8 @@ fn refuse(answer: &mut Answer) -> u8
 
 /// Judges a record, `octets`, by the text of an operation table, as `tcapjudge judge` does where `end` is 0, and as
 /// `judge --end` where it is the octet `A` or `B`. Puts what is said into `answer`, and answers the exit status: 0 LAWFUL,
-/// 1 REFUTED, 2 UNDECIDED, 3 a fault of the table or the record, or 99 where memory ran out. 4 where `end` is another
-/// number; then nothing is said.
+/// 1 REFUTED, 2 UNDECIDED, 3 a fault of the table or the record, or memory ran out (the reason is then 99). 4 where `end` is
+/// another number; then nothing is said.
 #[unsafe(no_mangle)]
 pub extern "C" fn tcapjudge_judge(
     alloc: Global,
@@ -90,8 +90,8 @@ pub extern "C" fn tcapjudge_judge(
 }
 
 /// Replays the text of a certificate over a record, as `tcapjudge check` and `check --end` do. Puts what is said into
-/// `answer`, and answers the exit status: 0 LAWFUL, 2 NOT SHOWN, 3 a fault of one of the three, or 99 where memory ran out.
-/// 4 where `end` is none of 0, `A` and `B`; then nothing is said.
+/// `answer`, and answers the exit status: 0 LAWFUL, 2 NOT SHOWN, 3 a fault of one of the three, or memory ran
+/// out (the reason is then 99). 4 where `end` is none of 0, `A` and `B`; then nothing is said.
 #[unsafe(no_mangle)]
 pub extern "C" fn tcapjudge_check(
     alloc: Global,
@@ -114,8 +114,9 @@ pub extern "C" fn tcapjudge_check(
 }
 
 /// Judges a record and each of its ends, as `tcapjudge blame` does. Puts what is said into `answers`, and answers the exit
-/// status: 0 where both ends are LAWFUL, 1 where the record is REFUTED or an end BLAMED, 2 where neither is so, 3 a fault of
-/// the table or the record, or 99 where memory ran out; then nothing is said of the ends.
+/// status: 1 where the record is REFUTED or an end BLAMED, 0 where both ends are LAWFUL, else that of the record: 0 LAWFUL,
+/// 2 UNDECIDED, 3 a fault of the table or the record, or memory ran out (the reason is then 99); then nothing is said of
+/// the ends.
 #[unsafe(no_mangle)]
 pub extern "C" fn tcapjudge_blame(
     alloc: Global,

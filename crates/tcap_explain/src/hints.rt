@@ -46,7 +46,7 @@ fn are_lines(octets: &[u8]) -> bool {
             _ => return false,
         }
     }
-    false
+    rest.is_empty() && !octets.is_empty()
 }
 
 /// The first octets of what is to be a message: those behind quiet marks and the octet of an end, where they are there.

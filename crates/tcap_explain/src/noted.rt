@@ -14,6 +14,8 @@ const NOTED: usize = 512;
 pub struct Noted<R> {
     reader: R,
     first: Vec<u8>,
+    // Whether memory ran out: nothing more is noted then.
+    lost: bool,
 }
 
 impl<R> Noted<R> {
@@ -24,6 +26,7 @@ impl<R> Noted<R> {
         Noted {
             reader,
             first: Vec::new(alloc),
+            lost: false,
         }
     }
 
@@ -41,7 +44,9 @@ impl<R: Read> Read for Noted<R> {
     fn read(&mut self, buffer: &mut [u8]) -> Result<usize, Failed> {
         let told = self.reader.read(buffer)?;
         let room = NOTED.saturating_sub(self.first.len()).min(told);
-        let _ = self.first.extend_from_slice(&buffer[..room]);
+        if !self.lost && self.first.extend_from_slice(&buffer[..room]).is_err() {
+            self.lost = true;
+        }
         Ok(told)
     }
 }

@@ -40,7 +40,7 @@ sender_in Item.Quiet = None
 abbrev pub sender_of : List Item → ℕ → Option Side
 sender_of items number = then_so (slice_get items number) sender_in
 
--- ---- steps, where there is nothing against them but the steps themselves
+-- ---- steps, without the checks of ranges, order and counts: only a step that may not happen ends them
 
 -- one after the other
 abbrev pub plays : {X : Type 0} → (X → Replay → Option Replay) → List X → Replay → Option Replay

@@ -10,7 +10,6 @@ use Rattle.tcap_end.specs.declared.fault.EndFault.{EndFault}
 use Rattle.tcap_end.specs.End.{End}
 use Rattle.tcap_check.specs.declared.certificate.Fate.{Fate}
 use Rattle.tcap_check.specs.declared.certificate.Fate.TheVariants.{Lost}
-use Rattle.tcap_check.specs.declared.fault.CheckFault.{CheckFault}
 use Rattle.tcap_check.specs.World.{OnItsWay, World, channel_from}
 use Rattle.tcap_check.specs.Replayed.{Replay, with_step}
 use Rattle.tcap_runs.specs.declared.playing.Playing.{Playing}
@@ -29,17 +28,9 @@ channel_at side p = channel_from side (world_of p)
 
 -- ---- what a call does
 
--- Where the certificate gives what is behind a step, the call leaves that.
-abbrev pub Goes : {E : Type 0} → Result Replay CheckFault → Result (Unit {0}) E → Replay → Type 0
-Goes step result left = OnOk result ((r : Replay) → step ≡ Ok r → left ≡ r)
-
--- The call takes a step.
+-- On Ok the step may happen, and the call leaves what is behind it.
 abbrev pub Takes : {E : Type 0} → Option Replay → Result (Unit {0}) E → Replay → Type 0
 Takes step result left = OnOk result (step ≡ Some left)
-
--- The call leaves what is behind a step, where there is one.
-abbrev pub GoesSome : {E : Type 0} → Option Replay → Result (Unit {0}) E → Replay → Type 0
-GoesSome step result left = OnOk result ((r : Replay) → step ≡ Some r → left ≡ r)
 
 abbrev pub end_of : Side → Playing → End
 end_of sides.A p = p.a

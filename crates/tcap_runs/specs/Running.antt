@@ -1,4 +1,4 @@
--- The run of a certificate, where there is nothing against it but the steps themselves.
+-- The run of a certificate, without the checks of ranges, order and counts: only a step that may not happen ends it.
 use Rattle.std.specs.Prelude.{ℕ, List, [], ◌∷◌, filter, Option, Some, None, Result, Ok, Err, ◌==◌, option_map}
 use Rattle.std.specs.Result.{result_ok}
 use Rattle.tcap_msg.specs.declared.message.Message.{Message}

@@ -3,6 +3,7 @@
 ghost use Rattle.std.specs.Prelude.{◌≡◌, ◌≢◌, ◌<◌, map, Some, Ok, Err, IfOk};
 ghost use Rattle.tcap_record.specs.Viewed.{entry_read};
 ghost use Rattle.tcap_check.specs.declared.fault.Reason.TheVariants as reasons;
+ghost use Rattle.tcap_check.specs.Given.{IsGiven};
 ghost use Rattle.tcap_check.specs.Plan.{IsPlan};
 ghost use Rattle.tcap_check.specs.Entries.{item_of};
 ghost use Rattle.tcap_check.specs.Checking.{map_ok};
@@ -15,6 +16,7 @@ ghost use Rattle.tcap_runs.specs.Running.{entry_played, mark_played, message_pla
 use crate::playing::{Playing, Stopped};
 use crate::step::Step;
 use std::alloc::Global;
+use tcap_check::given::gives_a_run;
 use tcap_check::{Certificate, CheckFault, Plan, Reason, check};
 use tcap_end::Table;
 use tcap_msg::MessageParts;
@@ -120,8 +122,8 @@ const OUT_OF_MEMORY: CheckFault = CheckFault {
     entry: 0,
 };
 
-/// The run that a certificate gives for a record, step by step: a run of two ends (Q.774 3.2 and 3.3), over two channels in
-/// order that may lose messages, that sends the entries of the record, in their order, and nothing else. Else the first
+/// The run that a certificate gives for a record, step by step: a run of two ends (Q.774 3.2 and 3.3), over two channels
+/// that keep order and may lose messages, that sends the entries of the record, in their order, and nothing else. Else the first
 /// reason why the certificate gives none, at an entry, as `check` answers it; or `Memory`.
 pub fn run_of(
     alloc: Global,
@@ -129,9 +131,12 @@ pub fn run_of(
     table: &Table,
     certificate: &Certificate,
 ) -> Result<Vec<Step>, CheckFault>
-    ensures { result ≢ Err (fault_at reasons.Memory 0)
+    ensures given { IfOk result (λ steps. IsGiven table.now certificate.now «record».now.entries.items
+        (events_of steps.items)) }
+    ensures exact { result ≢ Err (fault_at reasons.Memory 0)
         → map_ok (λ steps. events_of steps.items) result ≡ replayed table.now certificate.now «record».now.entries.items }
 {
+    gives_a_run();
     check(alloc, record, table, certificate)?;
     let Ok(plan) = Plan::new(alloc, certificate) else {
         return Err(OUT_OF_MEMORY);
