@@ -103,9 +103,9 @@ CHECKED = [
     ("judge", (BEGIN + "B 6403490109\n", TABLE), "REFUTED 1 F2\n", 1),
     ("judge", (TWICE, TABLE), "UNDECIDED 0 65/45\n", 2),
     ("judge", (TWICE, b'{"operations":[]'), "FAULT 30 0\n", 3),
-    ("blame", (CONFIRMED, TABLE), "LAWFUL 3\nNOT BLAMED A 3\nNOT BLAMED B 3\n", 0),
-    ("blame", (CROSSED, TABLE), "LAWFUL 5\nNOT BLAMED A 5\nNOT BLAMED B 5\n", 0),
-    ("blame", (TWICE, TABLE), "UNDECIDED 0 65/45\nBLAMED A 0 F10\nNOT BLAMED B 1\n", 1),
+    ("blame", (CONFIRMED, TABLE), "LAWFUL 3\nLAWFUL A 3 unheard 0\nLAWFUL B 3 unheard 0\n", 0),
+    ("blame", (CROSSED, TABLE), "LAWFUL 5\nLAWFUL A 5 unheard 0\nLAWFUL B 5 unheard 0\n", 0),
+    ("blame", (TWICE, TABLE), "UNDECIDED 0 65/45\nBLAMED A 0 F10\nLAWFUL B 1 unheard 0\n", 1),
 ]
 
 
