@@ -1,9 +1,9 @@
 //! Transaction IDs (Q.773 4.2.1).
 
-ghost use Rattle.std.specs.Prelude.{◌≡◌, ◌↔◌, ◌<◌, ◌+◌, ◌*◌, ℕ, List, All, Err, IsSome, IfSome, IfOk, IsOkAnd};
+ghost use Rattle.std.specs.Prelude.{◌≡◌, ◌↔◌, ◌<◌, ◌+◌, ◌*◌, ℕ, List, All, Err, IsSome, IfSome, IfOk, IsOkAnd, take};
 ghost use Rattle.tcap_ber.specs.declared.fault.Fault.{Fault};
 ghost use Rattle.tcap_ber.specs.Reading.{Gives, element, span};
-ghost use Rattle.tcap_msg.specs.TransactionId.{IsTransactionId, key, transaction_id, transaction_id_of};
+ghost use Rattle.tcap_msg.specs.TransactionId.{IsKept, IsPadded, IsTransactionId, key, transaction_id, transaction_id_of};
 
 use std::cmp::Ordering;
 use std::marker::Model;
@@ -24,16 +24,19 @@ pub struct TransactionId {
     // Noughts behind the octets of the ID.
     octets: [u8; 4],
     len: u8,
+    // They as one number, by which IDs are compared.
+    key: u64,
 }
 
 impl Model for TransactionId {
-    ghost use Rattle.std.specs.Prelude.{◌≡◌, List, ℕ, ◌<◌, ◌≤◌, take, drop, replicate, ◌-◌};
+    ghost use Rattle.std.specs.Prelude.{List, ℕ, take};
+    ghost use Rattle.tcap_msg.specs.TransactionId.{IsKept};
 
     ghost Value = { List ℕ };
 
     ghost view = { λ a. take a.len a.octets };
 
-    ghost invariant = { λ a. (0 < a.len) × (a.len ≤ 4) × (drop a.len a.octets ≡ replicate (4 - a.len) 0) };
+    ghost invariant = { λ a. IsKept a.len a.octets a.key };
 }
 
 /// Four octets as one number, which tells that they are octets.
@@ -44,7 +47,26 @@ fn number(a: u8, b: u8, c: u8, d: u8) -> u64
     u64::from(u32::from_be_bytes([a, b, c, d]))
 }
 
+/// A number by which IDs are equal and ordered as by their octets: the octets, with noughts for those that are not there,
+/// and their count.
+fn key_of(octets: [u8; 4], len: u8) -> u64
+    requires { IsPadded len octets }
+    ensures { IsKept len octets result }
+{
+    let [a, b, c, d] = octets;
+    number(a, b, c, d) * 256 + u64::from(len)
+}
+
 impl TransactionId {
+    /// An ID of so many of these octets.
+    fn of_octets(octets: [u8; 4], len: u8) -> TransactionId
+        requires { IsPadded len octets }
+        ensures { result ≡ take len octets }
+    {
+        let key = key_of(octets, len);
+        TransactionId { octets, len, key }
+    }
+
     /// The octets as a transaction ID; `None` exactly where they are none or over four.
     pub fn new(octets: &[u8]) -> Option<TransactionId>
         ensures found { IfSome result (λ id. id ≡ octets.now) }
@@ -57,7 +79,7 @@ impl TransactionId {
             [a, b, c, d] => ([*a, *b, *c, *d], 4),
             _ => return None,
         };
-        Some(TransactionId { octets, len })
+        Some(TransactionId::of_octets(octets, len))
     }
 
     /// The transaction ID, lent.
@@ -77,14 +99,12 @@ impl TransactionId {
         &self.octets[..usize::from(self.len)]
     }
 
-    /// A number by which IDs are equal and ordered as by their octets: the octets, with noughts for those that are not
-    /// there, and their count.
+    /// A number by which IDs are equal and ordered as by their octets.
     fn key(&self) -> u64
         ensures value { result ≡ key self.now }
         ensures octets { IsTransactionId self.now × All (λ octet. octet < 256) self.now }
     {
-        let [a, b, c, d] = self.octets;
-        number(a, b, c, d) * 256 + u64::from(self.len)
+        self.key
     }
 }
 
