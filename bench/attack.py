@@ -433,6 +433,20 @@ def answers_over_many_own_ids(n):
     return b"".join(entries), USUAL
 
 
+def codes_of_one_end(n):
+    """One invoke ID with as many operations as Invokes, none of which the table has, and Rejects of them behind"""
+    entries = OPENED + [A + going_on(1, 1, invoke_of(1, 1000 + at)) for at in range(n // 2)]
+    entries += [B + going_on(1, 1, reject(1, 0x81, 1)) for _ in range(n - len(entries))]
+    return b"".join(entries), USUAL
+
+
+def codes_of_one_end_twice(n):
+    """One invoke ID with half as many operations as Invokes, none of which the table has, and Rejects of them behind"""
+    entries = OPENED + [A + going_on(1, 1, invoke_of(1, 1000 + at)) for at in range(n // 4)] * 2
+    entries += [B + going_on(1, 1, reject(1, 0x81, 1)) for _ in range(n // 2 - 2)]
+    return b"".join(entries), USUAL
+
+
 def results_of_many_operations(n):
     """One invoke ID with many operations, and results that name them"""
     rows = [{"class": 1, "code": at} for at in range(1000)]
@@ -518,6 +532,8 @@ ATTACKS = [
     (("judge", "blame"), one_reject_of_many_links, 999, "REFUTED"),
     (("judge", "blame"), answers_over_many_own_ids, ENTRIES - 1, "REFUTED"),
     (ALL, results_of_many_operations, ENTRIES, "LAWFUL"),
+    (("judge --end B",), codes_of_one_end, ENTRIES, "LAWFUL"),
+    (("judge --end B",), codes_of_one_end_twice, ENTRIES, "LAWFUL"),
     (("pack",), empty_lines, 1_000_000, ""),
     (("pack",), comment_lines, 1_000_000, ""),
     (("pack",), begin_lines, 100_000, ""),
@@ -556,7 +572,7 @@ def files(folder, given):
 
 
 def command_of(word, paths):
-    return [PROGRAM, word, *paths[: {"show": 1, "pack": 1, "check": 3}.get(word, 2)]]
+    return [PROGRAM, *word.split(), *paths[: {"show": 1, "pack": 1, "check": 3}.get(word, 2)]]
 
 
 def start_of(folder, word, make, turns):

@@ -13,7 +13,6 @@ import time
 PROGRAM = "crates/tcapjudge/out/tcapjudge"
 A, B, MARK = b"\x41", b"\x42", b"\x51"
 COUNTS = 25_000, 50_000, 100_000
-FEW = 1_000, 2_000, 4_000
 # Operations of each class, as docs/FORMAT.md writes tables.
 TABLE = {"operations": [{"class": class_, "code": 44 + class_} for class_ in (1, 2, 3, 4)]}
 
@@ -108,9 +107,7 @@ def of_one_id(count):
     return entries, prompt(entries), 1
 
 
-CHECKED = [in_turn, open_at_once, delayed, expiring]
-# Shapes whose time grows with the square: here with fewer entries.
-KNOWN = [of_one_id]
+CHECKED = [in_turn, open_at_once, delayed, expiring, of_one_id]
 
 # ---- records that are judged without a certificate
 
@@ -219,9 +216,9 @@ def compared(folder, words, entries, *certificate):
 
 def main():
     with tempfile.TemporaryDirectory() as folder:
-        for shape in CHECKED + KNOWN:
+        for shape in CHECKED:
             times = []
-            for count in FEW if shape in KNOWN else COUNTS:
+            for count in COUNTS:
                 entries, certificate, waiting = shape(count)
                 own, shown, line, command = compared(folder, "check", entries, certificate)
                 times.append(own)

@@ -1,6 +1,6 @@
--- What was taken from lists and places can be put back: laws of where items stand, and of changes that are taken back.
-use Rattle.std.proofs.Common.{◌≡◌, ℕ, zero, suc, ◌<◌, ◌-◌, ℤ, Bool, true, false, List, [], ◌∷◌, ◌++◌, Option, Some, None, length, take, drop, refl, sym, ap, ◌∙◌, arith, length-append}
-use Rattle.std.specs.Prelude.{IsSome, cond, ◌||◌, option_and_then, option_map, unwrap_or}
+-- What was taken from places can be put back: laws of where items stand, and of changes that are taken back.
+use Rattle.std.proofs.Common.{◌≡◌, ℕ, zero, suc, ◌<◌, ◌-◌, ℤ, Bool, true, false, List, [], ◌∷◌, ◌++◌, Option, Some, None, length, take, get_or, set, refl, sym, ap, ◌∙◌, arith, length-append}
+use Rattle.std.specs.Prelude.{IsSome, is_some, cond, option_and_then, option_map}
 use Rattle.std.specs.List.{list_any}
 use Rattle.std.specs.Ordering.{int_cmp}
 use Rattle.std.proofs.lemmas.Cmp.{int_cmp_total}
@@ -8,63 +8,57 @@ use Rattle.std.specs.Map.{lookup}
 use Rattle.std.specs.BTreeMap.{insert_entry, is_at}
 use Rattle.std.proofs.lemmas.Option.{none-some}
 use Rattle.std.proofs.Math.Seq.{take-append_seam}
-use Rattle.tcap_end.specs.Half.{listed, listed_by, one_fits, with_listed, with_newest, without_oldest, without_oldest_of}
-use Rattle.tcap_end.specs.declared.lists.Lists.{Lists}
-use Rattle.tcap_end.specs.Lists.{HasList, keep, kept_lists, one_less, put_at, taken_at}
+use Rattle.tcap_end.specs.Half.{listed, with_listed, with_newest, without_oldest}
+use Rattle.tcap_end.specs.Lists.{keep, one_less, with_place}
+use Rattle.tcap_end.specs.Row.{filled, fits_in}
 use Rattle.tcap_end.specs.Places.{place_of}
 use Rattle.tcap_parts.specs.declared.code.Code.{Code}
 use Rattle.tcap_end.specs.declared.half.InvocationState.TheVariants as states
 use Rattle.tcap_end.specs.declared.outs.OwnInvocation.{OwnInvocation}
 use Rattle.tcap_end.specs.declared.outs.Outs.{Outs}
 use Rattle.tcap_end.specs.Outs.{HasPlace, kept_outs, in_state, with_state, with_out}
-use Rattle.tcap_end.proofs.KeepLaws.{given_back, given_twice, listed_keep, listed_with, remove_absent}
+use Rattle.tcap_end.proofs.KeepLaws.{Whole, given_back, given_twice, listed_with, remove_absent}
+use Rattle.tcap_end.proofs.PlaceLaws.{any_filled}
 use Rattle.tcap_end.proofs.MapLaws.{found_new, insert_again, insert_twice, rises_inserted}
 use Rattle.tcap_end.proofs.OutLaws.{puts, stands}
 
 -- ---- where the oldest item stands that fits
 
 -- It stands nowhere: none fits.
-pub place_none : {A : Type 0} (fits : A → Bool) (items : List A) → place_of fits items ≡ None → list_any fits items ≡ false
-place_none fits [] e = refl
-place_none {A} fits (item ∷ items) e = by (fits item) (place_of fits items) e (place_none fits items)
+pub place_none : {A : Type 0} (fits : A → Bool) (places : List (Option A)) → place_of (fits_in fits) places ≡ None
+    → list_any fits (filled places) ≡ false
+place_none fits places e = any_filled fits places ∙ ap is_some e
+
+-- It stands there: the items without it are those of the places where its own is empty.
+pub place_some : {A : Type 0} (fits : A → Bool) (places : List (Option A)) (at : ℕ) → place_of (fits_in fits) places ≡ Some at
+    → (list_any fits (filled places) ≡ true) × IsSome (get_or places at None) × (without_oldest fits (filled places) ≡ filled (set places at None))
+place_some {A} fits places at e = let there = stands places at e in (any_filled fits places ∙ ap is_some e, there.0, there.1)
   where
-    by : (fit : Bool) (place : Option ℕ) → cond fit (Some 0) (option_map suc place) ≡ None → (place ≡ None → list_any fits items ≡ false)
-        → (fit || list_any fits items) ≡ false
-    by true place bad rest = absurd (none-some 0 (sym bad))
-    by false None e rest = rest refl
-    by false (Some n) bad rest = absurd (none-some (suc n) (sym bad))
+    stands : (places : List (Option A)) (at : ℕ) → place_of (fits_in fits) places ≡ Some at
+        → IsSome (get_or places at None) × (without_oldest fits (filled places) ≡ filled (set places at None))
+    stands [] at e = absurd (none-some at e)
+    stands (None ∷ places) at e = by (place_of (fits_in fits) places) at e (stands places)
+      where
+        by : (rest : Option ℕ) (at : ℕ) → option_map suc rest ≡ Some at
+            → ((n : ℕ) → rest ≡ Some n → IsSome (get_or places n None) × (without_oldest fits (filled places) ≡ filled (set places n None)))
+            → IsSome (get_or (None ∷ places) at None) × (without_oldest fits (filled places) ≡ filled (set (None ∷ places) at None))
+        by None at bad below = absurd (none-some at bad)
+        by (Some n) zero bad below = let wrong : suc n ≡ 0 = cc in absurd (omega (arith, wrong))
+        by (Some n) (suc at) e below = let same : n ≡ at = cc in below at (ap Some same)
+    stands (Some item ∷ places) at e = by (fits item) (place_of (fits_in fits) places) at e (stands places)
+      where
+        by : (fit : Bool) (rest : Option ℕ) (at : ℕ) → cond fit (Some 0) (option_map suc rest) ≡ Some at
+            → ((n : ℕ) → rest ≡ Some n → IsSome (get_or places n None) × (without_oldest fits (filled places) ≡ filled (set places n None)))
+            → IsSome (get_or (Some item ∷ places) at None)
+            × (cond fit (filled places) (item ∷ without_oldest fits (filled places)) ≡ filled (set (Some item ∷ places) at None))
+        by true rest zero e below = (refl, refl)
+        by true rest (suc at) bad below = let wrong : 0 ≡ suc at = cc in absurd (omega (arith, wrong))
+        by false None at bad below = absurd (none-some at bad)
+        by false (Some n) zero bad below = let wrong : suc n ≡ 0 = cc in absurd (omega (arith, wrong))
+        by false (Some n) (suc at) e below = let same : n ≡ at = cc in
+            let rest = below at (ap Some same) in (rest.0, ap (λ more. item ∷ more) rest.1)
 
--- It stands there: the items without it are those before it and those behind it.
-pub place_some : {A : Type 0} (fits : A → Bool) (items : List A) (at : ℕ) → place_of fits items ≡ Some at
-    → (list_any fits items ≡ true) × (at < length items) × (without_oldest fits items ≡ take at items ++ drop (suc at) items)
-place_some fits [] at e = absurd (none-some at e)
-place_some {A} fits (item ∷ items) at e = by (fits item) (place_of fits items) e (place_some fits items)
-  where
-    by : (fit : Bool) (place : Option ℕ) → cond fit (Some 0) (option_map suc place) ≡ Some at
-        → ((n : ℕ) → place ≡ Some n → (list_any fits items ≡ true) × (n < length items)
-        × (without_oldest fits items ≡ take n items ++ drop (suc n) items))
-        → ((fit || list_any fits items) ≡ true) × (at < suc (length items))
-        × (cond fit items (item ∷ without_oldest fits items) ≡ take at (item ∷ items) ++ drop (suc at) (item ∷ items))
-    by true place e rest = rw (sym (ap (λ o. unwrap_or o 0) e)) (refl, omega arith, refl)
-    by false None bad rest = absurd (none-some at bad)
-    by false (Some n) e rest = let there = rest n refl in
-        rw (sym (ap (λ o. unwrap_or o 0) e)) (there.0, omega (arith, there.1), ap (λ more. item ∷ more) there.2)
-
--- The oldest of an ID's list that fits is the item at that place.
-pub taken_some : {A : Type 0} (id : ℤ) (fits : A → Bool) (m : List (ℤ × List A)) (at : ℕ) → place_of fits (listed id m) ≡ Some at
-    → (one_fits id fits m ≡ true) × (at < length (listed id m)) × (without_oldest_of id fits m ≡ taken_at id at m)
-taken_some id fits m at e =
-    let there = place_some fits (listed id m) at e in (there.0, there.1, ap (λ items. with_listed id items m) there.2)
-
--- ---- lists and places that are there
-
--- An ID of which an item is kept has a list.
-pub has_list : {A : Type 0} (id : ℤ) (l : Lists A) (at : ℕ) → at < length (listed id (kept_lists l)) → HasList id l
-has_list {A} id l at within = by (lookup (is_at (int_cmp id)) l.lists.entries) (listed_keep id l.lists.entries l.ordered)
-  where
-    by : (found : Option (List A)) → listed id (kept_lists l) ≡ listed_by found → IsSome found
-    by None e = absurd (omega (arith, rw e at within))
-    by (Some items) e = refl
+-- ---- places that are there
 
 -- An ID of an invocation has a place.
 pub has_place : (id : ℤ) (o : Outs) (i : OwnInvocation) → lookup (is_at (int_cmp id)) (kept_outs o) ≡ Some i → HasPlace id o
@@ -79,35 +73,49 @@ has_place id o i there =
 
 -- ---- items that are put back
 
--- The item of a place is put back to it.
-restored : {A : Type 0} (at : ℕ) (items : List A) → at < length items
-    → take at (take at items ++ drop (suc at) items) ++ take 1 (drop at items) ++ drop at (take at items ++ drop (suc at) items) ≡ items
-restored at [] bad = absurd (omega (arith, bad))
-restored zero (item ∷ items) within = refl
-restored (suc at) (item ∷ items) within = ap (λ more. item ∷ more) (restored at items (omega (arith, within)))
+-- Of two items in one place the second counts.
+set_twice : {A : Type 0} (places : List A) (at : ℕ) (first second : A) → set (set places at first) at second ≡ set places at second
+set_twice [] at first second = refl
+set_twice (place ∷ places) zero first second = refl
+set_twice (place ∷ places) (suc at) first second = ap (λ more. place ∷ more) (set_twice places at first second)
 
--- In an ID's list
-pub put_again : {A : Type 0} (id : ℤ) (at : ℕ) (l : Lists A) → at < length (listed id (kept_lists l))
-    → put_at id at (take 1 (drop at (listed id (kept_lists l)))) (taken_at id at (kept_lists l)) ≡ kept_lists l
-put_again {A} id at l within =
-    let items : List A = listed id (kept_lists l) in
-    let left : List A = take at items ++ drop (suc at) items in
-    ap (λ now. with_listed id (take at now ++ take 1 (drop at items) ++ drop at now) (with_listed id left (kept_lists l)))
-    (listed_with id left l)
-    ∙ given_twice id left (take at left ++ take 1 (drop at items) ++ drop at left) l
-    ∙ ap (λ now. with_listed id now (kept_lists l)) (restored at items within)
-    ∙ given_back id l
+-- What stands in a place is put there.
+set_same : {A : Type 0} (places : List A) (at : ℕ) (d : A) → set places at (get_or places at d) ≡ places
+set_same [] at d = refl
+set_same (place ∷ places) zero d = refl
+set_same (place ∷ places) (suc at) d = ap (λ more. place ∷ more) (set_same places at d)
+
+pub none_set : {A : Type 0} (places : List (Option A)) (at : ℕ) → get_or (set places at None) at None ≡ None
+none_set [] at = refl
+none_set (place ∷ places) zero = refl
+none_set (place ∷ places) (suc at) = none_set places at
+
+pub some_within : {A : Type 0} (places : List (Option A)) (at : ℕ) → IsSome (get_or places at None) → at < length places
+some_within [] at some = absurd (let bad : false ≡ true = some in cc)
+some_within (place ∷ places) zero some = omega arith
+some_within (place ∷ places) (suc at) some = omega (arith, some_within places at some)
+
+-- The item of a place is put back to it.
+pub put_again : {A : Type 0} (id : ℤ) (at : ℕ) (item : Option A) (m : List (ℤ × List (Option A))) → Whole m
+    → item ≡ get_or (listed id m) at None → with_place id at item (with_place id at None m) ≡ m
+put_again {A} id at item m whole is =
+    let places : List (Option A) = listed id m in
+    let left : List (Option A) = set places at None in
+    ap (λ now. with_listed id (set now at item) (with_listed id left m)) (listed_with id m whole left)
+    ∙ given_twice id m whole left (set left at item)
+    ∙ ap (λ now. with_listed id now m) (set_twice places at None item ∙ ap (set places at) is ∙ set_same places at None)
+    ∙ given_back id m whole
 
 -- The newest item is taken away again.
-pub less_again : {A : Type 0} (id : ℤ) (item : A) (l : Lists A) → one_less id (with_newest id item (kept_lists l)) ≡ kept_lists l
-less_again {A} id item l =
-    let items : List A = listed id (kept_lists l) in
+pub less_again : {A : Type 0} (id : ℤ) (item : A) (m : List (ℤ × List A)) → Whole m → one_less id (with_newest id item m) ≡ m
+less_again {A} id item m whole =
+    let items : List A = listed id m in
     let more : List A = items ++ item ∷ [] in
-    ap (λ now. with_listed id (take (length now - 1) now) (with_listed id more (kept_lists l))) (listed_with id more l)
-    ∙ given_twice id more (take (length more - 1) more) l
-    ∙ ap (λ n. with_listed id (take n more) (kept_lists l)) (count items)
-    ∙ ap (λ now. with_listed id now (kept_lists l)) (take-append_seam items (item ∷ []))
-    ∙ given_back id l
+    ap (λ now. with_listed id (take (length now - 1) now) (with_listed id more m)) (listed_with id m whole more)
+    ∙ given_twice id m whole more (take (length more - 1) more)
+    ∙ ap (λ n. with_listed id (take n more) m) (count items)
+    ∙ ap (λ now. with_listed id now m) (take-append_seam items (item ∷ []))
+    ∙ given_back id m whole
   where
     count : (items : List A) → length (items ++ item ∷ []) - 1 ≡ length items
     count items = omega (arith, length-append items (item ∷ []))

@@ -1,6 +1,5 @@
 -- What a component that is sent or received leaves as it is in a half.
 use Rattle.std.proofs.Common.{◌≡◌, ◌≢◌, ℕ, ℤ, Bool, true, false, cond, List, [], ◌∷◌, Option, Some, None, Result, Ok, is_none, is_some, refl}
-use Rattle.std.specs.List.{list_any}
 use Rattle.std.specs.BTreeMap.{insert_entry, is_at}
 use Rattle.std.specs.Ordering.{int_cmp}
 use Rattle.std.proofs.lemmas.Cmp.{int_cmp_total}

@@ -1,5 +1,5 @@
 -- A half that is put into an end keeps what holds of every end, and each closed half where it is.
-use Rattle.std.proofs.Common.{◌≡◌, ◌≢◌, ℕ, Bool, true, false, cond, ◌&&◌, List, Option, Some, None, Ok, ◌⊎◌, inl, inr, refl, sym, ap, ◌∙◌}
+use Rattle.std.proofs.Common.{◌≡◌, ◌≢◌, ℕ, true, false, List, Option, Some, None, Ok, ◌⊎◌, inl, inr, refl, sym, ap, ◌∙◌}
 use Rattle.std.specs.List.Sorted.{IsStrictlySortedBy}
 use Rattle.std.proofs.lemmas.Map.Lookups.{exact_bytes}
 use Rattle.tcap_end.specs.declared.fault.EndFault.{EndFault}
@@ -9,7 +9,7 @@ use Rattle.tcap_end.specs.declared.half.Slot.{Slot}
 use Rattle.tcap_end.specs.declared.half.Slot.TheVariants.{Begun, Accepted}
 use Rattle.tcap_end.specs.Table.{octets_cmp}
 use Rattle.tcap_end.specs.Half.{Half, is_closed}
-use Rattle.tcap_end.specs.End.{End, KeptHalf, all_closed, nothing, put, quiet, with_own, with_peer}
+use Rattle.tcap_end.specs.End.{End, KeptHalf, nothing, put, quiet, with_own, with_peer}
 use Rattle.tcap_end.specs.Sound.{Has, IsEnd, IsHalf, IsKept, IsSame, Rises, halves_of}
 use Rattle.tcap_end.proofs.AnsweringLaws.{needs_ok, ok_same}
 use Rattle.tcap_end.proofs.MapLaws.{found_inserted, found_other, rises_inserted}

@@ -13,7 +13,7 @@ use Rattle.tcap_end.specs.declared.outs.Outs.{Outs}
 use Rattle.tcap_end.specs.Component.{own_invocation}
 use Rattle.tcap_end.specs.End.{End, KeptHalf, named, put}
 use Rattle.tcap_end.specs.Half.{Half, closed_half, is_closed}
-use Rattle.tcap_end.specs.Hidden.{close, expire, may_close, may_expire, without_invocation}
+use Rattle.tcap_end.specs.Hidden.{close, expire, may_close, may_expire, without_invocation, open_named}
 use Rattle.tcap_end.specs.Outs.{HasPlace, kept_outs}
 use Rattle.tcap_end.specs.Table.{Table, expires_of}
 use Rattle.tcap_end.proofs.BackLaws.{has_place}
@@ -38,6 +38,14 @@ module _ {f : KeptHalf} (table : Table) (e : End) (name : HalfName) (is : named 
 
   pub half_closes : may_close table f.half.phase ≡ true → close table e name ≡ Ok (put e f.slot f.key (closed_half f.half))
   half_closes may = rw (is, may) refl
+
+-- What is known of the half of that name where it is open, and where it is closed.
+module _ {f : KeptHalf} (e : End) (name : HalfName) (is : named e name ≡ Some f) where
+  pub knows_open : is_closed f.half.phase ≡ false → open_named e name ≡ Some f.half
+  knows_open open_half = rw (is, open_half) refl
+
+  pub knows_closed : is_closed f.half.phase ≡ true → open_named e name ≡ None
+  knows_closed shut = rw (is, shut) refl
 
 -- ---- an own invocation ends unseen
 

@@ -9,14 +9,11 @@ use Rattle.std.proofs.lemmas.Option.{none-some}
 use Rattle.std.specs.FinMap.{int_cmp-IsAntisymmetric}
 use Rattle.std.specs.List.{AllByRecursion}
 use Rattle.std.specs.List.Sorted.{IsStrictlySortedBy}
-use Rattle.std.specs.Borrow.{Bor}
-use Rattle.std.specs.Option.{MatchOption, option_copied}
 use Rattle.std.specs.Map.{keys_of, lookup, remove_entry}
 use Rattle.std.specs.BTreeMap.{insert_entry, is_at}
 use Rattle.tcap_end.specs.Half.{listed, listed_by, with_listed}
 use Rattle.tcap_end.specs.Sound.{Rises}
-use Rattle.tcap_end.specs.declared.lists.Lists.{Lists}
-use Rattle.tcap_end.specs.Lists.{keep, kept_entry, some_items, kept_lists}
+use Rattle.tcap_end.specs.Lists.{keep, kept_entry, some_items}
 use Rattle.tcap_end.proofs.MapLaws.{below_all, found_new, insert_again, insert_twice, rises_inserted}
 
 abbrev Above : {B : Type 0} → ℤ → List (ℤ × B) → Type 0
@@ -41,7 +38,7 @@ keep_rises {A} {B} f (e ∷ es) rises = by (f e.1) (keep_above f e.0 es rises.0)
     by None above rest = rest
     by (Some b) above rest = (above, rest)
 
-lookup_above : {B : Type 0} (id : ℤ) (es : List (ℤ × B)) → Above id es → lookup (is_at (int_cmp id)) es ≡ None
+pub lookup_above : {B : Type 0} (id : ℤ) (es : List (ℤ × B)) → Above id es → lookup (is_at (int_cmp id)) es ≡ None
 lookup_above id [] above = refl
 lookup_above id (e ∷ es) above = rw above.0 (lookup_above id es above.1)
 
@@ -115,41 +112,24 @@ insert_dropped {A} {B} f id a (e ∷ es) rises is_none =
     by Greater is None kept rest = rw kept rest
     by Greater is (Some x) kept rest = rw (kept, is) (ap (λ more. (e.0, x) ∷ more) rest)
 
--- ---- lists by invoke IDs
-
--- what is kept of an ID
-pub listed_keep : {A : Type 0} (id : ℤ) (es : List (ℤ × List A)) → Rises int_cmp es
-    → listed id (keep some_items es) ≡ listed_by (lookup (is_at (int_cmp id)) es)
-listed_keep {A} id es rises = ap listed_by (lookup_keep some_items id es rises) ∙ by (lookup (is_at (int_cmp id)) es)
+pub remove_keep : {A B : Type 0} (f : A → Option B) (id : ℤ) (es : List (ℤ × A)) → Rises int_cmp es
+    → keep f (remove_entry (is_at (int_cmp id)) es) ≡ remove_entry (is_at (int_cmp id)) (keep f es)
+unfolding IsStrictlySortedBy
+remove_keep f id [] rises = refl
+remove_keep {A} {B} f id (e ∷ es) rises = by (int_cmp id e.0) refl (f e.1) refl (remove_keep f id es rises.1)
   where
-    by : (o : Option (List A)) → listed_by (option_and_then some_items o) ≡ listed_by o
-    by None = refl
-    by (Some []) = refl
-    by (Some (x ∷ xs)) = refl
+    by : (r : Ordering) → int_cmp id e.0 ≡ r → (o : Option B) → f e.1 ≡ o
+        → keep f (remove_entry (is_at (int_cmp id)) es) ≡ remove_entry (is_at (int_cmp id)) (keep f es)
+        → keep f (cond (is_eq r) es (e ∷ remove_entry (is_at (int_cmp id)) es)) ≡ remove_entry (is_at (int_cmp id)) (kept_entry e.0 o (keep f es))
+    by Equal is None kept rest =
+        sym (remove_above id (keep f es) (keep_above f id es (rw (int_cmp-IsAntisymmetric id e.0 is) rises.0)))
+    by Equal is (Some x) kept rest = rw is refl
+    by Less is None kept rest = rw kept rest
+    by Less is (Some x) kept rest = rw (kept, is) (ap (λ more. (e.0, x) ∷ more) rest)
+    by Greater is None kept rest = rw kept rest
+    by Greater is (Some x) kept rest = rw (kept, is) (ap (λ more. (e.0, x) ∷ more) rest)
 
--- an ID is given a list
-pub insert_listed : {A : Type 0} (id : ℤ) (items : List A) (es : List (ℤ × List A)) → Rises int_cmp es
-    → keep some_items (insert_entry int_cmp es id items) ≡ with_listed id items (keep some_items es)
-insert_listed id [] es rises = insert_dropped some_items id [] es rises refl
-insert_listed id (x ∷ xs) es rises = insert_keep some_items id (x ∷ xs) (x ∷ xs) es rises refl
-
--- ---- an ID that is given lists in turn
-
--- what is kept of an ID that was given a list
-pub listed_with : {A : Type 0} (id : ℤ) (items : List A) (l : Lists A) → listed id (with_listed id items (kept_lists l)) ≡ items
-listed_with id items l = let es = l.lists.entries in
-    ap (listed id) (sym (insert_listed id items es l.ordered))
-    ∙ listed_keep id (insert_entry int_cmp es id items) (rises_inserted int_cmp_total es id items l.ordered)
-    ∙ ap listed_by (found_new int_cmp_total id items es)
-
--- Of two lists the second counts.
-pub given_twice : {A : Type 0} (id : ℤ) (first second : List A) (l : Lists A)
-    → with_listed id second (with_listed id first (kept_lists l)) ≡ with_listed id second (kept_lists l)
-given_twice id first second l = let es = l.lists.entries in
-    ap (with_listed id second) (sym (insert_listed id first es l.ordered))
-    ∙ sym (insert_listed id second (insert_entry int_cmp es id first) (rises_inserted int_cmp_total es id first l.ordered))
-    ∙ ap (keep some_items) (insert_twice int_cmp_total id first second es)
-    ∙ insert_listed id second es l.ordered
+-- ---- lists by invoke IDs
 
 pub remove_absent : {B : Type 0} (id : ℤ) (m : List (ℤ × B))
     → lookup (is_at (int_cmp id)) m ≡ None → remove_entry (is_at (int_cmp id)) m ≡ m
@@ -163,36 +143,79 @@ remove_absent {B} id (e ∷ m) absent = by (int_cmp id e.0) absent (remove_absen
     by Less none rest = ap (λ more. e ∷ more) (rest none)
     by Greater none rest = ap (λ more. e ∷ more) (rest none)
 
--- An ID that is given what is kept of it
-pub given_back : {A : Type 0} (id : ℤ) (l : Lists A) → with_listed id (listed id (kept_lists l)) (kept_lists l) ≡ kept_lists l
-given_back {A} id l = by (lookup (is_at (int_cmp id)) l.lists.entries) (lookup_keep some_items id l.lists.entries l.ordered)
+pub some_listed : {A : Type 0} (items : List A) → listed_by (some_items items) ≡ items
+some_listed [] = refl
+some_listed (x ∷ xs) = refl
+
+-- the list of a value that may be there
+abbrev pub list_in : {V A : Type 0} → (V → List A) → Option V → List A
+list_in list None = []
+list_in list (Some value) = list value
+
+-- Each value stands for a list.
+module _ {V A : Type 0} (list : V → List A) (id : ℤ) (es : List (ℤ × V)) (rises : Rises int_cmp es) where
+  -- what is kept of an ID
+  pub listed_keep : listed id (keep (λ v. some_items (list v)) es) ≡ list_in list (lookup (is_at (int_cmp id)) es)
+  listed_keep = ap listed_by (lookup_keep (λ v. some_items (list v)) id es rises) ∙ by (lookup (is_at (int_cmp id)) es)
+    where
+      by : (o : Option V) → listed_by (option_and_then (λ v. some_items (list v)) o) ≡ list_in list o
+      by None = refl
+      by (Some v) = some_listed (list v)
+
+  -- an ID is given a value
+  pub insert_listed : (v : V) → keep (λ v. some_items (list v)) (insert_entry int_cmp es id v)
+      ≡ with_listed id (list v) (keep (λ v. some_items (list v)) es)
+  insert_listed v = by (list v) refl
+    where
+      by : (items : List A) → list v ≡ items → keep (λ v. some_items (list v)) (insert_entry int_cmp es id v)
+          ≡ with_listed id items (keep (λ v. some_items (list v)) es)
+      by [] is = insert_dropped (λ v. some_items (list v)) id v es rises (ap some_items is)
+      by (x ∷ xs) is = insert_keep (λ v. some_items (list v)) id v (x ∷ xs) es rises (ap some_items is)
+
+-- Lists by IDs, in their order, none of them empty.
+pub record Whole {A : Type 0} (m : List (ℤ × List A)) : Type 0 where
+  pub rises : Rises int_cmp m
+  pub same : keep some_items m ≡ m
+
+pub whole_keep : {V A : Type 0} (list : V → List A) (es : List (ℤ × V)) → Rises int_cmp es → Whole (keep (λ v. some_items (list v)) es)
+whole_keep {V} {A} list es rises = record { rises = keep_rises (λ v. some_items (list v)) es rises; same = all es }
   where
-    by : (o : Option (List A)) → lookup (is_at (int_cmp id)) (kept_lists l) ≡ option_and_then some_items o
-        → with_listed id (listed id (kept_lists l)) (kept_lists l) ≡ kept_lists l
-    by None e = rw e (remove_absent id (kept_lists l) e)
-    by (Some []) e = rw e (remove_absent id (kept_lists l) e)
-    by (Some (x ∷ xs)) e =
-        rw e (insert_again int_cmp_total id (x ∷ xs) (kept_lists l) (keep_rises some_items l.lists.entries l.ordered) e)
+    all : (es : List (ℤ × V)) → keep some_items (keep (λ v. some_items (list v)) es) ≡ keep (λ v. some_items (list v)) es
+    all [] = refl
+    all (e ∷ es) = by (list e.1) (all es)
+      where
+        by : (items : List A) → keep some_items (keep (λ v. some_items (list v)) es) ≡ keep (λ v. some_items (list v)) es
+            → keep some_items (kept_entry e.0 (some_items items) (keep (λ v. some_items (list v)) es))
+            ≡ kept_entry e.0 (some_items items) (keep (λ v. some_items (list v)) es)
+        by [] rest = rest
+        by (x ∷ xs) rest = ap (λ more. (e.0, x ∷ xs) ∷ more) rest
 
--- A list is lent, which leaves an empty one, and what is then made of it is given.
-module _ {A : Type 0} (id key : ℤ) (same : key ≡ id) (was lent given : Lists A)
-    (left : kept_lists lent ≡ with_listed key [] (kept_lists was)) where
-  pub regiven : (f : List A → List A) (list items : List A) → list ≡ listed key (kept_lists was) → items ≡ f list
-      → kept_lists given ≡ with_listed key items (kept_lists lent)
-      → kept_lists given ≡ with_listed id (f (listed id (kept_lists was))) (kept_lists was)
-  regiven f list items is_list is_items is_given = rw (sym same)
-      (is_given ∙ ap (with_listed key items) left ∙ given_twice key [] items was
-      ∙ ap (λ more. with_listed key more (kept_lists was)) (is_items ∙ ap f is_list))
+module _ {A : Type 0} (id : ℤ) (m : List (ℤ × List A)) (whole : Whole m) where
+  inserted : (items : List A) → keep some_items (insert_entry int_cmp m id items) ≡ with_listed id items m
+  inserted items = insert_listed (λ items. items) id m whole.rises items ∙ ap (with_listed id items) whole.same
 
-  -- what was not changed
-  pub regiven_same : (list items : List A) → list ≡ listed key (kept_lists was) → items ≡ list
-      → kept_lists given ≡ with_listed key items (kept_lists lent) → kept_lists given ≡ kept_lists was
-  regiven_same list items is_list is_items is_given = regiven (λ l. l) list items is_list is_items is_given ∙ given_back id was
+  -- what is kept of an ID that was given a list
+  pub listed_with : (items : List A) → listed id (with_listed id items m) ≡ items
+  listed_with items =
+      ap (listed id) (sym (inserted items))
+      ∙ listed_keep (λ items. items) id (insert_entry int_cmp m id items) (rises_inserted int_cmp_total m id items whole.rises)
+      ∙ ap (list_in (λ items. items)) (found_new int_cmp_total id items m)
 
--- ---- what was got of a map
+  -- Of two lists the second counts.
+  pub given_twice : (first second : List A) → with_listed id second (with_listed id first m) ≡ with_listed id second m
+  given_twice first second =
+      ap (with_listed id second) (sym (inserted first))
+      ∙ sym (insert_listed (λ items. items) id (insert_entry int_cmp m id first) (rises_inserted int_cmp_total m id first whole.rises) second)
+      ∙ ap (keep some_items) (insert_twice int_cmp_total id first second m)
+      ∙ inserted second
 
-pub got : {A : Type 0} (found : Option (Bor (List A))) (id : ℤ) (es : List (ℤ × List A)) → Rises int_cmp es
-    → option_copied found ≡ lookup (is_at (int_cmp id)) es
-    → MatchOption found (listed id (keep some_items es) ≡ []) (λ list. listed id (keep some_items es) ≡ list.now)
-got None id es rises e = listed_keep id es rises ∙ ap listed_by (sym e)
-got (Some list) id es rises e = listed_keep id es rises ∙ ap listed_by (sym e)
+  -- An ID is given what is kept of it.
+  pub given_back : with_listed id (listed id m) m ≡ m
+  given_back = by (lookup (is_at (int_cmp id)) m) refl (lookup_keep some_items id m whole.rises)
+    where
+      by : (o : Option (List A)) → lookup (is_at (int_cmp id)) m ≡ o
+          → lookup (is_at (int_cmp id)) (keep some_items m) ≡ option_and_then some_items (lookup (is_at (int_cmp id)) m)
+          → with_listed id (listed id m) m ≡ m
+      by None e there = rw e (remove_absent id m e)
+      by (Some []) e there = rw e (remove_absent id m (ap (lookup (is_at (int_cmp id))) (sym whole.same) ∙ there ∙ ap (option_and_then some_items) e))
+      by (Some (x ∷ xs)) e there = rw e (insert_again int_cmp_total id (x ∷ xs) m whole.rises e)

@@ -34,3 +34,8 @@ pub mod SendStepLaws
 pub mod ReplyLaws
 pub mod EndStateLaws
 pub mod QuietUnseenLaws
+pub mod ChainLaws
+pub mod RowLaws
+pub mod ItemLaws
+pub mod SameKindLaws
+pub mod ListLaws

@@ -11,7 +11,6 @@ use Rattle.std.proofs.lemmas.List.{length-map, map-append}
 use Rattle.tcap_end.specs.declared.fault.EndFault.{EndFault}
 use Rattle.tcap_end.specs.declared.fault.EndFault.TheVariants as faults
 use Rattle.tcap_end.specs.declared.half.HalfName.{HalfName}
-use Rattle.tcap_end.specs.declared.half.HalfName.TheVariants as names
 use Rattle.tcap_end.specs.declared.half.Slot.{Slot}
 use Rattle.tcap_end.specs.declared.half.Slot.TheVariants.{Begun, Accepted}
 use Rattle.tcap_end.specs.Table.{Table, octets_cmp}
@@ -19,7 +18,7 @@ use Rattle.tcap_end.specs.Half.{Half, closed_half, is_closed}
 use Rattle.tcap_end.specs.End.{End, KeptHalf, all_closed, named, nothing, put, quiet}
 use Rattle.tcap_end.specs.Step.{◌>>=◌}
 use Rattle.tcap_end.specs.Hidden.{close_each, may_close, open_halves, open_names, quiet_unseen}
-use Rattle.tcap_end.specs.Halves.{closing, kept_half}
+use Rattle.tcap_end.specs.Halves.{closing, kept_half, name_in}
 use Rattle.tcap_end.specs.Sound.{Has, IsEnd, IsKept, Rises}
 use Rattle.tcap_end.proofs.MapLaws.{behind_first, below_first, found_first, found_later}
 use Rattle.tcap_end.proofs.FoundLaws.{half_at, octets_total}
@@ -40,10 +39,6 @@ abbrev all_open : End → List KeptHalf
 all_open e = open_of Begun e.begun ++ open_of Accepted e.accepted
 
 -- the name of a half, by the ID by which it is kept
-abbrev name_in : Slot → List ℕ → HalfName
-name_in Begun = names.Own
-name_in Accepted = names.Peer
-
 abbrev name_of : KeptHalf → HalfName
 name_of f = name_in f.slot f.key
 

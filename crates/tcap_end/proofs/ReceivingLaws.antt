@@ -1,11 +1,10 @@
 -- What an ID that was received is for, and what an answer does.
-use Rattle.std.proofs.Common.{◌≡◌, ℕ, ℤ, Bool, true, false, cond, List, [], ◌∷◌, ◌++◌, length, Option, Some, None, is_some, refl, sym, ap, ◌∙◌}
-use Rattle.std.specs.Prelude.{IsSome, not, ◌==◌, option_map}
+use Rattle.std.proofs.Common.{◌≡◌, ℕ, ℤ, Bool, true, false, cond, List, [], ◌∷◌, ◌++◌, Option, Some, None, is_some, refl, sym, ap, ◌∙◌}
+use Rattle.std.specs.Prelude.{IsSome, option_map}
 use Rattle.std.specs.Borrow.{Bor}
 use Rattle.std.specs.Option.{option_copied}
-use Rattle.std.specs.LinkedList.{linked_list_len}
-use Rattle.std.proofs.Math.Dec.{eqb-suc-zero}
 use Rattle.std.specs.Ordering.{int_cmp}
+use Rattle.std.specs.List.{list_any}
 use Rattle.std.specs.Map.{lookup, remove_entry}
 use Rattle.std.specs.BTreeMap.{is_at}
 use Rattle.tcap_parts.specs.declared.code.Code.{Code}
@@ -81,9 +80,9 @@ got_none id o (Some i) is none = cc
 abbrev pub the_item : Code → List ℕ → Invocation
 the_item code problems = record { code = code; problems = problems }
 
-pub are_some : (items : List Invocation) → cond (not (linked_list_len items == 0)) (0 ∷ []) [] ≡ id_problems items
+pub are_some : (items : List Invocation) → cond (list_any (λ item. true) items) (0 ∷ []) [] ≡ id_problems items
 are_some [] = refl
-are_some (item ∷ items) = rw (eqb-suc-zero (length items)) refl
+are_some (item ∷ items) = refl
 
 -- an invocation as it is kept
 pub kept_item : (code meant : Code) (duplicate : Bool) (link : Link) (ids links : List ℕ) → code ≡ meant → cond duplicate (0 ∷ []) [] ≡ ids

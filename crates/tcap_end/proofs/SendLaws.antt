@@ -1,8 +1,7 @@
 -- Changes that sending makes to a half can be taken back; what answers and Rejects take.
-use Rattle.std.proofs.Common.{◌≡◌, ℕ, suc, ℤ, ◌+◌, ◌^◌, ◌<◌, Bool, true, false, List, [], ◌∷◌, ◌++◌, Option, Some, None, Result, Ok, Err, length, take, drop, refl, sym, ap, ◌∙◌, arith, length-append}
-use Rattle.std.proofs.lemmas.Bool.{eqb-true}
-use Rattle.std.proofs.lemmas.List.{length-take}
-use Rattle.std.specs.Prelude.{◌==◌, ◌&&◌, ◌||◌, cond, is_none, is_some, not}
+use Rattle.std.proofs.Common.{◌≡◌, ℕ, ℤ, Bool, true, false, List, [], ◌∷◌, Option, Some, None, Result, Ok, Err, get_or, set, refl, sym, ap, ◌∙◌}
+use Rattle.std.proofs.Math.ListN.{length-set}
+use Rattle.std.specs.Prelude.{IsSome, ◌&&◌, ◌||◌, cond, is_none, is_some, not}
 use Rattle.std.specs.Borrow.{Bor}
 use Rattle.std.specs.BTreeMap.{is_at}
 use Rattle.std.specs.List.{list_any}
@@ -22,33 +21,58 @@ use Rattle.tcap_end.specs.declared.lists.Lists.{Lists}
 use Rattle.tcap_end.specs.declared.outs.OwnInvocation.{OwnInvocation}
 use Rattle.tcap_end.specs.declared.outs.Outs.{Outs}
 use Rattle.tcap_end.specs.Table.{Table}
-use Rattle.tcap_end.specs.Half.{Half, Invocation, listed}
+use Rattle.tcap_end.specs.Half.{Half, Invocation, listed, one_fits, with_listed, without_oldest, without_oldest_of}
 use Rattle.tcap_end.specs.Component.{allows, allows_for, class_reports, may_answer, names, send_answer, send_reject}
 use Rattle.tcap_end.specs.Places.{place_of, rejected_place}
-use Rattle.tcap_end.specs.HalfState.{GoesBack, without_grant, without_inn}
-use Rattle.tcap_end.specs.Lists.{HasList, kept_lists, put_at, taken_at}
+use Rattle.tcap_end.specs.HalfState.{GoesBack, Kept, half_in, without_grant, without_inn}
+use Rattle.tcap_end.specs.Lists.{KeepsRows, items_of, kind_of, rows_of, with_place}
+use Rattle.tcap_end.specs.Row.{fits_in}
 use Rattle.tcap_end.specs.Outs.{kept_outs, with_out}
-use Rattle.tcap_end.proofs.BackLaws.{has_list, out_again, place_none, place_some, put_again, taken_some}
-use Rattle.tcap_end.proofs.KeepLaws.{listed_with}
+use Rattle.tcap_end.proofs.BackLaws.{none_set, out_again, place_some, put_again, some_within}
+use Rattle.tcap_end.proofs.ListLaws.{items_with, listed_items, whole_rows}
+use Rattle.tcap_end.proofs.PlaceLaws.{any_filled}
+use Rattle.tcap_end.proofs.KeepLaws.{Whole, listed_with}
 
--- An item was taken from a place of an ID's list.
-module _ {A : Type 0} (id : ℤ) (at : ℕ) (item : List A) (l m : Lists A) (within : at < length (listed id (kept_lists l)))
-    (is : kept_lists m ≡ taken_at id at (kept_lists l)) where
+-- An item was taken from a place of an ID's row.
+module _ {K : Type 0} (id : ℤ) (at kind : ℕ) (l m : Lists K) (there : IsSome (get_or (listed id (rows_of l)) at None))
+    (is_kind : get_or (listed id (rows_of l)) at None ≡ kind_of id kind l) (is : rows_of m ≡ with_place id at None (rows_of l))
+    (keeps : KeepsRows l m) where
+  kind_there : IsSome (kind_of id kind l)
+  kind_there = rw (sym is_kind) there
+
   -- It can go back there.
-  pub goes_back : length (listed id (kept_lists m)) + length item < 2 ^ 63 → ((other : ℤ) → HasList other l → HasList other m)
-      → HasList id m × GoesBack at item (listed id (kept_lists m))
-  goes_back fits others = let items : List A = listed id (kept_lists l) in (
-    others id (has_list id l at within),
-    (
-      rw (is, listed_with id (take at items ++ drop (suc at) items) l)
-          (omega (arith, length-append (take at items) (drop (suc at) items), length-take at items, within)),
-      fits,
-    ),
-  )
+  pub goes_back : GoesBack id at kind m
+  goes_back = record {
+    within = rw (is, listed_with id (rows_of l) (whole_rows l) (set (listed id (rows_of l)) at None), length-set (listed id (rows_of l)) at None)
+        (some_within (listed id (rows_of l)) at there);
+    empty = rw (is, listed_with id (rows_of l) (whole_rows l) (set (listed id (rows_of l)) at None)) (none_set (listed id (rows_of l)) at);
+    there = rw (keeps.kinds id kind kind_there) kind_there;
+  }
 
   -- That leads to what was before.
-  pub is_back : item ≡ take 1 (drop at (listed id (kept_lists l))) → put_at id at item (kept_lists m) ≡ kept_lists l
-  is_back is_item = rw (is_item, is) (put_again id at l within)
+  pub is_back : with_place id at (kind_of id kind m) (rows_of m) ≡ rows_of l
+  is_back = rw (is, keeps.kinds id kind kind_there, sym is_kind) (put_again id at (get_or (listed id (rows_of l)) at None) (rows_of l) (whole_rows l) refl)
+
+-- ---- what is kept of an ID, from its row
+
+-- whether one fits
+pub one_in : {A : Type 0} (id : ℤ) (fits : A → Bool) (m : List (ℤ × List (Option A))) → Whole m
+    → one_fits id fits (items_of m) ≡ is_some (place_of (fits_in fits) (listed id m))
+one_in id fits m whole = ap (list_any fits) (listed_items id m whole.rises) ∙ any_filled fits (listed id m)
+
+-- The oldest that fits stands there.
+pub taken_some : {A : Type 0} (id : ℤ) (fits : A → Bool) (m : List (ℤ × List (Option A))) (at : ℕ) → Whole m
+    → place_of (fits_in fits) (listed id m) ≡ Some at
+    → (one_fits id fits (items_of m) ≡ true) × IsSome (get_or (listed id m) at None)
+    × (without_oldest_of id fits (items_of m) ≡ items_of (with_place id at None m))
+taken_some id fits m at whole e =
+    let there = place_some fits (listed id m) at e in (
+      one_in id fits m whole ∙ ap is_some e,
+      there.1,
+      ap (λ items. with_listed id (without_oldest fits items) (items_of m)) (listed_items id m whole.rises)
+          ∙ ap (λ items. with_listed id items (items_of m)) there.2
+          ∙ sym (items_with id m whole.rises (set (listed id m) at None)),
+    )
 
 -- ---- why an answer may not be sent
 
@@ -70,46 +94,25 @@ any_too fits other (item ∷ items) so e = by (fits item) refl e (any_too fits o
 any_of : {A : Type 0} (fits : A → Bool) (items : List A) → list_any fits items ≡ true → list_any (λ item. true) items ≡ true
 any_of fits items = any_too fits (λ item. true) items (λ item is. refl)
 
-any_some : {A : Type 0} (items : List A) → (length items == 0) ≡ false → list_any (λ item. true) items ≡ true
-any_some [] e = sym e
-any_some (item ∷ items) e = refl
-
-none_any : {A : Type 0} (items : List A) → (length items == 0) ≡ true → items ≡ []
-none_any [] e = refl
-none_any (item ∷ items) e = let bad : suc (length items) ≡ 0 = eqb-true (suc (length items)) 0 e in cc
-
-module _ (table : Table) (h : Half) (is_result : Bool) (id : ℤ) (last : Bool) (named : Option Code) where
+module _ (table : Table) (k : Kept) (whole : Whole k.inn) (is_result : Bool) (id : ℤ) (last : Bool) (named : Option Code) where
   -- Another operation would be answered.
-  pub is_wrong : is_some (place_of (may_answer table is_result None) (listed id h.inn)) ≡ true
-      → place_of (may_answer table is_result named) (listed id h.inn) ≡ None
-      → send_answer table h is_result last id named ≡ Err faults.WrongOperation
-  is_wrong is none = by (place_of (may_answer table is_result None) (listed id h.inn)) refl is
-    where
-      by : (place : Option ℕ) → place_of (may_answer table is_result None) (listed id h.inn) ≡ place → is_some place ≡ true
-          → send_answer table h is_result last id named ≡ Err faults.WrongOperation
-      by None e bad = let wrong : false ≡ true = bad in cc
-      by (Some at) e _ =
-          let some = (place_some (may_answer table is_result None) (listed id h.inn) at e).0 in
-          rw (
-            any_of (may_answer table is_result None) (listed id h.inn) some,
-            some,
-            place_none (may_answer table is_result named) (listed id h.inn) none,
-          ) refl
+  pub is_wrong : is_some (place_of (fits_in (may_answer table is_result None)) (listed id k.inn)) ≡ true
+      → place_of (fits_in (may_answer table is_result named)) (listed id k.inn) ≡ None
+      → send_answer table (half_in k) is_result last id named ≡ Err faults.WrongOperation
+  is_wrong is none =
+      let some = one_in id (may_answer table is_result None) k.inn whole ∙ is in
+      rw (any_of (may_answer table is_result None) (listed id (half_in k).inn) some, some, one_in id (may_answer table is_result named) k.inn whole ∙ ap is_some none) refl
 
   -- The classes of all invocations forbid it.
-  pub is_forbidden : is_some (place_of (may_answer table is_result None) (listed id h.inn)) ≡ false
-      → (length (listed id h.inn) == 0) ≡ false
-      → send_answer table h is_result last id named ≡ Err faults.ClassForbids
-  is_forbidden none some = by (place_of (may_answer table is_result None) (listed id h.inn)) refl none
-    where
-      by : (place : Option ℕ) → place_of (may_answer table is_result None) (listed id h.inn) ≡ place → is_some place ≡ false
-          → send_answer table h is_result last id named ≡ Err faults.ClassForbids
-      by None e _ = rw (any_some (listed id h.inn) some, place_none (may_answer table is_result None) (listed id h.inn) e) refl
-      by (Some at) e bad = let wrong : true ≡ false = bad in cc
+  pub is_forbidden : is_some (place_of (fits_in (may_answer table is_result None)) (listed id k.inn)) ≡ false
+      → one_fits id (λ item. true) (half_in k).inn ≡ true
+      → send_answer table (half_in k) is_result last id named ≡ Err faults.ClassForbids
+  is_forbidden none some = rw (some, one_in id (may_answer table is_result None) k.inn whole ∙ none) refl
 
   -- There is no invocation.
-  pub is_nothing : (length (listed id h.inn) == 0) ≡ true → send_answer table h is_result last id named ≡ Err faults.NothingToAnswer
-  is_nothing empty = rw (none_any (listed id h.inn) empty) refl
+  pub is_nothing : one_fits id (λ item. true) (half_in k).inn ≡ false
+      → send_answer table (half_in k) is_result last id named ≡ Err faults.NothingToAnswer
+  is_nothing none = rw none refl
 
 -- ---- answers that may be sent
 
@@ -122,44 +125,50 @@ named_too table is_result named item = by (class_reports table is_result item.co
     by true same is = refl
     by false same is = is
 
-pub answers_one : (table : Table) (h : Half) (is_result last : Bool) (id : ℤ) (named : Option Code) (at : ℕ)
-    → place_of (may_answer table is_result named) (listed id h.inn) ≡ Some at
-    → send_answer table h is_result last id named ≡ Ok (cond last (without_inn id at h) h)
-answers_one table h is_result last id named at is =
-    let there = taken_some id (may_answer table is_result named) h.inn at is in
-    let of_class = any_too (may_answer table is_result named) (may_answer table is_result None) (listed id h.inn)
+pub answers_one : (table : Table) (k : Kept) → Whole k.inn → (is_result last : Bool) (id : ℤ) (named : Option Code) (at : ℕ)
+    → place_of (fits_in (may_answer table is_result named)) (listed id k.inn) ≡ Some at
+    → send_answer table (half_in k) is_result last id named ≡ Ok (cond last (half_in (without_inn id at k)) (half_in k))
+answers_one table k whole is_result last id named at is =
+    let there = taken_some id (may_answer table is_result named) k.inn at whole is in
+    let of_class = any_too (may_answer table is_result named) (may_answer table is_result None) (listed id (half_in k).inn)
     (named_too table is_result named) there.0 in
-    rw (any_of (may_answer table is_result named) (listed id h.inn) there.0, of_class, there.0)
-    (ap (λ inn. let r : Result Half EndFault = Ok (cond last (record h { inn = inn }) h) in r) there.2)
+    rw (any_of (may_answer table is_result named) (listed id (half_in k).inn) there.0, of_class, there.0)
+    (ap (λ inn. let r : Result Half EndFault = Ok (cond last (record (half_in k) { inn = inn }) (half_in k)) in r) there.2)
 
 -- ---- what a Reject takes
 
-pub not_rejected : (h : Half) (id : ℤ) (problem : Problem) → rejected_place h id problem ≡ None
-    → send_reject h (Some id) problem ≡ Err faults.RejectNotAllowed
-not_rejected h id (problems.General n) e = refl
-not_rejected h id (problems.Invoke n) e = rw (place_none (allows n) (listed id h.inn) e) refl
-not_rejected h id (problems.ReturnResult n) e = rw (place_none (allows_for true n) (listed id h.grants) e) refl
-not_rejected h id (problems.ReturnError n) e = rw (place_none (allows_for false n) (listed id h.grants) e) refl
+module _ (k : Kept) (inn : Whole k.inn) (grants : Whole k.grants) (id : ℤ) where
+  none_in : {A : Type 0} (fits : A → Bool) (m : List (ℤ × List (Option A))) → Whole m → place_of (fits_in fits) (listed id m) ≡ None
+      → one_fits id fits (items_of m) ≡ false
+  none_in fits m whole e = one_in id fits m whole ∙ ap is_some e
 
--- an invocation
-pub rejects_inn : (h : Half) (id : ℤ) (n at : ℕ) → rejected_place h id (problems.Invoke n) ≡ Some at
-    → (at < length (listed id h.inn)) × (send_reject h (Some id) (problems.Invoke n) ≡ Ok (without_inn id at h))
-rejects_inn h id n at is =
-    let there = taken_some id (allows n) h.inn at is in
-    (there.1, rw there.0 (ap (λ inn. let r : Result Half EndFault = Ok (record h { inn = inn }) in r) there.2))
+  pub not_rejected : (problem : Problem) → rejected_place k.inn k.grants id problem ≡ None
+      → send_reject (half_in k) (Some id) problem ≡ Err faults.RejectNotAllowed
+  not_rejected (problems.General n) e = refl
+  not_rejected (problems.Invoke n) e = rw (none_in (allows n) k.inn inn e) refl
+  not_rejected (problems.ReturnResult n) e = rw (none_in (allows_for true n) k.grants grants e) refl
+  not_rejected (problems.ReturnError n) e = rw (none_in (allows_for false n) k.grants grants e) refl
 
--- an answer
-pub rejects_grant : (h : Half) (id : ℤ) (problem : ProblemView) (at : ℕ) → ((n : SmallView) → problem ≡ views.Invoke n → ⊥)
-    → rejected_place h id (problem_of problem) ≡ Some at
-    → (at < length (listed id h.grants)) × (send_reject h (Some id) (problem_of problem) ≡ Ok (without_grant id at h))
-rejects_grant h id (views.General n) at other is = let bad : None ≡ Some at = is in cc
-rejects_grant h id (views.Invoke n) at other is = absurd (other n refl)
-rejects_grant h id (views.ReturnResult n) at other is =
-    let there = taken_some id (allows_for true n.number) h.grants at is in
-    (there.1, rw there.0 (ap (λ grants. let r : Result Half EndFault = Ok (record h { grants = grants }) in r) there.2))
-rejects_grant h id (views.ReturnError n) at other is =
-    let there = taken_some id (allows_for false n.number) h.grants at is in
-    (there.1, rw there.0 (ap (λ grants. let r : Result Half EndFault = Ok (record h { grants = grants }) in r) there.2))
+  -- an invocation
+  pub rejects_inn : (n at : ℕ) → rejected_place k.inn k.grants id (problems.Invoke n) ≡ Some at
+      → IsSome (get_or (listed id k.inn) at None) × (send_reject (half_in k) (Some id) (problems.Invoke n) ≡ Ok (half_in (without_inn id at k)))
+  rejects_inn n at is =
+      let there = taken_some id (allows n) k.inn at inn is in
+      (there.1, rw there.0 (ap (λ inn. let r : Result Half EndFault = Ok (record (half_in k) { inn = inn }) in r) there.2))
+
+  -- an answer
+  pub rejects_grant : (problem : ProblemView) (at : ℕ) → ((n : SmallView) → problem ≡ views.Invoke n → ⊥)
+      → rejected_place k.inn k.grants id (problem_of problem) ≡ Some at
+      → IsSome (get_or (listed id k.grants) at None)
+      × (send_reject (half_in k) (Some id) (problem_of problem) ≡ Ok (half_in (without_grant id at k)))
+  rejects_grant (views.General n) at other is = let bad : None ≡ Some at = is in cc
+  rejects_grant (views.Invoke n) at other is = absurd (other n refl)
+  rejects_grant (views.ReturnResult n) at other is =
+      let there = taken_some id (allows_for true n.number) k.grants at grants is in
+      (there.1, rw there.0 (ap (λ grants. let r : Result Half EndFault = Ok (record (half_in k) { grants = grants }) in r) there.2))
+  rejects_grant (views.ReturnError n) at other is =
+      let there = taken_some id (allows_for false n.number) k.grants at grants is in
+      (there.1, rw there.0 (ap (λ grants. let r : Result Half EndFault = Ok (record (half_in k) { grants = grants }) in r) there.2))
 
 -- ---- an own invocation
 

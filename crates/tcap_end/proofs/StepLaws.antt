@@ -1,5 +1,5 @@
 -- What holds of every end holds behind each step, and a closed half stays as it is.
-use Rattle.std.proofs.Common.{◌≡◌, ℕ, ℤ, Bool, true, false, cond, not, List, [], Option, Some, None, Result, Ok, Err, is_none, refl}
+use Rattle.std.proofs.Common.{◌≡◌, ℕ, ℤ, Bool, true, false, cond, List, [], Option, Some, None, Result, Ok, Err, is_none, refl}
 use Rattle.std.specs.Prelude.{ok_or}
 use Rattle.std.proofs.lemmas.Bool.{not-true}
 use Rattle.tcap_parts.specs.declared.component.Component.{Component}

@@ -1,58 +1,89 @@
 -- What the state of a half is, and what it means to take changes back.
-use Rattle.std.specs.Prelude.{◌≡◌, ℕ, ℤ, ◌+◌, ◌<◌, ◌≤◌, ◌^◌, List, [], ◌∷◌, Option, length}
+use Rattle.std.specs.Prelude.{◌≡◌, ℕ, ℤ, ◌<◌, List, [], ◌∷◌, Option, None, IsSome, length, slice_index_or}
 use Rattle.tcap_end.specs.declared.half_state.HalfState.{HalfState}
 use Rattle.tcap_end.specs.declared.half_state.Change.{Change}
 use Rattle.tcap_end.specs.declared.half_state.Change.TheVariants.{Out, Waits, InnTaken, GrantTaken, InnJoined, GrantJoined}
 use Rattle.tcap_end.specs.declared.half.InvocationState.TheVariants as states
+use Rattle.tcap_end.specs.declared.half.Phase.{Phase}
 use Rattle.tcap_end.specs.declared.half.Slot.{Slot}
 use Rattle.tcap_end.specs.declared.half.Slot.TheVariants.{Begun, Accepted}
-use Rattle.tcap_end.specs.Half.{Half, listed}
-use Rattle.tcap_end.specs.Lists.{HasList, kept_lists, one_less, put_at, taken_at}
+use Rattle.tcap_end.specs.declared.half.Standing.{Standing}
+use Rattle.tcap_end.specs.declared.lists.Lists.{Lists}
+use Rattle.tcap_end.specs.declared.outs.OwnInvocation.{OwnInvocation}
+use Rattle.tcap_end.specs.Half.{Answer, Half, Invocation, listed}
+use Rattle.tcap_end.specs.Lists.{HasRow, KeepsRows, items_of, kind_of, one_less, rows_of, with_place}
 use Rattle.tcap_end.specs.Outs.{HasPlace, kept_outs, with_state, with_out}
 
-abbrev pub half_of : HalfState → Half
-half_of h = record {
+-- What is kept of a half, with the places of its invocations and answers.
+pub record Kept : Type 0 where
+  pub phase : Phase
+  pub own : Option (List ℕ)
+  pub peer : Option (List ℕ)
+  pub standing : Standing
+  pub out : List (ℤ × OwnInvocation)
+  pub inn : List (ℤ × List (Option Invocation))
+  pub grants : List (ℤ × List (Option Answer))
+
+abbrev pub kept_of : HalfState → Kept
+kept_of h = record {
   phase = h.phase;
   own = h.own;
   peer = h.peer;
   standing = h.standing;
   out = kept_outs h.out;
-  inn = kept_lists h.inn;
-  grants = kept_lists h.grants;
+  inn = rows_of h.inn;
+  grants = rows_of h.grants;
 }
 
--- Places and lists that one has, the other has.
+-- the half that is kept so
+abbrev pub half_in : Kept → Half
+half_in kept = record {
+  phase = kept.phase;
+  own = kept.own;
+  peer = kept.peer;
+  standing = kept.standing;
+  out = kept.out;
+  inn = items_of kept.inn;
+  grants = items_of kept.grants;
+}
+
+abbrev pub half_of : HalfState → Half
+half_of h = half_in (kept_of h)
+
+-- Places, rows and kinds that one has, the other has.
 pub record Keeps (h next : HalfState) : Type 0 where
   pub slot : next.slot ≡ h.slot
   pub out : (id : ℤ) → HasPlace id h.out → HasPlace id next.out
-  pub inn : (id : ℤ) → HasList id h.inn → HasList id next.inn
-  pub grants : (id : ℤ) → HasList id h.grants → HasList id next.grants
+  pub inn : KeepsRows h.inn next.inn
+  pub grants : KeepsRows h.grants next.grants
 
--- the half before a change
-abbrev pub undone : Change → Half → Half
-undone (Out id was) h = record h { out = with_out id was h.out }
-undone (Waits id) h = record h { out = with_state id states.OperationSent h.out }
-undone (InnTaken id at item) h = record h { inn = put_at id at item h.inn }
-undone (GrantTaken id at item) h = record h { grants = put_at id at item h.grants }
-undone (InnJoined id) h = record h { inn = one_less id h.inn }
-undone (GrantJoined id) h = record h { grants = one_less id h.grants }
+-- what was kept before a change
+abbrev pub undone : Change → HalfState → Kept
+undone (Out id was) h = record (kept_of h) { out = with_out id was (kept_outs h.out) }
+undone (Waits id) h = record (kept_of h) { out = with_state id states.OperationSent (kept_outs h.out) }
+undone (InnTaken id at kind) h = record (kept_of h) { inn = with_place id at (kind_of id kind h.inn) (rows_of h.inn) }
+undone (GrantTaken id at kind) h = record (kept_of h) { grants = with_place id at (kind_of id kind h.grants) (rows_of h.grants) }
+undone (InnJoined id) h = record (kept_of h) { inn = one_less id (rows_of h.inn) }
+undone (GrantJoined id) h = record (kept_of h) { grants = one_less id (rows_of h.grants) }
 
--- An item goes back to that place of the list, which has room.
-abbrev pub GoesBack : {A : Type 0} → ℕ → List A → List A → Type 0
-GoesBack at item items = (at ≤ length items) × (length items + length item < 2 ^ 63)
+-- An item of that kind goes back to that place, which is empty.
+pub record GoesBack {K : Type 0} (id : ℤ) (at kind : ℕ) (l : Lists K) : Type 0 where
+  pub within : at < length (listed id (rows_of l))
+  pub empty : slice_index_or (listed id (rows_of l)) at None ≡ None
+  pub there : IsSome (kind_of id kind l)
 
 -- A change can be taken back.
 abbrev pub CanUndo : Change → HalfState → Type 0
 CanUndo (Out id was) h = HasPlace id h.out
 CanUndo (Waits id) h = HasPlace id h.out
-CanUndo (InnTaken id at item) h = HasList id h.inn × GoesBack at item (listed id (kept_lists h.inn))
-CanUndo (GrantTaken id at item) h = HasList id h.grants × GoesBack at item (listed id (kept_lists h.grants))
-CanUndo (InnJoined id) h = HasList id h.inn
-CanUndo (GrantJoined id) h = HasList id h.grants
+CanUndo (InnTaken id at kind) h = GoesBack id at kind h.inn
+CanUndo (GrantTaken id at kind) h = GoesBack id at kind h.grants
+CanUndo (InnJoined id) h = HasRow id h.inn
+CanUndo (GrantJoined id) h = HasRow id h.grants
 
 -- It was taken back.
 abbrev pub IsUndone : Change → HalfState → HalfState → Type 0
-IsUndone change h next = (half_of next ≡ undone change (half_of h)) × Keeps h next
+IsUndone change h next = (kept_of next ≡ undone change h) × Keeps h next
 
 -- The changes, the last one first, can be taken back, and lead to that half.
 abbrev pub Undoes : List Change → HalfState → Half → Type 0
@@ -64,12 +95,12 @@ Undoes (change ∷ changes) h start = CanUndo change h
 abbrev pub StillUndoes : List Change → HalfState → List Change → HalfState → Type 0
 StillUndoes changes h more next = (start : Half) → Undoes changes h start → Undoes more next start
 
--- the half without the invocation, or the answer, at that place of an ID's list
-abbrev pub without_inn : ℤ → ℕ → Half → Half
-without_inn id at h = record h { inn = taken_at id at h.inn }
+-- the same without the invocation, or the answer, in that place of an ID's row
+abbrev pub without_inn : ℤ → ℕ → Kept → Kept
+without_inn id at kept = record kept { inn = with_place id at None kept.inn }
 
-abbrev pub without_grant : ℤ → ℕ → Half → Half
-without_grant id at h = record h { grants = taken_at id at h.grants }
+abbrev pub without_grant : ℤ → ℕ → Kept → Kept
+without_grant id at kept = record kept { grants = with_place id at None kept.grants }
 
 -- the transaction ID that a half in that slot is not kept by
 abbrev pub other_id : Slot → Half → Option (List ℕ)

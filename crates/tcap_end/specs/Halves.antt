@@ -4,6 +4,8 @@ use Rattle.std.specs.Map.{lookup}
 use Rattle.std.specs.BTreeMap.{is_at}
 use Rattle.slab.specs.Slab.{Slab, get}
 use Rattle.tcap_end.specs.declared.fault.EndFault.{EndFault}
+use Rattle.tcap_end.specs.declared.half.HalfName.{HalfName}
+use Rattle.tcap_end.specs.declared.half.HalfName.TheVariants as names
 use Rattle.tcap_end.specs.declared.half.Phase.TheVariants as phases
 use Rattle.tcap_end.specs.declared.half.Standing.TheVariants as standings
 use Rattle.tcap_end.specs.declared.half.Slot.{Slot}
@@ -98,6 +100,11 @@ AnswersOver slot key step result s next = (h : Half) → Has (end_of s) (kept_ha
 unfoldable pub IsNumbered : HalfKey → Halves → Type 0
 IsNumbered found s = MatchOption found.number ((other : Option (List ℕ)) × IsAt found.slot found.key (Closed other) s)
     (λ k. IsAt found.slot found.key (Open k) s)
+
+-- the name of a half in a slot, by the ID by which it is kept
+abbrev pub name_in : Slot → List ℕ → HalfName
+name_in Begun = names.Own
+name_in Accepted = names.Peer
 
 -- the index of the halves in a slot, from the IDs that they are not kept by
 abbrev pub index_of : Slot → Halves → List (List ℕ × List ℕ)

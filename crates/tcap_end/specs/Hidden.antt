@@ -1,5 +1,5 @@
 -- What happens to an end unseen (Q.774 3.2 and 3.3): an invocation ends, a half closes.
-use Rattle.std.specs.Prelude.{ℕ, ℤ, Bool, true, false, List, [], ◌∷◌, ◌++◌, Option, Some, None, Result, Ok, cond, not, ok_or}
+use Rattle.std.specs.Prelude.{ℕ, ℤ, Bool, true, false, List, [], ◌∷◌, ◌++◌, Option, Some, None, Result, Ok, cond, not, ok_or, option_and_then}
 use Rattle.std.specs.Ordering.{int_cmp}
 use Rattle.std.specs.Map.{remove_entry}
 use Rattle.std.specs.BTreeMap.{is_at}
@@ -16,7 +16,7 @@ use Rattle.tcap_end.specs.Step.{needs, ◌>>◌, ◌>>=◌}
 use Rattle.tcap_end.specs.Table.{Table, expires_of}
 use Rattle.tcap_end.specs.Half.{Half, closed_half, is_closed}
 use Rattle.tcap_end.specs.Component.{own_invocation}
-use Rattle.tcap_end.specs.End.{End, named, put, quiet}
+use Rattle.tcap_end.specs.End.{End, KeptHalf, named, put, quiet}
 
 -- whether an own invocation may end unseen
 abbrev pub may_expire : Table → Option OwnInvocation → Bool
@@ -30,6 +30,13 @@ may_expire table (Some own) = by_state own.state
 -- the half without its own invocation of that ID
 abbrev pub without_invocation : ℤ → Half → Half
 without_invocation id h = record h { out = remove_entry (is_at (int_cmp id)) h.out }
+
+abbrev pub open_kept : KeptHalf → Option Half
+open_kept kept = cond (is_closed kept.half.phase) None (Some kept.half)
+
+-- the open half of that name
+abbrev pub open_named : End → HalfName → Option Half
+open_named e name = option_and_then open_kept (named e name)
 
 -- An own invocation ends unseen (Q.774 3.2): its timer runs out or the user cancels it, where the table says that this
 -- may be in the record; or, where its last answer came, its ID is free again.

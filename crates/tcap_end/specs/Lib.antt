@@ -14,6 +14,8 @@ pub mod Sound
 pub mod CodeMap
 pub mod TableText
 pub mod TableReading
+pub mod Chains
+pub mod Row
 pub mod Lists
 pub mod Outs
 pub mod Received

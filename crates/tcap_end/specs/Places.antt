@@ -2,17 +2,18 @@
 use Rattle.std.specs.Prelude.{ℕ, suc, ℤ, Bool, true, false, List, [], ◌∷◌, Option, Some, None, option_map, cond}
 use Rattle.tcap_parts.specs.declared.problem.Problem.{Problem}
 use Rattle.tcap_parts.specs.declared.problem.Problem.TheVariants as problems
-use Rattle.tcap_end.specs.Half.{Half, listed}
+use Rattle.tcap_end.specs.Half.{Answer, Invocation, listed}
 use Rattle.tcap_end.specs.Component.{allows, allows_for}
+use Rattle.tcap_end.specs.Row.{fits_in}
 
 -- the place of the first item that fits
 abbrev pub place_of : {A : Type 0} → (A → Bool) → List A → Option ℕ
 place_of fits [] = None
 place_of fits (item ∷ items) = cond (fits item) (Some 0) (option_map suc (place_of fits items))
 
--- where the oldest item stands that a Reject of this problem takes
-abbrev pub rejected_place : Half → ℤ → Problem → Option ℕ
-rejected_place h id (problems.General n) = None
-rejected_place h id (problems.Invoke n) = place_of (allows n) (listed id h.inn)
-rejected_place h id (problems.ReturnResult n) = place_of (allows_for true n) (listed id h.grants)
-rejected_place h id (problems.ReturnError n) = place_of (allows_for false n) (listed id h.grants)
+-- where the oldest item stands that a Reject of this problem takes, in the rows of invocations and of answers
+abbrev pub rejected_place : List (ℤ × List (Option Invocation)) → List (ℤ × List (Option Answer)) → ℤ → Problem → Option ℕ
+rejected_place inn grants id (problems.General n) = None
+rejected_place inn grants id (problems.Invoke n) = place_of (fits_in (allows n)) (listed id inn)
+rejected_place inn grants id (problems.ReturnResult n) = place_of (fits_in (allows_for true n)) (listed id grants)
+rejected_place inn grants id (problems.ReturnError n) = place_of (fits_in (allows_for false n)) (listed id grants)

@@ -1,18 +1,31 @@
 //! What happens to an end unseen (Q.774 3.2 and 3.3): an invocation ends, a half closes, all do.
 
-ghost use Rattle.std.specs.Prelude.{◌≡◌, ◌<◌, ◌^◌, Some, None, Ok, Err, IfSome, MatchOption, OnErr, length};
+ghost use Rattle.std.specs.Prelude.{◌≡◌, ◌<◌, ◌^◌, ◌++◌, Some, None, Ok, Err, IfSome, MatchOption, OnErr, OnOk, length};
 ghost use Rattle.tcap_end.specs.declared.fault.EndFault.TheVariants as EndFault;
 ghost use Rattle.tcap_end.specs.Step.{Answers};
-ghost use Rattle.tcap_end.specs.Hidden.{close, expire, may_close, open_halves, quiet_unseen};
+ghost use Rattle.tcap_end.specs.Hidden.{close, expire, may_close, open_halves, open_names, quiet_unseen};
 ghost use Rattle.tcap_end.specs.Half.{Half};
 ghost use Rattle.tcap_end.specs.End.{named, nothing};
 ghost use Rattle.tcap_end.specs.Sound.{IsEnd, halves_of};
-ghost use Rattle.tcap_end.specs.Halves.{AllPlaced, IsNumbered, IsHeld, closing, end_of, kept_half};
+ghost use Rattle.tcap_end.specs.Halves.{AllPlaced, IsNumbered, IsHeld, closing, end_of, kept_half, name_in};
 
 use crate::fault::EndFault;
 use crate::half::{HalfName, Phase, Slot};
 use crate::halves::{HalfKey, Halves};
 use crate::table::Table;
+use std::alloc::AllocError;
+use tcap_msg::TransactionId;
+
+/// The name of a half that began so, by the ID by which it is kept.
+fn name_of(slot: Slot, key: &TransactionId) -> HalfName
+    ensures { result ≡ name_in slot key.now }
+{
+    let key = key.view().to_transaction_id();
+    match slot {
+        Slot::Begun => HalfName::Own(key),
+        Slot::Accepted => HalfName::Peer(key),
+    }
+}
 
 /// Whether a half in that phase may close unseen.
 fn may_close(table: &Table, phase: Phase) -> bool
@@ -115,5 +128,20 @@ impl Halves {
         let begun = self.closing_of(table, Slot::Begun)?;
         let accepted = self.closing_of(table, Slot::Accepted)?;
         Some(begun + accepted)
+    }
+
+    /// The names of the open halves that began so go behind these, in the order of the IDs by which they are kept.
+    pub(crate) fn push_open(&self, slot: Slot, names: &mut Vec<HalfName>) -> Result<(), AllocError>
+        requires held { IsHeld self.now }
+        requires placed { AllPlaced self.now }
+        ensures { OnOk result (names.new.items
+            ≡ names.old.items ++ open_names (name_in slot) (halves_of slot (end_of self.now))) }
+    {
+        for (key, place) in self.places(slot) {
+            if self.open_half(place).is_some() {
+                names.push(name_of(slot, key))?;
+            }
+        }
+        Ok(())
     }
 }

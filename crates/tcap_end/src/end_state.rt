@@ -1,22 +1,23 @@
 //! One end, as it runs.
 
-ghost use Rattle.std.specs.Prelude.{◌≡◌, ◌≢◌, Err, IsSome, OnErr, length};
+ghost use Rattle.std.specs.Prelude.{◌≡◌, ◌≢◌, Err, IfOk, IsSome, MatchOption, None, OnErr, Some, is_ok, is_some, length};
 ghost use Rattle.tcap_msg.specs.declared.kind.Kind.TheVariants as Kind;
 ghost use Rattle.tcap_msg.specs.Parts.{kind_in, otid_in};
 ghost use Rattle.tcap_end.specs.declared.fault.EndFault.TheVariants as EndFault;
 ghost use Rattle.tcap_end.specs.Step.{Answers, AnswersInMemory, AnswersNumber};
-ghost use Rattle.tcap_end.specs.End.{nothing, quiet};
+ghost use Rattle.tcap_end.specs.End.{named, nothing, quiet};
 ghost use Rattle.tcap_end.specs.Message.{receive, send};
 ghost use Rattle.tcap_end.specs.Reply.{refuse_begin, refuse_continue};
-ghost use Rattle.tcap_end.specs.Hidden.{close, expire, open_halves, quiet_unseen};
+ghost use Rattle.tcap_end.specs.Hidden.{close, expire, open_halves, open_named, quiet_unseen};
 ghost use Rattle.tcap_end.specs.Sound.{IsEnd};
 
 use crate::end_replies::{refuse_begin, refuse_continue};
 use crate::fault::EndFault;
-use crate::half::HalfName;
+use crate::half::{HalfName, Slot};
+use crate::half_view::OpenHalf;
 use crate::halves::Halves;
 use crate::table::Table;
-use std::alloc::Global;
+use std::alloc::{AllocError, Global};
 use std::marker::Model;
 use tcap_msg::MessageParts;
 
@@ -118,6 +119,40 @@ impl EndState {
         ensures kept { OnErr result (self.new ≡ self.old) }
     {
         self.halves.close_named(table, name)
+    }
+
+    /// Whether all halves are closed, so that a quiet mark may come.
+    pub fn is_quiet(&self) -> bool
+        ensures { result ≡ is_ok (quiet self.now) }
+    {
+        self.halves.all_closed()
+    }
+
+    /// The names of the open halves: by their own transaction IDs those that began by sending a Begin, and behind them by
+    /// their peers' those that began by receiving one; each of the two in the order of these IDs. Fails where memory runs
+    /// out.
+    pub fn open_halves(&self, alloc: Global) -> Result<Vec<HalfName>, AllocError>
+        ensures { IfOk result (λ names. names.items ≡ open_halves self.now) }
+    {
+        let mut names = Vec::new(alloc);
+        self.halves.push_open(Slot::Begun, &mut names)?;
+        self.halves.push_open(Slot::Accepted, &mut names)?;
+        Ok(names)
+    }
+
+    /// Whether there is a half of that name, open or closed (Q.774 3.3).
+    pub fn knows(&self, name: &HalfName) -> bool
+        ensures { result ≡ is_some (named self.now name.now) }
+    {
+        self.halves.knows(name)
+    }
+
+    /// What is known of the open half of that name (Q.774 3.2 and 3.3); `None` where there is none, or it is closed.
+    pub fn open_half(&self, name: &HalfName) -> Option<OpenHalf<'_>>
+        ensures { MatchOption result (open_named self.now name.now ≡ None)
+            (λ half. open_named self.now name.now ≡ Some half) }
+    {
+        Some(OpenHalf::of(self.halves.open_named(name)?))
     }
 
     /// Shows that what it stands for is an end of which the laws speak.

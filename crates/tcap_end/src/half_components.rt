@@ -99,7 +99,10 @@ impl HalfState {
     {
         let mut changes = LinkedList::new(alloc);
         match self.step_noted(alloc, &mut changes, table, way, components) {
-            Ok(()) => Ok(()),
+            Ok(()) => {
+                self.settle(changes);
+                Ok(())
+            }
             Err(fault) => {
                 self.undo_all(changes);
                 Err(fault)

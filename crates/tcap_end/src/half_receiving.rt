@@ -1,13 +1,11 @@
 //! What receiving a component does to a half (Q.774 3.2, component sub-layer; Q.771, operation classes).
 
-ghost use Rattle.std.specs.Prelude.{◌≡◌, Some, OnOk, IsSome, true, false, option_map, cond, [], ◌∷◌};
+ghost use Rattle.std.specs.Prelude.{◌≡◌, Some, OnOk, IsSome, true, false, option_map};
 ghost use Rattle.tcap_parts.specs.declared.code.Code.{Code};
 ghost use Rattle.tcap_parts.specs.declared.component.Component.TheVariants as Component;
 ghost use Rattle.tcap_parts.specs.Meaning.{code_of, component_of, problem_of};
-ghost use Rattle.tcap_end.specs.Half.{listed};
 ghost use Rattle.tcap_end.specs.Component.{
   answered_operation,
-  id_problems,
   link_problems,
   operation_sent,
   receive_answer,
@@ -22,7 +20,8 @@ ghost use Rattle.tcap_end.specs.Received.{link_numbers, target_of, target_proble
 use crate::class::reports;
 use crate::half::InvocationState;
 use crate::half_state::{Change, HalfState};
-use crate::received::{Answer, Invocation, Link, Target};
+use crate::places::{keep_answer, keep_invocation};
+use crate::received::{Link, Target};
 use crate::table::Table;
 use std::alloc::{AllocError, Global};
 use std::collections::LinkedList;
@@ -59,16 +58,6 @@ impl HalfState {
         }
     }
 
-    /// Whether an invocation with that ID was received.
-    fn is_duplicate(&self, id: i8) -> bool
-        ensures { cond result (0 ∷ []) [] ≡ id_problems (listed id (half_of self.now).inn) }
-    {
-        match self.inn.get(id) {
-            Some(list) => !list.is_empty(),
-            None => false,
-        }
-    }
-
     /// What a Return Result, or a Return Error, is for.
     fn target(&self, table: &Table, is_result: bool, id: i8) -> Target
         ensures { result ≡ target_of is_result (answered_operation table.now (half_of self.now) id) }
@@ -98,12 +87,9 @@ impl HalfState {
         ensures undoes { StillUndoes changes.old self.old changes.new self.new }
         ensures slot { self.new.slot ≡ self.old.slot }
     {
-        let item = Invocation {
-            code: code.to_code(alloc)?,
-            duplicate: self.is_duplicate(id),
-            link: self.link(table, linked, code),
-        };
-        self.inn.push(id, item)?;
+        let duplicate = self.has_invocation(id);
+        let link = self.link(table, linked, code);
+        keep_invocation(&mut self.inn, alloc, id, code, duplicate, link)?;
         self.note(changes, Change::InnJoined(id))
     }
 
@@ -120,7 +106,7 @@ impl HalfState {
         ensures undoes { StillUndoes changes.old self.old changes.new self.new }
         ensures slot { self.new.slot ≡ self.old.slot }
     {
-        self.grants.push(id, Answer { is_result, target })?;
+        keep_answer(&mut self.grants, id, is_result, target)?;
         self.note(changes, Change::GrantJoined(id))
     }
 

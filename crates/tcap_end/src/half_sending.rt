@@ -1,19 +1,21 @@
 //! What sending a component does to a half (Q.774 3.2, component sub-layer; Q.771, operation classes).
 
-ghost use Rattle.std.specs.Prelude.{◌≡◌, ◌<◌, Bool, Option, Some, None, Err, OnOk, option_map, length};
+ghost use Rattle.std.specs.Prelude.{◌≡◌, Bool, true, Option, Some, None, Err, IsSome, OnOk, option_map, slice_index_or};
 ghost use Rattle.tcap_parts.specs.declared.code.Code.{Code};
 ghost use Rattle.tcap_parts.specs.Meaning.{code_of, component_of, problem_of};
 ghost use Rattle.tcap_end.specs.Step.{AnswersInMemory};
-ghost use Rattle.tcap_end.specs.Half.{listed};
+ghost use Rattle.tcap_end.specs.Half.{listed, one_fits};
 ghost use Rattle.tcap_end.specs.Component.{may_answer, may_link, send_answer, send_component, send_invoke, send_reject};
-ghost use Rattle.tcap_end.specs.HalfState.{StillUndoes, half_of, without_grant, without_inn};
+ghost use Rattle.tcap_end.specs.HalfState.{StillUndoes, half_of, kept_of, without_grant, without_inn};
+ghost use Rattle.tcap_end.specs.Lists.{rows_of};
 ghost use Rattle.tcap_end.specs.Places.{place_of, rejected_place};
+ghost use Rattle.tcap_end.specs.Row.{fits_in};
 
 use crate::fault::EndFault;
 use crate::half::InvocationState;
 use crate::half_state::{Change, HalfState};
 use crate::outs::OwnInvocation;
-use crate::places::{first_answerable, first_rejectable, first_rejectable_answer, links_any};
+use crate::places::{first_answerable, first_linking, first_rejectable, first_rejectable_answer};
 use crate::table::Table;
 use std::alloc::{AllocError, Global};
 use std::collections::LinkedList;
@@ -28,7 +30,7 @@ impl HalfState {
             return true;
         };
         match self.inn.get(linked) {
-            Some(list) => links_any(list, table, code),
+            Some(row) => first_linking(row, table, code).is_some(),
             None => false,
         }
     }
@@ -73,24 +75,35 @@ impl HalfState {
         id: i8,
         named: Option<CodeView>,
     ) -> Option<usize>
-        ensures { result ≡ place_of (may_answer table.now is_result (option_map code_of named.entry))
-            (listed id (half_of self.now).inn) }
+        ensures { result ≡ place_of (fits_in (may_answer table.now is_result (option_map code_of named.entry)))
+            (listed id (rows_of self.now.inn)) }
     {
         first_answerable(self.inn.get(id)?, table, is_result, named)
+    }
+
+    /// Whether an invocation of that ID is kept.
+    pub(crate) fn has_invocation(&self, id: i8) -> bool
+        ensures { result ≡ one_fits id (λ item. true) (half_of self.now).inn }
+    {
+        match self.inn.get(id) {
+            Some(row) => row.oldest().is_some(),
+            None => false,
+        }
     }
 
     /// Why no invocation of that ID may be answered so.
     fn why_no_answer(&self, table: &Table, is_result: bool, id: i8) -> EndFault
         ensures { (last : Bool) (named : Option Code)
-            → place_of (may_answer table.now is_result named) (listed id (half_of self.now).inn) ≡ None
+            → place_of (fits_in (may_answer table.now is_result named)) (listed id (rows_of self.now.inn)) ≡ None
             → send_answer table.now (half_of self.now) is_result last id named ≡ Err result }
     {
         if self.answerable_place(table, is_result, id, None).is_some() {
             return EndFault::WrongOperation;
         }
-        match self.inn.get(id) {
-            Some(list) if !list.is_empty() => EndFault::ClassForbids,
-            _ => EndFault::NothingToAnswer,
+        if self.has_invocation(id) {
+            EndFault::ClassForbids
+        } else {
+            EndFault::NothingToAnswer
         }
     }
 
@@ -120,41 +133,41 @@ impl HalfState {
         Ok(())
     }
 
-    /// Takes the invocation at that place of an ID's list.
+    /// Takes the invocation in that place of an ID's row.
     fn take_inn(
         &mut self,
         changes: &mut LinkedList<Change>,
         id: i8,
         at: usize,
     ) -> Result<(), AllocError>
-        requires within { at < length (listed id (half_of self.old).inn) }
-        ensures taken { OnOk result (half_of self.new ≡ without_inn id at (half_of self.old)) }
+        requires there { IsSome (slice_index_or (listed id (rows_of self.old.inn)) at None) }
+        ensures taken { OnOk result (kept_of self.new ≡ without_inn id at (kept_of self.old)) }
         ensures undoes { StillUndoes changes.old self.old changes.new self.new }
         ensures slot { self.new.slot ≡ self.old.slot }
     {
-        let item = self.inn.take(id, at);
-        self.note(changes, Change::InnTaken { id, at, item })
+        let kind = self.inn.take(id, at);
+        self.note(changes, Change::InnTaken { id, at, kind })
     }
 
-    /// Takes the answer at that place of an ID's list.
+    /// Takes the answer in that place of an ID's row.
     fn take_grant(
         &mut self,
         changes: &mut LinkedList<Change>,
         id: i8,
         at: usize,
     ) -> Result<(), AllocError>
-        requires within { at < length (listed id (half_of self.old).grants) }
-        ensures taken { OnOk result (half_of self.new ≡ without_grant id at (half_of self.old)) }
+        requires there { IsSome (slice_index_or (listed id (rows_of self.old.grants)) at None) }
+        ensures taken { OnOk result (kept_of self.new ≡ without_grant id at (kept_of self.old)) }
         ensures undoes { StillUndoes changes.old self.old changes.new self.new }
         ensures slot { self.new.slot ≡ self.old.slot }
     {
-        let item = self.grants.take(id, at);
-        self.note(changes, Change::GrantTaken { id, at, item })
+        let kind = self.grants.take(id, at);
+        self.note(changes, Change::GrantTaken { id, at, kind })
     }
 
     /// Where the oldest item stands that a Reject of this problem rejects.
     fn rejected_place(&self, id: i8, problem: ProblemView) -> Option<usize>
-        ensures { result ≡ rejected_place (half_of self.now) id (problem_of problem) }
+        ensures { result ≡ rejected_place (rows_of self.now.inn) (rows_of self.now.grants) id (problem_of problem) }
     {
         match problem {
             ProblemView::General(_) => None,

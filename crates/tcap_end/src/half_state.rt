@@ -32,27 +32,16 @@ pub(crate) struct HalfState {
 #[derive(Debug, Drop)]
 pub(crate) enum Change {
     /// Another own invocation, or none, stood under an ID.
-    Out {
-        id: i8,
-        was: Option<OwnInvocation>,
-    },
-    /// An invocation that was received was taken from a place of an ID's list.
-    InnTaken {
-        id: i8,
-        at: usize,
-        item: LinkedList<Invocation>,
-    },
-    /// An answer was taken from a place of an ID's list.
-    GrantTaken {
-        id: i8,
-        at: usize,
-        item: LinkedList<Answer>,
-    },
+    Out { id: i8, was: Option<OwnInvocation> },
+    /// An invocation that was received was taken from a place of an ID's row.
+    InnTaken { id: i8, at: usize, kind: usize },
+    /// An answer was taken from a place of an ID's row.
+    GrantTaken { id: i8, at: usize, kind: usize },
     /// The last answer to an own invocation came: it waits for a Reject.
     Waits(i8),
-    /// An invocation joined an ID's list.
+    /// An invocation joined an ID's row.
     InnJoined(i8),
-    /// An answer joined an ID's list.
+    /// An answer joined an ID's row.
     GrantJoined(i8),
 }
 
@@ -104,10 +93,10 @@ impl HalfState {
                 self.out.put(id, was);
             }
             Change::Waits(id) => self.out.set_state(id, InvocationState::OperationSent),
-            Change::InnTaken { id, at, item } => self.inn.put_back(id, at, item),
-            Change::GrantTaken { id, at, item } => self.grants.put_back(id, at, item),
-            Change::InnJoined(id) => self.inn.pop(id),
-            Change::GrantJoined(id) => self.grants.pop(id),
+            Change::InnTaken { id, at, kind } => self.inn.put_back(id, at, kind),
+            Change::GrantTaken { id, at, kind } => self.grants.put_back(id, at, kind),
+            Change::InnJoined(id) => self.inn.leave(id),
+            Change::GrantJoined(id) => self.grants.leave(id),
         }
     }
 
@@ -140,6 +129,20 @@ impl HalfState {
             Err(failed) => {
                 self.undo(failed.value);
                 Err(AllocError)
+            }
+        }
+    }
+
+    /// What was changed stays: places that nothing will be put back to may go.
+    pub(crate) fn settle(&mut self, changes: LinkedList<Change>)
+        ensures half { half_of self.new ≡ half_of self.old }
+        ensures slot { self.new.slot ≡ self.old.slot }
+    {
+        for change in &changes {
+            match change {
+                Change::InnTaken { id, .. } => self.inn.settle(*id),
+                Change::GrantTaken { id, .. } => self.grants.settle(*id),
+                _ => {}
             }
         }
     }

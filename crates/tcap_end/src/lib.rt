@@ -1,6 +1,7 @@
 //! One end of TCAP dialogues: what it may send, and what it does with what it receives (Q.771, Q.774).
 #![tactic(auto)]
 
+mod chains;
 mod class;
 mod code_map;
 mod dialogues;
@@ -15,12 +16,15 @@ mod half_components;
 mod half_receiving;
 mod half_sending;
 mod half_state;
+mod half_view;
 mod halves;
+mod kind_numbers;
 pub mod laws;
 mod lists;
 mod outs;
 mod places;
 mod received;
+mod row;
 mod table;
 mod table_text;
 mod unidirectional;
@@ -28,4 +32,5 @@ mod unidirectional;
 pub use end_state::EndState;
 pub use fault::EndFault;
 pub use half::{HalfName, InvocationState, Phase, Slot, Standing};
+pub use half_view::OpenHalf;
 pub use table::{Table, TableFault, TableReason};

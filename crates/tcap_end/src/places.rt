@@ -1,15 +1,22 @@
-//! Where the oldest item stands that fits.
+//! Where the oldest item stands that fits, and items that join others.
 
-ghost use Rattle.std.specs.Prelude.{◌≡◌, option_map};
-ghost use Rattle.std.specs.List.{list_any};
+ghost use Rattle.std.specs.Prelude.{◌≡◌, ◌<◌, ◌++◌, ◌∷◌, [], IsSome, Some, None, OnErr, OnOk, option_map, slice_index_or, ℕ};
+ghost use Rattle.std.specs.List.{slice_get};
 ghost use Rattle.tcap_parts.specs.Meaning.{code_of};
-ghost use Rattle.tcap_end.specs.Component.{allows, allows_for, is_code, links, may_answer};
+ghost use Rattle.tcap_end.specs.Half.{with_newest};
+ghost use Rattle.tcap_end.specs.Component.{allows, allows_for, class_reports, is_code, links, may_answer};
+ghost use Rattle.tcap_end.specs.Lists.{HasRow, KeepsKinds, KeepsRows, row_of, rows_of};
 ghost use Rattle.tcap_end.specs.Places.{place_of};
+ghost use Rattle.tcap_end.specs.Received.{invoke_problems, target_problems};
+ghost use Rattle.tcap_end.specs.Row.{earlier, fits_in};
 
 use crate::class::reports;
-use crate::received::{Answer, Invocation};
+use crate::kind_numbers::SORTS;
+use crate::lists::Lists;
+use crate::received::{Answer, Invocation, Link, Target};
+use crate::row::{FEW, Row};
 use crate::table::Table;
-use std::collections::LinkedList;
+use std::alloc::{AllocError, Global};
 use tcap_parts::CodeView;
 
 /// Whether two codes are one.
@@ -23,74 +30,320 @@ pub(crate) fn is_code(code: CodeView, other: CodeView) -> bool
     }
 }
 
+/// The lesser of two places, where they are there.
+fn earlier(a: Option<usize>, b: Option<usize>) -> Option<usize>
+    ensures { result ≡ earlier a b }
+{
+    match (a, b) {
+        (None, other) => other,
+        (Some(place), None) => Some(place),
+        (Some(place), Some(other)) => Some(if other < place { other } else { place }),
+    }
+}
+
+/// Whether the class of an operation reports by a Return Result, or by a Return Error.
+fn reports_by(table: &Table, is_result: bool, code: CodeView) -> bool
+    ensures { result ≡ class_reports table.now is_result (code_of code.entry) }
+{
+    match table.class_of(code) {
+        Some(class) => reports(is_result, class),
+        None => false,
+    }
+}
+
 /// Whether a Return Result, or a Return Error, that names this operation may answer an invocation.
 fn may_answer(item: &Invocation, table: &Table, is_result: bool, named: Option<CodeView>) -> bool
     ensures { result ≡ may_answer table.now is_result (option_map code_of named.entry) item.now }
 {
     let code = item.code.view();
-    let Some(class) = table.class_of(code) else {
-        return false;
+    let is_named = match named {
+        Some(named) => is_code(named, code),
+        None => true,
     };
-    reports(is_result, class)
-        && match named {
-            Some(named) => is_code(named, code),
-            None => true,
-        }
+    is_named && reports_by(table, is_result, code)
 }
 
-/// Where the oldest invocation stands that a Return Result, or a Return Error, may answer.
-pub(crate) fn first_answerable(
-    list: &LinkedList<Invocation>,
+/// Where the oldest invocation stands, over all kinds, that a Return Result, or a Return Error, may answer.
+fn answerable_of_all(
+    row: &Row<Invocation>,
     table: &Table,
     is_result: bool,
     named: Option<CodeView>,
 ) -> Option<usize>
-    ensures { result ≡ place_of (may_answer table.now is_result (option_map code_of named.entry)) list.now }
+    ensures { result ≡ place_of (fits_in (may_answer table.now is_result (option_map code_of named.entry)))
+        (row_of row.now) }
 {
-    for (at, item) in list.iter().enumerate() {
-        if may_answer(item, table, is_result, named) {
+    let mut found = None;
+    let kinds = row.kinds();
+    for kind in 0..kinds.len() {
+        if may_answer(&kinds[kind], table, is_result, named) {
+            found = earlier(found, row.oldest_of(kind));
+        }
+    }
+    found
+}
+
+/// Where the oldest invocation stands that a Return Result, or a Return Error, may answer.
+pub(crate) fn first_answerable(
+    row: &Row<Invocation>,
+    table: &Table,
+    is_result: bool,
+    named: Option<CodeView>,
+) -> Option<usize>
+    ensures { result ≡ place_of (fits_in (may_answer table.now is_result (option_map code_of named.entry)))
+        (row_of row.now) }
+{
+    match row.oldest() {
+        None => None,
+        Some((at, kind)) if may_answer(kind, table, is_result, named) => Some(at),
+        Some(_) => answerable_of_all(row, table, is_result, named),
+    }
+}
+
+/// Where the oldest invocation stands, over all kinds, that may be rejected by an invoke problem.
+fn rejectable_of_all(row: &Row<Invocation>, problem: u8) -> Option<usize>
+    ensures { result ≡ place_of (fits_in (allows problem)) (row_of row.now) }
+{
+    let mut found = None;
+    let kinds = row.kinds();
+    for kind in 0..kinds.len() {
+        if kinds[kind].allows(problem) {
+            found = earlier(found, row.oldest_of(kind));
+        }
+    }
+    found
+}
+
+/// Whether the invocation in a place may be rejected by an invoke problem.
+fn allows_at(row: &Row<Invocation>, problem: u8, at: usize) -> bool
+    ensures { result ≡ fits_in (allows problem) (slice_index_or (row_of row.now) at None) }
+{
+    match row.item(at) {
+        Some(item) => item.allows(problem),
+        None => false,
+    }
+}
+
+/// Where the oldest invocation stands that may be rejected by an invoke problem, if that is one of the first: it looks at
+/// no more places than there are kinds.
+fn rejectable_nearby(row: &Row<Invocation>, problem: u8) -> Option<usize>
+    ensures { (at : ℕ) → result ≡ Some at → place_of (fits_in (allows problem)) (row_of row.now) ≡ Some at }
+{
+    let mut at = row.front();
+    for _ in 0..row.kinds().len() {
+        if allows_at(row, problem, at) {
             return Some(at);
         }
+        if row.len() <= at {
+            return None;
+        }
+        at += 1;
     }
     None
 }
 
 /// Where the oldest invocation stands that may be rejected by an invoke problem.
-pub(crate) fn first_rejectable(list: &LinkedList<Invocation>, problem: u8) -> Option<usize>
-    ensures { result ≡ place_of (allows problem) list.now }
+pub(crate) fn first_rejectable(row: &Row<Invocation>, problem: u8) -> Option<usize>
+    ensures { result ≡ place_of (fits_in (allows problem)) (row_of row.now) }
 {
-    for (at, item) in list.iter().enumerate() {
-        if item.allows(problem) {
-            return Some(at);
-        }
+    match rejectable_nearby(row, problem) {
+        Some(at) => Some(at),
+        None => rejectable_of_all(row, problem),
     }
-    None
 }
 
 /// Where the oldest answer stands that may be rejected by a problem of a Return Result, or of a Return Error.
 pub(crate) fn first_rejectable_answer(
-    list: &LinkedList<Answer>,
+    row: &Row<Answer>,
     is_result: bool,
     problem: u8,
 ) -> Option<usize>
-    ensures { result ≡ place_of (allows_for is_result problem) list.now }
+    ensures { result ≡ place_of (fits_in (allows_for is_result problem)) (row_of row.now) }
 {
-    for (at, item) in list.iter().enumerate() {
-        if item.allows(is_result, problem) {
-            return Some(at);
+    let mut found = None;
+    let kinds = row.kinds();
+    for kind in 0..kinds.len() {
+        if kinds[kind].allows(is_result, problem) {
+            found = earlier(found, row.oldest_of(kind));
+        }
+    }
+    found
+}
+
+/// Where the oldest invocation stands to which an operation may be linked.
+pub(crate) fn first_linking(row: &Row<Invocation>, table: &Table, code: CodeView) -> Option<usize>
+    ensures { result ≡ place_of (fits_in (λ item. links table.now item.code (code_of code.entry))) (row_of row.now) }
+{
+    let mut found = None;
+    let kinds = row.kinds();
+    for kind in 0..kinds.len() {
+        let item = &kinds[kind];
+        if table.links(item.code.view(), code) {
+            found = earlier(found, row.oldest_of(kind));
+        }
+    }
+    found
+}
+
+/// The sort of a kind of invocations: all but its operation code.
+fn sort_of(duplicate: bool, link: Link) -> usize
+    ensures { result < SORTS }
+{
+    let first = match link {
+        Link::Fine => 0,
+        Link::Unrecognized => 1,
+        Link::Unexpected => 2,
+        Link::Other => 3,
+    };
+    if duplicate { first + 4 } else { first }
+}
+
+/// The number of a kind of invocations, looked for among all.
+fn some_invocations(
+    kinds: &[Invocation],
+    code: CodeView,
+    duplicate: bool,
+    link: Link,
+) -> Option<usize>
+    ensures { (number : ℕ) → result ≡ Some number → slice_get kinds.now number
+        ≡ Some (record { code = code_of code.entry; problems = invoke_problems duplicate link }) }
+{
+    for number in 0..kinds.len() {
+        let kind = &kinds[number];
+        if kind.duplicate == duplicate && kind.link == link && is_code(kind.code.view(), code) {
+            return Some(number);
         }
     }
     None
 }
 
-/// Whether an operation may be linked to any of these invocations.
-pub(crate) fn links_any(list: &LinkedList<Invocation>, table: &Table, code: CodeView) -> bool
-    ensures { result ≡ list_any (λ item. links table.now item.code (code_of code.entry)) list.now }
+/// The number of a kind of invocations, by what is guessed for its code.
+fn guessed_invocations(
+    row: &Row<Invocation>,
+    code: CodeView,
+    duplicate: bool,
+    link: Link,
+) -> Option<usize>
+    ensures { (number : ℕ) → result ≡ Some number → slice_get row.now.kinds.items number
+        ≡ Some (record { code = code_of code.entry; problems = invoke_problems duplicate link }) }
 {
-    for item in list {
-        if table.links(item.code.view(), code) {
-            return true;
+    let number = row.guess(code, sort_of(duplicate, link))?;
+    let kinds = row.kinds();
+    if kinds.len() <= number {
+        return None;
+    }
+    let kind = &kinds[number];
+    if kind.duplicate == duplicate && kind.link == link && is_code(kind.code.view(), code) {
+        Some(number)
+    } else {
+        None
+    }
+}
+
+/// The number of a kind of invocations.
+fn invocations(row: &Row<Invocation>, code: CodeView, duplicate: bool, link: Link) -> Option<usize>
+    ensures { (number : ℕ) → result ≡ Some number → slice_get row.now.kinds.items number
+        ≡ Some (record { code = code_of code.entry; problems = invoke_problems duplicate link }) }
+{
+    if row.kinds().len() <= FEW {
+        some_invocations(row.kinds(), code, duplicate, link)
+    } else {
+        guessed_invocations(row, code, duplicate, link)
+    }
+}
+
+/// One invocation more in a row.
+fn join_invocation(
+    row: &mut Row<Invocation>,
+    alloc: Global,
+    code: CodeView,
+    duplicate: bool,
+    link: Link,
+) -> Result<(), AllocError>
+    ensures joined { OnOk result (row_of row.new
+        ≡ row_of row.old ++ Some (record { code = code_of code.entry; problems = invoke_problems duplicate link }) ∷ []) }
+    ensures kept { OnErr result (row_of row.new ≡ row_of row.old) }
+    ensures kinds { KeepsKinds row.old row.new }
+{
+    match invocations(row, code, duplicate, link) {
+        Some(kind) => row.join(kind),
+        None => {
+            row.expect(alloc, code, sort_of(duplicate, link))?;
+            let code = code.to_code(alloc)?;
+            row.join_first(Invocation {
+                code,
+                duplicate,
+                link,
+            })
         }
     }
-    false
+}
+
+/// The number of a kind of answers.
+fn answers(kinds: &[Answer], is_result: bool, target: Target) -> Option<usize>
+    ensures { (number : ℕ) → result ≡ Some number → slice_get kinds.now number
+        ≡ Some (record { is_result = is_result; problems = target_problems is_result target }) }
+{
+    for number in 0..kinds.len() {
+        let kind = &kinds[number];
+        if kind.is_result == is_result && kind.target == target {
+            return Some(number);
+        }
+    }
+    None
+}
+
+/// One answer more in a row.
+fn join_answer(row: &mut Row<Answer>, is_result: bool, target: Target) -> Result<(), AllocError>
+    ensures joined { OnOk result (row_of row.new
+        ≡ row_of row.old ++ Some (record { is_result = is_result; problems = target_problems is_result target }) ∷ []) }
+    ensures kept { OnErr result (row_of row.new ≡ row_of row.old) }
+    ensures kinds { KeepsKinds row.old row.new }
+{
+    match answers(row.kinds(), is_result, target) {
+        Some(kind) => row.join(kind),
+        None => row.join_first(Answer { is_result, target }),
+    }
+}
+
+/// One invocation more of an ID.
+pub(crate) fn keep_invocation(
+    lists: &mut Lists<Invocation>,
+    alloc: Global,
+    id: i8,
+    code: CodeView,
+    duplicate: bool,
+    link: Link,
+) -> Result<(), AllocError>
+    ensures added { OnOk result (rows_of lists.new ≡ with_newest id
+        (Some (record { code = code_of code.entry; problems = invoke_problems duplicate link })) (rows_of lists.old)) }
+    ensures made { OnOk result (HasRow id lists.new) }
+    ensures kept { OnErr result (rows_of lists.new ≡ rows_of lists.old) }
+    ensures keeps { KeepsRows lists.old lists.new }
+{
+    lists.make(id)?;
+    match lists.rows.get_mut(&id) {
+        Some(row) => join_invocation(row, alloc, code, duplicate, link),
+        None => unreachable!(),
+    }
+}
+
+/// One answer more of an ID.
+pub(crate) fn keep_answer(
+    lists: &mut Lists<Answer>,
+    id: i8,
+    is_result: bool,
+    target: Target,
+) -> Result<(), AllocError>
+    ensures added { OnOk result (rows_of lists.new ≡ with_newest id
+        (Some (record { is_result = is_result; problems = target_problems is_result target })) (rows_of lists.old)) }
+    ensures made { OnOk result (HasRow id lists.new) }
+    ensures kept { OnErr result (rows_of lists.new ≡ rows_of lists.old) }
+    ensures keeps { KeepsRows lists.old lists.new }
+{
+    lists.make(id)?;
+    match lists.rows.get_mut(&id) {
+        Some(row) => join_answer(row, is_result, target),
+        None => unreachable!(),
+    }
 }

@@ -1,30 +1,13 @@
-use Rattle.std.proofs.Common.{◌<◌, ◌+◌, ◌^◌, length, sym, ◌∙◌, arith}
+use Rattle.std.proofs.Common.{sym, ◌∙◌}
 use Rattle.std.specs.Prelude.{option_map}
 use Rattle.tcap_parts.specs.Meaning.{code_of}
 use Rattle.tcap_end.specs.Component.{may_answer}
-use Rattle.tcap_end.proofs.PlaceLaws.{found, none_left, passed, room_left}
+use Rattle.tcap_end.proofs.PlaceLaws.{none_at_all, oldest_fits}
 use Rattle.tcap_end.proofs.places.first_answerable.Goals as goal
 
-pub returns-then-may_answer : goal.returns-then-may_answer
-returns-then-may_answer c =
-    found (may_answer c.args.table.now c.args.is_result (option_map code_of c.args.named)) c.loop-at.at c.loop-at.item-iterator
-    c.in-Some.item.now c.next.new.self c.in-Some.ensures.steps
-    (sym c.may_answer.ensures ∙ c.if-may_answer.true) ∙ c.loop-at.invariant.left
+pub returns-in-None : goal.returns-in-None
+returns-in-None c = sym (none_at_all (may_answer c.args.table.now c.args.is_result (option_map code_of c.args.named)) c.args.row.now.kinds.items c.args.row.now.places.items c.in-None.ensures)
 
-pub overflow_step-at : goal.overflow_step-at
-overflow_step-at c =
-    let room : c.loop-at.at + 1 + length c.next.new.self < 2 ^ 63 =
-    room_left c.loop-at.at c.loop-at.item-iterator c.in-Some.item.now c.next.new.self c.in-Some.ensures.steps c.loop-at.invariant.room in
-    omega (arith, room)
-
-pub loop-at-preserved : goal.loop-at-preserved
-loop-at-preserved c = record {
-  left = passed (may_answer c.args.table.now c.args.is_result (option_map code_of c.args.named)) c.loop-at.at
-      c.loop-at.item-iterator c.in-Some.item.now c.next.new.self c.in-Some.ensures.steps
-      (sym c.may_answer.ensures ∙ c.if-may_answer.false) ∙ c.loop-at.invariant.left;
-  room = room_left c.loop-at.at c.loop-at.item-iterator c.in-Some.item.now c.next.new.self c.in-Some.ensures.steps c.loop-at.invariant.room;
-}
-
-pub returns : goal.returns
-returns c = none_left (may_answer c.args.table.now c.args.is_result (option_map code_of c.args.named)) c.loop-at.at
-    c.loop-at.item-iterator c.in-None.ensures.steps.0 ∙ c.loop-at.invariant.left
+pub returns-in-Some : goal.returns-in-Some
+returns-in-Some c = sym (oldest_fits (may_answer c.args.table.now c.args.is_result (option_map code_of c.args.named)) c.args.row.now.kinds.items c.args.row.now.places.items c.in-Some.at c.in-Some.kind.now
+    c.in-Some.ensures.0 c.in-Some.ensures.1 (sym c.may_answer.ensures ∙ c.if-may_answer.true))

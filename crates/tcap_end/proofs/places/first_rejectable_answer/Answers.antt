@@ -1,29 +1,35 @@
-use Rattle.std.proofs.Common.{◌<◌, ◌+◌, ◌^◌, length, sym, ◌∙◌, arith}
+use Rattle.std.proofs.Common.{◌≡◌, Some, sym, refl, ◌∙◌}
+use Rattle.std.specs.List.{slice_get}
+use Rattle.std.proofs.lemmas.Option.{slice_get_read}
 use Rattle.tcap_end.specs.Component.{allows_for}
-use Rattle.tcap_end.proofs.PlaceLaws.{found, none_left, passed, room_left}
+use Rattle.tcap_end.proofs.PlaceLaws.{asked_all, asked_no, asked_yes, below_none}
 use Rattle.tcap_end.proofs.places.first_rejectable_answer.Goals as goal
+use Rattle.tcap_end.proofs.places.first_rejectable_answer.Goals.{then-allows, else-allows}
 
-pub returns-then-allows : goal.returns-then-allows
-returns-then-allows c =
-    found (allows_for c.args.is_result c.args.problem) c.loop-at.at c.loop-at.item-iterator c.in-Some.item.now c.next.new.self
-    c.in-Some.ensures.steps
-    (sym c.allows.ensures ∙ c.if-allows.true) ∙ c.loop-at.invariant.left
-
-pub overflow_step-at : goal.overflow_step-at
-overflow_step-at c =
-    let room : c.loop-at.at + 1 + length c.next.new.self < 2 ^ 63 =
-    room_left c.loop-at.at c.loop-at.item-iterator c.in-Some.item.now c.next.new.self c.in-Some.ensures.steps c.loop-at.invariant.room in
-    omega (arith, room)
-
-pub loop-at-preserved : goal.loop-at-preserved
-loop-at-preserved c = record {
-  left = passed (allows_for c.args.is_result c.args.problem) c.loop-at.at c.loop-at.item-iterator c.in-Some.item.now
-      c.next.new.self c.in-Some.ensures.steps
-      (sym c.allows.ensures ∙ c.if-allows.false) ∙ c.loop-at.invariant.left;
-  room = room_left c.loop-at.at c.loop-at.item-iterator c.in-Some.item.now c.next.new.self c.in-Some.ensures.steps c.loop-at.invariant.room;
+pub loop-kind-init : goal.loop-kind-init
+loop-kind-init c = record {
+  kinds = c.kinds-kinds.ensures.kinds;
+  found = sym (below_none (allows_for c.args.is_result c.args.problem) c.kinds-kinds.result.now c.args.row.now.places.items);
 }
 
+pub loop-kind-preserved : goal.loop-kind-preserved
+loop-kind-preserved c =
+    let kinds = c.kinds-kinds.result.now in let n = c.loop-kind.kind in
+    let is : slice_get kinds n ≡ Some c.index-kinds-kind.result =
+    slice_get_read kinds _ n c.index-kinds-kind.result refl c.loop-kind-test.true c.index-kinds-kind.is in
+    record {
+      kinds = c.loop-kind.invariant.kinds;
+      found = elim c.if-allows.branch [
+        | then-allows w ↦
+            asked_yes (allows_for c.args.is_result c.args.problem) kinds c.args.row.now.places.items n c.index-kinds-kind.result is c.loop-kind.found
+            c.loop-kind.invariant.found w.oldest_of.result _ (sym c.allows.ensures ∙ w.if-allows.true) w.oldest_of.ensures
+            (w.found-is ∙ w.earlier-found.ensures)
+        | else-allows w ↦
+            asked_no (allows_for c.args.is_result c.args.problem) kinds c.args.row.now.places.items n c.index-kinds-kind.result is c.loop-kind.found
+            c.loop-kind.invariant.found _ (sym c.allows.ensures ∙ w.if-allows.false) w.found-is
+      ];
+    }
+
 pub returns : goal.returns
-returns c =
-    none_left (allows_for c.args.is_result c.args.problem) c.loop-at.at c.loop-at.item-iterator c.in-None.ensures.steps.0
-    ∙ c.loop-at.invariant.left
+returns c = asked_all (allows_for c.args.is_result c.args.problem) c.kinds-kinds.result.now c.args.row.now.kinds.items c.args.row.now.places.items c.loop-kind.kind
+    c.loop-kind.found c.loop-kind.invariant.kinds c.loop-kind-test.false c.loop-kind.invariant.found

@@ -1,12 +1,12 @@
-use Rattle.std.proofs.Common.{◌≡◌, ◌<◌, ◌+◌, ◌^◌, length}
+use Rattle.std.proofs.Common.{◌≡◌}
 use Rattle.tcap_end.specs.Component.{allows_for}
 use Rattle.tcap_end.specs.Places.{place_of}
-use Rattle.tcap_end.proofs.PlaceLaws.{shifted}
+use Rattle.tcap_end.proofs.PlaceLaws.{fits_below}
 use Rattle.tcap_end.proofs.places.first_rejectable_answer.Given as goal
 
--- No item before this place fits.
-abbrev pub invariant-loop-at : goal.invariant-loop-at
-invariant-loop-at l = record {
-  left : shifted l.at (place_of (allows_for l.is_result l.problem) l.item-iterator) ≡ place_of (allows_for l.is_result l.problem) l.list;
-  room : l.at + length l.item-iterator < 2 ^ 63;
+-- The oldest of the kinds that were asked so far.
+abbrev pub invariant-loop-kind : goal.invariant-loop-kind
+invariant-loop-kind l = record {
+  kinds : l.kinds ≡ l.row.kinds.items;
+  found : l.found ≡ place_of (fits_below (allows_for l.is_result l.problem) l.kinds l.kind) l.row.places.items;
 }

@@ -1,33 +1,38 @@
 use mir.Syntax.{w8}
-use Rattle.std.proofs.Common.{ap, ◌∙◌}
+use Rattle.std.proofs.Common.{refl, ap, ◌∙◌}
 use Rattle.std.proofs.lemmas.Int.{to_z-of_z}
-use Rattle.tcap_end.specs.Half.{with_newest}
-use Rattle.tcap_end.specs.Lists.{kept_lists}
-use Rattle.tcap_end.specs.HalfState.{half_of}
-use Rattle.tcap_end.proofs.NoteLaws.{half_noted, inn_noted, keeps_inn, still_same}
-use Rattle.tcap_end.proofs.ReceivingLaws.{kept_item}
+use Rattle.tcap_end.specs.Half.{listed, with_newest}
+use Rattle.tcap_end.specs.HalfState.{half_of, kept_of}
+use Rattle.tcap_end.specs.Lists.{items_of, rows_of}
+use Rattle.tcap_end.proofs.ListLaws.{items_newest, whole_rows}
+use Rattle.tcap_end.proofs.NoteLaws.{inn_noted, keeps_inn, read_noted, still_same}
+use Rattle.tcap_end.proofs.ReceivingLaws.{are_some, kept_item}
 use Rattle.tcap_end.proofs.half_state.HalfState.receive_invoke.Goals as goal
 
-pub returns-in_err-push-clause-undoes : goal.returns-in_err-push-clause-undoes
-returns-in_err-push-clause-undoes c =
-    still_same c.args.changes.now c.args.self.now _ (ap (λ inn. record (half_of c.args.self.now) { inn = inn }) c.in_err-push.ensures.kept)
-    (keeps_inn c.args.self.now c.push.new.self c.push.ensures.others)
+pub returns-in_err-keep_invocation-clause-undoes : goal.returns-in_err-keep_invocation-clause-undoes
+returns-in_err-keep_invocation-clause-undoes c =
+    still_same c.args.changes.now c.args.self.now _
+    (ap (λ rows. record (kept_of c.args.self.now) { inn = rows }) c.in_err-keep_invocation.ensures.kept)
+    (keeps_inn c.args.self.now c.keep_invocation.new.lists c.keep_invocation.ensures.keeps)
 
 pub returns-clause-received : goal.returns-clause-received
 returns-clause-received c =
     let id = c.args.id in
-    half_noted c.note.result _ c.note.new.changes (record c.args.self.now { inn = c.push.new.self }) c.note.new.self _
+    read_noted c.note.result _ c.note.new.changes (record c.args.self.now { inn = c.keep_invocation.new.lists }) c.note.new.self half_of _
     (rw (to_z-of_z w8 id c.ranges.id) at c.note.ensures.noted)
-    (ap (λ inn. record (half_of c.args.self.now) { inn = inn })
-    ((rw (to_z-of_z w8 id c.ranges.id) at c.in_ok-push.ensures.added)
-    ∙ ap (λ item. with_newest id item (kept_lists c.args.self.now.inn))
-    (kept_item _ _ c.is_duplicate.result c.link.result _ _ c.in_ok-to_code.ensures.made
-    (rw (to_z-of_z w8 id c.ranges.id) at c.is_duplicate.ensures) c.link.ensures)))
+    (ap (λ rows. record (half_of c.args.self.now) { inn = items_of rows })
+    (rw (to_z-of_z w8 id c.ranges.id) at c.in_ok-keep_invocation.ensures.added)
+    ∙ ap (λ inn. record (half_of c.args.self.now) { inn = inn })
+    (items_newest id _ (rows_of c.args.self.now.inn) (whole_rows c.args.self.now.inn)
+    ∙ ap (λ item. with_newest id item (half_of c.args.self.now).inn)
+    (kept_item _ _ c.has_invocation-duplicate.result c.link-link.result _ _ refl
+    (rw (rw (to_z-of_z w8 id c.ranges.id) at c.has_invocation-duplicate.ensures) (are_some (listed id (half_of c.args.self.now).inn)))
+    c.link-link.ensures)))
 
 pub returns-clause-undoes : goal.returns-clause-undoes
 returns-clause-undoes c =
     let id = c.args.id in
-    inn_noted c.note.result c.args.changes.now c.note.new.changes c.args.self.now c.note.new.self id _ c.push.new.self
-    (rw (to_z-of_z w8 id c.ranges.id) at c.in_ok-push.ensures.added) c.push.ensures.others
-    (rw (to_z-of_z w8 id c.ranges.id) at c.in_ok-push.ensures.made)
+    inn_noted c.note.result c.args.changes.now c.note.new.changes c.args.self.now c.note.new.self id _ c.keep_invocation.new.lists
+    (rw (to_z-of_z w8 id c.ranges.id) at c.in_ok-keep_invocation.ensures.added) c.keep_invocation.ensures.keeps
+    (rw (to_z-of_z w8 id c.ranges.id) at c.in_ok-keep_invocation.ensures.made)
     (rw (to_z-of_z w8 id c.ranges.id) at c.note.ensures.noted) (rw (to_z-of_z w8 id c.ranges.id) at c.note.ensures.undone)

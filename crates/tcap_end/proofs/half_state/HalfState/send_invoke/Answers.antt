@@ -5,8 +5,8 @@ use Rattle.tcap_end.specs.declared.half_state.HalfState.{HalfState}
 use Rattle.tcap_end.specs.declared.half_state.Change.TheVariants.{Out}
 use Rattle.tcap_end.specs.declared.half.InvocationState.TheVariants as states
 use Rattle.tcap_end.specs.declared.outs.OwnInvocation.{OwnInvocation}
-use Rattle.tcap_end.specs.HalfState.{StillUndoes, half_of}
-use Rattle.tcap_end.proofs.NoteLaws.{still_noted}
+use Rattle.tcap_end.specs.HalfState.{StillUndoes, kept_of}
+use Rattle.tcap_end.proofs.NoteLaws.{keeps_out, still_noted}
 use Rattle.tcap_end.proofs.SendLaws.{none_there, out_back}
 use Rattle.tcap_end.proofs.UndoLaws.{undoes_too}
 use Rattle.tcap_end.proofs.half_state.HalfState.send_invoke.Goals as goal
@@ -34,17 +34,17 @@ pub returns-in_err-make-clause-undoes : goal.returns-in_err-make-clause-undoes
 returns-in_err-make-clause-undoes c =
     let h : HalfState = c.args.self.now in
     λ start. undoes_too c.args.changes.now h (record h { out = c.make.new.self }) start
-    (ap (λ out. record (half_of h) { out = out }) c.make.ensures.kept)
-    (record { slot = refl; out = c.make.ensures.others; inn = λ id has. has; grants = λ id has. has })
+    (ap (λ out. record (kept_of h) { out = out }) c.make.ensures.kept)
+    (keeps_out h c.make.new.self c.make.ensures.others)
 
 undoes : (c : After-note) → StillUndoes c.args.changes.now c.args.self.now c.note.new.changes c.note.new.self
 undoes c =
     let h : HalfState = c.args.self.now in let put = c.put-was in let made = c.make.ensures in
     let own_invocation : Option OwnInvocation = Some (record { code = c.in_ok-code.code; state = states.OperationSent }) in
     still_noted c.note.result (Out _ put.result) c.args.changes.now c.note.new.changes h (record h { out = put.new.self }) c.note.new.self
-    (ap (λ out. record (half_of h) { out = out })
+    (ap (λ out. record (kept_of h) { out = out })
     (out_back _ put.result own_invocation h.out c.make.new.self put.new.self made.kept put.ensures.was put.ensures.put))
-    (record { slot = refl; out = λ id has. put.ensures.others id (made.others id has); inn = λ id has. has; grants = λ id has. has })
+    (keeps_out h put.new.self (λ id has. put.ensures.others id (made.others id has)))
     (put.ensures.others _ c.in_ok-make.ensures.made)
     c.note.ensures.noted c.note.ensures.undone
 

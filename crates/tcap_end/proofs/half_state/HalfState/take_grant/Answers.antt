@@ -1,39 +1,39 @@
 use mir.Syntax.{w8}
-use Rattle.std.proofs.Common.{◌<◌, length, refl, ap, to_z, of_z}
+use Rattle.std.proofs.Common.{ap}
 use Rattle.std.proofs.lemmas.Int.{to_z-of_z}
 use Rattle.tcap_end.specs.declared.half_state.HalfState.{HalfState}
 use Rattle.tcap_end.specs.declared.half_state.Change.TheVariants.{GrantTaken}
-use Rattle.tcap_end.specs.Half.{listed}
-use Rattle.tcap_end.specs.HalfState.{half_of}
-use Rattle.tcap_end.specs.Lists.{kept_lists}
-use Rattle.tcap_end.proofs.BackLaws.{has_list}
-use Rattle.tcap_end.proofs.NoteLaws.{still_noted}
+use Rattle.tcap_end.specs.HalfState.{kept_of}
+use Rattle.tcap_end.proofs.NoteLaws.{keeps_grants, read_noted, still_noted}
 use Rattle.tcap_end.proofs.SendLaws.{goes_back, is_back}
 use Rattle.tcap_end.proofs.half_state.HalfState.take_grant.Goals as goal
 
-pub take-item-requires-clause-made : goal.take-item-requires-clause-made
-take-item-requires-clause-made c =
-    rw (to_z-of_z w8 c.args.id c.ranges.id) (has_list c.args.id c.args.self.now.grants c.args.at c.requires.within)
+pub take-kind-requires : goal.take-kind-requires
+take-kind-requires c = record { there = rw (to_z-of_z w8 c.args.id c.ranges.id) c.requires.there }
 
 pub note-requires : goal.note-requires
 note-requires c =
-    let list = c.take-item in
-    let within : c.args.at < length (listed (to_z w8 (of_z w8 c.args.id)) (kept_lists c.args.self.now.grants)) =
-    rw (to_z-of_z w8 c.args.id c.ranges.id) c.requires.within in
+    let list = c.take-kind in
     record {
-      can = goes_back _ c.args.at list.result c.args.self.now.grants list.new.self within
-          list.ensures.taken list.ensures.fits list.ensures.others;
+      can = goes_back _ c.args.at list.result c.args.self.now.grants list.new.self (rw (to_z-of_z w8 c.args.id c.ranges.id) c.requires.there)
+          list.ensures.kind list.ensures.taken list.ensures.keeps;
     }
+
+pub returns-clause-taken : goal.returns-clause-taken
+returns-clause-taken c =
+    let h : HalfState = c.args.self.now in
+    read_noted c.note.result _ c.note.new.changes (record h { grants = c.take-kind.new.self }) c.note.new.self kept_of _ c.note.ensures.noted
+    (ap (λ rows. record (kept_of h) { grants = rows }) (rw (to_z-of_z w8 c.args.id c.ranges.id) at c.take-kind.ensures.taken))
 
 pub returns-clause-undoes : goal.returns-clause-undoes
 returns-clause-undoes c =
-    let h : HalfState = c.args.self.now in let list = c.take-item in
-    let within : c.args.at < length (listed (to_z w8 (of_z w8 c.args.id)) (kept_lists h.grants)) =
-    rw (to_z-of_z w8 c.args.id c.ranges.id) c.requires.within in
+    let h : HalfState = c.args.self.now in let list = c.take-kind in
     still_noted c.note.result (GrantTaken _ c.args.at list.result) c.args.changes.now c.note.new.changes h
     (record h { grants = list.new.self }) c.note.new.self
-    (ap (λ grants. record (half_of h) { grants = grants })
-    (is_back _ c.args.at list.result h.grants list.new.self within list.ensures.taken list.ensures.item))
-    (record { slot = refl; out = λ id has. has; inn = λ id has. has; grants = list.ensures.others })
-    (goes_back _ c.args.at list.result h.grants list.new.self within list.ensures.taken list.ensures.fits list.ensures.others)
+    (ap (λ rows. record (kept_of h) { grants = rows })
+    (is_back _ c.args.at list.result h.grants list.new.self (rw (to_z-of_z w8 c.args.id c.ranges.id) c.requires.there)
+    list.ensures.kind list.ensures.taken list.ensures.keeps))
+    (keeps_grants h list.new.self list.ensures.keeps)
+    (goes_back _ c.args.at list.result h.grants list.new.self (rw (to_z-of_z w8 c.args.id c.ranges.id) c.requires.there)
+    list.ensures.kind list.ensures.taken list.ensures.keeps)
     c.note.ensures.noted c.note.ensures.undone

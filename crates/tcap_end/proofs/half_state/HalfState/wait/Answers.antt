@@ -3,7 +3,7 @@ use Rattle.std.proofs.Common.{ap, ◌∙◌}
 use Rattle.std.proofs.lemmas.Int.{to_z-of_z}
 use Rattle.tcap_end.specs.declared.half.InvocationState.TheVariants as states
 use Rattle.tcap_end.specs.declared.half_state.Change.TheVariants.{Waits}
-use Rattle.tcap_end.specs.HalfState.{half_of}
+use Rattle.tcap_end.specs.HalfState.{kept_of}
 use Rattle.tcap_end.specs.Outs.{with_state}
 use Rattle.tcap_end.proofs.NoteLaws.{out_noted}
 use Rattle.tcap_end.proofs.ReceivingLaws.{sent_place, waits_back}
@@ -25,7 +25,7 @@ returns-clause-undoes c =
     let out = c.args.self.now.out in
     let there = c.requires.there in
     out_noted c.note.result c.args.changes.now c.note.new.changes c.args.self.now c.note.new.self (Waits id) c.set_state.new.self
-    (ap (λ outs. record (half_of c.args.self.now) { out = outs })
+    (ap (λ outs. record (kept_of c.args.self.now) { out = outs })
     (ap (with_state id states.OperationSent) (rw (to_z-of_z w8 id c.ranges.id) at c.set_state.ensures.in_state) ∙ waits_back id out there))
     c.set_state.ensures.others (c.set_state.ensures.others id (sent_place id out there))
     (rw (to_z-of_z w8 id c.ranges.id) at c.note.ensures.noted) (rw (to_z-of_z w8 id c.ranges.id) at c.note.ensures.undone)

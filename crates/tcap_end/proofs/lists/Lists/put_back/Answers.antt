@@ -1,52 +1,42 @@
 use mir.Syntax.{w8}
-use Rattle.std.proofs.Common.{List, ◌++◌, take, drop, arith, length-append, length-drop, refl}
+use Rattle.std.proofs.Common.{◌≡◌, ◌<◌, Some, arith, ap, length, rules, set, ◌∙◌}
 use Rattle.std.proofs.lemmas.Int.{to_z-of_z}
-use Rattle.std.proofs.lemmas.List.{length-take}
+use Rattle.std.specs.Box.{with_value}
+use Rattle.std.specs.List.{slice_get}
+use Rattle.std.specs.Prelude.{vec_len}
 use Rattle.tcap_end.specs.Half.{listed}
-use Rattle.tcap_end.specs.Lists.{kept_lists}
-use Rattle.tcap_end.proofs.KeepLaws.{regiven}
+use Rattle.tcap_end.specs.Lists.{kind_of, row_of, rows_of}
+use Rattle.tcap_end.proofs.ItemLaws.{get_within, items_length, none_stood, row_set}
+use Rattle.tcap_end.proofs.ListLaws.{changed_as, got_kinds, got_row, has_none, kind_row}
 use Rattle.tcap_end.proofs.lists.Lists.put_back.Goals as goal
 
-pub split-behind-requires : goal.split-behind-requires
-split-behind-requires g c =
-    record { within = rw (c.lend_made-list.ensures.list, to_z-of_z w8 c.args.id c.ranges.id) c.requires.within }
-
-pub join-requires : goal.join-requires
-join-requires g c =
+pub put_back-requires : goal.put_back-requires
+put_back-requires g c =
+    let row = c.deref_mut.result.now in let l = c.args.self.now in
+    let found = rw (to_z-of_z w8 c.args.id c.ranges.id) at c.in-Some.ensures.value in
+    let items : row_of row ≡ listed c.args.id (rows_of l) = rw c.deref_mut.ensures.value (got_row c.args.id l c.in-Some.row.now found) in
+    let kind : slice_get row.kinds.items c.args.kind ≡ kind_of c.args.id c.args.kind l =
+    rw c.deref_mut.ensures.value (got_kinds c.args.id l c.in-Some.row.now found c.args.kind) in
+    let kinds : vec_len row.kinds ≡ length row.kinds.items = search rules in
+    let places : vec_len row.places ≡ length row.places.items = search rules in
+    let below : c.args.at < length (row_of row) = rw items c.requires.within in
     record {
-      few = rw (c.split-behind.ensures.front, c.lend_made-list.ensures.list, to_z-of_z w8 c.args.id c.ranges.id)
-          (omega (arith, length-take c.args.at (listed c.args.id (kept_lists c.args.self.now)), c.requires.fits));
+      within = omega (arith, places, below, items_length row.kinds.items row.places.items);
+      empty = none_stood row.kinds.items row.places.items c.args.at (rw kinds at row.numbered) (rw items c.requires.empty);
+      there = omega (arith, kinds, get_within row.kinds.items c.args.kind (rw kind c.requires.there));
     }
 
-pub join-requires-2 : goal.join-requires-2
-join-requires-2 g c =
-    let l : List g.row.T.Denot = listed c.args.id (kept_lists c.args.self.now) in
-    record {
-      few = rw (
-        c.join.ensures,
-        c.split-behind.ensures.front,
-        c.split-behind.ensures.behind,
-        c.lend_made-list.ensures.list,
-        to_z-of_z w8 c.args.id c.ranges.id,
-      )
-          (omega (
-            arith,
-            length-append (take c.args.at l) c.args.item,
-            length-take c.args.at l,
-            length-drop c.args.at l,
-            c.requires.within,
-            c.requires.fits,
-          ));
-    }
-
-pub give-requires : goal.give-requires
-give-requires g c =
-    record { made = rw (to_z-of_z w8 c.args.id c.ranges.id) (c.lend_made-list.ensures.others c.args.id c.requires.made) }
+pub unreachable-requires : goal.unreachable-requires
+unreachable-requires g c =
+    has_none c.args.id c.args.self.now (rw (to_z-of_z w8 c.args.id c.ranges.id) at c.in-None.ensures.value)
+    (kind_row c.args.id c.args.kind c.args.self.now c.requires.there)
 
 pub returns-clause-put : goal.returns-clause-put
 returns-clause-put g c =
-    let lent = c.lend_made-list in let at = c.args.at in
-    regiven c.args.id _ (to_z-of_z w8 c.args.id c.ranges.id) c.args.self.now lent.new.self c.give.new.self lent.ensures.left
-    (λ l. take at l ++ c.args.item ++ drop at l) _ _ lent.ensures.list
-    (rw (c.join-2.ensures, c.join.ensures, c.split-behind.ensures.front, c.split-behind.ensures.behind) refl)
-    c.give.ensures.given
+    let row = c.in-Some.row.now in let now = with_value row c.put_back.new.self in let l = c.args.self.now in
+    let found = rw (to_z-of_z w8 c.args.id c.ranges.id) at c.in-Some.ensures.value in
+    let set_so = (rw (to_z-of_z w8 c.args.id c.ranges.id) at (c.get_mut.follows.holds now)).0 in
+    changed_as c.args.id l (c.get_mut.follows.lender now).entries row now found set_so (λ items. set items c.args.at (kind_of c.args.id c.args.kind l))
+    ((rw c.deref_mut.ensures.value at (row_set c.deref_mut.result.now c.put_back.new.self c.args.at (Some c.args.kind) c.put_back.ensures.kinds
+    c.put_back.ensures.put))
+    ∙ ap (set (row_of row.value) c.args.at) (got_kinds c.args.id l row found c.args.kind))

@@ -1,64 +1,36 @@
 use mir.Syntax.{w8}
-use Rattle.std.proofs.Common.{◌∙◌, ap, ℤ, ℕ, suc, ◌<◌, ◌+◌, ◌^◌, List, ◌++◌, length, take, drop}
-use Rattle.std.proofs.Common.{add-one, arith, rules, length-append, length-drop}
+use Rattle.std.proofs.Common.{◌≡◌, None, get_or, set, sym, ap, ◌∙◌}
 use Rattle.std.proofs.lemmas.Int.{to_z-of_z}
-use Rattle.std.proofs.lemmas.List.{length-take, drop-drop}
-use Rattle.tcap_end.specs.Half.{listed}
-use Rattle.tcap_end.specs.Lists.{kept_lists}
-use Rattle.tcap_end.proofs.KeepLaws.{listed_with, regiven}
+use Rattle.std.specs.Box.{with_value}
+use Rattle.tcap_end.specs.Row.{kind_in}
+use Rattle.tcap_end.proofs.ItemLaws.{items_stood, row_set, some_stood}
+use Rattle.tcap_end.proofs.ListLaws.{changed_as, got_kinds, got_row, has_none, item_row}
 use Rattle.tcap_end.proofs.lists.Lists.take.Goals as goal
 
--- The item and the others are no more than there were.
-as_many : {A : Type 0} (at : ℕ) (l : List A) (most : ℕ) → at < length l → length l < most
-    → length (take at l ++ drop (suc at) l) + length (take 1 (drop at l)) < most
-as_many at l most within small =
-    omega (
-      arith,
-      length-append (take at l) (drop (suc at) l),
-      length-take at l,
-      length-drop (suc at) l,
-      length-take 1 (drop at l),
-      length-drop at l,
-      within,
-      small,
-    )
+pub take-requires : goal.take-requires
+take-requires g c =
+    let row = c.in-Some.row.now in
+    let items = got_row c.args.id c.args.self.now row (rw (to_z-of_z w8 c.args.id c.ranges.id) at c.in-Some.ensures.value) in
+    rw c.deref_mut.ensures.value (some_stood row.value.kinds.items row.value.places.items c.args.at (rw items c.requires.there))
 
-pub split-item-requires : goal.split-item-requires
-split-item-requires g c =
-    record { within = rw (c.lend_made-list.ensures.list, to_z-of_z w8 c.args.id c.ranges.id) (omega (arith, c.requires.within)) }
+pub unreachable-requires : goal.unreachable-requires
+unreachable-requires g c =
+    has_none c.args.id c.args.self.now (rw (to_z-of_z w8 c.args.id c.ranges.id) at c.in-None.ensures.value)
+    (item_row c.args.id c.args.at c.args.self.now c.requires.there)
 
-pub split-behind-requires : goal.split-behind-requires
-split-behind-requires g c =
-    record {
-      within = rw (c.split-item.ensures.behind, c.lend_made-list.ensures.list, to_z-of_z w8 c.args.id c.ranges.id)
-          (omega (arith, length-drop c.args.at (listed c.args.id (kept_lists c.args.self.now)), c.requires.within));
-    }
-
-pub give-requires : goal.give-requires
-give-requires g c =
-    record { made = rw (to_z-of_z w8 c.args.id c.ranges.id) (c.lend_made-list.ensures.others c.args.id c.requires.made) }
+pub returns-clause-kind : goal.returns-clause-kind
+returns-clause-kind g c =
+    let row = c.in-Some.row.now in let l = c.args.self.now in
+    let found = rw (to_z-of_z w8 c.args.id c.ranges.id) at c.in-Some.ensures.value in
+    ap (λ row. get_or row c.args.at None) (sym (got_row c.args.id l row found))
+    ∙ items_stood row.value.kinds.items row.value.places.items c.args.at
+    ∙ ap (kind_in row.value.kinds.items) (rw c.deref_mut.ensures.value at c.take.ensures.kind)
+    ∙ got_kinds c.args.id l row found c.take.result
 
 pub returns-clause-taken : goal.returns-clause-taken
 returns-clause-taken g c =
-    let lent = c.lend_made-list in let at = c.args.at in
-    regiven c.args.id _ (to_z-of_z w8 c.args.id c.ranges.id) c.args.self.now lent.new.self c.give.new.self lent.ensures.left
-    (λ l. take at l ++ drop (suc at) l) _ _ lent.ensures.list
-    (rw (c.join.ensures, c.split-item.ensures.front, c.split-behind.ensures.behind, c.split-item.ensures.behind)
-    (ap (λ more. take at lent.result ++ more) (drop-drop 1 at lent.result ∙ ap (λ n. drop n lent.result) (add-one at))))
-    c.give.ensures.given
-
-pub returns-clause-fits : goal.returns-clause-fits
-returns-clause-fits g c =
-    let at = c.args.at in
-    let m : List (ℤ × List g.row.T.Denot) = kept_lists c.args.self.now in
-    let l : List g.row.T.Denot = listed c.args.id m in
-    let small : length c.lend_made-list.result < 2 ^ 63 = search rules in
-    rw (
-      returns-clause-taken g c,
-      listed_with c.args.id (take at l ++ drop (suc at) l) c.args.self.now,
-      c.split-behind.ensures.front,
-      c.split-item.ensures.behind,
-      c.lend_made-list.ensures.list,
-      to_z-of_z w8 c.args.id c.ranges.id,
-    )
-    (as_many at l (2 ^ 63) c.requires.within (rw (c.lend_made-list.ensures.list, to_z-of_z w8 c.args.id c.ranges.id) at small))
+    let row = c.in-Some.row.now in let now = with_value row c.take.new.self in let l = c.args.self.now in
+    let found = rw (to_z-of_z w8 c.args.id c.ranges.id) at c.in-Some.ensures.value in
+    let set_so = (rw (to_z-of_z w8 c.args.id c.ranges.id) at (c.get_mut.follows.holds now)).0 in
+    changed_as c.args.id l (c.get_mut.follows.lender now).entries row now found set_so (λ row. set row c.args.at None)
+    (rw c.deref_mut.ensures.value at (row_set c.deref_mut.result.now c.take.new.self c.args.at None c.take.ensures.kinds c.take.ensures.taken))

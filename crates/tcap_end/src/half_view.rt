@@ -1,0 +1,163 @@
+//! What can be seen of a half from outside.
+
+ghost use Rattle.std.specs.Prelude.{◌≡◌, MatchOption, None, Some, IfSome, is_some, option_copied, option_map};
+ghost use Rattle.std.specs.Ordering.{int_cmp};
+ghost use Rattle.std.specs.Map.{lookup};
+ghost use Rattle.std.specs.BTreeMap.{is_at};
+ghost use Rattle.tcap_parts.specs.Meaning.{code_of};
+ghost use Rattle.tcap_end.specs.Half.{Half, listed};
+ghost use Rattle.tcap_end.specs.End.{named};
+ghost use Rattle.tcap_end.specs.Sound.{IsEnd};
+ghost use Rattle.tcap_end.specs.Halves.{IsNumbered, IsHeld, end_of, kept_half};
+ghost use Rattle.tcap_end.specs.Hidden.{open_named};
+ghost use Rattle.tcap_end.specs.Component.{own_invocation};
+ghost use Rattle.tcap_end.specs.HalfState.{half_of};
+
+use crate::half::{HalfName, InvocationState, Phase, Standing};
+use crate::half_state::HalfState;
+use crate::halves::{HalfKey, Halves};
+use std::alloc::{AllocError, Global};
+use std::marker::Model;
+use tcap_msg::TransactionId;
+use tcap_parts::CodeView;
+
+/// An open half, lent: what its end knows of the transaction (Q.774 3.2 and 3.3).
+#[derive(Debug, Drop)]
+pub struct OpenHalf<'a> {
+    state: &'a HalfState,
+}
+
+impl<'a> Model for OpenHalf<'a> {
+    ghost use Rattle.tcap_end.specs.Half.{Half};
+    ghost use Rattle.tcap_end.specs.HalfState.{half_of};
+
+    ghost Value = { Half };
+
+    ghost view = { λ a. half_of a.state.now };
+}
+
+impl<'a> OpenHalf<'a> {
+    /// The half that has this state.
+    pub(crate) fn of(state: &'a HalfState) -> OpenHalf<'a>
+        ensures { result ≡ half_of state.now }
+    {
+        OpenHalf { state }
+    }
+
+    /// How far it is.
+    pub fn phase(&self) -> Phase
+        ensures { result ≡ self.now.phase }
+    {
+        self.state.phase
+    }
+
+    /// Its own transaction ID, where it has one.
+    pub fn own(&self) -> Option<&TransactionId>
+        ensures { option_copied result ≡ self.now.own }
+    {
+        self.state.own.as_ref()
+    }
+
+    /// Its peer's transaction ID, where it is known.
+    pub fn peer(&self) -> Option<&TransactionId>
+        ensures { option_copied result ≡ self.now.peer }
+    {
+        self.state.peer.as_ref()
+    }
+
+    /// How far its dialogue is.
+    pub fn standing(&self) -> Standing
+        ensures { result ≡ self.now.standing }
+    {
+        self.state.standing
+    }
+
+    /// The operation of the own invocation of that invoke ID, where there is one.
+    pub fn own_operation(&self, id: i8) -> Option<CodeView<'_>>
+        ensures { MatchOption result (own_invocation self.now id ≡ None)
+            (λ code. option_map (λ own. own.code) (own_invocation self.now id) ≡ Some (code_of code)) }
+    {
+        match self.state.out.get(id) {
+            Some(own) => Some(own.code.view()),
+            None => None,
+        }
+    }
+
+    /// What the own invocation of that invoke ID waits for, where there is one.
+    pub fn own_state(&self, id: i8) -> Option<InvocationState>
+        ensures { result ≡ option_map (λ own. own.state) (own_invocation self.now id) }
+    {
+        match self.state.out.get(id) {
+            Some(own) => Some(own.state),
+            None => None,
+        }
+    }
+
+    /// The operations of the invocations of that invoke ID that were received and are not answered, from the oldest on.
+    pub fn received(&self, alloc: Global, id: i8) -> Result<Vec<CodeView<'a>>, AllocError> {
+        let mut codes = Vec::new(alloc);
+        if let Some(row) = self.state.inn.get(id) {
+            for at in 0..row.len() {
+                if let Some(item) = row.item(at) {
+                    codes.push(item.code.view())?;
+                }
+            }
+        }
+        Ok(codes)
+    }
+
+    /// The answers to own invocations of that invoke ID that were received and may be rejected, from the oldest on: whether
+    /// each is a Return Result.
+    pub fn answers(&self, alloc: Global, id: i8) -> Result<Vec<bool>, AllocError> {
+        let mut are_results = Vec::new(alloc);
+        if let Some(row) = self.state.grants.get(id) {
+            for at in 0..row.len() {
+                if let Some(item) = row.item(at) {
+                    are_results.push(item.is_result)?;
+                }
+            }
+        }
+        Ok(are_results)
+    }
+}
+
+impl Halves {
+    /// Where the half of that name is kept.
+    fn kept(&self, name: &HalfName) -> Option<HalfKey>
+        requires held { IsHeld self.now }
+        requires sound { IsEnd (end_of self.now) }
+        ensures half { MatchOption result (named (end_of self.now) name.now ≡ None)
+            (λ found. (h : Half) × (named (end_of self.now) name.now ≡ Some (kept_half found.slot found.key h))) }
+        ensures found { IfSome result (λ found. IsNumbered found self.now) }
+    {
+        match name {
+            HalfName::Own(id) => self.with_own(id.view()),
+            HalfName::Peer(id) => self.with_peer(id.view()),
+        }
+    }
+
+    /// Whether there is a half of that name, open or closed.
+    pub(crate) fn knows(&self, name: &HalfName) -> bool
+        requires held { IsHeld self.now }
+        requires sound { IsEnd (end_of self.now) }
+        ensures { result ≡ is_some (named (end_of self.now) name.now) }
+    {
+        self.kept(name).is_some()
+    }
+
+    /// The open half of that name.
+    pub(crate) fn open_named(&self, name: &HalfName) -> Option<&HalfState>
+        requires held { IsHeld self.now }
+        requires sound { IsEnd (end_of self.now) }
+        ensures { MatchOption result (open_named (end_of self.now) name.now ≡ None)
+            (λ half. open_named (end_of self.now) name.now ≡ Some (half_of half.now)) }
+    {
+        let Some(found) = self.kept(name) else {
+            return None;
+        };
+        let Some(half) = self.half(&found) else {
+            return None;
+        };
+        Some(half)
+    }
+}

@@ -1,0 +1,423 @@
+//! Items in the order in which they came, each of one kind.
+
+ghost use Rattle.std.specs.Prelude.{◌≡◌, ◌<◌, ◌≤◌, ℕ, List, Option, Some, None, true, false, slice_set, length, vec_len};
+ghost use Rattle.tcap_end.specs.Chains.{AreMarked, kinds_in};
+ghost use Rattle.tcap_end.specs.Row.{AreNumbered, AreOldest, IsOldest, is_wanted, stood};
+
+use crate::chains::Chains;
+use crate::kind_numbers::{KindNumbers, SORTS};
+use std::alloc::{AllocError, Global};
+use tcap_parts::CodeView;
+
+/// How many kinds are looked through one by one; where there are more they have numbers by their codes, and places of one
+/// kind are in chains.
+pub(crate) const FEW: usize = 8;
+
+/// How many places a row without an item keeps at most.
+const MANY: usize = 16;
+
+/// Items in the order in which they came, each of one kind. An item stands in a place, which is empty once the item was
+/// taken; neither taking it nor putting it back can fail. Where the oldest item of a kind stands is known; where it is
+/// taken, the next one is looked for behind it: place by place where kinds are few, or else over places of that kind alone.
+#[derive(Debug, Drop)]
+pub(crate) struct Row<K> {
+    kinds: Vec<K>,
+    /// By operation codes, where kinds have one: it makes no difference to what is kept.
+    numbers: KindNumbers,
+    /// The kind of the item in each place, by its number.
+    places: Vec<Option<usize>>,
+    /// The place of the oldest item of each kind, where there is one.
+    oldest: Vec<usize>,
+    /// The place of the oldest item of all, where there is one.
+    first: usize,
+    /// The places of each kind, where kinds are many.
+    chains: Chains,
+    ghost marked: { AreMarked places.items (kinds_in chains.marks.items) },
+    ghost numbered: { AreNumbered places.items (vec_len kinds) },
+    ghost for_each: { vec_len kinds ≤ vec_len oldest },
+    ghost oldest_of_each: { AreOldest places.items oldest.items },
+    ghost oldest_of_all: { IsOldest None places.items first },
+}
+
+/// Whether an item stands there, of that kind if one is wanted.
+fn is_wanted(place: Option<usize>, wanted: Option<usize>) -> bool
+    ensures { result ≡ is_wanted wanted place }
+{
+    match (place, wanted) {
+        (None, _) => false,
+        (Some(_), None) => true,
+        (Some(kind), Some(wanted)) => kind == wanted,
+    }
+}
+
+/// What stands in a place: the number of a kind, or nothing.
+fn stood(places: &[Option<usize>], at: usize) -> Option<usize>
+    ensures { result ≡ stood places.now at }
+{
+    if at < places.len() { places[at] } else { None }
+}
+
+/// The first place from there on where an item stands that is wanted, or else how many places there are.
+fn next_of(places: &[Option<usize>], wanted: Option<usize>, from: usize) -> usize
+    ensures behind { from ≤ result }
+    ensures none { (at : ℕ) → from ≤ at → at < result → is_wanted wanted (stood places.now at) ≡ false }
+    ensures there { result < length places.now → is_wanted wanted (stood places.now result) ≡ true }
+{
+    let mut at = from;
+    while at < places.len() {
+        if is_wanted(places[at], wanted) {
+            return at;
+        }
+        at += 1;
+    }
+    at
+}
+
+/// A place that all items of a kind stand before.
+fn end_of(places: &[Option<usize>], chains: &Chains, kind: usize) -> usize
+    requires marked { AreMarked places.now (kinds_in chains.now.marks.items) }
+    requires all { length places.now ≤ vec_len chains.now.marks }
+    ensures within { result ≤ length places.now }
+    ensures none { (at : ℕ) → result ≤ at → is_wanted (Some kind) (stood places.now at) ≡ false }
+{
+    let end = chains.end_of(kind);
+    if end < places.len() {
+        end
+    } else {
+        places.len()
+    }
+}
+
+/// The first place from there on where an item of a kind stands, or else one behind all of them.
+fn next_of_kind(places: &[Option<usize>], chains: &Chains, kind: usize, from: usize) -> usize
+    requires marked { AreMarked places.now (kinds_in chains.now.marks.items) }
+    requires all { length places.now ≤ vec_len chains.now.marks }
+    ensures behind { from ≤ result }
+    ensures none { (at : ℕ) → from ≤ at → at < result → is_wanted (Some kind) (stood places.now at) ≡ false }
+    ensures there { (at : ℕ) → result ≤ at → is_wanted (Some kind) (stood places.now at) ≡ true
+        → is_wanted (Some kind) (stood places.now result) ≡ true }
+{
+    let end = end_of(places, chains, kind);
+    let mut at = from;
+    while at < end {
+        if is_wanted(places[at], Some(kind)) {
+            return at;
+        }
+        at = chains.behind(at, kind);
+    }
+    at
+}
+
+/// Where the oldest item of a kind stands, once an item of a place was taken: it stood there before.
+fn oldest_of_kind(
+    places: &[Option<usize>],
+    chains: &Chains,
+    kind: usize,
+    oldest: usize,
+    at: usize,
+) -> usize
+    requires marked { AreMarked places.now (kinds_in chains.now.marks.items) }
+    ensures { (before : List (Option ℕ)) → places.now ≡ slice_set before at None → IsOldest (Some kind) before oldest
+        → IsOldest (Some kind) places.now result }
+{
+    if oldest == at && places.len() <= chains.len() {
+        next_of_kind(places, chains, kind, at)
+    } else {
+        oldest_behind(places, Some(kind), oldest, at)
+    }
+}
+
+/// The kind of the item in a place, or else the one given.
+fn kind_at(places: &[Option<usize>], at: usize, kind: usize) -> usize
+    ensures { (known : ℕ) → stood places.now at ≡ Some known → result ≡ known }
+{
+    match stood(places, at) {
+        Some(known) => known,
+        None => kind,
+    }
+}
+
+/// Puts one place more into the chain of its kind; one without an item may be of this kind.
+fn follow_one(places: &[Option<usize>], chains: &mut Chains, kind: usize) -> Result<(), AllocError>
+    ensures { AreMarked places.now (kinds_in chains.old.marks.items) → AreMarked places.now (kinds_in chains.new.marks.items) }
+{
+    let known = kind_at(places, chains.len(), kind);
+    chains.push(known)
+}
+
+/// Puts the places that are in no chain into those of their kinds, and then the next place into that of this kind.
+fn follow(places: &[Option<usize>], chains: &mut Chains, kind: usize) -> Result<(), AllocError>
+    requires marked { AreMarked places.now (kinds_in chains.old.marks.items) }
+    ensures { AreMarked places.now (kinds_in chains.new.marks.items) }
+{
+    for _ in chains.len()..places.len() {
+        follow_one(places, chains, kind)?;
+    }
+    follow_one(places, chains, kind)
+}
+
+/// Where the oldest stands that is wanted, once an item of a place was taken: it stood there before.
+fn oldest_behind(places: &[Option<usize>], wanted: Option<usize>, oldest: usize, at: usize) -> usize
+    ensures { (before : List (Option ℕ)) → places.now ≡ slice_set before at None → IsOldest wanted before oldest
+        → IsOldest wanted places.now result }
+{
+    if oldest == at {
+        next_of(places, wanted, at)
+    } else {
+        oldest
+    }
+}
+
+/// Where the oldest stands that is wanted, once an item that is wanted was put to an empty place: it stood there before.
+fn oldest_before(places: &[Option<usize>], wanted: Option<usize>, oldest: usize, at: usize) -> usize
+    ensures { (kind : ℕ) → at < length places.now → is_wanted wanted (Some kind) ≡ true
+        → IsOldest wanted places.now oldest → IsOldest wanted (slice_set places.now at (Some kind)) result }
+{
+    if oldest < at && is_wanted(stood(places, oldest), wanted) {
+        oldest
+    } else {
+        at
+    }
+}
+
+impl<K> Row<K> {
+    ghost use Rattle.std.specs.Prelude.{
+      ◌≡◌,
+      ◌<◌,
+      ◌++◌,
+      ◌∷◌,
+      [],
+      ◌-◌,
+      ℕ,
+      Some,
+      None,
+      IfOk,
+      OnOk,
+      OnErr,
+      IsSome,
+      IsTrue,
+      MatchOption,
+      option_copied,
+      slice_set,
+      take,
+      length,
+      vec_len,
+    };
+    ghost use Rattle.std.specs.List.{slice_get};
+    ghost use Rattle.tcap_end.specs.Places.{place_of};
+    ghost use Rattle.tcap_end.specs.Row.{is_wanted, kind_in, stood};
+    ghost use Rattle.tcap_end.specs.Lists.{KeepsKinds, row_of};
+
+    /// No items.
+    pub(crate) fn new(alloc: Global) -> Row<K>
+        ensures { row_of result ≡ [] }
+    {
+        Row {
+            kinds: Vec::new(alloc),
+            numbers: KindNumbers::new(alloc),
+            places: Vec::new(alloc),
+            oldest: Vec::new(alloc),
+            first: 0,
+            chains: Chains::new(alloc),
+        }
+    }
+
+    /// The kinds that there were.
+    pub(crate) fn kinds(&self) -> &[K]
+        ensures kinds { result.now ≡ self.now.kinds.items }
+        ensures count { length result.now ≡ vec_len self.now.kinds }
+    {
+        self.kinds.as_slice()
+    }
+
+    /// A guess of the number of the kind of this sort that has this operation code.
+    pub(crate) fn guess(&self, code: CodeView, sort: usize) -> Option<usize>
+        requires { sort < SORTS }
+    {
+        self.numbers.get(code, sort)
+    }
+
+    /// The next kind will be of this sort, and have this operation code.
+    pub(crate) fn expect(
+        &mut self,
+        alloc: Global,
+        code: CodeView,
+        sort: usize,
+    ) -> Result<(), AllocError>
+        requires { sort < SORTS }
+        ensures kinds { self.new.kinds ≡ self.old.kinds }
+        ensures places { self.new.places ≡ self.old.places }
+    {
+        let number = self.kinds.len();
+        if number < FEW {
+            return Ok(());
+        }
+        self.numbers.put(alloc, code, sort, number)
+    }
+
+    /// The place of the oldest item of a kind.
+    pub(crate) fn oldest_of(&self, kind: usize) -> Option<usize>
+        requires { kind < vec_len self.now.kinds }
+        ensures { result ≡ place_of (is_wanted (Some kind)) self.now.places.items }
+    {
+        let at = self.oldest[kind];
+        if is_wanted(stood(self.places.as_slice(), at), Some(kind)) {
+            Some(at)
+        } else {
+            None
+        }
+    }
+
+    /// The place of the oldest item, and its kind.
+    pub(crate) fn oldest(&self) -> Option<(usize, &K)>
+        ensures { MatchOption result (place_of (is_wanted None) self.now.places.items ≡ None)
+            (λ first. (place_of (is_wanted None) self.now.places.items ≡ Some first.0)
+            × (kind_in self.now.kinds.items (stood self.now.places.items first.0) ≡ Some first.1.now)) }
+    {
+        let kind = stood(self.places.as_slice(), self.first)?;
+        Some((self.first, &self.kinds[kind]))
+    }
+
+    /// How many places no item stands before, at least.
+    pub(crate) fn front(&self) -> usize
+        ensures { (at : ℕ) → at < result → stood self.now.places.items at ≡ None }
+    {
+        self.first
+    }
+
+    /// The kind of the item in a place.
+    pub(crate) fn item(&self, at: usize) -> Option<&K>
+        ensures { option_copied result ≡ kind_in self.now.kinds.items (stood self.now.places.items at) }
+    {
+        let kind = stood(self.places.as_slice(), at)?;
+        Some(&self.kinds[kind])
+    }
+
+    /// How many places there are.
+    pub(crate) fn len(&self) -> usize
+        ensures { result ≡ vec_len self.now.places }
+    {
+        self.places.len()
+    }
+
+    /// Whether it has many places, and no item in them.
+    pub(crate) fn is_spent(&self) -> bool
+        ensures { IsTrue result → place_of (is_wanted None) self.now.places.items ≡ None }
+    {
+        self.places.len() >= MANY && self.oldest().is_none()
+    }
+
+    /// Lets all places go, and all kinds.
+    pub(crate) fn clear(&mut self, alloc: Global)
+    where
+        K: Drop,
+        ensures { row_of self.new ≡ [] }
+    {
+        *self = Row::new(alloc);
+    }
+
+    /// One kind more, of which there is no item. Its number.
+    pub(crate) fn begin(&mut self, kind: K) -> Result<usize, AllocError>
+    where
+        K: Drop,
+        ensures number { IfOk result (λ number. (number ≡ vec_len self.old.kinds)
+            × (self.new.kinds.items ≡ self.old.kinds.items ++ kind ∷ [])) }
+        ensures kept { OnErr result (self.new.kinds.items ≡ self.old.kinds.items) }
+        ensures places { self.new.places ≡ self.old.places }
+    {
+        let number = self.kinds.len();
+        if self.oldest.len() <= number {
+            self.oldest.push(0)?;
+        }
+        self.kinds.push(kind)?;
+        Ok(number)
+    }
+
+    /// Puts an item of a kind to an empty place.
+    pub(crate) fn put_back(&mut self, at: usize, kind: usize)
+        requires within { at < vec_len self.old.places }
+        requires empty { stood self.old.places.items at ≡ None }
+        requires there { kind < vec_len self.old.kinds }
+        ensures put { self.new.places.items ≡ slice_set self.old.places.items at (Some kind) }
+        ensures kinds { self.new.kinds ≡ self.old.kinds }
+    {
+        self.chains.keep(at, kind);
+        let oldest = self.oldest[kind];
+        self.oldest[kind] = oldest_before(self.places.as_slice(), Some(kind), oldest, at);
+        self.first = oldest_before(self.places.as_slice(), None, self.first, at);
+        self.places[at] = Some(kind);
+    }
+
+    /// One place more, which is empty.
+    fn grow(&mut self) -> Result<(), AllocError>
+        ensures more { OnOk result (self.new.places.items ≡ self.old.places.items ++ None ∷ []) }
+        ensures kept { OnErr result (self.new.places.items ≡ self.old.places.items) }
+        ensures kinds { self.new.kinds ≡ self.old.kinds }
+    {
+        self.places.push(None)?;
+        Ok(())
+    }
+
+    /// The next place will be one of a kind, where kinds are many.
+    fn follow(&mut self, kind: usize) -> Result<(), AllocError>
+        ensures places { self.new.places ≡ self.old.places }
+        ensures kinds { self.new.kinds ≡ self.old.kinds }
+    {
+        if self.kinds.len() <= FEW {
+            return Ok(());
+        }
+        follow(self.places.as_slice(), &mut self.chains, kind)
+    }
+
+    /// One item more of a kind, the newest.
+    pub(crate) fn join(&mut self, kind: usize) -> Result<(), AllocError>
+        requires { kind < vec_len self.old.kinds }
+        ensures joined { OnOk result (self.new.places.items ≡ self.old.places.items ++ Some kind ∷ []) }
+        ensures kept { OnErr result (self.new.places.items ≡ self.old.places.items) }
+        ensures kinds { self.new.kinds ≡ self.old.kinds }
+    {
+        let at = self.places.len();
+        self.follow(kind)?;
+        self.grow()?;
+        self.put_back(at, kind);
+        Ok(())
+    }
+
+    /// The first item of a kind, the newest of all.
+    pub(crate) fn join_first(&mut self, kind: K) -> Result<(), AllocError>
+    where
+        K: Drop,
+        ensures joined { OnOk result (row_of self.new ≡ row_of self.old ++ Some kind ∷ []) }
+        ensures kept { OnErr result (row_of self.new ≡ row_of self.old) }
+        ensures kinds { KeepsKinds self.old self.new }
+    {
+        let number = self.begin(kind)?;
+        self.join(number)
+    }
+
+    /// Takes the newest place away again.
+    pub(crate) fn leave(&mut self)
+        ensures left { self.new.places.items ≡ take (length self.old.places.items - 1) self.old.places.items }
+        ensures kinds { self.new.kinds ≡ self.old.kinds }
+    {
+        self.places.pop();
+        self.chains.pop(self.places.len());
+    }
+
+    /// Takes the item of a place. The number of its kind.
+    pub(crate) fn take(&mut self, at: usize) -> usize
+        requires { IsSome (stood self.old.places.items at) }
+        ensures kind { stood self.old.places.items at ≡ Some result }
+        ensures taken { self.new.places.items ≡ slice_set self.old.places.items at None }
+        ensures kinds { self.new.kinds ≡ self.old.kinds }
+    {
+        let Some(kind) = stood(self.places.as_slice(), at) else {
+            unreachable!()
+        };
+        self.places[at] = None;
+        let oldest = self.oldest[kind];
+        self.oldest[kind] = oldest_of_kind(self.places.as_slice(), &self.chains, kind, oldest, at);
+        self.first = oldest_behind(self.places.as_slice(), None, self.first, at);
+        kind
+    }
+}
