@@ -7,10 +7,11 @@ use Rattle.tcap_record.specs.declared.entry.End.TheVariants as sides
 use Rattle.tcap_check.specs.declared.certificate.Fate.{Fate}
 use Rattle.tcap_check.specs.declared.certificate.Fate.TheVariants.{Gap, Lost, By}
 use Rattle.tcap_check.specs.World.{OnItsWay, World, channel_from, with_channel}
-use Rattle.tcap_check.specs.Run.{Event, Loses}
+use Rattle.tcap_check.specs.Run.{Event, Loses, numbers_of}
+use Rattle.tcap_check.specs.Alone.{all_lost_from}
 use Rattle.tcap_check.specs.Certificate.{Certificate}
 use Rattle.tcap_check.specs.Replayed.{Replay, if_lost, losing, lost_from_front, lost_front}
-use Rattle.tcap_runs.specs.Playing.{first_lost, is_lost_fate}
+use Rattle.tcap_runs.specs.Playing.{first_lost, first_number, is_lost_fate}
 
 -- ---- channels
 
@@ -95,6 +96,20 @@ first_in fates (m ∷ more) number is = by (slice_get fates m.number) refl
         let same : Some m.number ≡ Some number = sym (ap found e) ∙ is in
         ap (λ (f : Option Fate). if_lost f (m.number ∷ lost_front fates more)) e ∙ cc
 
+dropped : (count : ℕ) (messages : List OnItsWay) → drop count (drop 1 messages) ≡ drop (suc count) messages
+dropped count [] = drop_none count ∙ sym (drop_none (suc count))
+dropped count (m ∷ more) = refl
+
+-- One is lost, and then these.
+losing_twice : (side : Side) (number : ℕ) (numbers : List ℕ) (r : Replay)
+    → losing side numbers (losing side (number ∷ []) r) ≡ losing side (number ∷ numbers) r
+losing_twice side number numbers r = ap₂ (λ (events : List Event) (world : World). let r : Replay = record { events = events; world = world } in r)
+    (append_assoc r.events (Loses side number ∷ []) (map (Loses side) numbers))
+    (ap (λ (x : List OnItsWay). with_channel side (drop (length numbers) x) (losing side (number ∷ []) r).world)
+    (left_in side (drop 1 (channel_from side r.world)) r.world)
+    ∙ (left_again side (drop (length numbers) (drop 1 (channel_from side r.world))) (drop 1 (channel_from side r.world)) r.world
+    ∙ ap (λ (x : List OnItsWay). with_channel side x r.world) (dropped (length numbers) (channel_from side r.world))))
+
 pub one_lost : (c : Certificate) (side : Side) (r : Replay) (number : ℕ)
     → first_lost c.fates (channel_from side r.world) ≡ Some number
     → lost_from_front c side (losing side (number ∷ []) r) ≡ lost_from_front c side r
@@ -105,17 +120,51 @@ one_lost c side r number is =
     let all : lost_front c.fates (channel_from side (losing side (number ∷ []) r).world) ≡ numbers =
     ap (λ (x : List OnItsWay). lost_front c.fates x) behind in
     ap (λ (x : List ℕ). losing side x (losing side (number ∷ []) r)) all
-    ∙ twice numbers
+    ∙ losing_twice side number numbers r
     ∙ sym (ap (λ (x : List ℕ). losing side x r) front)
-  where
-    dropped : (count : ℕ) (messages : List OnItsWay) → drop count (drop 1 messages) ≡ drop (suc count) messages
-    dropped count [] = drop_none count ∙ sym (drop_none (suc count))
-    dropped count (m ∷ more) = refl
 
-    twice : (numbers : List ℕ) → losing side numbers (losing side (number ∷ []) r) ≡ losing side (number ∷ numbers) r
-    twice numbers = ap₂ (λ (events : List Event) (world : World). let r : Replay = record { events = events; world = world } in r)
-        (append_assoc r.events (Loses side number ∷ []) (map (Loses side) numbers))
-        (ap (λ (x : List OnItsWay). with_channel side (drop (length numbers) x) (losing side (number ∷ []) r).world)
-        (left_in side (drop 1 (channel_from side r.world)) r.world)
-        ∙ (left_again side (drop (length numbers) (drop 1 (channel_from side r.world))) (drop 1 (channel_from side r.world)) r.world
-        ∙ ap (λ (x : List OnItsWay). with_channel side x r.world) (dropped (length numbers) (channel_from side r.world))))
+-- ---- all is lost
+
+all_of_none : (side : Side) (messages : List OnItsWay) (r : Replay) → messages ≡ [] → losing side (numbers_of messages) r ≡ r
+all_of_none side messages r is = ap (λ (x : List OnItsWay). losing side (numbers_of x) r) is ∙ losing_none side r
+
+no_first : (messages : List OnItsWay) → first_number messages ≡ None → messages ≡ []
+no_first [] is = refl
+no_first (m ∷ more) is = cc
+
+no_more : (messages : List OnItsWay) → length messages ≡ 0 → messages ≡ []
+no_more [] is = refl
+no_more (m ∷ more) is = cc
+
+-- Nothing is on its way.
+pub none_of_all : (side : Side) (r : Replay) → first_number (channel_from side r.world) ≡ None → all_lost_from side r ≡ r
+none_of_all side r is = all_of_none side (channel_from side r.world) r (no_first (channel_from side r.world) is)
+
+pub none_left_of_all : (side : Side) (r : Replay) → length (channel_from side r.world) ≡ 0 → all_lost_from side r ≡ r
+none_left_of_all side r is = all_of_none side (channel_from side r.world) r (no_more (channel_from side r.world) is)
+
+shorter_by_first : (messages : List OnItsWay) (number : ℕ) → first_number messages ≡ Some number
+    → length messages ≡ length (drop 1 messages) + 1
+shorter_by_first [] number is = cc
+shorter_by_first (m ∷ more) number is = omega arith
+
+-- One message less is on its way.
+pub one_left_of_all : (side : Side) (r : Replay) (number : ℕ) → first_number (channel_from side r.world) ≡ Some number
+    → length (channel_from side r.world) ≡ length (channel_from side (losing side (number ∷ []) r).world) + 1
+one_left_of_all side r number is =
+    shorter_by_first (channel_from side r.world) number is
+    ∙ ap (λ (x : List OnItsWay). length x + 1) (sym (left_in side (drop 1 (channel_from side r.world)) r.world))
+
+numbers_by_first : (messages : List OnItsWay) (number : ℕ) → first_number messages ≡ Some number
+    → numbers_of messages ≡ number ∷ numbers_of (drop 1 messages)
+numbers_by_first [] number is = cc
+numbers_by_first (m ∷ more) number is = let same : m.number ≡ number = cc in ap (λ (n : ℕ). n ∷ numbers_of more) same
+
+-- The first is lost, and then the others.
+pub one_of_all : (side : Side) (r : Replay) (number : ℕ) → first_number (channel_from side r.world) ≡ Some number
+    → all_lost_from side (losing side (number ∷ []) r) ≡ all_lost_from side r
+one_of_all side r number is =
+    let channel = channel_from side r.world in
+    ap (λ (x : List OnItsWay). losing side (numbers_of x) (losing side (number ∷ []) r)) (left_in side (drop 1 channel) r.world)
+    ∙ losing_twice side number (numbers_of (drop 1 channel)) r
+    ∙ ap (λ (x : List ℕ). losing side x r) (sym (numbers_by_first channel number is))

@@ -25,7 +25,7 @@ use Rattle.tcap_check.specs.Replayed.{Replay, closings_replayed, deliveries_repl
 use Rattle.tcap_check.proofs.RunLaws.{grows, some_is, then_some, where_some}
 use Rattle.tcap_check.proofs.ReplayLaws.{IsGapEvent, closings_replay, expiries_replay, gap_event}
 use Rattle.tcap_runs.specs.Running.{next_gap}
-use Rattle.tcap_runs.specs.Gaps.{closing_played, delivery_by, delivery_played, expiry_played, half_in, half_named, invocation_in, invocation_named, plays, sender_in}
+use Rattle.tcap_runs.specs.Gaps.{closing_played, closings_judged, delivery_by, delivery_played, expiries_judged, expiry_played, half_in, half_named, invocation_in, invocation_named, plays, sender_in}
 
 -- ---- what is listed
 
@@ -88,11 +88,11 @@ expiry_is items x event is =
 -- ---- one after the other
 
 -- a step, and then the rest
-then_plays : {X : Type 0} (step : X → Replay → Option Replay) (x : X) (more : List X) (r mid next : Replay) → step x r ≡ Some mid
+pub then_plays : {X : Type 0} (step : X → Replay → Option Replay) (x : X) (more : List X) (r mid next : Replay) → step x r ≡ Some mid
     → plays step more mid ≡ Some next → plays step (x ∷ more) r ≡ Some next
 then_plays step x more r mid next one rest = ap (λ (o : Option Replay). then_so o (plays step more)) one ∙ rest
 
-closings_play : (table : Table) (c : Certificate) (listed : List Closing) (r next : Replay)
+pub closings_play : (table : Table) (c : Certificate) (listed : List Closing) (r next : Replay)
     → closings_replayed table c listed r ≡ Ok next → plays (closing_played table) listed r ≡ Some next
 closings_play table c [] r next is = cc
 closings_play table c (x ∷ more) r next is =
@@ -108,7 +108,7 @@ closings_play table c (x ∷ more) r next is =
     (ap (λ (o : Option HalfName). then_so o (λ (name : HalfName). stepped table (Closes x.side name) r)) closed.named ∙ step)
     (closings_play table c more one.0 next one.2)
 
-expiries_play : (table : Table) (c : Certificate) (listed : List Expiry) (r next : Replay)
+pub expiries_play : (table : Table) (c : Certificate) (listed : List Expiry) (r next : Replay)
     → expiries_replayed table c listed r ≡ Ok next → plays (expiry_played table) listed r ≡ Some next
 expiries_play table c [] r next is = cc
 expiries_play table c (x ∷ more) r next is =
@@ -132,20 +132,20 @@ receives side number = record {
   adds = λ table w next is. let g = grows table (Receives side number) w next is in g.2 ∙ ap (λ (x : List Item). w.sent ++ x) g.1;
 }
 
-back : (side : Side) → other (other side) ≡ side
+pub back : (side : Side) → other (other side) ≡ side
 back sides.A = refl
 back sides.B = refl
 
 -- What stands at these numbers of a list, from this one on, are those items.
-abbrev Stand : List Item → ℕ → List Item → Type 0
+abbrev pub Stand : List Item → ℕ → List Item → Type 0
 Stand all n items = (k : ℕ) → slice_get all (n + k) ≡ slice_get items k
 
-first_stands : (all items : List Item) (n : ℕ) → Stand all n items → slice_get all n ≡ slice_get items 0
+pub first_stands : (all items : List Item) (n : ℕ) → Stand all n items → slice_get all n ≡ slice_get items 0
 first_stands all items n at =
     let same : n ≡ n + 0 = omega arith in
     ap (λ (m : ℕ). slice_get all m) same ∙ at 0
 
-more_stand : (all items : List Item) (item : Item) (n : ℕ) → Stand all n (item ∷ items) → Stand all (n + 1) items
+pub more_stand : (all items : List Item) (item : Item) (n : ℕ) → Stand all n (item ∷ items) → Stand all (n + 1) items
 more_stand all items item n at k =
     let same : n + 1 + k ≡ n + suc k = omega arith in
     ap (λ (m : ℕ). slice_get all m) same ∙ at (suc k)
@@ -155,33 +155,34 @@ none_stand all n at k =
     let same : n + 1 + k ≡ n + suc k = omega arith in
     ap (λ (m : ℕ). slice_get all m) same ∙ at (suc k)
 
-module _ (table : Table) (c : Certificate) (gap : ℕ) where
+module _ (table : Table) (c : Certificate) (judged : Option Side) (gap : ℕ) where
   -- no message has that number
-  skipped : (n : ℕ) (r : Replay) (item : Option Item) → slice_get r.world.sent n ≡ item → then_so item sender_in ≡ None
-      → delivery_played table c n r ≡ Some r
+  pub skipped : (n : ℕ) (r : Replay) (item : Option Item) → slice_get r.world.sent n ≡ item → then_so item sender_in ≡ None
+      → delivery_played table c judged n r ≡ Some r
   skipped n r item at none =
-      ap (λ (o : Option Side). delivery_by table c n r o) (ap (λ (o : Option Item). then_so o sender_in) at ∙ none)
+      ap (λ (o : Option Side). delivery_by table c judged n r o) (ap (λ (o : Option Item). then_so o sender_in) at ∙ none)
 
-  none_due : (fates : List Fate) (n : ℕ) (r : Replay) → Stand r.world.sent n []
-      → plays (delivery_played table c) (due_in gap n fates) r ≡ Some r
+  pub none_due : (fates : List Fate) (n : ℕ) (r : Replay) → Stand r.world.sent n []
+      → plays (delivery_played table c judged) (due_in gap n fates) r ≡ Some r
   none_due [] n r at = refl
   none_due (Gap g ∷ fates) n r at = by (g == gap) (none_due fates (n + 1) r (none_stand r.world.sent n at))
     where
-      by : (b : Bool) → plays (delivery_played table c) (due_in gap (n + 1) fates) r ≡ Some r
-          → plays (delivery_played table c) (cond b (n ∷ due_in gap (n + 1) fates) (due_in gap (n + 1) fates)) r ≡ Some r
-      by true on = then_plays (delivery_played table c) n (due_in gap (n + 1) fates) r r r
+      by : (b : Bool) → plays (delivery_played table c judged) (due_in gap (n + 1) fates) r ≡ Some r
+          → plays (delivery_played table c judged) (cond b (n ∷ due_in gap (n + 1) fates) (due_in gap (n + 1) fates)) r ≡ Some r
+      by true on = then_plays (delivery_played table c judged) n (due_in gap (n + 1) fates) r r r
           (skipped n r None (first_stands r.world.sent [] n at) refl) on
       by false on = on
   none_due (Lost ∷ fates) n r at = none_due fates (n + 1) r (none_stand r.world.sent n at)
   none_due (By k ∷ fates) n r at = none_due fates (n + 1) r (none_stand r.world.sent n at)
 
+module _ (table : Table) (c : Certificate) (gap : ℕ) where
   due_play : (fates : List Fate) (items : List Item) (n : ℕ) (r next : Replay) → Stand r.world.sent n items
       → deliveries_replayed table c gap n fates items r ≡ Ok next
-      → plays (delivery_played table c) (due_in gap n fates) r ≡ Some next
+      → plays (delivery_played table c None) (due_in gap n fates) r ≡ Some next
   due_play [] items n r next at is = cc
   due_play (fate ∷ fates) [] n r next at is =
       let same : r ≡ next = cc in
-      none_due (fate ∷ fates) n r at ∙ ap (λ (x : Replay). let o : Option Replay = Some x in o) same
+      none_due table c None gap (fate ∷ fates) n r at ∙ ap (λ (x : Replay). let o : Option Replay = Some x in o) same
   due_play (Gap g ∷ fates) (Sent side message ∷ items) n r next at is =
       by (g == gap) (λ mid sent. due_play fates items (n + 1) mid next (λ k. ap (λ (s : List Item). slice_get s (n + 1 + k)) sent ∙ behind k)) is
     where
@@ -190,28 +191,28 @@ module _ (table : Table) (c : Certificate) (gap : ℕ) where
 
       by : (b : Bool)
           → ((mid : Replay) → mid.world.sent ≡ r.world.sent → deliveries_replayed table c gap (n + 1) fates items mid ≡ Ok next
-          → plays (delivery_played table c) (due_in gap (n + 1) fates) mid ≡ Some next)
+          → plays (delivery_played table c None) (due_in gap (n + 1) fates) mid ≡ Some next)
           → (cond b (happens table c (Receives (other side) n) BadReply n r) (Ok r)
           >>= deliveries_replayed table c gap (n + 1) fates items) ≡ Ok next
-          → plays (delivery_played table c) (cond b (n ∷ due_in gap (n + 1) fates) (due_in gap (n + 1) fates)) r ≡ Some next
+          → plays (delivery_played table c None) (cond b (n ∷ due_in gap (n + 1) fates) (due_in gap (n + 1) fates)) r ≡ Some next
       by true on e =
           let one = then_ok (happens table c (Receives (other side) n) BadReply n r) _ next e in
           let sent = (gap_event table c (Receives (other side) n) BadReply n r one.0 (receives (other side) n) one.1).sent in
           let step : stepped table (Receives (other side) n) (lost_from_front c side r) ≡ Some one.0 =
           ap (λ (s : Side). stepped table (Receives (other side) n) (lost_from_front c s r)) (sym (back side))
           ∙ some_ok _ (fault_at BadReply n) one.0 one.1 in
-          then_plays (delivery_played table c) n (due_in gap (n + 1) fates) r one.0 next
-          (ap (λ (o : Option Side). delivery_by table c n r o)
+          then_plays (delivery_played table c None) n (due_in gap (n + 1) fates) r one.0 next
+          (ap (λ (o : Option Side). delivery_by table c None n r o)
           (ap (λ (o : Option Item). then_so o sender_in) (first_stands r.world.sent (Sent side message ∷ items) n at)) ∙ step)
           (on one.0 (sent ∙ append-nil r.world.sent) one.2)
       by false on e = on r refl e
   due_play (Gap g ∷ fates) (Item.Quiet ∷ items) n r next at is =
       by (g == gap) (due_play fates items (n + 1) r next (more_stand r.world.sent items Item.Quiet n at) is)
     where
-      by : (b : Bool) → plays (delivery_played table c) (due_in gap (n + 1) fates) r ≡ Some next
-          → plays (delivery_played table c) (cond b (n ∷ due_in gap (n + 1) fates) (due_in gap (n + 1) fates)) r ≡ Some next
-      by true on = then_plays (delivery_played table c) n (due_in gap (n + 1) fates) r r next
-          (skipped n r (Some Item.Quiet) (first_stands r.world.sent (Item.Quiet ∷ items) n at) refl) on
+      by : (b : Bool) → plays (delivery_played table c None) (due_in gap (n + 1) fates) r ≡ Some next
+          → plays (delivery_played table c None) (cond b (n ∷ due_in gap (n + 1) fates) (due_in gap (n + 1) fates)) r ≡ Some next
+      by true on = then_plays (delivery_played table c None) n (due_in gap (n + 1) fates) r r next
+          (skipped table c None gap n r (Some Item.Quiet) (first_stands r.world.sent (Item.Quiet ∷ items) n at) refl) on
       by false on = on
   due_play (Lost ∷ fates) (Sent side message ∷ items) n r next at is = due_play fates items (n + 1) r next (more_stand r.world.sent items (Sent side message) n at) is
   due_play (Lost ∷ fates) (Item.Quiet ∷ items) n r next at is = due_play fates items (n + 1) r next (more_stand r.world.sent items Item.Quiet n at) is
@@ -220,12 +221,18 @@ module _ (table : Table) (c : Certificate) (gap : ℕ) where
 
 -- ---- a gap
 
-all_stand : (items : List Item) → Stand items 0 items
+-- What is listed of both ends is all that is.
+pub all_kept : {X : Type 0} (xs : List X) → filter (λ x. true) xs ≡ xs
+all_kept [] = refl
+all_kept (x ∷ xs) = ap (λ ys. x ∷ ys) (all_kept xs)
+
+pub all_stand : (items : List Item) → Stand items 0 items
 all_stand items k =
     let same : 0 + k ≡ k = omega arith in
     ap (λ (m : ℕ). slice_get items m) same
 
-pub gap_plays : (table : Table) (c : Certificate) (r next : Replay) → gap_replayed table c r ≡ Ok next → next_gap table c r ≡ Some next
+pub gap_plays : (table : Table) (c : Certificate) (r next : Replay) → gap_replayed table c r ≡ Ok next
+    → next_gap table c None r ≡ Some next
 gap_plays table c r next is =
     let gap = next_entry r in
     let closing = filter (λ (x : Closing). x.gap == gap) c.close in
@@ -236,8 +243,11 @@ gap_plays table c r next is =
     let expired = expiries_replay table c expiring a.0.world.sent a.0 b.0 refl b.1 in
     let sent : b.0.world.sent ≡ r.world.sent =
     expired.2.sent ∙ append-nil a.0.world.sent ∙ (closed.2.sent ∙ append-nil r.world.sent) in
-    ap (λ (o : Option Replay). then_so o (λ (x : Replay). then_so (plays (expiry_played table) expiring x) (plays (delivery_played table c) (due_in gap 0 c.fates))))
-    (closings_play table c closing r a.0 a.1)
-    ∙ (ap (λ (o : Option Replay). then_so o (plays (delivery_played table c) (due_in gap 0 c.fates))) (expiries_play table c expiring a.0 b.0 b.1)
+    let closings : closings_judged None closing ≡ closing = all_kept closing in
+    let expiries : expiries_judged None expiring ≡ expiring = all_kept expiring in
+    ap (λ (o : Option Replay). then_so o (λ (x : Replay). then_so (plays (expiry_played table) (expiries_judged None expiring) x) (plays (delivery_played table c None) (due_in gap 0 c.fates))))
+    (ap (λ (x : List Closing). plays (closing_played table) x r) closings ∙ closings_play table c closing r a.0 a.1)
+    ∙ (ap (λ (o : Option Replay). then_so o (plays (delivery_played table c None) (due_in gap 0 c.fates)))
+    (ap (λ (x : List Expiry). plays (expiry_played table) x a.0) expiries ∙ expiries_play table c expiring a.0 b.0 b.1)
     ∙ due_play table c gap c.fates r.world.sent 0 b.0 next
     (λ k. ap (λ (s : List Item). slice_get s (0 + k)) sent ∙ all_stand r.world.sent k) b.2)

@@ -1,17 +1,18 @@
 -- What is kept of a run under way, and what it means that a call goes on as the certificate gives it.
-use Rattle.std.specs.Prelude.{◌≡◌, ℕ, Bool, true, false, List, [], ◌∷◌, Option, Some, None, Result, Ok, Err, OnOk, slice_get, cond, ◌==◌, option_map}
-use Rattle.std.specs.Result.{result_ok}
+use Rattle.std.specs.Prelude.{◌≡◌, ℕ, Bool, true, false, List, [], ◌∷◌, Option, Some, None, Result, Ok, Err, OnOk, slice_get, cond, option_map}
 use Rattle.tcap_record.specs.declared.entry.End.{End as Side}
 use Rattle.tcap_record.specs.declared.entry.End.TheVariants as sides
+use Rattle.tcap_end.specs.declared.fault.EndFault.{EndFault}
+use Rattle.tcap_end.specs.declared.half.HalfName.{HalfName}
 use Rattle.tcap_end.specs.Table.{Table}
 use Rattle.tcap_end.specs.Message.{receive}
-use Rattle.tcap_check.specs.Run.{Event, after_quiet, where_so}
-use Rattle.tcap_end.specs.declared.fault.EndFault.{EndFault}
 use Rattle.tcap_end.specs.End.{End}
 use Rattle.tcap_check.specs.declared.certificate.Fate.{Fate}
 use Rattle.tcap_check.specs.declared.certificate.Fate.TheVariants.{Lost}
-use Rattle.tcap_check.specs.World.{OnItsWay, World, channel_from}
-use Rattle.tcap_check.specs.Replayed.{Replay, with_step}
+use Rattle.tcap_check.specs.World.{OnItsWay, World, channel_from, other}
+use Rattle.tcap_check.specs.Run.{Event, Closes, Loses, Receives, after_quiet}
+use Rattle.tcap_check.specs.Alone.{or_else}
+use Rattle.tcap_check.specs.Replayed.{Replay, losing, stepped, with_step}
 use Rattle.tcap_runs.specs.declared.playing.Playing.{Playing}
 
 -- ---- what is kept
@@ -57,11 +58,6 @@ abbrev pub first_of : List OnItsWay → Option OnItsWay
 first_of [] = None
 first_of (first ∷ more) = Some first
 
--- the end behind the receipt of the oldest, where that has this number
-abbrev pub heard : Table → ℕ → List OnItsWay → End → Option End
-heard table number [] e = None
-heard table number (m ∷ more) e = where_so (m.number == number) (result_ok (receive table e m.message))
-
 abbrev pub is_lost_fate : Option Fate → Bool
 is_lost_fate (Some Lost) = true
 is_lost_fate _ = false
@@ -74,6 +70,36 @@ is_lost fates number = is_lost_fate (slice_get fates number)
 abbrev pub first_lost : List Fate → List OnItsWay → Option ℕ
 first_lost fates [] = None
 first_lost fates (first ∷ more) = cond (is_lost fates first.number) (Some first.number) None
+
+-- ---- what an end receives
+
+-- An end takes a message; or it can't, for that reason, and stays as it is.
+abbrev pub TakesIn : Result End EndFault → End → Option EndFault → End → Type 0
+TakesIn step before None behind = step ≡ Ok behind
+TakesIn step before (Some reason) behind = (step ≡ Err reason) × (behind ≡ before)
+
+-- The oldest message of a channel has that number, and an end receives it, or can't.
+abbrev pub Hears : Table → ℕ → List OnItsWay → End → Option EndFault → End → Type 0
+Hears table number [] before refusal behind = ⊥
+Hears table number (first ∷ more) before refusal behind =
+    (first.number ≡ number) × TakesIn (receive table before first.message) before refusal behind
+
+-- An end receives the oldest message on its way to it, which has that number; or it can't, all stays as it is, and the
+-- message may be lost.
+abbrev pub IsReceived : Table → Side → ℕ → Replay → Option EndFault → Replay → Type 0
+IsReceived table side number before None behind = stepped table (Receives side number) before ≡ Some behind
+IsReceived table side number before (Some reason) behind = (stepped table (Receives side number) before ≡ None)
+    × (stepped table (Loses (other side) number) before ≡ Some (losing (other side) (number ∷ []) before)) × (behind ≡ before)
+
+-- An end receives the message of that number, or it is lost.
+abbrev pub received_or_lost : Table → Side → ℕ → Replay → Option Replay
+received_or_lost table side number r =
+    or_else (stepped table (Receives side number) r) (stepped table (Loses (other side) number) r)
+
+-- ---- what happens unseen
+
+abbrev pub close_played : Table → Side → HalfName → Replay → Option Replay
+close_played table side name r = stepped table (Closes side name) r
 
 -- a quiet mark, whatever the operations are
 abbrev pub quiet_played : Replay → Option Replay

@@ -6,13 +6,15 @@ use Rattle.tcap_runs.specs.declared.channel.OnWay.{OnWay}
 use Rattle.tcap_runs.specs.declared.items.Kept.{Kept}
 use Rattle.tcap_runs.specs.declared.items.Kept.TheVariants as kept
 use Rattle.tcap_check.specs.World.{Item, OnItsWay, Sent}
-use Rattle.tcap_check.specs.Run.{Event, Sends, Receives, Replies, Loses, Expires, Closes}
+use Rattle.tcap_check.specs.Run.{Event, Sends, Receives, Replies, Loses, Expires, Closes, Tells}
 
 abbrev pub event_of : Step → Event
 event_of (steps.Sends side message) = Sends side message
+event_of (steps.Tells side message) = Tells side message
 event_of (steps.Receives side number) = Receives side number
 event_of (steps.Replies side number) = Replies side number
 event_of (steps.Loses side number) = Loses side number
+event_of (steps.Discards side number reason) = Loses side number
 event_of (steps.Expires side name id) = Expires side name id
 event_of (steps.Closes side name) = Closes side name
 event_of steps.Quiet = Event.Quiet

@@ -2,7 +2,8 @@
 
 ghost use Rattle.std.specs.Prelude.{◌≡◌};
 ghost use Rattle.tcap_runs.specs.Playing.{Takes, replay_of};
-ghost use Rattle.tcap_runs.specs.Gaps.{closing_played, delivery_played, expiry_played, gap_played, half_named, invocation_named, plays, sender_of};
+ghost use Rattle.tcap_runs.specs.Gaps.{closing_played, closings_judged, delivery_from, delivery_played, expiries_judged, expiry_played};
+ghost use Rattle.tcap_runs.specs.Gaps.{gap_played, half_named, invocation_named, is_judged, plays, sender_of};
 
 use crate::items::{Items, Kept};
 use crate::playing::{Playing, Stopped, other};
@@ -49,12 +50,22 @@ fn invocation_named(sent: &Items, x: &Expiry) -> Option<(HalfName, i8)>
 }
 
 /// Who sent the message of that number.
-fn sender(sent: &Items, number: usize) -> Option<End>
+pub(crate) fn sender(sent: &Items, number: usize) -> Option<End>
     ensures { result ≡ sender_of sent.now number }
 {
     match sent.get(number)? {
         Kept::Message(side, _) => Some(*side),
         Kept::Quiet => None,
+    }
+}
+
+/// Whether an end keeps the rules in a run: each does, or the judged one alone.
+fn is_judged(judged: Option<End>, side: End) -> bool
+    ensures { result ≡ is_judged judged side }
+{
+    match judged {
+        None => true,
+        Some(judged) => judged == side,
     }
 }
 
@@ -65,7 +76,7 @@ impl Playing {
     {
         match half_named(&self.sent, x) {
             Some(name) => self.close(table, x.side, name),
-            None => Err(Stopped),
+            None => Err(Stopped::NoStep),
         }
     }
 
@@ -75,7 +86,27 @@ impl Playing {
     {
         match invocation_named(&self.sent, x) {
             Some((name, id)) => self.expire(table, x.side, name, id),
-            None => Err(Stopped),
+            None => Err(Stopped::NoStep),
+        }
+    }
+
+    /// Delivers the message of that number, which that end sent. Where the other alone is judged, it may fail to receive it;
+    /// where that end alone is, nothing is asked of what the other receives.
+    fn deliver_from(
+        &mut self,
+        table: &Table,
+        certificate: &Certificate,
+        judged: Option<End>,
+        number: usize,
+        side: End,
+    ) -> Result<(), Stopped>
+        ensures { Takes (delivery_from table.now certificate.now judged number side (replay_of self.old)) result
+            (replay_of self.new) }
+    {
+        match judged {
+            None => self.deliver(table, certificate, other(side), number),
+            Some(judged) if judged == side => Ok(()),
+            Some(judged) => self.deliver_or_discard(table, certificate, judged, number),
         }
     }
 
@@ -84,32 +115,50 @@ impl Playing {
         &mut self,
         table: &Table,
         certificate: &Certificate,
+        judged: Option<End>,
         number: usize,
     ) -> Result<(), Stopped>
-        ensures { Takes (delivery_played table.now certificate.now number (replay_of self.old)) result (replay_of self.new) }
+        ensures { Takes (delivery_played table.now certificate.now judged number (replay_of self.old)) result
+            (replay_of self.new) }
     {
         match sender(&self.sent, number) {
-            Some(side) => self.deliver(table, certificate, other(side), number),
+            Some(side) => self.deliver_from(table, certificate, judged, number, side),
             None => Ok(()),
         }
     }
 
-    /// Closes the halves that closings name, one after the other.
-    fn close_all(&mut self, table: &Table, closings: &[Closing]) -> Result<(), Stopped>
-        ensures { Takes (plays (closing_played table.now) closings.now (replay_of self.old)) result (replay_of self.new) }
+    /// Closes the halves that closings name, one after the other; none of an end that is not judged.
+    fn close_all(
+        &mut self,
+        table: &Table,
+        judged: Option<End>,
+        closings: &[Closing],
+    ) -> Result<(), Stopped>
+        ensures { Takes (plays (closing_played table.now) (closings_judged judged closings.now) (replay_of self.old)) result
+            (replay_of self.new) }
     {
         for x in closings {
-            self.close_listed(table, x)?;
+            if is_judged(judged, x.side) {
+                self.close_listed(table, x)?;
+            }
         }
         Ok(())
     }
 
-    /// Ends the invocations that expiries name, one after the other.
-    fn expire_all(&mut self, table: &Table, expiries: &[Expiry]) -> Result<(), Stopped>
-        ensures { Takes (plays (expiry_played table.now) expiries.now (replay_of self.old)) result (replay_of self.new) }
+    /// Ends the invocations that expiries name, one after the other; none of an end that is not judged.
+    fn expire_all(
+        &mut self,
+        table: &Table,
+        judged: Option<End>,
+        expiries: &[Expiry],
+    ) -> Result<(), Stopped>
+        ensures { Takes (plays (expiry_played table.now) (expiries_judged judged expiries.now) (replay_of self.old)) result
+            (replay_of self.new) }
     {
         for x in expiries {
-            self.expire_listed(table, x)?;
+            if is_judged(judged, x.side) {
+                self.expire_listed(table, x)?;
+            }
         }
         Ok(())
     }
@@ -119,13 +168,14 @@ impl Playing {
         &mut self,
         table: &Table,
         certificate: &Certificate,
+        judged: Option<End>,
         numbers: &[u32],
     ) -> Result<(), Stopped>
-        ensures { Takes (plays (delivery_played table.now certificate.now) numbers.now (replay_of self.old)) result
+        ensures { Takes (plays (delivery_played table.now certificate.now judged) numbers.now (replay_of self.old)) result
             (replay_of self.new) }
     {
         for number in numbers {
-            self.deliver_due(table, certificate, *number as usize)?;
+            self.deliver_due(table, certificate, judged, *number as usize)?;
         }
         Ok(())
     }
@@ -135,15 +185,16 @@ impl Playing {
         &mut self,
         table: &Table,
         certificate: &Certificate,
+        judged: Option<End>,
         closings: &[Closing],
         expiries: &[Expiry],
         due: &[u32],
     ) -> Result<(), Stopped>
-        ensures { Takes (gap_played table.now certificate.now closings.now expiries.now due.now (replay_of self.old)) result
-            (replay_of self.new) }
+        ensures { Takes (gap_played table.now certificate.now judged closings.now expiries.now due.now (replay_of self.old))
+            result (replay_of self.new) }
     {
-        self.close_all(table, closings)?;
-        self.expire_all(table, expiries)?;
-        self.deliver_all(table, certificate, due)
+        self.close_all(table, judged, closings)?;
+        self.expire_all(table, judged, expiries)?;
+        self.deliver_all(table, certificate, judged, due)
     }
 }

@@ -1,33 +1,42 @@
 //! The steps of a run: losses, what is delivered, what happens unseen, and quiet marks (Q.774 3.2 and 3.3).
 
-ghost use Rattle.std.specs.Prelude.{◌≡◌, [], ◌∷◌, OnOk, Some, is_ok};
+ghost use Rattle.std.specs.Prelude.{◌≡◌, [], ◌∷◌, IfOk, OnOk, Some, is_ok};
 ghost use Rattle.tcap_check.specs.Run.{Closes, Expires, Receives};
 ghost use Rattle.tcap_check.specs.World.{other};
+ghost use Rattle.tcap_check.specs.Alone.{all_lost_from};
 ghost use Rattle.tcap_check.specs.Replayed.{losing, lost_from_both, lost_from_front, or_same, stepped};
-ghost use Rattle.tcap_end.specs.Hidden.{expire};
-ghost use Rattle.tcap_runs.specs.Playing.{Takes, end_moved, end_of, heard, quiet_played, replay_of};
+ghost use Rattle.tcap_end.specs.Hidden.{expire, open_halves};
+ghost use Rattle.tcap_runs.specs.Gaps.{plays};
+ghost use Rattle.tcap_runs.specs.Playing.{Hears, IsReceived, Takes, close_played, end_moved, end_of, quiet_played, received_or_lost, replay_of};
 
 use crate::channel::Channel;
 use crate::items::Kept;
 use crate::playing::{Playing, Stopped, copy_name, other};
 use crate::step::Step;
+use std::alloc::Global;
 use tcap_check::Certificate;
-use tcap_end::{EndState, HalfName, Table};
+use tcap_end::{EndFault, EndState, HalfName, Table};
 use tcap_record::End;
 
-/// An end receives the oldest message of a channel, which has to be that of the number.
-fn hear(end: &mut EndState, table: &Table, channel: &Channel, number: usize) -> Result<(), Stopped>
-    ensures { OnOk result (heard table.now number channel.now end.old ≡ Some end.new) }
+/// An end receives the oldest message of a channel, which has to be that of the number; or the reason why it can't.
+fn hear(
+    end: &mut EndState,
+    table: &Table,
+    channel: &Channel,
+    number: usize,
+) -> Result<Option<EndFault>, Stopped>
+    ensures { IfOk result (λ refusal. Hears table.now number channel.now end.old refusal end.new) }
 {
     let Some(first) = channel.first() else {
-        return Err(Stopped);
+        return Err(Stopped::NoStep);
     };
     if first.number != number {
-        return Err(Stopped);
+        return Err(Stopped::NoStep);
     }
     match end.receive(table, &first.message) {
-        Ok(()) => Ok(()),
-        Err(_) => Err(Stopped),
+        Ok(()) => Ok(None),
+        Err(EndFault::Memory) => Err(Stopped::Memory),
+        Err(reason) => Ok(Some(reason)),
     }
 }
 
@@ -41,12 +50,35 @@ impl Playing {
         Ok(())
     }
 
+    /// The same, since the other end can't receive it, for that reason.
+    fn discard(&mut self, side: End, number: usize, reason: EndFault) -> Result<(), Stopped>
+        ensures { OnOk result (replay_of self.new ≡ losing side (number ∷ []) (replay_of self.old)) }
+    {
+        self.drop_first(side);
+        self.steps
+            .push(Step::Discards(side, number as u64, reason))?;
+        Ok(())
+    }
+
     /// The messages at the front of what is on its way from an end whose fate says so are lost.
     pub(crate) fn lose_front(&mut self, certificate: &Certificate, side: End) -> Result<(), Stopped>
         ensures { OnOk result (replay_of self.new ≡ lost_from_front certificate.now side (replay_of self.old)) }
     {
         for _ in 0..self.channel(side).len() {
             match self.first_lost(certificate, side) {
+                Some(number) => self.lose(side, number)?,
+                None => return Ok(()),
+            }
+        }
+        Ok(())
+    }
+
+    /// All messages that are on their way from an end are lost.
+    pub(crate) fn lose_all(&mut self, side: End) -> Result<(), Stopped>
+        ensures { OnOk result (replay_of self.new ≡ all_lost_from side (replay_of self.old)) }
+    {
+        for _ in 0..self.channel(side).len() {
+            match self.channel(side).first_number() {
                 Some(number) => self.lose(side, number)?,
                 None => return Ok(()),
             }
@@ -64,10 +96,34 @@ impl Playing {
             End::B => self.b.close(table, own),
         };
         if closed.is_err() {
-            return Err(Stopped);
+            return Err(Stopped::NoStep);
         }
         self.steps.push(Step::Closes(side, name))?;
         Ok(())
+    }
+
+    /// Halves of an end close unseen, one after the other.
+    fn close_each(&mut self, table: &Table, side: End, names: &[HalfName]) -> Result<(), Stopped>
+        ensures { Takes (plays (close_played table.now side) names.now (replay_of self.old)) result (replay_of self.new) }
+    {
+        for name in names {
+            self.close(table, side, copy_name(name))?;
+        }
+        Ok(())
+    }
+
+    /// All open halves of an end close unseen.
+    pub(crate) fn close_open(
+        &mut self,
+        alloc: Global,
+        table: &Table,
+        side: End,
+    ) -> Result<(), Stopped>
+        ensures { Takes (plays (close_played table.now side) (open_halves (end_of side self.old)) (replay_of self.old))
+            result (replay_of self.new) }
+    {
+        let names = self.end(side).open_halves(alloc)?;
+        self.close_each(table, side, &names)
     }
 
     /// Ends an own invocation of an end unseen; answers whether that may be.
@@ -94,7 +150,7 @@ impl Playing {
         ensures { Takes (stepped table.now (Expires side name id) (replay_of self.old)) result (replay_of self.new) }
     {
         if !self.expired(table, side, &name, id) {
-            return Err(Stopped);
+            return Err(Stopped::NoStep);
         }
         self.steps.push(Step::Expires(side, name, id))?;
         Ok(())
@@ -117,17 +173,24 @@ impl Playing {
         Ok(())
     }
 
-    /// An end receives the oldest message on its way to it, which has to be that of the number.
-    fn receive(&mut self, table: &Table, side: End, number: usize) -> Result<(), Stopped>
-        ensures { Takes (stepped table.now (Receives side number) (replay_of self.old)) result (replay_of self.new) }
+    /// An end receives the oldest message on its way to it, which has to be that of the number; or the reason why it can't.
+    fn receive(
+        &mut self,
+        table: &Table,
+        side: End,
+        number: usize,
+    ) -> Result<Option<EndFault>, Stopped>
+        ensures { IfOk result (λ refusal. IsReceived table.now side number (replay_of self.old) refusal (replay_of self.new)) }
     {
-        match side {
+        let refusal = match side {
             End::A => hear(&mut self.a, table, &self.from_b, number)?,
             End::B => hear(&mut self.b, table, &self.from_a, number)?,
+        };
+        if refusal.is_none() {
+            self.drop_first(other(side));
+            self.steps.push(Step::Receives(side, number as u64))?;
         }
-        self.drop_first(other(side));
-        self.steps.push(Step::Receives(side, number as u64))?;
-        Ok(())
+        Ok(refusal)
     }
 
     /// An end receives the message of that number; what is lost before it is lost first.
@@ -142,7 +205,28 @@ impl Playing {
             (lost_from_front certificate.now (other side) (replay_of self.old))) result (replay_of self.new) }
     {
         self.lose_front(certificate, other(side))?;
-        self.receive(table, side, number)
+        match self.receive(table, side, number)? {
+            None => Ok(()),
+            Some(_) => Err(Stopped::NoStep),
+        }
+    }
+
+    /// The same, but a message that the end can't receive is lost.
+    pub(crate) fn deliver_or_discard(
+        &mut self,
+        table: &Table,
+        certificate: &Certificate,
+        side: End,
+        number: usize,
+    ) -> Result<(), Stopped>
+        ensures { Takes (received_or_lost table.now side number
+            (lost_from_front certificate.now (other side) (replay_of self.old))) result (replay_of self.new) }
+    {
+        self.lose_front(certificate, other(side))?;
+        match self.receive(table, side, number)? {
+            None => Ok(()),
+            Some(reason) => self.discard(other(side), number, reason),
+        }
     }
 
     /// What is lost at the front of what is on its way from both ends.
@@ -158,11 +242,14 @@ impl Playing {
         ensures { Takes (quiet_played (replay_of self.old)) result (replay_of self.new) }
     {
         if self.from_a.len() != 0 || self.from_b.len() != 0 {
-            return Err(Stopped);
+            return Err(Stopped::NoStep);
         }
-        if self.a.quiet().is_err() || self.b.quiet().is_err() {
-            return Err(Stopped);
+        // Neither end is changed where one is not quiet.
+        if !self.a.is_quiet() || !self.b.is_quiet() {
+            return Err(Stopped::NoStep);
         }
+        self.a.quiet()?;
+        self.b.quiet()?;
         self.sent.push(Kept::Quiet)?;
         self.steps.push(Step::Quiet)?;
         Ok(())

@@ -3,7 +3,7 @@
 ghost use Rattle.std.specs.Prelude.{◌≡◌, drop};
 ghost use Rattle.tcap_check.specs.World.{other, with_channel};
 ghost use Rattle.tcap_check.specs.Replayed.{nothing_replayed};
-ghost use Rattle.tcap_runs.specs.Playing.{channel_at, first_lost, is_lost, replay_of, world_of};
+ghost use Rattle.tcap_runs.specs.Playing.{channel_at, end_of, first_lost, is_lost, replay_of, world_of};
 
 use crate::channel::Channel;
 use crate::items::{Items, Kept};
@@ -11,19 +11,35 @@ use crate::step::Step;
 use crate::steps::Steps;
 use std::alloc::{AllocError, Global};
 use tcap_check::{Certificate, Fate};
-use tcap_end::{EndState, HalfName, Table};
+use tcap_end::{EndFault, EndState, HalfName, Table};
 use tcap_msg::{Message, MessageParts};
 use tcap_record::End;
 
-/// Memory ran out; or there is no such step, which is not so where the certificate gives a run.
+/// Why a run goes no further.
 #[derive(Clone, Copy, Debug, PartialEq, Eq)]
-pub(crate) struct Stopped;
+pub(crate) enum Stopped {
+    /// There is no such step, which is not so where the certificate gives a run.
+    NoStep,
+    /// Memory ran out.
+    Memory,
+}
 
 impl From<AllocError> for Stopped {
     ghost from_gives = { λ _ _. Unit {0} };
 
     fn from(_: AllocError) -> Stopped {
-        Stopped
+        Stopped::Memory
+    }
+}
+
+impl From<EndFault> for Stopped {
+    ghost from_gives = { λ _ _. Unit {0} };
+
+    fn from(fault: EndFault) -> Stopped {
+        match fault {
+            EndFault::Memory => Stopped::Memory,
+            _ => Stopped::NoStep,
+        }
     }
 }
 
@@ -77,6 +93,16 @@ impl Playing {
             from_a: Channel::new(alloc),
             from_b: Channel::new(alloc),
             sent: Items::new(alloc),
+        }
+    }
+
+    /// An end.
+    pub(crate) fn end(&self, side: End) -> &EndState
+        ensures { result.now ≡ end_of side self.now }
+    {
+        match side {
+            End::A => &self.a,
+            End::B => &self.b,
         }
     }
 

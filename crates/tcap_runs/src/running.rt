@@ -1,118 +1,62 @@
 //! The run that a certificate gives for a record.
 
-ghost use Rattle.std.specs.Prelude.{◌≡◌, ◌≢◌, ◌<◌, map, Some, Ok, Err, IfOk};
-ghost use Rattle.tcap_record.specs.Viewed.{entry_read};
+ghost use Rattle.std.specs.Prelude.{◌≡◌, ◌≢◌, map, Some, None, Err, IfOk};
 ghost use Rattle.tcap_check.specs.declared.fault.Reason.TheVariants as reasons;
 ghost use Rattle.tcap_check.specs.Given.{IsGiven};
-ghost use Rattle.tcap_check.specs.Plan.{IsPlan};
+ghost use Rattle.tcap_check.specs.AloneGiven.{IsGivenFor};
+ghost use Rattle.tcap_check.specs.Alone.{replayed_for};
 ghost use Rattle.tcap_check.specs.Entries.{item_of};
 ghost use Rattle.tcap_check.specs.Checking.{map_ok};
-ghost use Rattle.tcap_check.specs.Replayed.{fault_at, lost_from_both, replayed};
-ghost use Rattle.tcap_msg.specs.Parts.{components_in};
+ghost use Rattle.tcap_check.specs.Replayed.{fault_at, replayed};
 ghost use Rattle.tcap_runs.specs.Steps.{events_of};
 ghost use Rattle.tcap_runs.specs.Playing.{Takes, replay_of};
-ghost use Rattle.tcap_runs.specs.Running.{entry_played, mark_played, message_played, next_gap, run_played};
+ghost use Rattle.tcap_runs.specs.Running.{all_played, run_played};
 
+use crate::guide::Guide;
 use crate::playing::{Playing, Stopped};
 use crate::step::Step;
 use std::alloc::Global;
+use tcap_check::alone_laws::gives_a_run_of_one_end;
 use tcap_check::given::gives_a_run;
-use tcap_check::{Certificate, CheckFault, Plan, Reason, check};
+use tcap_check::{Certificate, CheckFault, Plan, Reason, check, check_end};
 use tcap_end::Table;
-use tcap_msg::MessageParts;
-use tcap_record::{BodyView, End, EntryView, Record};
-
-/// What a run follows: the operations, and the certificate with its plan.
-#[derive(Clone, Copy, Debug)]
-struct Guide<'a> {
-    alloc: Global,
-    table: &'a Table,
-    certificate: &'a Certificate,
-    plan: &'a Plan,
-    ghost plan_is: { IsPlan certificate.now plan.now },
-}
+use tcap_record::{End, Record};
 
 impl Playing {
-    /// The gap before the next entry.
-    fn pass_next_gap(&mut self, guide: &Guide) -> Result<(), Stopped>
-        ensures { Takes (next_gap guide.now.table.now guide.now.certificate.now (replay_of self.old)) result
-            (replay_of self.new) }
+    /// The entries of a record, the last gap, and the loss of what is still on its way.
+    pub(crate) fn take_all(&mut self, guide: &Guide, record: &Record) -> Result<(), Stopped>
+        ensures { Takes (all_played guide.now.table.now guide.now.certificate.now guide.now.judged
+            (map item_of «record».now.entries.items) (replay_of self.old)) result (replay_of self.new) }
     {
-        let gap = self.sent.len();
-        if gap > guide.certificate.fates().len() {
-            return Err(Stopped);
+        for entry in &record.entries {
+            self.take(guide, &entry.view())?;
         }
-        self.pass_gap(
-            guide.table,
-            guide.certificate,
-            guide.plan.closings.get(gap),
-            guide.plan.expiries.get(gap),
-            guide.plan.due.get(gap),
-        )
-    }
-
-    /// The next entry is a message that an end sent.
-    fn take_message<M: MessageParts>(
-        &mut self,
-        guide: &Guide,
-        side: End,
-        message: &M,
-    ) -> Result<(), Stopped>
-        ensures { Takes (message_played guide.now.table.now guide.now.certificate.now side (M.meaning message.now)
-            (replay_of self.old)) result (replay_of self.new) }
-    {
         self.pass_next_gap(guide)?;
-        let entry = self.sent.len();
-        if entry > guide.certificate.fates().len() {
-            return Err(Stopped);
-        }
-        match (message.cause(), guide.plan.taken.get(entry)) {
-            (Some(_), [number]) => self.reply(
-                guide.alloc,
-                guide.certificate,
-                side,
-                message,
-                *number as usize,
-            ),
-            (None, []) => self.send(guide.alloc, guide.table, side, message),
-            _ => Err(Stopped),
-        }
-    }
-
-    /// The next entry is a quiet mark.
-    fn take_mark(&mut self, guide: &Guide) -> Result<(), Stopped>
-        ensures { Takes (mark_played guide.now.table.now guide.now.certificate.now (replay_of self.old)) result
-            (replay_of self.new) }
-    {
-        self.pass_next_gap(guide)?;
-        self.lose_both(guide.certificate)?;
-        self.be_quiet()
-    }
-
-    /// The next entry.
-    fn take(&mut self, guide: &Guide, entry: &EntryView) -> Result<(), Stopped>
-        ensures { Takes (entry_played guide.now.table.now guide.now.certificate.now (item_of (entry_read entry.now))
-            (replay_of self.old)) result (replay_of self.new) }
-    {
-        match (entry.side, &entry.body) {
-            (Some(side), BodyView::Good(message)) => self.take_message(guide, side, message),
-            (None, BodyView::Quiet) => self.take_mark(guide),
-            _ => Err(Stopped),
-        }
+        self.lose_last(guide)
     }
 }
 
 /// The steps of the run that a certificate gives for a record, where it gives one.
-fn play(guide: &Guide, record: &Record) -> Result<Vec<Step>, Stopped>
-    ensures { IfOk result (λ steps. run_played guide.now.table.now guide.now.certificate.now
-        (map item_of «record».now.entries.items) ≡ Some (events_of steps.items)) }
+fn play(
+    alloc: Global,
+    record: &Record,
+    table: &Table,
+    certificate: &Certificate,
+    judged: Option<End>,
+) -> Result<Vec<Step>, Stopped>
+    ensures { IfOk result (λ steps. run_played table.now certificate.now judged (map item_of «record».now.entries.items)
+        ≡ Some (events_of steps.items)) }
 {
-    let mut playing = Playing::new(guide.alloc);
-    for entry in &record.entries {
-        playing.take(guide, &entry.view())?;
-    }
-    playing.pass_next_gap(guide)?;
-    playing.lose_both(guide.certificate)?;
+    let plan = Plan::new(alloc, certificate)?;
+    let guide = Guide {
+        alloc,
+        table,
+        certificate,
+        plan: &plan,
+        judged,
+    };
+    let mut playing = Playing::new(alloc);
+    playing.take_all(&guide, record)?;
     Ok(playing.steps.into_list())
 }
 
@@ -138,17 +82,33 @@ pub fn run_of(
 {
     gives_a_run();
     check(alloc, record, table, certificate)?;
-    let Ok(plan) = Plan::new(alloc, certificate) else {
-        return Err(OUT_OF_MEMORY);
-    };
-    let guide = Guide {
-        alloc,
-        table,
-        certificate,
-        plan: &plan,
-    };
-    match play(&guide, record) {
+    match play(alloc, record, table, certificate, None) {
         Ok(steps) => Ok(steps),
-        Err(Stopped) => Err(OUT_OF_MEMORY),
+        Err(_) => Err(OUT_OF_MEMORY),
+    }
+}
+
+/// The run that a certificate gives for a record in which one end keeps the rules (Q.774 3.2 and 3.3), whatever its peer sends,
+/// step by step: it sends the entries of the record, in their order, and nothing else. The peer's messages are told
+/// (`Tells`), those of the end are sent and lost at once, since nothing is asked of what the peer hears, and a message that
+/// the end can't receive is lost (`Discards`). Else the first reason why the certificate gives no such run, at an entry, as
+/// `check_end` answers it; or `Memory`.
+pub fn run_of_end(
+    alloc: Global,
+    record: &Record,
+    table: &Table,
+    certificate: &Certificate,
+    end: End,
+) -> Result<Vec<Step>, CheckFault>
+    ensures given { IfOk result (λ steps. IsGivenFor «end» table.now certificate.now «record».now.entries.items
+        (events_of steps.items)) }
+    ensures exact { result ≢ Err (fault_at reasons.Memory 0) → map_ok (λ steps. events_of steps.items) result
+        ≡ replayed_for «end» table.now certificate.now «record».now.entries.items }
+{
+    gives_a_run_of_one_end();
+    check_end(alloc, record, table, certificate, end)?;
+    match play(alloc, record, table, certificate, Some(end)) {
+        Ok(steps) => Ok(steps),
+        Err(_) => Err(OUT_OF_MEMORY),
     }
 }

@@ -4,18 +4,19 @@ ghost use Rattle.std.specs.Prelude.{◌≡◌, OnOk, Ok, filter_map};
 ghost use Rattle.tcap_parts.specs.Meaning.{component_of};
 ghost use Rattle.tcap_msg.specs.Parts.{components_in};
 ghost use Rattle.tcap_check.specs.World.{other};
-ghost use Rattle.tcap_check.specs.Run.{joined};
+ghost use Rattle.tcap_check.specs.Run.{joined, may_refuse};
 ghost use Rattle.tcap_check.specs.Follows.{invoke_id, invoking_half};
-ghost use Rattle.tcap_check.specs.Replayed.{implied, implied_over, lost_from_front, send_replayed};
-ghost use Rattle.tcap_runs.specs.Playing.{replay_of, world_of};
-ghost use Rattle.tcap_runs.specs.Sending.{implied_by, reply_played};
+ghost use Rattle.tcap_check.specs.Replayed.{implied, implied_over, send_replayed};
+ghost use Rattle.tcap_runs.specs.Playing.{Takes, channel_at, end_of, replay_of, world_of};
+ghost use Rattle.tcap_runs.specs.Sending.{answer_played, implied_by, may_answer, tell_played};
 
+use crate::channel::OnWay;
 use crate::items::Kept;
 use crate::playing::{Playing, Stopped, other};
 use crate::step::Step;
 use std::alloc::{AllocError, Global};
 use tcap_check::Certificate;
-use tcap_end::{HalfName, Table};
+use tcap_end::{EndState, HalfName, Table};
 use tcap_msg::{Kind, MessageParts};
 use tcap_parts::ComponentView;
 use tcap_record::End;
@@ -32,6 +33,14 @@ fn invoking_half<M: MessageParts>(message: &M) -> Option<HalfName>
         (Kind::End, _, Some(dtid)) => Some(HalfName::Peer(dtid.to_transaction_id())),
         _ => None,
     }
+}
+
+/// Whether the provider of an end may answer a message by this Abort.
+fn may_refuse<A: MessageParts>(end: &EndState, first: &OnWay, abort: &A) -> bool
+    ensures { result ≡ may_refuse end.now first.now.message (A.meaning abort.now) }
+{
+    end.refuse_begin(&first.message, abort).is_ok()
+        || end.refuse_continue(&first.message, abort).is_ok()
 }
 
 impl Playing {
@@ -116,17 +125,24 @@ impl Playing {
             (M.meaning message.now) (invoking_half (M.meaning message.now)) (replay_of self.old)) ≡ Ok (replay_of self.new)) }
     {
         self.end_implied(table, side, message)?;
-        let sent = match side {
-            End::A => self.a.send(table, message),
-            End::B => self.b.send(table, message),
-        };
-        if sent.is_err() {
-            return Err(Stopped);
+        match side {
+            End::A => self.a.send(table, message)?,
+            End::B => self.b.send(table, message)?,
         }
         self.join(alloc, side, message)?;
         self.steps
             .push(Step::Sends(side, message.to_message(alloc)?))?;
         Ok(())
+    }
+
+    /// Whether the oldest message on its way to an end has that number, and the end's provider may answer it by this Abort.
+    fn may_answer<M: MessageParts>(&self, side: End, abort: &M, number: usize) -> bool
+        ensures { result ≡ may_answer (end_of side self.now) (M.meaning abort.now) number (channel_at (other side) self.now) }
+    {
+        match self.channel(other(side)).first() {
+            Some(first) => first.number == number && may_refuse(self.end(side), first, abort),
+            None => false,
+        }
     }
 
     /// The provider of an end answers the oldest message on its way to it, which has that number, by an Abort; what is lost
@@ -139,13 +155,31 @@ impl Playing {
         abort: &M,
         number: usize,
     ) -> Result<(), Stopped>
-        ensures { OnOk result (replay_of self.new
-            ≡ reply_played side (M.meaning abort.now) number (lost_from_front certificate.now (other side) (replay_of self.old))) }
+        ensures { Takes (answer_played certificate.now side (M.meaning abort.now) number (replay_of self.old)) result
+            (replay_of self.new) }
     {
         self.lose_front(certificate, other(side))?;
+        if !self.may_answer(side, abort, number) {
+            return Err(Stopped::NoStep);
+        }
         self.drop_first(other(side));
         self.join(alloc, side, abort)?;
         self.steps.push(Step::Replies(side, number as u64))?;
+        Ok(())
+    }
+
+    /// An end of which nothing is asked tells a message.
+    pub(crate) fn tell<M: MessageParts>(
+        &mut self,
+        alloc: Global,
+        side: End,
+        message: &M,
+    ) -> Result<(), Stopped>
+        ensures { OnOk result (replay_of self.new ≡ tell_played side (M.meaning message.now) (replay_of self.old)) }
+    {
+        self.join(alloc, side, message)?;
+        self.steps
+            .push(Step::Tells(side, message.to_message(alloc)?))?;
         Ok(())
     }
 }

@@ -1,6 +1,6 @@
 //! The steps of a run.
 
-use tcap_end::HalfName;
+use tcap_end::{EndFault, HalfName};
 use tcap_msg::Message;
 use tcap_record::End;
 
@@ -9,12 +9,16 @@ use tcap_record::End;
 pub enum Step {
     /// An end sends a message: the next entry.
     Sends(End, Message),
+    /// An end of which nothing is asked tells a message: the next entry.
+    Tells(End, Message),
     /// An end receives the message of that number, which the other sent.
     Receives(End, u64),
     /// The provider of an end answers the message of that number, which the other sent, by an Abort: the next entry.
     Replies(End, u64),
     /// The message of that number, which an end sent, is lost.
     Loses(End, u64),
+    /// The message of that number, which an end sent, is lost, since the other can't receive it, for that reason.
+    Discards(End, u64, EndFault),
     /// An own invocation of an end, of that invoke ID in the half of that name, ends unseen.
     Expires(End, HalfName, i8),
     /// The half of an end that has that name closes unseen.

@@ -3,12 +3,12 @@ use Rattle.tcap_runs.specs.Steps.{events_of}
 use Rattle.tcap_runs.proofs.PlayedLaws.{run_is}
 use Rattle.tcap_runs.proofs.running.run_of.Goals as goal
 
-pub returns-in-Ok-play : goal.returns-in-Ok-play
-returns-in-Ok-play c =
+pub returns-in-Ok : goal.returns-in-Ok
+returns-in-Ok c =
     let given = run_is c.args.table.now c.args.certificate.now c.args.record.now.entries.items c.in_ok-check.field-0
-    (events_of c.in-Ok-play.steps.items) (sym (c.in_ok-check.ensures.exact (λ e. cc))) c.in-Ok-play.ensures in
+    (events_of c.in-Ok.steps.items) (sym (c.in_ok-check.ensures.exact (λ e. cc))) c.in-Ok.ensures in
     record {
       given = c.gives_a_run.ensures c.args.table.now c.args.certificate.now c.args.record.now.entries.items
-          (events_of c.in-Ok-play.steps.items) given;
+          (events_of c.in-Ok.steps.items) given;
       exact = λ other. sym given;
     }

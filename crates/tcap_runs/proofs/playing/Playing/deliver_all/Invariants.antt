@@ -5,5 +5,5 @@ use Rattle.tcap_runs.specs.Playing.{replay_of}
 use Rattle.tcap_runs.proofs.playing.Playing.deliver_all.Given as goal
 
 abbrev pub invariant-loop-number : goal.invariant-loop-number
-invariant-loop-number l = plays (delivery_played l.table l.certificate) l.numbers (replay_of l.fn.self)
-    ≡ plays (delivery_played l.table l.certificate) (drop l.number-index l.numbers) (replay_of l.self)
+invariant-loop-number l = plays (delivery_played l.table l.certificate l.judged) l.numbers (replay_of l.fn.self)
+    ≡ plays (delivery_played l.table l.certificate l.judged) (drop l.number-index l.numbers) (replay_of l.self)
