@@ -449,7 +449,7 @@ WRONG = [
 
 STATUSES = """Exit statuses:
   0  nothing is wrong: LAWFUL, or all was printed or packed
-  1  REFUTED, or BLAMED
+  1  REFUTED, or what `blame` says is BLAMED
   2  NOT SHOWN, or UNDECIDED
   3  a line of fault was printed, or the output could not be written
   4  the words of the command are wrong
@@ -462,13 +462,39 @@ HELP = [
     (["pack", "--help"], "Example: tcapjudge pack dialogue.hex > record\n"),
     (["check", "--help"], "Example: tcapjudge check record table.json cert.json\n"),
     (["judge", "--help"], "Example: tcapjudge judge record table.json --cert\n"),
+    (["explain", "--help"], "Example: tcapjudge explain record table.json --chart run.svg\n"),
+    (["help", "explain"], "Example: tcapjudge explain record table.json --chart run.svg\n"),
     (["blame", "--help"], "Example: tcapjudge blame record table.json\n"),
     (["table", "--help"], "Example: tcapjudge table table.json\n"),
     (["help", "table"], "Example: tcapjudge table table.json\n"),
 ]
 
-# Words that are wrong.
-REFUSED = [["table"], ["table", "x", "y"], ["show", "--why", "--why"], ["pack", "--why"], ["show", "x", "--lines", "y"]]
+# What stands in the help of `explain`, and the subcommands in the order in which the help of the program lists them.
+EXPLAIN = [
+    "Says in words why a record is lawful, refuted or undecided\n",
+    "Usage: tcapjudge explain [OPTIONS] <RECORD> <TABLE> [CERT]\n",
+    "--end <END>",
+    "--chart <FILE>",
+]
+SUBCOMMANDS = ["show", "pack", "check", "judge", "explain", "blame", "table", "help"]
+
+# Words that are wrong, and what is said of them.
+REFUSED = [
+    (["table"], "<TABLE>"),
+    (["table", "x", "y"], "unexpected argument 'y'"),
+    (["show", "--why", "--why"], "cannot be used multiple times"),
+    (["pack", "--why"], "unexpected argument '--why'"),
+    (["show", "x", "--lines", "y"], "unexpected argument 'y'"),
+    (["explain"], "<RECORD> <TABLE>"),
+    (["explain", "x"], "<TABLE>"),
+    (["explain", "x", "--chart", "y"], "<TABLE>"),
+    (["explain", "x", "y", "z", "w"], "unexpected argument 'w'"),
+    (["explain", "x", "y", "--chart"], "a value is required for '--chart <FILE>'"),
+    (["explain", "x", "y", "--chart", "v", "--chart", "w"], "cannot be used multiple times"),
+    (["explain", "--end", "C", "x", "y"], "invalid value 'C' for '--end <END>'"),
+    (["explain", "x", "y", "--cert"], "unexpected argument '--cert'"),
+    (["judge", "x", "y", "--chart", "v"], "unexpected argument '--chart'"),
+]
 
 
 def marked(digits):
@@ -590,9 +616,13 @@ def words(rows):
     for asked, end in HELP:
         out, error, status = run(asked)
         rows.row(asked, (out.endswith(end), error, status), (True, "", 0))
-    for asked in REFUSED:
+    for part in EXPLAIN:
+        rows.row(part, part in run(["explain", "--help"])[0], True)
+    listed = re.findall(r"^  ([a-z]+) ", run(["--help"])[0].split("Options:")[0], re.M)
+    rows.row("subcommands", listed, SUBCOMMANDS)
+    for asked, said in REFUSED:
         out, error, status = run(asked)
-        rows.row(asked, (out, error != "", status), ("", True, 4))
+        rows.row(asked, (out, said if said in error else error, status), ("", said, 4))
     for given in ["show", "--why", "--lines"], ["show", "--lines", "--why"]:
         rows.row(given, run(given, GOOD.encode()), (SHOWN, "", 0))
 

@@ -10,7 +10,7 @@ use Rattle.clap.specs.declared.error.kind.ErrorKind.TheVariants as kind
 use Rattle.tcap_judge.specs.CommandLine.{tool}
 use Rattle.tcap_judge.specs.Words.{begins_with_hyphen, blamed_paths, named_with_two}
 use Rattle.tcap_judge.proofs.Paths.{fault_at, moved_at, turned_at, walk_at}
-use Rattle.tcap_judge.proofs.Tool.{blame_built}
+use Rattle.tcap_judge.proofs.Needed.{blame_built}
 
 -- what is held behind a word for the positional argument of this number
 abbrev held_behind : ℕ → Text → Held → Held

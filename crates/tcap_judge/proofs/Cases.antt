@@ -10,7 +10,7 @@ use Rattle.clap.specs.declared.error.kind.ErrorKind.TheVariants as kind
 use Rattle.tcap_judge.specs.CommandLine.{show_shape, tool, with_path}
 use Rattle.tcap_judge.specs.Words.{begins_with_hyphen, checked_paths, end_value, named_with, named_with_flags, named_with_paths, shown_path}
 use Rattle.tcap_judge.proofs.Paths.{fault_at, level, moved, moved_at, turned_at, walk_at}
-use Rattle.tcap_judge.proofs.Tool.{check_built, sub_built}
+use Rattle.tcap_judge.proofs.Needed.{check_built, sub_built}
 
 pub show_taken : (program : Text) → takes tool (program ∷ codes "show" ∷ []) ≡ true
 unfolding tool clap_on_literals

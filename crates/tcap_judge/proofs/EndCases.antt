@@ -14,7 +14,7 @@ use Rattle.tcap_judge.specs.Blamed.{letter}
 use Rattle.tcap_judge.specs.CommandLine.{tool}
 use Rattle.tcap_judge.specs.Words.{begins_with_hyphen, checked_paths, end_value, is_letter, named_with_paths}
 use Rattle.tcap_judge.proofs.Paths.{fault_at, fault_here, fault_on, level_passed, moved_at, option_moved, option_no_fault, option_turned, passes_on, turned_at, walk_at, walk_waiting, walks_on}
-use Rattle.tcap_judge.proofs.Tool.{check_built}
+use Rattle.tcap_judge.proofs.Needed.{check_built}
 
 pub letter_plain : (side : Side) → begins_with_hyphen (letter side) ≡ false
 letter_plain sides.A = refl

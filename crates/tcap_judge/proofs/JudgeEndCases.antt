@@ -14,7 +14,7 @@ use Rattle.tcap_judge.specs.CommandLine.{tool}
 use Rattle.tcap_judge.specs.Words.{begins_with_hyphen, end_value, is_letter, judged_paths, named_with_flag}
 use Rattle.tcap_judge.proofs.EndCases.{behind, end_held, letter_plain, level_kinds, waiting_held, waiting_walk}
 use Rattle.tcap_judge.proofs.Paths.{fault_at, fault_here, fault_on, level_passed, moved_at, option_moved, option_no_fault, option_turned, passes_on, turned_at, walk_at, walks_on}
-use Rattle.tcap_judge.proofs.Tool.{judge_built}
+use Rattle.tcap_judge.proofs.Needed.{judge_built}
 
 module _ (word : Text) (plain : begins_with_hyphen word ≡ false) where
   end_walk : walked judge_built.rules [] waiting_walk word ≡ walk_at 1 (end_held word)

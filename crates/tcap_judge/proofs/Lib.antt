@@ -6,7 +6,9 @@ pub mod PlacelessTakes
 pub mod PlacelessFaults
 pub mod PlacelessCommands
 pub mod Tool
+pub mod Needed
 pub mod Paths
+pub mod Only
 pub mod Requests
 pub mod Matches
 pub mod Cases
@@ -16,7 +18,9 @@ pub mod JudgeLaws
 pub mod LawfulLaws
 pub mod VerdictLaws
 pub mod JudgeCases
+pub mod ExplainCases
 pub mod BlameCases
 pub mod BlamedLaws
 pub mod EndCases
 pub mod JudgeEndCases
+pub mod FlagCases

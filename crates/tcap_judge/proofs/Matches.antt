@@ -13,11 +13,12 @@ use Rattle.clap.specs.declared.parser.matches.Found.{Found}
 use Rattle.tcap_record.specs.declared.entry.End.{End as Side}
 use Rattle.tcap_judge.specs.Blamed.{letter}
 use Rattle.tcap_judge.specs.CommandLine.{tool}
-use Rattle.tcap_judge.specs.Words.{Asks, blamed_paths, checked_paths, end_value, is_letter, is_set, judged_paths, named_with, named_with_flag, named_with_flags, named_with_paths, named_with_two, path_text, shown_path}
+use Rattle.tcap_judge.specs.Words.{Asks, Explains, blamed_paths, checked_paths, end_value, explained_paths, is_letter, is_set, judged_paths, named_with, named_with_flag, named_with_flags, named_with_paths, named_with_two, path_text, shown_path}
 use Rattle.tcap_judge.specs.declared.asked.Request.{Request}
-use Rattle.tcap_judge.specs.declared.asked.Request.TheVariants.{Check, CheckEnd, Judge, JudgeEnd}
-use Rattle.tcap_judge.proofs.Requests.{some_same}
-use Rattle.tcap_judge.proofs.Tool.{IsKnown, fused, named, needed_there}
+use Rattle.tcap_judge.specs.declared.asked.Request.TheVariants.{Show, Pack, Check, CheckEnd, Judge, JudgeEnd, Explain, Blame, Table}
+use Rattle.tcap_judge.proofs.Only.{some_same}
+use Rattle.tcap_judge.proofs.Tool.{IsKnown, fused, named}
+use Rattle.tcap_judge.proofs.Needed.{needed_there}
 
 two_parts : {X Y : Type 0} (o : Option (X × Y)) (x : X) (y : Y) → Some x ≡ option_map (λ p. p.0) o
     → Some y ≡ option_map (λ p. p.1) o → o ≡ Some (x, y)
@@ -62,25 +63,29 @@ no_name o (inl is) none = let bad : None ≡ Some (codes "show") = none ∙ is i
 no_name o (inr (inl is)) none = let bad : None ≡ Some (codes "pack") = none ∙ is in cc
 no_name o (inr (inr (inl is))) none = let bad : None ≡ Some (codes "check") = none ∙ is in cc
 no_name o (inr (inr (inr (inl is)))) none = let bad : None ≡ Some (codes "judge") = none ∙ is in cc
-no_name o (inr (inr (inr (inr (inl is))))) none = let bad : None ≡ Some (codes "blame") = none ∙ is in cc
-no_name o (inr (inr (inr (inr (inr is))))) none = let bad : None ≡ Some (codes "table") = none ∙ is in cc
+no_name o (inr (inr (inr (inr (inl is))))) none = let bad : None ≡ Some (codes "explain") = none ∙ is in cc
+no_name o (inr (inr (inr (inr (inr (inl is)))))) none = let bad : None ≡ Some (codes "blame") = none ∙ is in cc
+no_name o (inr (inr (inr (inr (inr (inr is)))))) none = let bad : None ≡ Some (codes "table") = none ∙ is in cc
 
 pub other_name : (o : Option Text) (name : Text) → IsKnown o → Some name ≡ o → (name ≡ codes "show" → ⊥)
     → (name ≡ codes "pack" → ⊥) → (name ≡ codes "check" → ⊥) → (name ≡ codes "judge" → ⊥)
-    → (name ≡ codes "blame" → ⊥) → (name ≡ codes "table" → ⊥) → ⊥
-other_name o name (inl is) at not_show not_pack not_check not_judge not_blame not_table = not_show (some_same _ _ (at ∙ is))
-other_name o name (inr (inl is)) at not_show not_pack not_check not_judge not_blame not_table =
+    → (name ≡ codes "explain" → ⊥) → (name ≡ codes "blame" → ⊥) → (name ≡ codes "table" → ⊥) → ⊥
+other_name o name (inl is) at not_show not_pack not_check not_judge not_explain not_blame not_table =
+    not_show (some_same _ _ (at ∙ is))
+other_name o name (inr (inl is)) at not_show not_pack not_check not_judge not_explain not_blame not_table =
     not_pack (some_same _ _ (at ∙ is))
-other_name o name (inr (inr (inl is))) at not_show not_pack not_check not_judge not_blame not_table =
+other_name o name (inr (inr (inl is))) at not_show not_pack not_check not_judge not_explain not_blame not_table =
     not_check (some_same _ _ (at ∙ is))
-other_name o name (inr (inr (inr (inl is)))) at not_show not_pack not_check not_judge not_blame not_table =
+other_name o name (inr (inr (inr (inl is)))) at not_show not_pack not_check not_judge not_explain not_blame not_table =
     not_judge (some_same _ _ (at ∙ is))
-other_name o name (inr (inr (inr (inr (inl is))))) at not_show not_pack not_check not_judge not_blame not_table =
+other_name o name (inr (inr (inr (inr (inl is))))) at not_show not_pack not_check not_judge not_explain not_blame not_table =
+    not_explain (some_same _ _ (at ∙ is))
+other_name o name (inr (inr (inr (inr (inr (inl is)))))) at not_show not_pack not_check not_judge not_explain not_blame not_table =
     not_blame (some_same _ _ (at ∙ is))
-other_name o name (inr (inr (inr (inr (inr is))))) at not_show not_pack not_check not_judge not_blame not_table =
+other_name o name (inr (inr (inr (inr (inr (inr is)))))) at not_show not_pack not_check not_judge not_explain not_blame not_table =
     not_table (some_same _ _ (at ∙ is))
 
--- ---- the matches of `check`, `judge` and `blame`
+-- ---- the matches of each subcommand
 
 -- the rows of the subcommand of that name, which the matches have
 entered_at : (m : ArgMatches) (words : List Text) (name known : Text) (f : Found)
@@ -128,6 +133,21 @@ judge_there m words name f same clear is_name is_rows is_judge =
       letter_read f there.1,
     )
 
+pub explain_there : (m : ArgMatches) (words : List Text) (name : Text) (f : Found)
+    → subcommand_rows_of m ≡ subcommand_of tool words
+    → fault_of tool words ≡ []
+    → Some name ≡ subcommand_name_of m
+    → Some (rows_of f) ≡ option_map (λ p. p.1) (subcommand_rows_of m) → name ≡ codes "explain"
+    → (is_some (first_value f (codes "RECORD")) ≡ true) × (is_some (first_value f (codes "TABLE")) ≡ true)
+    × IfSome (first_value f (codes "end")) (λ word. is_letter word ≡ true)
+explain_there m words name f same clear is_name is_rows is_explain =
+    let there = (needed_there words (codes "explain", rows_of f) clear
+    (entered_at m words name (codes "explain") f same is_name is_rows is_explain)).2 refl in (
+      ap is_some (first_value-rows f (codes "RECORD")) ∙ there.0.0,
+      ap is_some (first_value-rows f (codes "TABLE")) ∙ there.0.1,
+      letter_read f there.1,
+    )
+
 pub blame_there : (m : ArgMatches) (words : List Text) (name : Text) (f : Found)
     → subcommand_rows_of m ≡ subcommand_of tool words
     → fault_of tool words ≡ []
@@ -136,7 +156,7 @@ pub blame_there : (m : ArgMatches) (words : List Text) (name : Text) (f : Found)
     → (is_some (first_value f (codes "RECORD")) ≡ true) × (is_some (first_value f (codes "TABLE")) ≡ true)
 blame_there m words name f same clear is_name is_rows is_blame =
     let there = (needed_there words (codes "blame", rows_of f) clear
-    (entered_at m words name (codes "blame") f same is_name is_rows is_blame)).2 refl in (
+    (entered_at m words name (codes "blame") f same is_name is_rows is_blame)).3 refl in (
       ap is_some (first_value-rows f (codes "RECORD")) ∙ there.0,
       ap is_some (first_value-rows f (codes "TABLE")) ∙ there.1,
     )
@@ -150,7 +170,7 @@ pub table_there : (m : ArgMatches) (words : List Text) (name : Text) (f : Found)
 table_there m words name f same clear is_name is_rows is_table =
     ap is_some (first_value-rows f (codes "TABLE"))
     ∙ (needed_there words (codes "table", rows_of f) clear
-    (entered_at m words name (codes "table") f same is_name is_rows is_table)).3 refl
+    (entered_at m words name (codes "table") f same is_name is_rows is_table)).4 refl
 
 -- and they are what the words ask for
 pub show_asked_of : (m : ArgMatches) (words : List Text) (name : Text) (f : Found) (r : Option (Bor Text)) (b d : Bool)
@@ -274,3 +294,36 @@ pub judge_made : (words : List Text) (o : Option Side) (x y : Bor Text) (flag : 
     → ((side : Side) → o ≡ Some side → r ≡ JudgeEnd side x y flag) → Asks words r
 judge_made words None x y flag r named at both one = subst (Asks words) (sym (both refl)) (named, at)
 judge_made words (Some side) x y flag r named at both one = subst (Asks words) (sym (one side refl)) (named, at)
+
+-- the paths of `explain`, and the file of its chart
+abbrev four : Option Text → Option Text → Option Text → Option Text
+    → Option (Text × (Option Text × Option Text × Option Text × Option Text))
+four x y z file = Some (codes "explain", (x, y, z, file))
+
+-- a request to explain with the values that the matches give is what the words ask for
+pub explain_asked_of : (m : ArgMatches) (words : List Text) (name : Text) (f : Found) (r : Request)
+    → subcommand_rows_of m ≡ subcommand_of tool words
+    → Some name ≡ subcommand_name_of m
+    → Some (rows_of f) ≡ option_map (λ p. p.1) (subcommand_rows_of m) → name ≡ codes "explain"
+    → Explains (first_value f) r → Asks words r
+explain_asked_of m words name f (Explain x y z side file) same is_name is_rows is_explain explains = (
+  ap (option_map (λ p. (p.0, explained_paths p.1)))
+      (entered_at m words name (codes "explain") f same is_name is_rows is_explain)
+      ∙ ap (λ (o : Option Text). four o (first_of (codes "TABLE") (rows_of f)) (first_of (codes "CERT") (rows_of f)) (first_of (codes "chart") (rows_of f)))
+      (sym (explains.0 ∙ first_value-rows f (codes "RECORD")))
+      ∙ ap (λ (o : Option Text). four (Some x.now) o (first_of (codes "CERT") (rows_of f)) (first_of (codes "chart") (rows_of f)))
+      (sym (explains.1 ∙ first_value-rows f (codes "TABLE")))
+      ∙ ap (λ (o : Option Text). four (Some x.now) (Some y.now) o (first_of (codes "chart") (rows_of f)))
+      (sym (explains.2 ∙ first_value-rows f (codes "CERT")))
+      ∙ ap (λ (o : Option Text). four (Some x.now) (Some y.now) (path_text z) o)
+      (sym (explains.4 ∙ first_value-rows f (codes "chart"))),
+  end_named m words name (codes "explain") f side same is_name is_rows is_explain explains.3,
+)
+explain_asked_of m words name f (Show path why lines) same is_name is_rows is_explain explains = absurd explains
+explain_asked_of m words name f (Pack path) same is_name is_rows is_explain explains = absurd explains
+explain_asked_of m words name f (Check x y z) same is_name is_rows is_explain explains = absurd explains
+explain_asked_of m words name f (CheckEnd side x y z) same is_name is_rows is_explain explains = absurd explains
+explain_asked_of m words name f (Judge x y flag) same is_name is_rows is_explain explains = absurd explains
+explain_asked_of m words name f (JudgeEnd side x y flag) same is_name is_rows is_explain explains = absurd explains
+explain_asked_of m words name f (Blame x y) same is_name is_rows is_explain explains = absurd explains
+explain_asked_of m words name f (Table x) same is_name is_rows is_explain explains = absurd explains

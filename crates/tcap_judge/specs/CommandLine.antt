@@ -58,6 +58,16 @@ judge_shape = record (new_shape (codes "judge")) {
   rules = needed_rule (codes "RECORD") ∷ needed_rule (codes "TABLE") ∷ flag_rule (codes "cert") ∷ end_rule ∷ [];
 }
 
+-- an option whose value is the path of a file
+abbrev pub chart_rule : Rule
+chart_rule = record (new_rule (codes "chart")) { long = Some (codes "chart"); action = Some Set; value_names = 1 }
+
+-- the subcommand of two paths and one that may be left out, an end and a chart
+abbrev pub explain_shape : Shape
+explain_shape = record (new_shape (codes "explain")) {
+  rules = needed_rule (codes "RECORD") ∷ needed_rule (codes "TABLE") ∷ left_out_rule (codes "CERT") ∷ end_rule ∷ chart_rule ∷ [];
+}
+
 -- the subcommand of two paths
 abbrev pub blame_shape : Shape
 blame_shape = record (new_shape (codes "blame")) {
@@ -76,10 +86,11 @@ table_shape = record (new_shape (codes "table")) { rules = needed_rule (codes "T
 
 -- the program with its subcommands
 unfoldable pub tool : App
-tool = with_subcommand (with_subcommand (with_subcommand (with_subcommand (with_subcommand
+tool = with_subcommand (with_subcommand (with_subcommand (with_subcommand (with_subcommand (with_subcommand
     (with_subcommand bare_tool show_shape) (with_path (codes "pack") (codes "LINES")))
     check_shape)
     judge_shape)
+    explain_shape)
     blame_shape)
     table_shape
 

@@ -12,7 +12,7 @@ use Rattle.tcap_record.specs.declared.entry.End.TheVariants as sides
 use Rattle.tcap_judge.specs.Blamed.{letter}
 use Rattle.tcap_judge.specs.CommandLine.{tool}
 use Rattle.tcap_judge.specs.declared.asked.Request.{Request}
-use Rattle.tcap_judge.specs.declared.asked.Request.TheVariants.{Show, Pack, Check, CheckEnd, Judge, JudgeEnd, Blame, Table}
+use Rattle.tcap_judge.specs.declared.asked.Request.TheVariants.{Show, Pack, Check, CheckEnd, Judge, JudgeEnd, Explain, Blame, Table}
 use Rattle.tcap_judge.specs.declared.words.WordsFault.{WordsFault}
 use Rattle.tcap_judge.specs.declared.words.WordsFault.TheVariants.{Words, Memory}
 
@@ -41,6 +41,19 @@ judged_paths rows =
 -- the subcommand that the words name, and these
 abbrev pub named_with_flag : List Text → Option (Text × (Option Text × Option Text × Bool))
 named_with_flag words = option_map (λ p. (p.0, judged_paths p.1)) (subcommand_of tool words)
+
+-- the first values of the arguments of `explain`, but for that of `--end`
+abbrev pub explained_paths : List Row → Option Text × Option Text × Option Text × Option Text
+explained_paths rows = (
+  first_of (codes "RECORD") rows,
+  first_of (codes "TABLE") rows,
+  first_of (codes "CERT") rows,
+  first_of (codes "chart") rows,
+)
+
+-- the subcommand that the words name, and these
+abbrev pub named_with_chart : List Text → Option (Text × (Option Text × Option Text × Option Text × Option Text))
+named_with_chart words = option_map (λ p. (p.0, explained_paths p.1)) (subcommand_of tool words)
 
 -- the first values of the arguments of `blame`
 abbrev pub blamed_paths : List Row → Option Text × Option Text
@@ -85,6 +98,9 @@ Asks words (Judge taken table with_certificate) =
 Asks words (JudgeEnd side taken table with_certificate) =
     (named_with_flag words ≡ Some (codes "judge", (Some taken.now, Some table.now, with_certificate)))
     × (end_value words ≡ Some (letter side))
+Asks words (Explain taken table cert side chart) =
+    (named_with_chart words ≡ Some (codes "explain", (Some taken.now, Some table.now, path_text cert, path_text chart)))
+    × (end_value words ≡ option_map letter side)
 Asks words (Blame taken table) = named_with_two words ≡ Some (codes "blame", (Some taken.now, Some table.now))
 Asks words (Table table) = named_with (codes "TABLE") words ≡ Some (codes "table", Some table.now)
 
@@ -120,10 +136,30 @@ IsJudgeEnd side x y b (JudgeEnd judged taken table with_certificate) =
     (judged ≡ side) × (taken.now ≡ x) × (table.now ≡ y) × (with_certificate ≡ b)
 IsJudgeEnd side x y b _ = ⊥
 
+-- to explain, with the values that the arguments have
+abbrev pub Explains : (Text → Option Text) → Request → Type 0
+Explains value (Explain taken table cert side chart) =
+    (Some taken.now ≡ value (codes "RECORD")) × (Some table.now ≡ value (codes "TABLE"))
+    × (path_text cert ≡ value (codes "CERT")) × (option_map letter side ≡ value (codes "end"))
+    × (path_text chart ≡ value (codes "chart"))
+Explains value _ = ⊥
+
+-- to explain: the record and the table that these paths name, with this certificate, this end and this file for a chart,
+-- where there are some
+abbrev pub IsExplain : Text → Text → Option Text → Option Side → Option Text → Request → Type 0
+IsExplain x y z side file (Explain taken table cert judged chart) =
+    (taken.now ≡ x) × (table.now ≡ y) × (path_text cert ≡ z) × (judged ≡ side) × (path_text chart ≡ file)
+IsExplain x y z side file _ = ⊥
+
 -- to say which end is at fault: the record and the table that these paths name
 abbrev pub IsBlame : Text → Text → Request → Type 0
 IsBlame x y (Blame taken table) = (taken.now ≡ x) × (table.now ≡ y)
 IsBlame x y _ = ⊥
+
+-- to print the rows of the table that this path names
+abbrev pub IsTable : Text → Request → Type 0
+IsTable x (Table path) = path.now ≡ x
+IsTable x _ = ⊥
 
 -- the word begins with a hyphen (45), so that it may be no path
 abbrev pub begins_with_hyphen : Text → Bool

@@ -18,6 +18,16 @@ pub enum Request<'a> {
     Judge(&'a str, &'a str, bool),
     /// Judge one end of a record: that end, and then as in `Judge`.
     JudgeEnd(End, &'a str, &'a str, bool),
+    /// Say in words why a record is lawful, refuted or undecided: the paths of the record, of the operation table and of
+    /// a certificate, which may be left out; the end that is judged alone, where it is given; and the path of the file
+    /// that a chart of the run goes to, where it is asked for.
+    Explain {
+        entries: &'a str,
+        table: &'a str,
+        cert: Option<&'a str>,
+        end: Option<End>,
+        chart: Option<&'a str>,
+    },
     /// Say which end is at fault: the paths of the record and of the operation table.
     Blame(&'a str, &'a str),
     /// Print the rows of the operation table in the file of this path.

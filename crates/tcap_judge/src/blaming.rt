@@ -69,8 +69,8 @@ fn find_end(alloc: Global, read: &Record, table: &Table, end: End) -> Result<Fin
     Ok(Finding::new(items_before(&read.entries), judged.outcome))
 }
 
-/// What is said of both ends of a record.
-fn find_both(alloc: Global, read: &Record, table: &Table) -> Result<Ends, AllocError>
+/// What is said of both ends of a record, of at most 100,000 entries. `AllocError` where memory ran out.
+pub fn find_both(alloc: Global, read: &Record, table: &Table) -> Result<Ends, AllocError>
     requires few { length read.now.entries.items ≤ 100000 }
     ensures { IfOk result (λ ends. (ends ≡ ends_of table.now read.now.entries.items)
         × AreFound table.now read.now.entries.items ends) }

@@ -3,8 +3,8 @@
 ghost use Rattle.std.specs.Prelude.{◌≡◌, IfOk, codes, false};
 ghost use Rattle.clap.specs.Words.{app_of, rule_of, shape_of};
 ghost use Rattle.clap.specs.declared.builder.command.Command.TheViews.{out-Command};
-ghost use Rattle.tcap_judge.specs.CommandLine.{blame_shape, check_shape, end_rule, flag_rule, judge_shape, left_out_rule};
-ghost use Rattle.tcap_judge.specs.CommandLine.{needed_rule, show_shape, table_shape, with_path};
+ghost use Rattle.tcap_judge.specs.CommandLine.{blame_shape, chart_rule, check_shape, end_rule, explain_shape, flag_rule};
+ghost use Rattle.tcap_judge.specs.CommandLine.{judge_shape, left_out_rule, needed_rule, show_shape, table_shape, with_path};
 ghost use Rattle.tcap_judge.specs.CommandLine.{placeless, placeless_rule, placeless_shape, tool};
 
 use clap::{Arg, ArgAction, Command};
@@ -13,7 +13,7 @@ use std::alloc::{AllocError, Global};
 /// What the exit statuses mean.
 static STATUSES: &str = "Exit statuses:
   0  nothing is wrong: LAWFUL, or all was printed or packed
-  1  REFUTED, or BLAMED
+  1  REFUTED, or what `blame` says is BLAMED
   2  NOT SHOWN, or UNDECIDED
   3  a line of fault was printed, or the output could not be written
   4  the words of the command are wrong";
@@ -64,6 +64,18 @@ fn end_arg<'a>(alloc: Global) -> Arg<'a>
         .help("Judges that end alone, whatever its peer sends")
 }
 
+/// The option `--chart`, whose value is the path of a file.
+fn chart_arg<'a>(alloc: Global) -> Arg<'a>
+    ensures rule { rule_of result ≡ chart_rule }
+    ensures local { result.global ≡ false }
+{
+    Arg::new(alloc, "chart")
+        .long("chart")
+        .action(ArgAction::Set)
+        .value_name("FILE")
+        .help("Writes a chart of the run, an SVG, to that file")
+}
+
 /// The subcommand `check`.
 fn check_command<'a>(alloc: Global) -> Result<Command<'a>, AllocError>
     ensures { IfOk result (λ c. (placeless_shape (shape_of c) ≡ check_shape) × ((out-Command c).has_globals ≡ false)) }
@@ -94,6 +106,27 @@ fn judge_command<'a>(alloc: Global) -> Result<Command<'a>, AllocError>
         .arg(table)?
         .arg(cert)?
         .arg(end_arg(alloc))
+}
+
+/// The subcommand `explain`.
+fn explain_command<'a>(alloc: Global) -> Result<Command<'a>, AllocError>
+    ensures { IfOk result (λ c. (placeless_shape (shape_of c) ≡ explain_shape) × ((out-Command c).has_globals ≡ false)) }
+{
+    let record = needed_arg(alloc, "RECORD", "The file of the record");
+    let table = needed_arg(alloc, "TABLE", "The file of the operation table");
+    let cert = left_out_arg(
+        alloc,
+        "CERT",
+        "The file of a certificate to replay; one is searched for where it is left out",
+    );
+    Command::new(alloc, "explain")
+        .about("Says in words why a record is lawful, refuted or undecided")
+        .after_help("Example: tcapjudge explain record table.json --chart run.svg")
+        .arg(record)?
+        .arg(table)?
+        .arg(cert)?
+        .arg(end_arg(alloc))?
+        .arg(chart_arg(alloc))
 }
 
 /// The subcommand `blame`.
@@ -167,6 +200,7 @@ pub(crate) fn command<'a>(alloc: Global) -> Result<Command<'a>, AllocError>
     let pack = pack_command(alloc)?;
     let check = check_command(alloc)?;
     let judge = judge_command(alloc)?;
+    let explain = explain_command(alloc)?;
     let blame = blame_command(alloc)?;
     let table = table_command(alloc)?;
     Command::new(alloc, "tcapjudge")
@@ -178,6 +212,7 @@ pub(crate) fn command<'a>(alloc: Global) -> Result<Command<'a>, AllocError>
         .subcommand(pack)?
         .subcommand(check)?
         .subcommand(judge)?
+        .subcommand(explain)?
         .subcommand(blame)?
         .subcommand(table)
 }

@@ -67,8 +67,8 @@ fn letter(end: End) -> &'static str
     }
 }
 
-/// Appends the line of what is said of an end.
-fn push_finding(text: &mut String, end: End, finding: Finding) -> Result<(), AllocError>
+/// Appends the line of what is said of an end. `AllocError` where memory ran out.
+pub fn push_finding(text: &mut String, end: End, finding: Finding) -> Result<(), AllocError>
     ensures { OnOk result (string_bytes text.new ≡ string_bytes text.old ++ finding_line end finding) }
 {
     let letter = letter(end);
@@ -86,7 +86,7 @@ fn push_finding(text: &mut String, end: End, finding: Finding) -> Result<(), All
 }
 
 /// Whether what is said of A stands behind what is said of B: B is blamed, and A is not, or for a later entry.
-fn stands_behind(a: Finding, b: Finding) -> bool
+pub fn stands_behind(a: Finding, b: Finding) -> bool
     ensures { result ≡ stands_behind a b }
 {
     match (a, b) {

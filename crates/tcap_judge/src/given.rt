@@ -31,8 +31,9 @@ fn without_text(too_long: u8, fault: TextFault) -> Outcome
     }
 }
 
-/// The operation table that a reader tells; else what is said in its place.
-pub(crate) fn read_table<R: Read>(alloc: Global, reader: &mut R) -> Result<Table, Outcome>
+/// The operation table that a reader tells, of at most 67,108,864 octets of text; else what is said in its place: a fault
+/// of the table (30 to 34), the reader's failure (23), or that memory ran out (99).
+pub fn read_table<R: Read>(alloc: Global, reader: &mut R) -> Result<Table, Outcome>
     ensures { ReadsTable (record {
       before = R.untold reader.old;
       after = R.untold reader.new;
@@ -50,11 +51,9 @@ pub(crate) fn read_table<R: Read>(alloc: Global, reader: &mut R) -> Result<Table
     }
 }
 
-/// The certificate that a reader tells; else what is said in its place.
-pub(crate) fn read_certificate<R: Read>(
-    alloc: Global,
-    reader: &mut R,
-) -> Result<Certificate, Outcome>
+/// The certificate that a reader tells, of at most 67,108,864 octets of text; else what is said in its place: that it is
+/// none (60), the reader's failure (23), or that memory ran out (99).
+pub fn read_certificate<R: Read>(alloc: Global, reader: &mut R) -> Result<Certificate, Outcome>
     ensures { ReadsCertificate (record {
       before = R.untold reader.old;
       after = R.untold reader.new;

@@ -19,13 +19,15 @@ mod verdicts;
 mod words;
 
 pub use asked::Request;
-pub use blaming::{Blame, blame_outcome, run_blame};
+pub use blaming::{Blame, blame_outcome, find_both, run_blame};
 pub use checking::{check_outcome, run_check, run_check_end};
 pub use fault_lines::MEMORY_LINE;
-pub use finding::{Ends, Finding, blame_status};
+pub use finding::{Ends, Finding, blame_status, push_finding, stands_behind};
+pub use given::{read_certificate, read_table};
 pub use judging::{judge_outcome, run_judge, run_judge_end};
-pub use outcome::{Outcome, inner_number};
+pub use outcome::{OUT_OF_MEMORY, Outcome, inner_number, push_outcome, write_outcome};
 pub use packing::run_pack;
 pub use showing::run_show;
 pub use status::{Status, WriteFailed};
+pub use verdicts::{Said, judge_record, propose, replay};
 pub use words::{WordsFault, request};

@@ -33,7 +33,7 @@ pub enum Outcome {
 }
 
 /// Memory ran out.
-pub(crate) const OUT_OF_MEMORY: Outcome = Outcome::Faulty(99, 0);
+pub const OUT_OF_MEMORY: Outcome = Outcome::Faulty(99, 0);
 
 impl Outcome {
     /// How a run ends that says this.
@@ -100,8 +100,8 @@ fn push_undecided(text: &mut String, fault: CheckFault) -> Result<(), AllocError
     text.push_str("\n")
 }
 
-/// Appends the line of an outcome.
-pub(crate) fn push_outcome(text: &mut String, outcome: Outcome) -> Result<(), AllocError>
+/// Appends the line of an outcome. `AllocError` where memory ran out.
+pub fn push_outcome(text: &mut String, outcome: Outcome) -> Result<(), AllocError>
     ensures { OnOk result (string_bytes text.new ≡ string_bytes text.old ++ outcome_line outcome) }
 {
     match outcome {
@@ -123,8 +123,8 @@ fn push_with(text: &mut String, outcome: Outcome, behind: &str) -> Result<(), Al
 }
 
 /// Writes the line of an outcome, and what stands behind it, or that memory ran out where there is none for them, and
-/// answers how the run ends. All is there before its first octet is written.
-pub(crate) fn write_outcome<W: Write>(
+/// answers how the run ends. All is there before its first octet is written. `WriteFailed` where the writer failed.
+pub fn write_outcome<W: Write>(
     alloc: Global,
     outcome: Outcome,
     behind: &str,

@@ -19,9 +19,11 @@ use tcap_search::{search, search_for};
 
 /// What is said of a record, and what stands behind the line of it.
 #[derive(Debug, Drop)]
-pub(crate) struct Said {
-    pub(crate) outcome: Outcome,
-    pub(crate) behind: String,
+pub struct Said {
+    /// What is said.
+    pub outcome: Outcome,
+    /// What stands behind its line: the certificate on a line of its own, or nothing.
+    pub behind: String,
 }
 
 impl Said {
@@ -53,8 +55,8 @@ fn named(
     found.map_err(|_| AllocError)
 }
 
-/// The certificate that is proposed.
-fn propose(alloc: Global, read: &Record, judged: Option<End>) -> Result<Certificate, AllocError>
+/// The certificate that is proposed for a record, of at most 100,000 entries. `AllocError` where memory ran out.
+pub fn propose(alloc: Global, read: &Record, judged: Option<End>) -> Result<Certificate, AllocError>
     requires few { length read.now.entries.items ≤ 100000 }
     ensures { IfOk result (λ c. c ≡ proposed_by judged read.now.entries.items) }
 {
@@ -65,8 +67,9 @@ fn propose(alloc: Global, read: &Record, judged: Option<End>) -> Result<Certific
     found.map_err(|_| AllocError)
 }
 
-/// What a certificate shows of a record: that it is lawful, of one end alone, or, where none is named, of both.
-pub(crate) fn replay(
+/// What a certificate shows of a record: that it is lawful, of one end alone, or, where none is named, of both; else the
+/// first reason why it does not, at an entry, or `Memory`.
+pub fn replay(
     alloc: Global,
     read: &Record,
     table: &Table,
@@ -140,9 +143,9 @@ fn judge_by_search(
     }
 }
 
-/// What is said of a record, of one end alone, or, where none is named, of both: that an entry is at fault, or what the
-/// certificate that is proposed shows.
-pub(crate) fn judge_record(
+/// What is said of a record, of at most 100,000 entries, of one end alone, or, where none is named, of both: that an entry is
+/// at fault, or what the certificate that is proposed shows. `AllocError` where memory ran out.
+pub fn judge_record(
     alloc: Global,
     read: &Record,
     table: &Table,

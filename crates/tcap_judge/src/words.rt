@@ -8,8 +8,9 @@ ghost use Rattle.clap.specs.declared.error.kind.ErrorKind.TheVariants.{DisplayVe
 ghost use Rattle.tcap_record.specs.declared.entry.End.{End as Side};
 ghost use Rattle.tcap_judge.specs.Blamed.{letter};
 ghost use Rattle.tcap_judge.specs.CommandLine.{tool};
-ghost use Rattle.tcap_judge.specs.Words.{Asks, Becomes, IsBlame, IsCheck, IsCheckEnd, IsFaultOf, IsJudge, IsJudgeEnd, IsMemory, IsPack};
-ghost use Rattle.tcap_judge.specs.Words.{IsShow, begins_with_hyphen, is_letter, is_printed, is_set, words_status};
+ghost use Rattle.tcap_judge.specs.Words.{Asks, Becomes, Explains, IsBlame, IsCheck, IsCheckEnd, IsExplain, IsFaultOf, IsJudge};
+ghost use Rattle.tcap_judge.specs.Words.{IsJudgeEnd, IsMemory, IsPack, IsShow, IsTable, begins_with_hyphen, is_letter, is_printed};
+ghost use Rattle.tcap_judge.specs.Words.{is_set, words_status};
 ghost use Rattle.tcap_judge.specs.declared.asked.Request.TheVariants as asked;
 
 use crate::asked::Request;
@@ -164,6 +165,27 @@ fn judge_request<'a>(
     }
 }
 
+/// The request to explain, with the paths and the end that are given.
+fn explain_request<'a>(found: &ArgMatches<'a>) -> Request<'a>
+    requires entries { is_some (first_value (found_of found.now) (codes "RECORD")) ≡ true }
+    requires table { is_some (first_value (found_of found.now) (codes "TABLE")) ≡ true }
+    requires letters { IfSome (first_value (found_of found.now) (codes "end")) (λ word. is_letter word ≡ true) }
+    ensures { Explains (first_value (found_of found.now)) result }
+{
+    let entries = needed(found, "RECORD");
+    let table = needed(found, "TABLE");
+    let cert = found.get_str("CERT");
+    let end = end_given(found);
+    let chart = found.get_str("chart");
+    Request::Explain {
+        entries,
+        table,
+        cert,
+        end,
+        chart,
+    }
+}
+
 /// What `words` ask for, as clap reads them.
 fn parsed_request<'a>(alloc: Global, words: &'a [&'a str]) -> Result<Request<'a>, WordsFault>
     ensures asks { IfOk result (Asks (texts words.entry.now)) }
@@ -196,6 +218,7 @@ fn parsed_request<'a>(alloc: Global, words: &'a [&'a str]) -> Result<Request<'a>
             let with_certificate = is_set(found, "cert");
             Ok(judge_request(end_given(found), record, table, with_certificate))
         }
+        "explain" => Ok(explain_request(found)),
         "blame" => {
             let record = needed(found, "RECORD");
             let table = needed(found, "TABLE");
@@ -218,6 +241,15 @@ pub fn request<'a>(alloc: Global, words: &'a [&'a str]) -> Result<Request<'a>, W
     ensures show_path { (program path : Text)
         → texts words.entry.now ≡ program ∷ codes "show" ∷ path ∷ []
         → begins_with_hyphen path ≡ false → MatchResult result (IsShow (Some path) false false) IsMemory }
+    ensures show_why { (program path : Text)
+        → texts words.entry.now ≡ program ∷ codes "show" ∷ codes "--why" ∷ path ∷ []
+        → begins_with_hyphen path ≡ false → MatchResult result (IsShow (Some path) true false) IsMemory }
+    ensures show_lines { (program path : Text)
+        → texts words.entry.now ≡ program ∷ codes "show" ∷ codes "--lines" ∷ path ∷ []
+        → begins_with_hyphen path ≡ false → MatchResult result (IsShow (Some path) false true) IsMemory }
+    ensures show_why_lines { (program path : Text)
+        → texts words.entry.now ≡ program ∷ codes "show" ∷ codes "--why" ∷ codes "--lines" ∷ path ∷ []
+        → begins_with_hyphen path ≡ false → MatchResult result (IsShow (Some path) true true) IsMemory }
     ensures pack { (program : Text) → texts words.entry.now ≡ program ∷ codes "pack" ∷ []
         → MatchResult result (IsPack None) IsMemory }
     ensures pack_path { (program path : Text)
@@ -270,6 +302,31 @@ pub fn request<'a>(alloc: Global, words: &'a [&'a str]) -> Result<Request<'a>, W
     ensures judge_one { (program x : Text)
         → texts words.entry.now ≡ program ∷ codes "judge" ∷ x ∷ []
         → begins_with_hyphen x ≡ false → IsErrAnd result (IsFaultOf (MissingRequiredArgument ∷ [])) }
+    ensures explain_paths { (program x y : Text)
+        → texts words.entry.now ≡ program ∷ codes "explain" ∷ x ∷ y ∷ []
+        → begins_with_hyphen x ≡ false → begins_with_hyphen y ≡ false
+        → MatchResult result (IsExplain x y None None None) IsMemory }
+    ensures explain_cert { (program x y z : Text)
+        → texts words.entry.now ≡ program ∷ codes "explain" ∷ x ∷ y ∷ z ∷ []
+        → begins_with_hyphen x ≡ false → begins_with_hyphen y ≡ false → begins_with_hyphen z ≡ false
+        → MatchResult result (IsExplain x y (Some z) None None) IsMemory }
+    ensures explain_chart { (program x y file : Text)
+        → texts words.entry.now ≡ program ∷ codes "explain" ∷ x ∷ y ∷ codes "--chart" ∷ file ∷ []
+        → begins_with_hyphen x ≡ false → begins_with_hyphen y ≡ false → begins_with_hyphen file ≡ false
+        → MatchResult result (IsExplain x y None None (Some file)) IsMemory }
+    ensures explain_end { (program x y : Text) (side : Side)
+        → texts words.entry.now ≡ program ∷ codes "explain" ∷ codes "--end" ∷ letter side ∷ x ∷ y ∷ []
+        → begins_with_hyphen x ≡ false → begins_with_hyphen y ≡ false
+        → MatchResult result (IsExplain x y None (Some side) None) IsMemory }
+    ensures explain_end_wrong { (program word x y : Text)
+        → texts words.entry.now ≡ program ∷ codes "explain" ∷ codes "--end" ∷ word ∷ x ∷ y ∷ []
+        → begins_with_hyphen word ≡ false → is_letter word ≡ false → begins_with_hyphen x ≡ false
+        → IsErrAnd result (IsFaultOf (InvalidValue ∷ [])) }
+    ensures explain_alone { (program : Text) → texts words.entry.now ≡ program ∷ codes "explain" ∷ []
+        → IsErrAnd result (IsFaultOf (MissingRequiredArgument ∷ [])) }
+    ensures explain_one { (program x : Text)
+        → texts words.entry.now ≡ program ∷ codes "explain" ∷ x ∷ []
+        → begins_with_hyphen x ≡ false → IsErrAnd result (IsFaultOf (MissingRequiredArgument ∷ [])) }
     ensures blame_paths { (program x y : Text)
         → texts words.entry.now ≡ program ∷ codes "blame" ∷ x ∷ y ∷ []
         → begins_with_hyphen x ≡ false → begins_with_hyphen y ≡ false
@@ -279,6 +336,11 @@ pub fn request<'a>(alloc: Global, words: &'a [&'a str]) -> Result<Request<'a>, W
     ensures blame_one { (program x : Text)
         → texts words.entry.now ≡ program ∷ codes "blame" ∷ x ∷ []
         → begins_with_hyphen x ≡ false → IsErrAnd result (IsFaultOf (MissingRequiredArgument ∷ [])) }
+    ensures table_path { (program path : Text)
+        → texts words.entry.now ≡ program ∷ codes "table" ∷ path ∷ []
+        → begins_with_hyphen path ≡ false → MatchResult result (IsTable path) IsMemory }
+    ensures table_alone { (program : Text) → texts words.entry.now ≡ program ∷ codes "table" ∷ []
+        → IsErrAnd result (IsFaultOf (MissingRequiredArgument ∷ [])) }
     ensures version { (program : Text) → texts words.entry.now ≡ program ∷ codes "--version" ∷ []
         → IsErrAnd result (IsFaultOf (DisplayVersion ∷ [])) }
     ensures faults { MatchResult result (λ _. fault_of tool (texts words.entry.now) ≡ [])

@@ -176,8 +176,9 @@ fn push_reject(text: &mut String, id: Option<i8>, problem: ProblemView) -> Resul
     push_problem(text, problem)
 }
 
-/// Appends the line of a component.
-fn push_component(text: &mut String, component: ComponentView) -> Result<(), AllocError>
+/// Appends the line of a component (Q.773 4.2.2), as it stands under the line of its entry. `AllocError` where memory ran
+/// out.
+pub fn push_component(text: &mut String, component: ComponentView) -> Result<(), AllocError>
     ensures { OnOk result (string_bytes text.new
         ≡ string_bytes text.old ++ component_line (component_of component.entry)) }
 {

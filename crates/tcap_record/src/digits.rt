@@ -72,9 +72,9 @@ fn push_many(text: &mut String, octets: &[u8]) -> Result<(), AllocError>
     Ok(())
 }
 
-/// Appends the digits of octets.
+/// Appends the digits of octets, two of each, lower ones. `AllocError` where memory ran out.
 #[inline(always)]
-pub(crate) fn push_hex(text: &mut String, octets: &[u8]) -> Result<(), AllocError>
+pub fn push_hex(text: &mut String, octets: &[u8]) -> Result<(), AllocError>
     ensures { OnOk result (string_bytes text.new ≡ string_bytes text.old ++ encode_lower octets.now) }
 {
     if octets.len() <= FEW {

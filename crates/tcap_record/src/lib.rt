@@ -16,11 +16,14 @@ mod packing;
 mod printing;
 mod reading;
 
+pub use component_lines::push_component;
+pub use digits::push_hex;
 pub use entry::{Body, BodyView, End, Entry, EntryView, Record};
 pub use entry_lines::{push_fault, push_view};
 pub use fault::{FeedFault, FeedReason};
 pub use feeder::Feeder;
 pub use frames::Frames;
+pub use lines::push_head;
 pub use packing::{PackFault, pack};
 pub use printing::{ShowFault, show};
 pub use reading::{PIECE_LEN, read_record};

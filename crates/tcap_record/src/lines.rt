@@ -158,8 +158,10 @@ fn push_dialogue_portion(
     }
 }
 
-/// Appends what a message is but for its components.
-fn push_head<M: MessageParts>(text: &mut String, message: &M) -> Result<(), AllocError>
+/// Appends what a message is but for its components, on no line of its own: its kind, its transaction IDs in hexadecimal
+/// digits, a P-Abort cause and the PDU of its dialogue portion (Q.773 4.2), as the line of an entry has them behind the
+/// number and the end. `AllocError` where memory ran out.
+pub fn push_head<M: MessageParts>(text: &mut String, message: &M) -> Result<(), AllocError>
     ensures { OnOk result (string_bytes text.new ≡ string_bytes text.old ++ head_text (M.meaning message.now)) }
 {
     push_kind(text, message.kind())?;

@@ -8,7 +8,7 @@ use tcap_record::End;
 
 /// The columns: what the words ask for, or `wrong` or `printed`; the file that is named, or the files with blanks
 /// between them, an equals sign in front, a dash for none, or what the text has to contain; and the words, each behind
-/// a comma.
+/// a comma. Of `explain` the files behind the first two have their names in front.
 const WORDS: &str = "
 show;-;,tcapjudge,show
 show;=x;,tcapjudge,show,x
@@ -55,6 +55,25 @@ wrong;invalid value 'AB' for '--end <END>';,tcapjudge,judge,--end,AB,x,y
 wrong;unexpected argument '--end';,tcapjudge,blame,--end,A,x,y
 wrong;<TABLE>;,tcapjudge,judge,x
 wrong;unexpected argument 'z';,tcapjudge,judge,x,y,z
+explain;=x y;,tcapjudge,explain,x,y
+explain;=x y cert=z;,tcapjudge,explain,x,y,z
+explain;=x y chart=v;,tcapjudge,explain,x,y,--chart,v
+explain;=x y chart=v;,tcapjudge,explain,--chart=v,x,y
+explain;=x y cert=z chart=v;,tcapjudge,explain,x,--chart,v,y,z
+explain;=x y chart=;,tcapjudge,explain,x,y,--chart=
+explain;=x -y cert=-z;,tcapjudge,explain,x,--,-y,-z
+explain-end-a;=x y;,tcapjudge,explain,--end,A,x,y
+explain-end-b;=x y cert=z chart=v;,tcapjudge,explain,x,y,z,--chart,v,--end=B
+explain-end-a;=explain blame cert=A chart=B;,tcapjudge,explain,--chart,B,--end,A,explain,blame,A
+wrong;<RECORD> <TABLE>;,tcapjudge,explain
+wrong;<TABLE>;,tcapjudge,explain,x
+wrong;<TABLE>;,tcapjudge,explain,--chart,x,y
+wrong;unexpected argument 'w';,tcapjudge,explain,x,y,z,w
+wrong;invalid value 'a' for '--end <END>';,tcapjudge,explain,--end,a,x,y
+wrong;a value is required for '--chart <FILE>';,tcapjudge,explain,x,y,--chart
+wrong;cannot be used multiple times;,tcapjudge,explain,--chart,v,--chart,w,x,y
+wrong;unexpected argument '--cert';,tcapjudge,explain,x,y,--cert
+wrong;unexpected argument '--chart';,tcapjudge,judge,x,y,--chart,v
 blame;=x y;,tcapjudge,blame,x,y
 blame;=blame -y;,tcapjudge,blame,blame,--,-y
 wrong;<TABLE>;,tcapjudge,blame,x
@@ -78,6 +97,9 @@ printed;Usage: tcapjudge;,tcapjudge,pack,--help
 printed;Usage: tcapjudge check [OPTIONS] <RECORD> <TABLE> <CERT>;,tcapjudge,check,--help
 printed;--end <END>;,tcapjudge,check,--help
 printed;Judges that end alone, whatever its peer sends;,tcapjudge,judge,--help
+printed;Usage: tcapjudge explain [OPTIONS] <RECORD> <TABLE> [CERT];,tcapjudge,explain,--help
+printed;--chart <FILE>;,tcapjudge,help,explain
+printed;--end <END>;,tcapjudge,explain,-h
 printed;tcapjudge 0.1.0;,tcapjudge,--version
 printed;tcapjudge 0.1.0;,tcapjudge,-V
 printed;Usage: tcapjudge;,tcapjudge,help,show
@@ -87,6 +109,7 @@ printed;Example: tcapjudge show --why record;,tcapjudge,show,--help
 printed;Example: tcapjudge pack dialogue.hex > record;,tcapjudge,help,pack
 printed;Example: tcapjudge check record table.json cert.json;,tcapjudge,check,-h
 printed;Example: tcapjudge judge record table.json --cert;,tcapjudge,judge,-h
+printed;Example: tcapjudge explain record table.json --chart run.svg;,tcapjudge,explain,-h
 printed;Example: tcapjudge blame record table.json;,tcapjudge,blame,-h
 printed;Example: tcapjudge table table.json;,tcapjudge,table,--help
 ";
@@ -113,6 +136,30 @@ fn is_of_end(kind: &str, word: &str, end: End) -> bool {
         End::B => "-end-b",
     };
     kind.strip_prefix(word) == Some(letter)
+}
+
+/// Whether a request to explain, with these paths and that end, is the wanted one.
+fn is_explained<'a>(
+    alloc: Global,
+    paths: (&'a str, &'a str),
+    others: (Option<&'a str>, Option<&'a str>),
+    end: Option<End>,
+    asked: (&str, &str),
+) -> Result<bool, Fail> {
+    let (entries, table) = paths;
+    let mut files = format!(in alloc; "={entries} {table}")?;
+    if let Some(cert) = others.0 {
+        write!(files, " cert={cert}")?;
+    }
+    if let Some(chart) = others.1 {
+        write!(files, " chart={chart}")?;
+    }
+    let (kind, wanted) = asked;
+    let is_kind = match end {
+        Some(end) => is_of_end(kind, "explain", end),
+        None => kind == "explain",
+    };
+    Ok(is_kind && files.as_str() == wanted)
 }
 
 /// Whether the request, or the fault, is the wanted one.
@@ -147,6 +194,15 @@ fn is_answered<'a>(
             let is_kind = is_of_end(kind, word_of(with_certificate), end);
             Ok(is_kind && Some(files.as_str()) == wanted.strip_prefix("="))
         }
+        Ok(
+            Request::Explain {
+                entries,
+                table,
+                cert,
+                end,
+                chart,
+            },
+        ) => is_explained(alloc, (entries, table), (cert, chart), end, (kind, wanted)),
         Ok(Request::Blame(record, table)) => {
             let files = format!(in alloc; "{record} {table}")?;
             Ok(kind == "blame" && Some(files.as_str()) == wanted.strip_prefix("="))
@@ -182,6 +238,6 @@ impl Row for WordsRow {
 
 #[test]
 fn words(rt: HostRuntime) -> Result<(), Fail> {
-    assert_eq!(rt; each_row::<WordsRow>(rt.alloc(), WORDS)?, 79);
+    assert_eq!(rt; each_row::<WordsRow>(rt.alloc(), WORDS)?, 102);
     Ok(())
 }

@@ -8,7 +8,7 @@ use Rattle.clap.specs.Simple.{HasMatchesOf, subcommand_of, subcommand_rows_of}
 use Rattle.clap.specs.declared.builder.command.Command.{Command}
 use Rattle.clap.specs.declared.parser.matches.ArgMatches.{ArgMatches}
 use Rattle.tcap_judge.specs.CommandLine.{placeless, tool}
-use Rattle.tcap_judge.proofs.Matches.{asked_of, blame_asked_of, blame_there, check_asked_of, check_made, check_there, end_named, has_name, judge_asked_of, judge_made, judge_there, no_name, other_name, show_asked_of, table_asked_of, table_there}
+use Rattle.tcap_judge.proofs.Matches.{asked_of, blame_asked_of, blame_there, check_asked_of, check_made, check_there, end_named, explain_asked_of, explain_there, has_name, judge_asked_of, judge_made, judge_there, no_name, other_name, show_asked_of, table_asked_of, table_there}
 use Rattle.tcap_judge.proofs.PlacelessCommands.{fault_of_same, simple_and_free_same, simple_same, subcommand_same, takes_same}
 use Rattle.tcap_judge.proofs.Tool.{IsKnown, as_fault, became_memory, tool_simple, tool_is_simple}
 use Rattle.tcap_judge.proofs.words.parsed_request.Goals as goal
@@ -63,7 +63,7 @@ unreachable-requires-in_default-name c =
     other_name _ c.in-Some.name.now
     (known c.in_ok-command.command (texts c.args.words.now) c.in_ok-matches.matches c.in_ok-command.ensures met.matches met.kinds)
     c.in-Some.ensures.name c.in_default-name.not-show c.in_default-name.not-pack c.in_default-name.not-check
-    c.in_default-name.not-judge c.in_default-name.not-blame c.in_default-name.not-table
+    c.in_default-name.not-judge c.in_default-name.not-explain c.in_default-name.not-blame c.in_default-name.not-table
 
 pub returns-in-show-clause-asks : goal.returns-in-show-clause-asks
 returns-in-show-clause-asks c =
@@ -191,6 +191,45 @@ returns-in-judge-clause-asks c =
     (end_named m words c.in-Some.name.now (codes "judge") f c.end_given-in-judge.result same c.in-Some.ensures.name
     c.in-Some.ensures.rows c.in-judge.is c.end_given-in-judge.ensures)
     c.judge_request.ensures.both c.judge_request.ensures.one
+
+pub returns-in-explain-clause-faults : goal.returns-in-explain-clause-faults
+returns-in-explain-clause-faults c =
+    clear c.in_ok-command.command (texts c.args.words.now) c.in_ok-command.ensures c.in_ok-matches.ensures.kinds
+
+pub explain_request-requires-clause-entries : goal.explain_request-requires-clause-entries
+explain_request-requires-clause-entries c =
+    let words = texts c.args.words.now in
+    let m = c.in_ok-matches.matches in
+    (explain_there m words c.in-Some.name.now (found_of c.in-Some.found.now)
+    (rows c.in_ok-command.command words m c.in_ok-command.ensures c.in_ok-matches.ensures.matches)
+    (clear c.in_ok-command.command words c.in_ok-command.ensures c.in_ok-matches.ensures.kinds)
+    c.in-Some.ensures.name c.in-Some.ensures.rows c.in-explain.is).0
+
+pub explain_request-requires-clause-table : goal.explain_request-requires-clause-table
+explain_request-requires-clause-table c =
+    let words = texts c.args.words.now in
+    let m = c.in_ok-matches.matches in
+    (explain_there m words c.in-Some.name.now (found_of c.in-Some.found.now)
+    (rows c.in_ok-command.command words m c.in_ok-command.ensures c.in_ok-matches.ensures.matches)
+    (clear c.in_ok-command.command words c.in_ok-command.ensures c.in_ok-matches.ensures.kinds)
+    c.in-Some.ensures.name c.in-Some.ensures.rows c.in-explain.is).1
+
+pub explain_request-requires-clause-letters : goal.explain_request-requires-clause-letters
+explain_request-requires-clause-letters c =
+    let words = texts c.args.words.now in
+    let m = c.in_ok-matches.matches in
+    (explain_there m words c.in-Some.name.now (found_of c.in-Some.found.now)
+    (rows c.in_ok-command.command words m c.in_ok-command.ensures c.in_ok-matches.ensures.matches)
+    (clear c.in_ok-command.command words c.in_ok-command.ensures c.in_ok-matches.ensures.kinds)
+    c.in-Some.ensures.name c.in-Some.ensures.rows c.in-explain.is).2
+
+pub returns-in-explain-clause-asks : goal.returns-in-explain-clause-asks
+returns-in-explain-clause-asks c =
+    let words = texts c.args.words.now in
+    let m = c.in_ok-matches.matches in
+    explain_asked_of m words c.in-Some.name.now (found_of c.in-Some.found.now) c.explain_request.result
+    (rows c.in_ok-command.command words m c.in_ok-command.ensures c.in_ok-matches.ensures.matches)
+    c.in-Some.ensures.name c.in-Some.ensures.rows c.in-explain.is c.explain_request.ensures
 
 pub returns-in-blame-clause-faults : goal.returns-in-blame-clause-faults
 returns-in-blame-clause-faults c =
