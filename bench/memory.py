@@ -3,10 +3,10 @@ it takes a C compiler): of the words of `tcapjudge` over worked records, of a fe
 time, and of the worked lists of calls of one end.
 
 Each run has to say what it says without a failure, with that status; or that memory ran out, with status 3. `check`,
-`judge` and `blame` have `FAULT 99 0` as their only line then. `show` has it behind the lines of the first entries, and
+`judge`, `blame` and `explain` have `FAULT 99 0` as their only line then. `show` has it behind the lines of the first entries, and
 `pack` on standard error, with the octets of the first lines on standard output. A run that finds no memory as it reads
 its words has it alone, on standard output. What is fed or called once more where memory ran out has to go on as if
-nothing had been."""
+nothing had been. With a word behind it only the words of `tcapjudge` are tried."""
 
 import os
 import shutil
@@ -92,6 +92,49 @@ def cut_pack(record):
     return [said(record[:count], 3, NO_MEMORY) for count in range(len(record) + 1)]
 
 
+# What `explain` prints.
+WHY_REJECTED = """\
+LAWFUL 3
+  one run that shows it:
+  A sends 0 Begin otid=01
+  B receives 0
+  B sends 1 Continue otid=02 dtid=01
+  A: invocation 1 of otid=01 ends unseen
+  A receives 1
+  A sends 2 End dtid=02
+  B receives 2
+"""
+WHY_NOT_SHOWN = """\
+NOT SHOWN 2 65/50
+  why: in the run that the certificate says, its end may not send it there (SendRefused): nothing there may be rejected so (RejectNotAllowed)
+  2 A End dtid=02
+    Reject id=1 result=0
+  A: the half with otid=01 peer 02: active, no dialogue
+  component 0 is what it refuses:
+    Reject id=1 result=0
+      before this message, under 1: own invocation op=45, wait for reject; invocations received and not answered 0; results received 1, errors 0
+  another certificate may show more: this says nothing of an end
+LAWFUL A 3 unheard 0
+LAWFUL B 3 unheard 0
+"""
+WHY_REFUTED = """\
+REFUTED 1 F2
+  entry 1 of B is an End to 09, but A sent no Begin and no Continue from 09 before it
+  the messages of A come from 01 (entry 0)
+BLAMED B 1 F2
+LAWFUL A 2 unheard 0
+"""
+WHY_OF_B = """\
+LAWFUL 4 unheard 0
+  one run that shows it:
+  A tells 0 Begin otid=01
+  B receives 0
+  B sends 1 Continue otid=02 dtid=01
+  A tells 2 End dtid=02
+  B sends 3 Continue otid=02 dtid=01
+  B receives 2
+"""
+
 # A word, its files, and what it has to say: the standard output and the status.
 CHECKED = [
     ("check", (REJECTED, TABLE, EXPIRED), "LAWFUL 3\n", 0),
@@ -106,6 +149,10 @@ CHECKED = [
     ("blame", (CONFIRMED, TABLE), "LAWFUL 3\nLAWFUL A 3 unheard 0\nLAWFUL B 3 unheard 0\n", 0),
     ("blame", (CROSSED, TABLE), "LAWFUL 5\nLAWFUL A 5 unheard 0\nLAWFUL B 5 unheard 0\n", 0),
     ("blame", (TWICE, TABLE), "UNDECIDED 0 65/45\nBLAMED A 0 F10\nLAWFUL B 1 unheard 0\n", 1),
+    ("explain", (REJECTED, TABLE), WHY_REJECTED, 0),
+    ("explain", (REJECTED, TABLE, PROMPT), WHY_NOT_SHOWN, 2),
+    ("explain", (BEGIN + "B 6403490109\n", TABLE), WHY_REFUTED, 1),
+    ("explain --end B", (BEGIN + CONTINUE + END + CONTINUE, TABLE), WHY_OF_B, 0),
 ]
 
 

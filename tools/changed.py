@@ -75,6 +75,8 @@ def main(names):
     if is_proved and copy.step("the program is built", ["make", "--silent", "program"]):
         passed.append(copy.step("runs of the program", [sys.executable, "tests/program.py"]))
         passed.append(copy.step("faults in words", [sys.executable, "tests/words.py"]))
+        passed.append(copy.step("verdicts in words", [sys.executable, "tests/explain.py"]))
+        passed.append(copy.step("facts in words", [sys.executable, "tests/facts.py"]))
         passed.append(copy.step("tests of captures", [sys.executable, "tests/captures.py"]))
         if shutil.which("cc") and shutil.which("ar"):
             passed.append(copy.step("the library for C", [sys.executable, "tools/clib.py"]))

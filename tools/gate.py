@@ -1,6 +1,6 @@
-"""The gate, which `make test` runs: `rt ci`, then tests/program.py and tests/words.py on the program that
-`rt ci` built, then tests/borrows.py, tests/pages.py, tests/captures.py on that program, and tools/clib.py over the libraries that `rt ci`
-built. What they print is passed on. Then it prints how many seconds each crate's proof, its tests' proof and its must-fail
+"""The gate, which `make test` runs: `rt ci`, then tests/program.py, tests/words.py, tests/explain.py and tests/facts.py on the
+program that `rt ci` built, then tests/borrows.py, tests/pages.py, tests/captures.py on that program, tools/clib.py over the libraries that `rt ci`
+built, and bench/memory.py, which lets each allocation of a run of that program fail in turn. What they print is passed on. Then it prints how many seconds each crate's proof, its tests' proof and its must-fail
 edits took, with their processor time, and closes with the line `N passed, M failed`, in which all are counted. The exit
 status is 0 where none failed.
 
@@ -15,6 +15,7 @@ import glob
 import os
 import re
 import resource
+import shutil
 import signal
 import subprocess
 import sys
@@ -120,6 +121,16 @@ def show_parts(parts, seconds, used):
         print(f"{own:15.0f} s of processor time  {kind} of all crates")
 
 
+def refused_memory():
+    """Whether the program says what it has to where each allocation of a run fails in turn: as counts."""
+    if not (shutil.which("cc") or shutil.which("gcc")):
+        print("allocations that fail in turn: not tried, for want of a C compiler")
+        return 0, 0
+    ended = subprocess.run([sys.executable, "bench/memory.py", "program"], check=False)
+    print(f"allocations that fail in turn: {'said' if ended.returncode == 0 else 'NOT said'}")
+    return (0, 1) if ended.returncode else (1, 0)
+
+
 def main():
     os.environ[MARK] = str(os.getpid())
     # Stopped by make, it stops what it runs.
@@ -133,8 +144,12 @@ def main():
         print(f"{runs[0] + runs[1]} runs of the program, {runs[1]} wrong")
         words = counts_of([sys.executable, "tests/words.py"])
         print(f"{words[0] + words[1]} faults in words, {words[1]} wrong")
+        whys = counts_of([sys.executable, "tests/explain.py"])
+        print(f"{whys[0] + whys[1]} verdicts in words, {whys[1]} wrong")
+        facts = counts_of([sys.executable, "tests/facts.py"])
+        print(f"{facts[0] + facts[1]} facts in words, {facts[1]} wrong")
     else:
-        runs, words = (0, 1), (0, 1)
+        runs, words, whys, facts = (0, 1), (0, 1), (0, 1), (0, 1)
         print("rt ci built no program, so it was not run")
     lent = counts_of([sys.executable, "tests/borrows.py"])
     print(f"feeding while an entry is lent: {'refused' if lent[0] else 'NOT refused'}")
@@ -145,7 +160,8 @@ def main():
     clib = counts_of([sys.executable, "tools/clib.py", "--over-ci"])
     print(f"{clib[0] + clib[1]} comparisons of the library for C with the program, {clib[1]} that differ")
     show_parts(parts, seconds, used)
-    others = [runs, words, lent, pages, captures, clib]
+    memory = refused_memory()
+    others = [runs, words, whys, facts, lent, pages, captures, clib, memory]
     both = [passed + sum(one[0] for one in others), failed + sum(one[1] for one in others)]
     print(f"{both[0]} passed, {both[1]} failed", flush=True)
     return int(both[1] != 0)

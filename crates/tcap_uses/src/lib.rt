@@ -13,6 +13,7 @@ mod parts;
 mod record;
 mod refute;
 mod search;
+mod verdict;
 
 pub use ber::integer_content;
 pub use blame::fault_of;
@@ -25,3 +26,4 @@ pub use parts::first_component;
 pub use record::{entries_of, ids_of};
 pub use refute::no_certificate_helps;
 pub use search::is_shown_lawful;
+pub use verdict::told_why;

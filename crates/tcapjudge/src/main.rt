@@ -2,6 +2,9 @@
 //! the library `tcap_judge`.
 #![tactic(auto)]
 
+mod explaining;
+
+use crate::explaining::{Paths, explain};
 use std::alloc::Global;
 use std::io::BufWriter;
 use std::process::ExitCode;
@@ -13,6 +16,7 @@ use tcap_judge::{
     run_check_end, run_judge, run_judge_end, run_pack, run_show,
 };
 use tcap_record::End;
+use tcap_verdict::Asked;
 
 /// The exit status where a word of the command is not text, so that it is not for `clap` to say.
 const NO_TEXT: u8 = 4;
@@ -90,6 +94,24 @@ fn answer(rt: &HostRuntime, request: Request) -> io::Result<u8> {
         }
         Request::Blame(entries, table) => Ok(judge(rt, entries, table, Question::Blame)),
         Request::Table(path) => over_path(rt, Task::Table, Some(path)),
+        Request::Explain {
+            entries,
+            table,
+            cert,
+            end,
+            chart,
+        } => {
+            let paths = Paths {
+                entries,
+                cert,
+                chart,
+            };
+            let asked = Asked {
+                judged: end,
+                with_chart: chart.is_some(),
+            };
+            Ok(explain(rt, table, paths, asked))
+        }
     }
 }
 

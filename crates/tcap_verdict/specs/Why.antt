@@ -1,0 +1,112 @@
+-- What is said of a record, and why: behind the line of a record that is lawful stand the lines of the run that the certificate
+-- gives.
+use Rattle.std.specs.Prelude.{◌≡◌, ℕ, ◌⊎◌, List, [], Option, Result, Ok, Err}
+use Rattle.std.specs.Io.KnownBytes.{Appends}
+use Rattle.tcap_record.specs.declared.entry.End.{End as Side}
+use Rattle.tcap_record.specs.declared.entry.Entry.{Entry}
+use Rattle.tcap_record.specs.declared.fault.FeedFault.{FeedFault}
+use Rattle.tcap_end.specs.Table.{Table}
+use Rattle.tcap_check.specs.Certificate.{Certificate}
+use Rattle.tcap_runs.specs.declared.step.Step.{Step}
+use Rattle.tcap_runs.specs.Steps.{events_of}
+use Rattle.tcap_judge.specs.declared.outcome.Outcome.{Outcome}
+use Rattle.tcap_judge.specs.declared.outcome.Outcome.TheVariants.{Lawful, LawfulFor, Faulty}
+use Rattle.tcap_judge.specs.declared.status.Status.{Status}
+use Rattle.tcap_judge.specs.Judged.{IsShown, replayed_by}
+use Rattle.tcap_judge.specs.Outcome.{SaysWith}
+use Rattle.tcap_judge.specs.Checked.{Device, IsUntouched, ReadsCertificate, ReadsRecord, ReadsTable, out_of_memory, record_says}
+use Rattle.tcap_judge.specs.Verdict.{proposed_by, record_verdict}
+use Rattle.tcap_verdict.specs.Faults.{IsFaultBehind}
+use Rattle.tcap_verdict.specs.StepLines.{run_lines}
+
+-- The certificate gives a run for these entries, of both ends or of the one that is judged, and these are its lines.
+abbrev pub AreLines : Option Side → Table → Certificate → List Entry → List ℕ → Type 0
+AreLines judged table c entries lines = (steps : List Step) × (replayed_by judged table c entries ≡ Ok (events_of steps))
+    × (lines ≡ run_lines judged steps)
+
+-- Where what is said is that the entries are lawful, the lines behind it are those of the run; where it is a fault, that which
+-- says of which file.
+abbrev pub IsWhy : Option Side → Table → Certificate → List Entry → Outcome → List ℕ → Type 0
+IsWhy judged table c entries (Lawful count) behind = AreLines judged table c entries behind
+IsWhy judged table c entries (LawfulFor count unheard) behind = AreLines judged table c entries behind
+IsWhy judged table c entries (Faulty number place) behind = IsFaultBehind (Faulty number place) behind
+IsWhy judged table c entries outcome behind = Unit {0}
+
+-- ---- without a certificate: by the one that is proposed
+
+-- What the reader told is entries and the end behind them, what is said is the verdict on them, and is so, and behind its line
+-- stands why.
+pub record SaysWhy (judged : Option Side) (table : Table) (d : Device) (outcome : Outcome) (behind : List ℕ) : Type 0 where
+  pub entries : List Entry
+  pub end : Result (Unit {0}) FeedFault
+  pub reads : ReadsRecord d entries end
+  pub says : outcome ≡ record_verdict judged table entries end
+  pub shown : IsShown judged table entries outcome
+  pub why : IsWhy judged table (proposed_by judged entries) entries outcome behind
+
+-- That is so, or memory ran out.
+abbrev pub GivesWhy : Option Side → Table → Device → Outcome → List ℕ → Type 0
+GivesWhy judged table d outcome behind =
+    ((outcome ≡ out_of_memory) × (behind ≡ [])) ⊎ SaysWhy judged table d outcome behind
+
+-- Where there is no table, nothing of the record is read.
+abbrev pub GivesWhyWith : Option Side → Result Table Outcome → Device → Outcome → List ℕ → Type 0
+GivesWhyWith judged (Ok table) entries outcome behind = GivesWhy judged table entries outcome behind
+GivesWhyWith judged (Err said) entries outcome behind =
+    (outcome ≡ said) × IsFaultBehind said behind × IsUntouched entries
+
+-- what the two readers told gives this outcome, and this behind its line
+abbrev pub IsExplained : Option Side → Device → Device → Outcome → List ℕ → Type 0
+IsExplained judged entries table outcome behind =
+    (given : Result Table Outcome) × ReadsTable table given × GivesWhyWith judged given entries outcome behind
+
+-- What the two readers told gives an outcome, and what the writer took is its line and why; or that memory ran out.
+pub record Explains (judged : Option Side) (entries table : Device) (taken taken' : Option (List ℕ)) (status : Status)
+    : Type 0 where
+  pub outcome : Outcome
+  pub behind : List ℕ
+  pub text : List ℕ
+  pub given : IsExplained judged entries table outcome behind
+  pub says : SaysWith outcome behind text status
+  pub takes : Appends taken taken' text
+
+-- ---- by a certificate
+
+-- The same of what the replay of that certificate says.
+pub record SaysWhyBy (judged : Option Side) (table : Table) (c : Certificate) (d : Device) (outcome : Outcome)
+    (behind : List ℕ) : Type 0 where
+  pub entries : List Entry
+  pub end : Result (Unit {0}) FeedFault
+  pub reads : ReadsRecord d entries end
+  pub says : outcome ≡ record_says judged table c entries end
+  pub shown : IsShown judged table entries outcome
+  pub why : IsWhy judged table c entries outcome behind
+
+abbrev pub GivesWhyBy : Option Side → Table → Result Certificate Outcome → Device → Outcome → List ℕ → Type 0
+GivesWhyBy judged table (Ok c) entries outcome behind =
+    ((outcome ≡ out_of_memory) × (behind ≡ [])) ⊎ SaysWhyBy judged table c entries outcome behind
+GivesWhyBy judged table (Err said) entries outcome behind =
+    (outcome ≡ said) × IsFaultBehind said behind × IsUntouched entries
+
+-- Where there is no table, nothing of the certificate and the record is read; where there is no certificate, nothing of the
+-- record.
+abbrev pub GivesWhyByWith : Option Side → Result Table Outcome → Device → Device → Outcome → List ℕ → Type 0
+GivesWhyByWith judged (Ok table) certificate entries outcome behind =
+    (given : Result Certificate Outcome) × ReadsCertificate certificate given
+    × GivesWhyBy judged table given entries outcome behind
+GivesWhyByWith judged (Err said) certificate entries outcome behind =
+    (outcome ≡ said) × IsFaultBehind said behind × IsUntouched certificate × IsUntouched entries
+
+abbrev pub IsExplainedBy : Option Side → Device → Device → Device → Outcome → List ℕ → Type 0
+IsExplainedBy judged entries table certificate outcome behind = (given : Result Table Outcome) × ReadsTable table given
+    × GivesWhyByWith judged given certificate entries outcome behind
+
+-- What the three readers told gives an outcome, and what the writer took is its line and why; or that memory ran out.
+pub record ExplainsBy (judged : Option Side) (entries table certificate : Device) (taken taken' : Option (List ℕ))
+    (status : Status) : Type 0 where
+  pub outcome : Outcome
+  pub behind : List ℕ
+  pub text : List ℕ
+  pub given : IsExplainedBy judged entries table certificate outcome behind
+  pub says : SaysWith outcome behind text status
+  pub takes : Appends taken taken' text

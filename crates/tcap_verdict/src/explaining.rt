@@ -1,0 +1,378 @@
+//! What is said of a record, and why.
+
+ghost use Rattle.std.specs.Prelude.{◌≡◌, ◌⊎◌, ◌≤◌, [], ℕ, List, None, Some, Ok, IfOk, OnOk, OnErr, length};
+ghost use Rattle.std.specs.String.{string_bytes};
+ghost use Rattle.tcap_ber.specs.Device.{one_more};
+ghost use Rattle.tcap_judge.specs.Checked.{out_of_memory, replay_says};
+ghost use Rattle.tcap_judge.specs.Judged.{IsShown, replayed_by};
+ghost use Rattle.tcap_judge.specs.Verdict.{proposed_by, verdict_of};
+ghost use Rattle.tcap_runs.specs.Steps.{events_of};
+ghost use Rattle.tcap_verdict.specs.Faults.{IsFaultBehind};
+ghost use Rattle.tcap_verdict.specs.Why.{AreLines, Explains, ExplainsBy, GivesWhy, GivesWhyBy, IsExplained, IsExplainedBy, IsWhy};
+
+use crate::charts::chart_of;
+use crate::faults::fault_text;
+use crate::refuted::refuted_text;
+use crate::step_lines::push_steps;
+use crate::stops::stop_text;
+use std::alloc::{AllocError, Global};
+use tcap_ber::{Read, Write};
+use tcap_check::{Certificate, Reason};
+use tcap_end::Table;
+use tcap_judge::{
+    OUT_OF_MEMORY, Outcome, Status, WriteFailed, judge_record, propose, read_certificate,
+    read_table, replay, write_outcome,
+};
+use tcap_record::{End, Record, read_record};
+use tcap_runs::{Step, run_of, run_of_end};
+
+/// What is said, and why.
+#[derive(Debug, Drop)]
+struct Why {
+    outcome: Outcome,
+    // The lines behind that of the outcome.
+    behind: String,
+    // The run as a chart; empty where none is asked for, or there is no record.
+    chart: String,
+}
+
+/// What a run is asked beside its files.
+#[derive(Clone, Copy, Debug)]
+pub struct Asked {
+    /// The end that is judged alone, where it is one.
+    pub judged: Option<End>,
+    /// Whether a chart is asked for.
+    pub with_chart: bool,
+}
+
+impl Why {
+    /// That is said, and nothing stands behind it.
+    fn alone(alloc: Global, outcome: Outcome) -> Why
+        ensures outcome { result.outcome ≡ outcome }
+        ensures behind { string_bytes result.behind ≡ [] }
+    {
+        Why {
+            outcome,
+            behind: String::new(alloc),
+            chart: String::new(alloc),
+        }
+    }
+
+    /// That is said of what was given in place of a record, a table or a certificate, and which it is.
+    fn of_fault(alloc: Global, outcome: Outcome) -> Why
+        ensures outcome { result.outcome ≡ outcome }
+        ensures behind { IsFaultBehind outcome (string_bytes result.behind) }
+    {
+        match fault_text(alloc, outcome) {
+            Ok(behind) => Why {
+                outcome,
+                behind,
+                chart: String::new(alloc),
+            },
+            Err(AllocError) => Why::alone(alloc, outcome),
+        }
+    }
+}
+
+/// The steps of the run that a certificate gives for a record, of both ends or of the one that is judged.
+fn steps_of(
+    alloc: Global,
+    read: &Record,
+    table: &Table,
+    certificate: &Certificate,
+    judged: Option<End>,
+) -> Result<Vec<Step>, AllocError>
+    ensures { IfOk result (λ steps. replayed_by judged table.now certificate.now read.now.entries.items
+        ≡ Ok (events_of steps.items)) }
+{
+    let run = match judged {
+        None => run_of(alloc, read, table, certificate),
+        Some(end) => run_of_end(alloc, read, table, certificate, end),
+    };
+    run.map_err(|_| AllocError)
+}
+
+/// The lines of that run.
+fn run_text(
+    alloc: Global,
+    read: &Record,
+    table: &Table,
+    certificate: &Certificate,
+    judged: Option<End>,
+) -> Result<String, AllocError>
+    ensures { IfOk result (λ text. AreLines judged table.now certificate.now read.now.entries.items (string_bytes text)) }
+{
+    let steps = steps_of(alloc, read, table, certificate, judged)?;
+    let mut text = String::new(alloc);
+    push_steps(&mut text, judged, &steps)?;
+    Ok(text)
+}
+
+/// The lines behind that of an outcome.
+fn text_behind(
+    alloc: Global,
+    read: &Record,
+    table: &Table,
+    certificate: &Certificate,
+    judged: Option<End>,
+    outcome: Outcome,
+) -> Result<String, AllocError>
+    requires few { length read.now.entries.items ≤ 100000 }
+    ensures { IfOk result (λ text. IsWhy judged table.now certificate.now read.now.entries.items outcome (string_bytes text)) }
+{
+    match outcome {
+        Outcome::Lawful(_) | Outcome::LawfulFor(_, _) => {
+            run_text(alloc, read, table, certificate, judged)
+        }
+        Outcome::Refuted(refutation) => refuted_text(alloc, read, table, judged, refutation),
+        Outcome::NotShown(fault) | Outcome::Undecided(fault) => {
+            stop_text(alloc, read, table, certificate, judged, fault)
+        }
+        Outcome::Faulty(_, _) => fault_text(alloc, outcome),
+    }
+}
+
+/// An outcome, and why, by a certificate.
+fn explain(
+    alloc: Global,
+    read: &Record,
+    table: &Table,
+    certificate: &Certificate,
+    asked: Asked,
+    outcome: Outcome,
+) -> Result<Why, AllocError>
+    requires few { length read.now.entries.items ≤ 100000 }
+    ensures outcome { IfOk result (λ why. why.outcome ≡ outcome) }
+    ensures why { IfOk result (λ why. IsWhy asked.judged table.now certificate.now read.now.entries.items outcome
+        (string_bytes why.behind)) }
+{
+    let behind = text_behind(alloc, read, table, certificate, asked.judged, outcome)?;
+    let chart = if asked.with_chart {
+        chart_of(alloc, read, table, certificate, asked.judged, outcome)?
+    } else {
+        String::new(alloc)
+    };
+    Ok(Why {
+        outcome,
+        behind,
+        chart,
+    })
+}
+
+/// The verdict on a record, and why.
+fn explain_verdict(
+    alloc: Global,
+    read: &Record,
+    table: &Table,
+    asked: Asked,
+) -> Result<Why, AllocError>
+    requires few { length read.now.entries.items ≤ 100000 }
+    ensures { IfOk result (λ why. (why.outcome ≡ verdict_of asked.judged table.now read.now.entries.items)
+        × IsShown asked.judged table.now read.now.entries.items why.outcome
+        × IsWhy asked.judged table.now (proposed_by asked.judged read.now.entries.items) read.now.entries.items why.outcome
+        (string_bytes why.behind)) }
+{
+    let said = judge_record(alloc, read, table, asked.judged, false)?;
+    let certificate = propose(alloc, read, asked.judged)?;
+    explain(alloc, read, table, &certificate, asked, said.outcome)
+}
+
+/// What a certificate shows of a record, and why.
+fn explain_replay(
+    alloc: Global,
+    read: &Record,
+    table: &Table,
+    certificate: &Certificate,
+    asked: Asked,
+) -> Result<Why, AllocError>
+    requires few { length read.now.entries.items ≤ 100000 }
+    ensures { IfOk result (λ why. (why.outcome ≡ replay_says asked.judged (length read.now.entries.items)
+        (replayed_by asked.judged table.now certificate.now read.now.entries.items))
+        × IsShown asked.judged table.now read.now.entries.items why.outcome
+        × IsWhy asked.judged table.now certificate.now read.now.entries.items why.outcome (string_bytes why.behind)) }
+{
+    let outcome = match replay(alloc, read, table, certificate, asked.judged) {
+        Ok(outcome) => outcome,
+        Err(fault) if matches!(fault.reason, Reason::Memory) => return Err(AllocError),
+        Err(fault) => Outcome::NotShown(fault),
+    };
+    explain(alloc, read, table, certificate, asked, outcome)
+}
+
+/// What is said of the record that `reader` tells, and why.
+fn explain_told<R: Read>(alloc: Global, reader: &mut R, table: &Table, asked: Asked) -> Why
+    ensures { GivesWhy asked.judged table.now (record {
+      before = R.untold reader.old;
+      after = R.untold reader.new;
+      failed_before = R.failures reader.old;
+      failed_after = R.failures reader.new;
+    }) result.outcome (string_bytes result.behind) }
+{
+    match read_record(alloc, reader) {
+        Ok(read) => match explain_verdict(alloc, &read, table, asked) {
+            Ok(why) => why,
+            Err(AllocError) => Why::alone(alloc, OUT_OF_MEMORY),
+        },
+        Err(fault) => Why::of_fault(alloc, Outcome::Faulty(fault.reason.number(), fault.place)),
+    }
+}
+
+/// The same by a certificate.
+fn explain_told_by<R: Read>(
+    alloc: Global,
+    reader: &mut R,
+    table: &Table,
+    certificate: &Certificate,
+    asked: Asked,
+) -> Why
+    ensures { GivesWhyBy asked.judged table.now (Ok certificate.now) (record {
+      before = R.untold reader.old;
+      after = R.untold reader.new;
+      failed_before = R.failures reader.old;
+      failed_after = R.failures reader.new;
+    }) result.outcome (string_bytes result.behind) }
+{
+    match read_record(alloc, reader) {
+        Ok(read) => match explain_replay(alloc, &read, table, certificate, asked) {
+            Ok(why) => why,
+            Err(AllocError) => Why::alone(alloc, OUT_OF_MEMORY),
+        },
+        Err(fault) => Why::of_fault(alloc, Outcome::Faulty(fault.reason.number(), fault.place)),
+    }
+}
+
+/// What is said of a record and a table, each of which a reader tells, and why.
+fn explain_both<R: Read, T: Read>(
+    alloc: Global,
+    entries: &mut R,
+    table: &mut T,
+    asked: Asked,
+) -> Why
+    ensures { IsExplained asked.judged (record {
+      before = R.untold entries.old;
+      after = R.untold entries.new;
+      failed_before = R.failures entries.old;
+      failed_after = R.failures entries.new;
+    })
+        (record {
+          before = T.untold table.old;
+          after = T.untold table.new;
+          failed_before = T.failures table.old;
+          failed_after = T.failures table.new;
+        }) result.outcome (string_bytes result.behind) }
+{
+    match read_table(alloc, table) {
+        Ok(table) => explain_told(alloc, entries, &table, asked),
+        Err(outcome) => Why::of_fault(alloc, outcome),
+    }
+}
+
+/// What is said of a record, a table and a certificate, each of which a reader tells, and why.
+fn explain_all<R: Read, T: Read, C: Read>(
+    alloc: Global,
+    entries: &mut R,
+    table: &mut T,
+    certificate: &mut C,
+    asked: Asked,
+) -> Why
+    ensures { IsExplainedBy asked.judged (record {
+      before = R.untold entries.old;
+      after = R.untold entries.new;
+      failed_before = R.failures entries.old;
+      failed_after = R.failures entries.new;
+    })
+        (record {
+          before = T.untold table.old;
+          after = T.untold table.new;
+          failed_before = T.failures table.old;
+          failed_after = T.failures table.new;
+        })
+        (record {
+          before = C.untold certificate.old;
+          after = C.untold certificate.new;
+          failed_before = C.failures certificate.old;
+          failed_after = C.failures certificate.new;
+        }) result.outcome (string_bytes result.behind) }
+{
+    let table = match read_table(alloc, table) {
+        Ok(table) => table,
+        Err(outcome) => return Why::of_fault(alloc, outcome),
+    };
+    match read_certificate(alloc, certificate) {
+        Ok(certificate) => explain_told_by(alloc, entries, &table, &certificate, asked),
+        Err(outcome) => Why::of_fault(alloc, outcome),
+    }
+}
+
+/// Judges the record that `entries` tells by the operation table that `table` tells, of one end alone or, where none is named,
+/// of both, and writes the line of `judge`, and behind it why: of a record that is lawful, the run that shows it, step by step
+/// (Q.774 3.2 and 3.3); where an entry is at fault, what it does and on which entries that rests; else where the run stops, and
+/// what the end knows there. Behind REFUTED and UNDECIDED stands, where both ends are judged, what `blame` says of each, and
+/// why. The status is that of `judge`. `chart` becomes the chart of the run, an SVG, where one is asked for and the record, the
+/// table and the certificate have no fault, and else empty. All memory is taken before the first octet is written; where it runs
+/// out, `FAULT 99 0` is the only line. `WriteFailed` where the writer failed.
+pub fn run_explain<R: Read, T: Read, W: Write>(
+    alloc: Global,
+    entries: &mut R,
+    table: &mut T,
+    asked: Asked,
+    chart: &mut String,
+    writer: &mut W,
+) -> Result<Status, WriteFailed>
+    ensures explains { IfOk result (Explains asked.judged (record {
+      before = R.untold entries.old;
+      after = R.untold entries.new;
+      failed_before = R.failures entries.old;
+      failed_after = R.failures entries.new;
+    })
+        (record {
+          before = T.untold table.old;
+          after = T.untold table.new;
+          failed_before = T.failures table.old;
+          failed_after = T.failures table.new;
+        })
+        (W.taken writer.old) (W.taken writer.new)) }
+    ensures counts { OnOk result (W.failures writer.new ≡ W.failures writer.old) }
+    ensures failed { OnErr result (W.failures writer.new ≡ one_more (W.failures writer.old)) }
+{
+    let why = explain_both(alloc, entries, table, asked);
+    *chart = why.chart;
+    write_outcome(alloc, why.outcome, &why.behind, writer)
+}
+
+/// The same by the certificate that `certificate` tells: the line is that of `check`, and so is the status.
+pub fn run_explain_check<R: Read, T: Read, C: Read, W: Write>(
+    alloc: Global,
+    entries: &mut R,
+    table: &mut T,
+    certificate: &mut C,
+    asked: Asked,
+    chart: &mut String,
+    writer: &mut W,
+) -> Result<Status, WriteFailed>
+    ensures explains { IfOk result (ExplainsBy asked.judged (record {
+      before = R.untold entries.old;
+      after = R.untold entries.new;
+      failed_before = R.failures entries.old;
+      failed_after = R.failures entries.new;
+    })
+        (record {
+          before = T.untold table.old;
+          after = T.untold table.new;
+          failed_before = T.failures table.old;
+          failed_after = T.failures table.new;
+        })
+        (record {
+          before = C.untold certificate.old;
+          after = C.untold certificate.new;
+          failed_before = C.failures certificate.old;
+          failed_after = C.failures certificate.new;
+        })
+        (W.taken writer.old) (W.taken writer.new)) }
+    ensures counts { OnOk result (W.failures writer.new ≡ W.failures writer.old) }
+    ensures failed { OnErr result (W.failures writer.new ≡ one_more (W.failures writer.old)) }
+{
+    let why = explain_all(alloc, entries, table, certificate, asked);
+    *chart = why.chart;
+    write_outcome(alloc, why.outcome, &why.behind, writer)
+}

@@ -1,0 +1,177 @@
+//! What an end knows of a half, in words.
+
+use crate::step_lines::letter;
+use std::alloc::{AllocError, Global};
+use tcap_end::{EndState, HalfName, InvocationState, OpenHalf, Phase, Standing};
+use tcap_msg::TransactionId;
+use tcap_parts::{CodeView, ComponentView};
+use tcap_record::{End, push_component, push_hex};
+
+/// How many components, and how many operations of one invoke ID, are told.
+const MOST: usize = 8;
+
+/// A phase in words (Q.774 3.3).
+fn phase_words(phase: Phase) -> &'static str {
+    match phase {
+        Phase::Sent => "it sent its Begin",
+        Phase::Received => "it received the Begin",
+        Phase::Active => "active",
+        Phase::Closed => "closed",
+    }
+}
+
+/// How far a dialogue is, in words (Q.774 3.2).
+fn standing_words(standing: Standing) -> &'static str {
+    match standing {
+        Standing::Without => "no dialogue",
+        Standing::Asked => "a dialogue is asked for",
+        Standing::Confirmed => "a dialogue is confirmed",
+    }
+}
+
+/// Appends an operation code.
+fn push_code(text: &mut String, code: CodeView) -> Result<(), AllocError> {
+    match code {
+        CodeView::Local(number) => write!(text, "{number}"),
+        CodeView::Global(id) => {
+            text.push_str("g:")?;
+            push_hex(text, id.octets)
+        }
+    }
+}
+
+/// Appends a transaction ID behind a label, where it is known.
+fn push_id(text: &mut String, label: &str, id: Option<&TransactionId>) -> Result<(), AllocError> {
+    match id {
+        Some(id) => {
+            text.push_str(label)?;
+            push_hex(text, id.octets())
+        }
+        None => Ok(()),
+    }
+}
+
+/// Appends the name of a half.
+fn push_name(text: &mut String, name: &HalfName) -> Result<(), AllocError> {
+    match name {
+        HalfName::Own(id) => push_id(text, " otid=", Some(id)),
+        HalfName::Peer(id) => push_id(text, " peer ", Some(id)),
+    }
+}
+
+/// Appends the own invocation of an invoke ID.
+fn push_own(text: &mut String, half: &OpenHalf, id: i8) -> Result<(), AllocError> {
+    match (half.own_operation(id), half.own_state(id)) {
+        (Some(code), Some(state)) => {
+            text.push_str("own invocation op=")?;
+            push_code(text, code)?;
+            text.push_str(match state {
+                InvocationState::OperationSent => ", operation sent",
+                InvocationState::WaitForReject => ", wait for reject",
+            })
+        }
+        _ => text.push_str("no own invocation"),
+    }
+}
+
+/// Appends the operations that were received under an invoke ID and are not answered, the first of them.
+fn push_codes(text: &mut String, codes: &[CodeView]) -> Result<(), AllocError> {
+    let count = codes.len();
+    write!(text, "; invocations received and not answered {count}")?;
+    for (number, code) in codes.iter().enumerate() {
+        if number >= MOST {
+            return text.push_str(" ..");
+        }
+        text.push_str(" op=")?;
+        push_code(text, *code)?;
+    }
+    Ok(())
+}
+
+/// Appends how many of the answers that were received under an invoke ID may be rejected.
+fn push_answers(text: &mut String, answers: &[bool]) -> Result<(), AllocError> {
+    let mut results = 0u32;
+    let mut errors = 0u32;
+    for is_result in answers {
+        if *is_result {
+            results = results.saturating_add(1);
+        } else {
+            errors = errors.saturating_add(1);
+        }
+    }
+    writeln!(text, "; results received {results}, errors {errors}")
+}
+
+/// Appends what a half has under an invoke ID.
+fn push_under(alloc: Global, text: &mut String, half: &OpenHalf, id: i8) -> Result<(), AllocError> {
+    write!(text, "      before this message, under {id}: ")?;
+    push_own(text, half, id)?;
+    let codes = half.received(alloc, id)?;
+    push_codes(text, &codes)?;
+    let answers = half.answers(alloc, id)?;
+    push_answers(text, &answers)
+}
+
+/// The invoke ID that a component speaks of, and the linked ID.
+fn ids_of(component: ComponentView) -> (Option<i8>, Option<i8>) {
+    match component {
+        ComponentView::Invoke { id, linked, .. } => (Some(id), linked),
+        ComponentView::ReturnResult { id, .. } => (Some(id), None),
+        ComponentView::ReturnError { id, .. } => (Some(id), None),
+        ComponentView::Reject { id, .. } => (id, None),
+    }
+}
+
+/// Appends a component, and what a half has under its IDs, where it is open.
+pub(crate) fn push_component_state(
+    alloc: Global,
+    text: &mut String,
+    half: Option<&OpenHalf>,
+    component: ComponentView,
+) -> Result<(), AllocError> {
+    text.push_str("  ")?;
+    push_component(text, component)?;
+    let Some(half) = half else {
+        return Ok(());
+    };
+    let (id, linked) = ids_of(component);
+    if let Some(id) = id {
+        push_under(alloc, text, half, id)?;
+    }
+    if let Some(linked) = linked {
+        push_under(alloc, text, half, linked)?;
+    }
+    Ok(())
+}
+
+/// Appends what an end knows of the half of that name: its phase, its IDs and its dialogue; or that it is closed, or not there.
+pub(crate) fn push_half_state(
+    text: &mut String,
+    end: End,
+    state: &EndState,
+    name: &HalfName,
+) -> Result<(), AllocError> {
+    text.push_str("  ")?;
+    text.push_str(letter(end))?;
+    match state.open_half(name) {
+        Some(half) => {
+            text.push_str(": the half with")?;
+            push_id(text, " otid=", half.own())?;
+            push_id(text, " peer ", half.peer())?;
+            text.push_str(": ")?;
+            text.push_str(phase_words(half.phase()))?;
+            text.push_str(", ")?;
+            text.push_str(standing_words(half.standing()))?;
+        }
+        None if state.knows(name) => {
+            text.push_str(": the half with")?;
+            push_name(text, name)?;
+            text.push_str(" is closed")?;
+        }
+        None => {
+            text.push_str(": no half with")?;
+            push_name(text, name)?;
+        }
+    }
+    text.push_str("\n")
+}

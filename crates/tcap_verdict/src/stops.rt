@@ -1,0 +1,369 @@
+//! Why a certificate shows nothing: the reason, the entry, and what the end knows there.
+
+ghost use Rattle.std.specs.Prelude.{◌≤◌, length};
+
+use crate::half_states::{push_component_state, push_half_state};
+use crate::reasons::{fault_words, reason_words};
+use crate::refusing::{MANY, is_of_component, refused_component};
+use crate::refuted::push_ends;
+use crate::step_lines::{letter, other};
+use std::alloc::{AllocError, Global};
+use tcap_ber::Fault;
+use tcap_check::{Certificate, CheckFault, Fate, Reason};
+use tcap_end::{EndFault, EndState, HalfName, OpenHalf, Table};
+use tcap_msg::{Kind, Message, MessageParts};
+use tcap_parts::ComponentView;
+use tcap_record::{Body, End, Entry, Record, push_view};
+use tcap_runs::{Partial, run_until};
+
+/// How many halves, or numbers, are told.
+const MOST: usize = 8;
+
+/// Where the run of a certificate stops.
+#[derive(Clone, Copy, Debug)]
+struct Stop<'a> {
+    read: &'a Record,
+    table: &'a Table,
+    certificate: &'a Certificate,
+    judged: Option<End>,
+    fault: CheckFault,
+}
+
+impl Stop<'_> {
+    /// The run as far as it goes.
+    fn run(&self, alloc: Global) -> Result<Partial, AllocError> {
+        run_until(alloc, self.read, self.table, self.certificate, self.judged)
+    }
+}
+
+/// Appends what a reason says, and its name behind it.
+fn push_words(text: &mut String, words: (&str, &str)) -> Result<(), AllocError> {
+    let (name, meaning) = words;
+    text.push_str(meaning)?;
+    text.push_str(" (")?;
+    text.push_str(name)?;
+    text.push_str(")")
+}
+
+/// Appends the line of a reason.
+fn push_reason(text: &mut String, reason: Reason) -> Result<(), AllocError> {
+    text.push_str(match reason {
+        Reason::BadReply | Reason::SendRefused(_) | Reason::HiddenRefused(_) | Reason::NotQuiet =>
+            "  why: in the run that the certificate says, ",
+        _ => "  why: ",
+    })?;
+    push_words(text, reason_words(reason))?;
+    if let Reason::SendRefused(fault) | Reason::HiddenRefused(fault) = reason {
+        text.push_str(": ")?;
+        push_words(text, fault_words(fault))?;
+    }
+    text.push_str("\n")
+}
+
+/// Appends what is to be known of octets that are no message.
+fn push_bad(text: &mut String, fault: Fault) -> Result<(), AllocError> {
+    text.push_str("  `tcapjudge show --why RECORD` says what is wrong with them\n")?;
+    if is_limit(fault.reason.number()) {
+        text.push_str("  it is a limit of this profile: no end is blamed for it\n")?;
+    }
+    Ok(())
+}
+
+/// Whether octets are refused for that reason by a limit of this profile alone.
+fn is_limit(number: u8) -> bool {
+    matches!(number, 2..=4 | 12 | 13 | 16..=18)
+}
+
+/// Appends the lines of an entry, each begun by two blanks.
+fn push_entry(
+    alloc: Global,
+    text: &mut String,
+    number: usize,
+    entry: &Entry,
+) -> Result<(), AllocError> {
+    let mut lines = String::new(alloc);
+    push_view(&mut lines, number, &entry.view())?;
+    for line in lines.lines() {
+        text.push_str("  ")?;
+        text.push_str(line)?;
+        text.push_str("\n")?;
+    }
+    Ok(())
+}
+
+/// The names of the half over which a message is sent, the first that is asked for first.
+fn sending_name(message: &Message, state: &EndState) -> Option<HalfName> {
+    let own = message
+        .otid()
+        .map(|id| HalfName::Own(id.to_transaction_id()));
+    match (message.kind(), own) {
+        (Kind::Unidirectional, _) => None,
+        (_, Some(name)) if state.knows(&name) || message.kind() == Kind::Begin => Some(name),
+        _ => Some(HalfName::Peer(message.dtid()?.to_transaction_id())),
+    }
+}
+
+/// The name of the half over which a message is received.
+fn receiving_name(message: &Message) -> Option<HalfName> {
+    match message.kind() {
+        Kind::Unidirectional => None,
+        Kind::Begin => Some(HalfName::Peer(message.otid()?.to_transaction_id())),
+        _ => Some(HalfName::Own(message.dtid()?.to_transaction_id())),
+    }
+}
+
+/// Appends the component of that place, and what an end knows of its invoke ID over a half, where that is open.
+fn push_refused(
+    alloc: Global,
+    text: &mut String,
+    half: Option<&OpenHalf>,
+    message: &Message,
+    place: usize,
+) -> Result<(), AllocError> {
+    let Some(component) = message.components().nth(place) else {
+        return Ok(());
+    };
+    writeln!(text, "  component {place} is what it refuses:")?;
+    push_component_state(alloc, text, half, component)
+}
+
+/// The end's state behind the run as far as it goes.
+fn state_of(run: &mut Partial, end: End) -> &mut EndState {
+    match end {
+        End::A => &mut run.a,
+        End::B => &mut run.b,
+    }
+}
+
+/// Appends why an end can't receive a message, where that is so.
+fn push_refusal(text: &mut String, refused: Result<(), EndFault>) -> Result<(), AllocError> {
+    match refused {
+        Ok(()) => Ok(()),
+        Err(fault) => {
+            text.push_str("  it can't receive it: ")?;
+            push_words(text, fault_words(fault))?;
+            text.push_str("\n")
+        }
+    }
+}
+
+/// Whether a message is refused for Rejects in a Unidirectional, which the standard leaves to the user.
+fn is_left_to_user(message: &Message, fault: EndFault) -> bool {
+    message.kind() == Kind::Unidirectional
+        && fault == EndFault::NothingToAnswer
+        && message.components().all(|one| matches!(
+            one,
+            ComponentView::Invoke { .. } | ComponentView::Reject { .. }
+        ))
+}
+
+/// The same, to look at.
+fn state_in(run: &Partial, end: End) -> &EndState {
+    match end {
+        End::A => &run.a,
+        End::B => &run.b,
+    }
+}
+
+/// Appends what the end knows that sends a message, and which component it refuses. Of the two runs, which are equal, the second
+/// is used up.
+fn push_sender(
+    alloc: Global,
+    text: &mut String,
+    run: &Partial,
+    spare: &mut Partial,
+    table: &Table,
+    sender: End,
+    message: &Message,
+    fault: EndFault,
+) -> Result<(), AllocError> {
+    let state = state_in(run, sender);
+    let mut half = None;
+    if let Some(name) = sending_name(message, state) {
+        if message.kind() != Kind::Begin || state.knows(&name) {
+            push_half_state(text, sender, state, &name)?;
+            half = state.open_half(&name);
+        }
+    }
+    if is_left_to_user(message, fault) {
+        text.push_str(
+            "  a Unidirectional carries Invokes alone here; a Reject in one is left to the user, and blamed on nobody\n",
+        )?;
+    }
+    if !is_of_component(fault) {
+        return Ok(());
+    }
+    match refused_component(alloc, state_of(spare, sender), table, message)? {
+        Some(place) => push_refused(alloc, text, half.as_ref(), message, place),
+        None if message.count() > MANY => {
+            text.push_str("  it has over 64 components: which one is refused is not looked for\n")
+        }
+        None => Ok(()),
+    }
+}
+
+/// Appends what the end knows that can't receive a message, and why.
+fn push_receiver(
+    text: &mut String,
+    run: &mut Partial,
+    table: &Table,
+    receiver: End,
+    message: &Message,
+) -> Result<(), AllocError> {
+    let state = state_of(run, receiver);
+    if let Some(name) = receiving_name(message) {
+        push_half_state(text, receiver, state, &name)?;
+    }
+    push_refusal(text, state.receive(table, message))
+}
+
+/// Whether the certificate ties a message to the entry.
+fn is_tied(stop: &Stop) -> bool {
+    stop.certificate.fates().iter().any(
+        |fate| matches!(fate, Fate::By(reply) if u64::from(*reply) == stop.fault.entry),
+    )
+}
+
+/// Appends which messages the certificate ties to the entry.
+fn push_tied(text: &mut String, stop: &Stop, is_answer: bool) -> Result<(), AllocError> {
+    text.push_str(if is_answer {
+        "  it is a provider's answer, and the messages that the certificate says it answers are"
+    } else {
+        "  it is no provider's answer, but the certificate says that it answers"
+    })?;
+    let mut found = 0;
+    for (number, fate) in stop.certificate.fates().iter().enumerate() {
+        if matches!(fate, Fate::By(reply) if u64::from(*reply) == stop.fault.entry) {
+            if found >= MOST {
+                return text.push_str(" ..\n");
+            }
+            write!(text, " {number}")?;
+            found += 1;
+        }
+    }
+    text.push_str(if found == 0 { " none\n" } else { "\n" })
+}
+
+/// Appends the entry behind a gap.
+fn push_behind(alloc: Global, text: &mut String, stop: &Stop, gap: u32) -> Result<(), AllocError> {
+    match stop.read.entries.get(gap as usize) {
+        Some(entry) => push_entry(alloc, text, gap as usize, entry),
+        None => text.push_str("  no entry is behind it\n"),
+    }
+}
+
+/// Appends what the certificate lists of the entry, the first of it, each with the entry before which it stands.
+fn push_listed(alloc: Global, text: &mut String, stop: &Stop) -> Result<(), AllocError> {
+    let mut found = 0;
+    for x in stop.certificate.closings() {
+        if u64::from(x.entry) == stop.fault.entry && found < MOST {
+            found += 1;
+            let (end, gap) = (letter(x.side), x.gap);
+            writeln!(
+                text,
+                "  listed: before entry {gap} {end}'s half of its transaction closes unseen"
+            )?;
+            push_behind(alloc, text, stop, gap)?;
+        }
+    }
+    for x in stop.certificate.expiries() {
+        if u64::from(x.entry) == stop.fault.entry && found < MOST {
+            found += 1;
+            let (end, gap, component) = (letter(x.side), x.gap, x.component);
+            writeln!(
+                text,
+                "  listed: before entry {gap} {end}'s invocation of its component {component} ends unseen"
+            )?;
+            push_behind(alloc, text, stop, gap)?;
+        }
+    }
+    Ok(())
+}
+
+/// Appends the halves of an end that are open, the first of them.
+fn push_open(
+    alloc: Global,
+    text: &mut String,
+    end: End,
+    state: &EndState,
+) -> Result<(), AllocError> {
+    let names = state.open_halves(alloc)?;
+    for (number, name) in names.iter().enumerate() {
+        if number >= MOST {
+            return text.push_str("  ..\n");
+        }
+        push_half_state(text, end, state, name)?;
+    }
+    Ok(())
+}
+
+/// Appends what the end knows that sends the message of an entry, or that receives it, where the run stops.
+fn push_known(
+    alloc: Global,
+    text: &mut String,
+    stop: &Stop,
+    sender: End,
+    message: &Message,
+) -> Result<(), AllocError> {
+    match stop.fault.reason {
+        Reason::SendRefused(fault) => {
+            let run = stop.run(alloc)?;
+            let mut spare = stop.run(alloc)?;
+            push_sender(
+                alloc, text, &run, &mut spare, stop.table, sender, message, fault,
+            )
+        }
+        Reason::BadReply if message.cause().is_some() => push_tied(text, stop, true),
+        Reason::BadReply if is_tied(stop) => push_tied(text, stop, false),
+        Reason::BadReply => {
+            let mut run = stop.run(alloc)?;
+            push_receiver(text, &mut run, stop.table, other(sender), message)
+        }
+        Reason::HiddenRefused(_) => push_listed(alloc, text, stop),
+        _ => Ok(()),
+    }
+}
+
+/// The lines behind that of a record of which the certificate shows nothing: the reason, the entry, what the end knows there
+/// that sends or receives it, and, where both ends are judged, what is said of each.
+pub(crate) fn stop_text(
+    alloc: Global,
+    read: &Record,
+    table: &Table,
+    certificate: &Certificate,
+    judged: Option<End>,
+    fault: CheckFault,
+) -> Result<String, AllocError>
+    requires few { length read.now.entries.items ≤ 100000 }
+{
+    let stop = Stop {
+        read,
+        table,
+        certificate,
+        judged,
+        fault,
+    };
+    let mut text = String::new(alloc);
+    push_reason(&mut text, fault.reason)?;
+    if let Some(entry) = read.entries.get(fault.entry as usize) {
+        push_entry(alloc, &mut text, fault.entry as usize, entry)?;
+        if let (Some(sender), Body::Good(message)) = (entry.side, &entry.body) {
+            push_known(alloc, &mut text, &stop, sender, message)?;
+        }
+        if let (Reason::NotQuiet, Body::Quiet) = (fault.reason, &entry.body) {
+            let run = stop.run(alloc)?;
+            push_open(alloc, &mut text, End::A, &run.a)?;
+            push_open(alloc, &mut text, End::B, &run.b)?;
+        }
+    }
+    if let Reason::BadMessage(fault) = fault.reason {
+        push_bad(&mut text, fault)?;
+    }
+    if !matches!(fault.reason, Reason::BadMessage(_) | Reason::NoItem) {
+        text.push_str("  another certificate may show more: this says nothing of an end\n")?;
+    }
+    if judged.is_none() {
+        push_ends(alloc, &mut text, read, table, None)?;
+    }
+    Ok(text)
+}

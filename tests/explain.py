@@ -1,0 +1,195 @@
+"""Runs the built program's word `explain`, and looks at what it says. The texts of explained.py are printed of the records there,
+octet for octet. Of these and of further records, those of judged.py, blamed.py and alone.py and the 200 of faults.json: the first
+line and the status are those of `judge`, of `judge --end`, or of `check` with the certificate that `judge` proposes; behind a line
+that is not LAWFUL stand the lines of `blame`; each line else begins with two blanks; under what is refuted or blamed that entry
+is named, and no entry that is not there; a run names each entry where it is sent, once and in order; and a chart is an SVG whose
+title is that line."""
+
+import os
+import re
+import subprocess
+import sys
+import tempfile
+import xml.etree.ElementTree
+
+import alone
+import blamed
+import explained
+import judged
+
+PROGRAM = "crates/tcapjudge/out/tcapjudge"
+SVG = "{http://www.w3.org/2000/svg}"
+SENT = re.compile(r"^  (?:[AB] (?:sends|tells) (\d+) |[AB]'s provider answers \d+ by (\d+)$|(all is quiet)$)")
+
+
+def run(*words):
+    """What the program prints with these words, on both outputs, and its status."""
+    done = subprocess.run([PROGRAM, *words], capture_output=True, check=False)
+    return done.stdout.decode(), done.stderr.decode(), done.returncode
+
+
+class Rows:
+    """How many rows passed and failed; those that failed are printed."""
+
+    def __init__(self):
+        self.passed, self.failed = 0, 0
+
+    def row(self, name, found, wanted=True):
+        if found == wanted:
+            self.passed += 1
+        else:
+            self.failed += 1
+            print(f"{name[:300]}: {str(found)[:900]}, not {str(wanted)[:900]}")
+
+
+class Files:
+    """A record, a table and a certificate in files."""
+
+    def __init__(self, folder):
+        self.record, self.table, self.cert = (f"{folder}/{name}" for name in ("record", "table", "cert"))
+        self.chart = f"{folder}/chart.svg"
+
+    def write(self, path, octets):
+        with open(path, "wb") as file:
+            file.write(octets)
+
+    def fill(self, record, table, cert=None):
+        self.write(self.record, record)
+        self.write(self.table, table)
+        if cert is not None:
+            self.write(self.cert, cert)
+
+
+def records():
+    """Of each record a name, its octets and those of its table."""
+    for entries, _, *table in judged.ROWS + blamed.ROWS:
+        yield entries, judged.octets_of(entries), (table or [judged.TABLE])[0].encode()
+    for entries, _, _, *table in alone.JUDGED:
+        yield entries, judged.octets_of(entries), (table or [judged.TABLE])[0].encode()
+    for name, record, table, _ in blamed.known_faults():
+        yield name, record, table
+
+
+def worked(rows, files):
+    """What is printed of the worked records."""
+    for entries, words, cert, status, text, *table in explained.ROWS:
+        files.fill(judged.octets_of(entries), (table or [judged.TABLE])[0].encode(), cert and cert.encode())
+        found = run("explain", files.record, files.table, *([files.cert] if cert else []), *words)
+        rows.row(f"{entries} {words}", found, (text, "", status))
+
+
+def look_at_run(rows, name, lines, count):
+    """A run names each entry where it is sent, a mark by itself."""
+    sent = [SENT.match(line) for line in lines]
+    numbers = [next(filter(None, found.groups())) for found in sent if found]
+    wanted = [str(number) for number in range(count)]
+    rows.row(f"{name}: its run", len(numbers) == count and all(n in (w, "all is quiet") for n, w in zip(numbers, wanted)))
+
+
+def look_at_facts(rows, name, lines, count):
+    """What is refuted or blamed is named under its line, and what is named is there."""
+    named = [int(number) for line in lines for number in re.findall(r"entr(?:y|ies) (\d+)", line)]
+    rows.row(f"{name}: entries that are named", all(number < count for number in named))
+    for place, line in enumerate(lines):
+        fault = re.match(r"(?:REFUTED|BLAMED [AB]) (\d+) F\d+$", line)
+        if fault:
+            behind = lines[place + 1] if place + 1 < len(lines) else ""
+            is_shown = any(line.startswith("REFUTED") for line in lines[:place])
+            is_same = is_shown and lines[0].split()[1:] == line.split()[2:]
+            is_named = behind.startswith("  ") and f"entry {fault[1]}" in behind
+            rows.row(f"{name}: the fact of {line}", is_named or is_same)
+
+
+def look_at(rows, name, text, count, blame):
+    """The lines behind the first."""
+    lines = text.splitlines()
+    plain = [line for line in lines[1:] if not line.startswith("  ")]
+    rows.row(f"{name}: lines of blame", plain, blame)
+    if lines[0].startswith("LAWFUL"):
+        look_at_run(rows, name, lines[1:], count)
+    else:
+        look_at_facts(rows, name, lines, count)
+
+
+def look_at_chart(rows, name, path, title):
+    """A chart is an SVG whose title is the first line of what is printed."""
+    root = xml.etree.ElementTree.parse(path).getroot()
+    texts = ["".join(text.itertext()) for text in root.iter(f"{SVG}text")]
+    rows.row(f"{name}: the chart", (root.tag, title in texts), (f"{SVG}svg", True))
+
+
+def agrees(rows, files):
+    """The other words say the same."""
+    for name, record, table in records():
+        files.fill(record, table)
+        paths = files.record, files.table
+        shown = run("show", files.record)[0].splitlines()
+        count = len([line for line in shown if not line.startswith("  ") and not line.startswith("FAULT")])
+        verdict, blame = run("judge", *paths), run("blame", *paths)[0].splitlines()[1:]
+        found = run("explain", *paths, "--chart", files.chart)
+        first = found[0].partition("\n")[0]
+        rows.row(f"{name}: the verdict", (f"{first}\n", found[1], found[2]), verdict)
+        look_at(rows, name, found[0], count, [] if first.startswith("LAWFUL") else blame)
+        look_at_chart(rows, name, files.chart, first)
+        for end in "AB":
+            verdict = run("judge", "--end", end, *paths)
+            alone_text = run("explain", "--end", end, *paths)
+            line = alone_text[0].partition("\n")[0]
+            rows.row(f"{name}: {end}", (f"{line}\n", alone_text[1], alone_text[2]), verdict)
+            look_at(rows, f"{name}: {end}", alone_text[0], count, [])
+        if first.startswith("LAWFUL"):
+            certificate = run("judge", "--cert", *paths)[0].splitlines()[1]
+            files.write(files.cert, certificate.encode())
+            rows.row(f"{name}: by the certificate", run("explain", *paths, files.cert), found)
+
+
+def checks(rows, files):
+    """By a certificate the line is that of `check`."""
+    for entries, cert, _, _, *table in alone.CHECKED:
+        files.fill(judged.octets_of(entries), (table or [judged.TABLE])[0].encode(), cert.encode())
+        paths = files.record, files.table, files.cert
+        for words in [], ["--end", "A"], ["--end", "B"]:
+            verdict, found = run("check", *words, *paths), run("explain", *words, *paths)
+            first = f"{found[0].partition(chr(10))[0]}\n"
+            rows.row(f"{entries} {cert} {words}", (first, found[1], found[2]), verdict)
+
+
+def faults(rows, files):
+    """What has a fault, a chart that can't be written, and files that are not there."""
+    files.fill(b"\x41\x62\x03\x48\x01\x01", judged.TABLE.encode(), b"{}")
+    files.write(files.chart, b"old")
+    why = "  why: {}\n".format
+    record = why("the record: `tcapjudge show --why RECORD` says what is wrong")
+    table = why("the operation table: `tcapjudge table TABLE` says what is wrong")
+    chart = "--chart", files.chart
+    rows.row("a cut record", run("explain", files.table, files.table, *chart), (f"FAULT 20 0\n{record}", "", 3))
+    rows.row("no table", run("explain", files.record, files.record, *chart), (f"FAULT 30 0\n{table}", "", 3))
+    cert = why("the certificate: its text is none")
+    rows.row("no certificate", run("explain", files.record, files.table, files.cert), (f"FAULT 60 0\n{cert}", "", 3))
+    unread = why("a file can't be opened or read: the table, the certificate or the record, the first that is needed")
+    for paths in [files.record, "none"], ["none", files.table], [files.record, files.table, "none"]:
+        rows.row(f"{paths}", run("explain", *paths, *chart), (f"FAULT 23 0\n{unread}", "", 3))
+    with open(files.chart, "rb") as file:
+        rows.row("the chart is as it was", file.read(), b"old")
+    over = "error: the chart would be written over a file that is read\n"
+    rows.row("over", run("explain", files.record, files.table, "--chart", files.table), ("", over, 3))
+    lawful = "LAWFUL 1\n  one run that shows it:\n  A sends 0 Begin otid=01\n  B receives 0\n"
+    said = "error: the chart can't be written to /none/chart\n"
+    rows.row("no chart", run("explain", files.record, files.table, "--chart", "/none/chart"), (lawful, said, 3))
+
+
+def main():
+    rows = Rows()
+    with tempfile.TemporaryDirectory() as folder:
+        files = Files(folder)
+        worked(rows, files)
+        faults(rows, files)
+        checks(rows, files)
+        agrees(rows, files)
+    print(f"{rows.passed} passed, {rows.failed} failed")
+    return int(rows.failed != 0)
+
+
+if __name__ == "__main__":
+    os.chdir(os.path.dirname(os.path.dirname(os.path.abspath(__file__))))
+    sys.exit(main())
