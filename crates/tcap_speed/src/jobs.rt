@@ -1,0 +1,150 @@
+//! The jobs.
+
+use crate::awkward::{all_under_way, crossing, expiring, one_invoke_id, unheard};
+use crate::calls::Answers;
+use crate::dice::Dice;
+use crate::record::Made;
+use crate::traffic::make_traffic;
+use std::alloc::{AllocError, Global};
+use tcap_record::End;
+
+/// A job that a user waits for.
+#[derive(Clone, Copy, Debug)]
+pub(crate) enum Job {
+    /// A load test's record is judged.
+    Load,
+    /// It is asked who is at fault in such a record.
+    Blame,
+    /// And why.
+    Explain,
+    /// A nightly suite: many records of 10 to 1,000 entries, negative tests among them.
+    Nightly,
+    /// An archive is gone over again: lines are packed, records shown, and checked by their certificates.
+    Archive,
+    /// Records that are awkward.
+    Awkward,
+}
+
+/// All of them.
+pub(crate) const JOBS: [Job; 6] = [
+    Job::Load,
+    Job::Blame,
+    Job::Explain,
+    Job::Nightly,
+    Job::Archive,
+    Job::Awkward,
+];
+
+impl Job {
+    /// Its name.
+    pub(crate) fn name(self) -> &'static str {
+        match self {
+            Job::Load => "load",
+            Job::Blame => "blame",
+            Job::Explain => "explain",
+            Job::Nightly => "nightly",
+            Job::Archive => "archive",
+            Job::Awkward => "awkward",
+        }
+    }
+
+    /// How many entries there are in all, as the benchmark has it.
+    pub(crate) fn entries(self) -> u32 {
+        match self {
+            Job::Load => 100_000,
+            Job::Blame => 60_000,
+            Job::Explain => 60_000,
+            Job::Nightly => 240_000,
+            Job::Archive => 150_000,
+            Job::Awkward => 240_000,
+        }
+    }
+}
+
+/// The record of a load test: a fiftieth as many dialogues at once.
+fn load(alloc: Global, seed: u32, entries: u32) -> Result<Made, AllocError> {
+    make_traffic(alloc, entries as usize, entries / 50, 0, seed)
+}
+
+/// Judges the records of a nightly suite: six in ten as they ought to be, and of the others one message in a hundred is at
+/// fault; of these one end is judged alone, or it is asked who is at fault.
+fn nightly(
+    alloc: Global,
+    answers: &mut Answers,
+    seed: u32,
+    entries: u32,
+) -> Result<(), AllocError> {
+    let mut dice = Dice::new(seed);
+    for _ in 0..entries.div_ceil(500) {
+        let len = dice.between(10, 1_000);
+        let dialogues = dice.between(1, 40);
+        let kind = dice.below(10);
+        let faults = if kind < 6 { 0 } else { 100 };
+        let made = make_traffic(alloc, len as usize, dialogues, faults, dice.word())?;
+        match kind {
+            0..=5 => answers.judge(alloc, &made.octets),
+            6 => answers.judge_end(alloc, &made.octets, End::A),
+            7 => answers.judge_end(alloc, &made.octets, End::B),
+            _ => answers.blame(alloc, &made.octets),
+        }
+    }
+    Ok(())
+}
+
+/// Goes over an archive again: three records, each of which is packed, shown and checked.
+fn archive(
+    alloc: Global,
+    answers: &mut Answers,
+    seed: u32,
+    entries: u32,
+) -> Result<(), AllocError> {
+    let mut dice = Dice::new(seed);
+    for _ in 0..3 {
+        let made = load(alloc, dice.word(), entries / 3)?;
+        let lines = made.lines(alloc)?;
+        answers.pack(alloc, &lines);
+        answers.show(alloc, &made.octets);
+        let certificate = made.certificate(alloc)?;
+        answers.check(alloc, &made.octets, certificate.as_str());
+    }
+    Ok(())
+}
+
+/// Checks, judges or blames records that are awkward.
+fn awkward(
+    alloc: Global,
+    answers: &mut Answers,
+    seed: u32,
+    entries: u32,
+) -> Result<(), AllocError> {
+    let few = entries / 6;
+    answers.judge(alloc, &one_invoke_id(alloc, few, seed)?.octets);
+    answers.judge(alloc, &crossing(alloc, few, seed)?.octets);
+    answers.judge_end(alloc, &unheard(alloc, few, seed)?.octets, End::B);
+    let made = all_under_way(alloc, few, seed)?;
+    let certificate = made.certificate(alloc)?;
+    answers.check(alloc, &made.octets, certificate.as_str());
+    let made = expiring(alloc, few.saturating_mul(2), seed)?;
+    let certificate = made.certificate(alloc)?;
+    answers.check(alloc, &made.octets, certificate.as_str());
+    Ok(())
+}
+
+/// What the calls of a job answer, over records of that seed and of about so many entries in all.
+pub(crate) fn answers_of(
+    alloc: Global,
+    job: Job,
+    seed: u32,
+    entries: u32,
+) -> Result<Answers, AllocError> {
+    let mut answers = Answers::new();
+    match job {
+        Job::Load => answers.judge(alloc, &load(alloc, seed, entries)?.octets),
+        Job::Blame => answers.blame(alloc, &load(alloc, seed, entries)?.octets),
+        Job::Explain => answers.explain(alloc, &load(alloc, seed, entries)?.octets),
+        Job::Nightly => nightly(alloc, &mut answers, seed, entries)?,
+        Job::Archive => archive(alloc, &mut answers, seed, entries)?,
+        Job::Awkward => awkward(alloc, &mut answers, seed, entries)?,
+    }
+    Ok(answers)
+}
