@@ -1,5 +1,5 @@
 -- What is found for a stretch is its certificate.
-use Rattle.std.proofs.Common.{◌≡◌, ℕ, Bool, List, ◌++◌, map, Option, sym, ap, subst, ◌∙◌}
+use Rattle.std.proofs.Common.{◌≡◌, ℕ, ◌+◌, ◌≤◌, Bool, List, length, map, Option, None, Some, refl, sym, ap, subst, ◌∙◌}
 use Rattle.tcap_record.specs.declared.entry.End.{End as Side}
 use Rattle.tcap_record.specs.declared.entry.Entry.{Entry}
 use Rattle.tcap_check.specs.Certificate.{Certificate}
@@ -7,13 +7,15 @@ use Rattle.tcap_check.specs.declared.certificate.Closing.{Closing}
 use Rattle.tcap_check.specs.declared.certificate.Expiry.{Expiry}
 use Rattle.tcap_check.specs.declared.certificate.Fate.{Fate}
 use Rattle.tcap_search.specs.Lines.{lines_of}
-use Rattle.tcap_search.specs.Proposed.{Fated, behind, closing_behind, closings_of, expiries_of, expiry_behind, fate_behind, fated, of_stretch, then_certificate, ties_of}
+use Rattle.tcap_search.specs.Proposed.{Fated, all_fated, closings_of, expiries_of, fated, number_limit, of_stretch, ties_of}
+use Rattle.tcap_search.specs.Found.{FitsBehind}
 use Rattle.tcap_search.specs.Order.{AreInOrder}
 use Rattle.tcap_search.specs.Traced.{AreFates}
+use Rattle.tcap_search.proofs.LimitLaws.{closings_fit, expiries_fit, fates_fit}
 use Rattle.tcap_search.proofs.LossLaws.{all_is, before_losses}
 use Rattle.tcap_search.proofs.OrderLaws.{losses_order}
 
-certificate_is : (c d : Certificate) → c.fates ≡ d.fates → c.expire ≡ d.expire → c.close ≡ d.close → c ≡ d
+pub certificate_is : (c d : Certificate) → c.fates ≡ d.fates → c.expire ≡ d.expire → c.close ≡ d.close → c ≡ d
 certificate_is c d p q r = λ i. record { fates = p i; expire = q i; close = r i }
 
 module _ (judged : Option Side) (marked : Bool) (entries : List Entry) (fates : List Fate)
@@ -36,17 +38,46 @@ module _ (judged : Option Side) (marked : Bool) (entries : List Entry) (fates : 
       ∙ ap (λ (all : List Fated). closings_of all (lines_of entries) (ties_of (lines_of entries)))
       (all_is judged marked entries fates are)
 
-  -- What is added for each part is what is added for the certificate.
-  pub stretch_added : (found : Certificate) (first : ℕ) (expire : List Expiry) (close : List Closing)
-      → expire ≡ expiries_of (fated (lines_of entries) fates) (lines_of entries)
-      → close ≡ closings_of (fated (lines_of entries) fates) (lines_of entries) (ties_of (lines_of entries))
-      → (new : Certificate) → new.fates ≡ found.fates ++ map (fate_behind first) fates
-      → new.expire ≡ found.expire ++ map (expiry_behind first) expire
-      → new.close ≡ found.close ++ map (closing_behind first) close
-      → new ≡ then_certificate found (behind first (of_stretch judged marked entries))
-  stretch_added found first expire close is_expire is_close new new_fates new_expire new_close =
-      certificate_is new _ (new_fates ∙ ap (λ (fs : List Fate). found.fates ++ map (fate_behind first) fs) are)
-      (new_expire
-      ∙ ap (λ (xs : List Expiry). found.expire ++ map (expiry_behind first) xs) (expiries_are expire is_expire))
-      (new_close
-      ∙ ap (λ (xs : List Closing). found.close ++ map (closing_behind first) xs) (closings_are close is_close))
+  -- With them the three parts are the certificate of the stretch.
+  pub stretch_is : (new : Certificate) → new.fates ≡ fates
+      → new.expire ≡ expiries_of (fated (lines_of entries) fates) (lines_of entries)
+      → new.close ≡ closings_of (fated (lines_of entries) fates) (lines_of entries) (ties_of (lines_of entries))
+      → new ≡ of_stretch judged marked entries
+  stretch_is new new_fates new_expire new_close =
+      certificate_is new _ (new_fates ∙ are) (expiries_are new.expire new_expire) (closings_are new.close new_close)
+
+-- Where the fates of a stretch are the same for two, so is its certificate.
+pub same_stretch : (judged other : Option Side) (marked : Bool) (entries : List Entry)
+    → AreFates judged marked entries ((of_stretch other marked entries).fates)
+    → of_stretch other marked entries ≡ of_stretch judged marked entries
+same_stretch judged other marked entries are =
+    let all : all_fated other marked (lines_of entries) ≡ all_fated judged marked (lines_of entries) =
+    sym (all_is other marked entries ((of_stretch other marked entries).fates) refl)
+    ∙ all_is judged marked entries ((of_stretch other marked entries).fates) are in
+    ap
+    (λ (all : List Fated). record {
+      fates = map (λ x. x.fate) all;
+      expire = expiries_of all (lines_of entries);
+      close = closings_of all (lines_of entries) (ties_of (lines_of entries));
+    })
+    all
+
+-- So what is found for one end alone is what is found for both, where the fates are.
+pub same_as_both : (side : Side) (marked : Bool) (entries : List Entry) (both : Certificate)
+    → both ≡ of_stretch None marked entries
+    → (fates : List Fate) → AreFates (Some side) marked entries fates → fates ≡ both.fates
+    → both ≡ of_stretch (Some side) marked entries
+same_as_both side marked entries both is fates are same =
+    is
+    ∙ same_stretch (Some side) None marked entries
+    (sym (ap (λ (c : Certificate). c.fates) is) ∙ sym same ∙ are)
+
+-- It fits behind so many entries.
+pub fits_behind : (judged : Option Side) (marked : Bool) (first : ℕ) (entries : List Entry)
+    → first + length entries ≤ number_limit → (c : Certificate) → c ≡ of_stretch judged marked entries
+    → FitsBehind first c
+fits_behind judged marked first entries few c is = (
+  fates_fit judged marked first entries few c.fates (ap (λ (c : Certificate). c.fates) is),
+  expiries_fit judged marked first entries few c.expire (ap (λ (c : Certificate). c.expire) is),
+  closings_fit judged marked first entries few c.close (ap (λ (c : Certificate). c.close) is),
+)

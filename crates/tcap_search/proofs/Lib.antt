@@ -1,4 +1,5 @@
 pub mod ClosingLaws
+pub mod EachLaws
 pub mod EndedLaws
 pub mod ExpiryLaws
 pub mod ExpirySteps
@@ -19,6 +20,7 @@ pub mod NumberedLaws
 pub mod OrderLaws
 pub mod PeerLaws
 pub mod ReplyLaws
+pub mod SameLaws
 pub mod StackLaws
 pub mod StretchLaws
 pub mod SweepLaws

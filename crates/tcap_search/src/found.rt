@@ -1,15 +1,19 @@
 //! A certificate under way.
 
-ghost use Rattle.std.specs.Prelude.{◌≡◌, ◌≤◌, ◌+◌, ◌++◌, length, map, Some, IfOk, OnOk};
+ghost use Rattle.std.specs.Prelude.{◌≡◌, ◌≤◌, ◌+◌, ◌++◌, Bool, true, Option, length, map, None, Some, IfOk, OnOk};
 ghost use Rattle.std.specs.List.{AllByRecursion};
+ghost use Rattle.tcap_record.specs.declared.entry.End.{End as Side};
 ghost use Rattle.tcap_check.specs.CertificateText.{ClosingFits, ExpiryFits, FateFits};
+ghost use Rattle.tcap_search.specs.Lines.{lines_of};
 ghost use Rattle.tcap_search.specs.Proposed.{behind, closing_behind, expiry_behind, fate_behind, of_mark, of_stretch, then_certificate};
-ghost use Rattle.tcap_search.specs.Found.{nothing_found};
+ghost use Rattle.tcap_search.specs.Found.{FitsBehind, nothing_found, or_both};
+ghost use Rattle.tcap_search.specs.Traced.{AreFates, AreTies, AreTransactions};
 
 use crate::closings::closings_of;
 use crate::expiries::expiries_of;
 use crate::fates::fates_of;
 use crate::lines::transactions_of;
+use crate::tie::Tie;
 use crate::ties::ties_of;
 use std::alloc::{AllocError, Global};
 use std::marker::Model;
@@ -125,6 +129,86 @@ impl Found {
         }
     }
 
+    /// What is proposed for a stretch with these transactions, ties and fates.
+    fn of_fates(
+        alloc: Global,
+        entries: &[Entry],
+        transactions: &[Option<u32>],
+        ties: &[Tie],
+        fates: Vec<Fate>,
+    ) -> Result<Found, AllocError>
+        requires few { length entries.now ≤ 100000 }
+        requires transactions { AreTransactions entries.now transactions.now }
+        requires ties { AreTies entries.now ties.now }
+        requires fates { (judged : Option Side) × (marked : Bool) × AreFates judged marked entries.now fates.items }
+        ensures { IfOk result (λ found. (judged : Option Side) (marked : Bool)
+            → AreFates judged marked entries.now fates.items → found ≡ of_stretch judged marked entries.now) }
+    {
+        let expire = expiries_of(alloc, entries, transactions, &fates)?;
+        let close = closings_of(alloc, entries, transactions, ties, &fates)?;
+        Ok(Found {
+            fates,
+            expire,
+            close,
+        })
+    }
+
+    /// What is proposed for a stretch with these transactions and ties, for the end that is judged alone, where one is;
+    /// behind the stretch a mark stands or not.
+    pub(crate) fn of_stretch(
+        alloc: Global,
+        judged: Option<End>,
+        marked: bool,
+        entries: &[Entry],
+        transactions: &[Option<u32>],
+        ties: &[Tie],
+    ) -> Result<Found, AllocError>
+        requires few { length entries.now ≤ 100000 }
+        requires transactions { AreTransactions entries.now transactions.now }
+        requires ties { AreTies entries.now ties.now }
+        ensures { IfOk result (λ found. found ≡ of_stretch judged marked entries.now) }
+    {
+        let fates = fates_of(alloc, judged, marked, entries, transactions, ties)?;
+        Found::of_fates(alloc, entries, transactions, ties, fates)
+    }
+
+    /// What is proposed for a stretch for that end alone; `None` where its fates are those for both ends, by which all
+    /// else is the same.
+    pub(crate) fn of_end(
+        &self,
+        alloc: Global,
+        side: End,
+        marked: bool,
+        entries: &[Entry],
+        transactions: &[Option<u32>],
+        ties: &[Tie],
+    ) -> Result<Option<Found>, AllocError>
+        requires few { length entries.now ≤ 100000 }
+        requires transactions { AreTransactions entries.now transactions.now }
+        requires ties { AreTies entries.now ties.now }
+        requires both { self.now ≡ of_stretch None marked entries.now }
+        ensures { IfOk result (λ found. or_both self.now found ≡ of_stretch (Some side) marked entries.now) }
+    {
+        let fates = fates_of(alloc, Some(side), marked, entries, transactions, ties)?;
+        if fates == self.fates {
+            return Ok(None);
+        }
+        Ok(Some(Found::of_fates(alloc, entries, transactions, ties, fates)?))
+    }
+
+    /// The same, and what is proposed for a stretch that begins behind so many entries.
+    pub(crate) fn with_behind(self, first: usize, stretch: &Found) -> Result<Found, AllocError>
+        requires few { first ≤ 100000 }
+        requires fits { FitsBehind first stretch.now }
+        ensures { IfOk result (λ found. found ≡ then_certificate self (behind first stretch.now)) }
+    {
+        let mut found = self;
+        add_fates(&mut found.fates, first as u32, &stretch.fates)?;
+        add_expiries(&mut found.expire, first as u32, &stretch.expire)?;
+        add_closings(&mut found.close, first as u32, &stretch.close)?;
+        Ok(found)
+    }
+
     /// The same, and what is proposed for a stretch that begins behind so many entries, for the end that is judged alone,
     /// where one is; behind the stretch a mark stands or not.
     pub(crate) fn with_stretch(
@@ -141,14 +225,8 @@ impl Found {
     {
         let transactions = transactions_of(alloc, entries)?;
         let ties = ties_of(alloc, entries)?;
-        let fates = fates_of(alloc, judged, marked, entries, &transactions, &ties)?;
-        let expire = expiries_of(alloc, entries, &transactions, &fates)?;
-        let close = closings_of(alloc, entries, &transactions, &ties, &fates)?;
-        let mut found = self;
-        add_fates(&mut found.fates, first as u32, &fates)?;
-        add_expiries(&mut found.expire, first as u32, &expire)?;
-        add_closings(&mut found.close, first as u32, &close)?;
-        Ok(found)
+        let stretch = Found::of_stretch(alloc, judged, marked, entries, &transactions, &ties)?;
+        self.with_behind(first, &stretch)
     }
 
     /// The same, and the fate of a quiet mark of that number.
@@ -159,6 +237,13 @@ impl Found {
         let mut found = self;
         found.fates.push(Fate::Gap(number as u32 + 1))?;
         Ok(found)
+    }
+
+    /// Whether both are the same.
+    pub(crate) fn is_same(&self, other: &Found) -> bool
+        ensures { result ≡ true → self.now ≡ other.now }
+    {
+        self.fates == other.fates && self.expire == other.expire && self.close == other.close
     }
 
     /// The certificate; `None` where it has too many fates.

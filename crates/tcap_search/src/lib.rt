@@ -6,6 +6,7 @@ pub mod alone_rows;
 mod by_invocation;
 mod candidates;
 mod closings;
+mod each;
 mod expiries;
 mod fates;
 mod found;
@@ -20,5 +21,6 @@ mod ties;
 mod unanswered;
 pub mod worked;
 
+pub use each::{Proposals, search_each};
 pub use searching::{search, search_for};
 pub use tcap_refute::{Kind, Refutation, SearchFault, refute};

@@ -10,7 +10,7 @@ use tcap_record::{Body, End, Entry, Record};
 use tcap_refute::SearchFault;
 
 /// Whether the entry is a quiet mark.
-fn is_mark(entry: &Entry) -> bool
+pub(crate) fn is_mark(entry: &Entry) -> bool
     ensures { result ≡ is_mark entry.now.body }
 {
     matches!(entry.body, Body::Quiet)
