@@ -21,6 +21,7 @@ pub mod JudgeCases
 pub mod ExplainCases
 pub mod BlameCases
 pub mod BlamedLaws
+pub mod EachEndLaws
 pub mod EndCases
 pub mod JudgeEndCases
 pub mod FlagCases

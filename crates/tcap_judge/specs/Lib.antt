@@ -11,3 +11,4 @@ pub mod Judging
 pub mod LawfulRecord
 pub mod Verdict
 pub mod Blamed
+pub mod EachEnd

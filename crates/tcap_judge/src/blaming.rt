@@ -4,24 +4,31 @@ ghost use Rattle.std.specs.Prelude.{◌≡◌, ◌++◌, ◌≤◌, ℕ, List, S
 ghost use Rattle.std.specs.Io.KnownBytes.{Appends};
 ghost use Rattle.std.specs.String.{string_bytes};
 ghost use Rattle.tcap_ber.specs.Device.{one_more};
+ghost use Rattle.tcap_record.specs.declared.entry.End.TheVariants as sides;
 ghost use Rattle.tcap_check.specs.Entries.{item_of};
-ghost use Rattle.tcap_judge.specs.declared.finding.Ends.{Ends};
-ghost use Rattle.tcap_judge.specs.Blamed.{AreFound, GivesBlame, IsBlamed, IsFound, PrintsBlame, SaysLines, ends_of, finding, items_before, lines_behind};
-ghost use Rattle.tcap_judge.specs.Judged.{IsShown};
+ghost use Rattle.tcap_check.specs.Replayed.{replayed};
+ghost use Rattle.tcap_check.specs.Run.{Event};
+ghost use Rattle.tcap_refute.specs.Kind.{refuted};
+ghost use Rattle.tcap_search.specs.Found.{or_both};
+ghost use Rattle.tcap_search.specs.Proposed.{proposed, proposed_for};
+ghost use Rattle.tcap_judge.specs.Blamed.{AreFound, GivesBlame, IsBlamed, IsFound, PrintsBlame, SaysLines, ends_of, finding, lines_behind};
+ghost use Rattle.tcap_judge.specs.EachEnd.{AreBlamed};
 ghost use Rattle.tcap_judge.specs.Outcome.{outcome_line};
-ghost use Rattle.tcap_judge.specs.Verdict.{verdict};
 
+use crate::each_end::{find_alike, find_lawful, find_with, items_before};
 use crate::fault_lines::{MEMORY_LINE, write_line};
 use crate::finding::{Ends, Finding, blame_status};
 use crate::given::read_table;
 use crate::outcome::{OUT_OF_MEMORY, Outcome, push_outcome};
 use crate::status::{Status, WriteFailed};
-use crate::verdicts::judge_record;
+use crate::verdicts::{judge_record, replay};
 use std::alloc::{AllocError, Global};
 use tcap_ber::{Read, Write};
+use tcap_check::{Certificate, Reason};
 use tcap_end::Table;
-use tcap_record::{Body, End, Entry, Record, read_record};
-use tcap_refute::laws;
+use tcap_record::{End, Record, read_record};
+use tcap_refute::{laws, refute};
+use tcap_search::{Proposals, search_each};
 
 /// What is said of a record, and of its ends.
 #[derive(Clone, Copy, Debug)]
@@ -43,20 +50,6 @@ impl Blame {
             ends: None,
         }
     }
-}
-
-/// How many entries stand before the first that is no item, or how many there are.
-fn items_before(entries: &[Entry]) -> usize
-    ensures { result ≡ items_before (map item_of entries.now) }
-{
-    let mut count = 0;
-    for entry in entries {
-        match (entry.side, &entry.body) {
-            (Some(_), Body::Good(_)) | (None, Body::Quiet) => count += 1,
-            _ => return count,
-        }
-    }
-    count
 }
 
 /// What is said of an end of a record.
@@ -82,20 +75,124 @@ pub fn find_both(alloc: Global, read: &Record, table: &Table) -> Result<Ends, Al
     })
 }
 
+/// What is said of an end of a record of which the certificate for both ends gives a run.
+fn find_lawful_end(
+    alloc: Global,
+    read: &Record,
+    table: &Table,
+    both: &Certificate,
+    alone: &Option<Certificate>,
+    end: End,
+) -> Result<Finding, AllocError>
+    requires few { length read.now.entries.items ≤ 100000 }
+    requires given { (events : List Event) × (replayed table.now both.now read.now.entries.items ≡ Ok events) }
+    requires proposed { or_both both.now alone.now ≡ proposed_for end read.now.entries.items }
+    ensures { IfOk result (λ said. (said ≡ finding table.now read.now.entries.items end)
+        × IsFound end table.now read.now.entries.items said) }
+{
+    match alone {
+        Some(certificate) => find_lawful(alloc, read, table, both, certificate, end),
+        None => Ok(find_alike(read, table, both, end)),
+    }
+}
+
+/// What is said of an end of a record of which it gives none.
+fn find_other_end(
+    alloc: Global,
+    read: &Record,
+    table: &Table,
+    both: &Certificate,
+    alone: &Option<Certificate>,
+    end: End,
+) -> Result<Finding, AllocError>
+    requires proposed { or_both both.now alone.now ≡ proposed_for end read.now.entries.items }
+    ensures { IfOk result (λ said. (said ≡ finding table.now read.now.entries.items end)
+        × IsFound end table.now read.now.entries.items said) }
+{
+    match alone {
+        Some(certificate) => find_with(alloc, read, table, certificate, end),
+        None => find_with(alloc, read, table, both, end),
+    }
+}
+
+/// What is said of both ends of a record of which the certificate for both gives a run.
+fn find_lawful_ends(
+    alloc: Global,
+    read: &Record,
+    table: &Table,
+    proposals: &Proposals,
+) -> Result<Ends, AllocError>
+    requires few { length read.now.entries.items ≤ 100000 }
+    requires given { (events : List Event)
+        × (replayed table.now proposals.now.both read.now.entries.items ≡ Ok events) }
+    requires a { or_both proposals.now.both proposals.now.a ≡ proposed_for sides.A read.now.entries.items }
+    requires b { or_both proposals.now.both proposals.now.b ≡ proposed_for sides.B read.now.entries.items }
+    ensures { IfOk result (λ ends. (ends ≡ ends_of table.now read.now.entries.items)
+        × AreFound table.now read.now.entries.items ends) }
+{
+    tcap_check::laws::blame_is_whole();
+    let Proposals { both, a, b } = proposals;
+    Ok(Ends {
+        a: find_lawful_end(alloc, read, table, both, a, End::A)?,
+        b: find_lawful_end(alloc, read, table, both, b, End::B)?,
+    })
+}
+
+/// What is said of both ends of a record of which it gives none.
+fn find_other_ends(
+    alloc: Global,
+    read: &Record,
+    table: &Table,
+    proposals: &Proposals,
+) -> Result<Ends, AllocError>
+    requires a { or_both proposals.now.both proposals.now.a ≡ proposed_for sides.A read.now.entries.items }
+    requires b { or_both proposals.now.both proposals.now.b ≡ proposed_for sides.B read.now.entries.items }
+    ensures { IfOk result (λ ends. (ends ≡ ends_of table.now read.now.entries.items)
+        × AreFound table.now read.now.entries.items ends) }
+{
+    tcap_check::laws::blame_is_whole();
+    let Proposals { both, a, b } = proposals;
+    Ok(Ends {
+        a: find_other_end(alloc, read, table, both, a, End::A)?,
+        b: find_other_end(alloc, read, table, both, b, End::B)?,
+    })
+}
+
+/// What is said of a record that is not refuted, and of its ends: one search proposes for all three.
+fn blame_by_search(alloc: Global, read: &Record, table: &Table) -> Result<Blame, AllocError>
+    requires few { length read.now.entries.items ≤ 100000 }
+    requires sound { refuted table.now (map item_of read.now.entries.items) ≡ None }
+    ensures { IfOk result (λ said. AreBlamed table.now read.now.entries.items said.outcome said.ends) }
+{
+    let Ok(proposals) = search_each(alloc, read) else {
+        return Err(AllocError);
+    };
+    match replay(alloc, read, table, &proposals.both, None) {
+        Ok(outcome) => Ok(Blame {
+            outcome,
+            ends: Some(find_lawful_ends(alloc, read, table, &proposals)?),
+        }),
+        Err(fault) if matches!(fault.reason, Reason::Memory) => Err(AllocError),
+        Err(fault) => Ok(Blame {
+            outcome: Outcome::Undecided(fault),
+            ends: Some(find_other_ends(alloc, read, table, &proposals)?),
+        }),
+    }
+}
+
 /// What is said of a record and of its ends.
 fn blame_record(alloc: Global, read: &Record, table: &Table) -> Result<Blame, AllocError>
     requires few { length read.now.entries.items ≤ 100000 }
-    ensures { IfOk result (λ said. (said.outcome ≡ verdict table.now read.now.entries.items)
-        × IsShown None table.now read.now.entries.items said.outcome
-        × ((ends : Ends) × (said.ends ≡ Some ends) × (ends ≡ ends_of table.now read.now.entries.items)
-        × AreFound table.now read.now.entries.items ends)) }
+    ensures { IfOk result (λ said. AreBlamed table.now read.now.entries.items said.outcome said.ends) }
 {
-    let judged = judge_record(alloc, read, table, None, false)?;
-    let ends = find_both(alloc, read, table)?;
-    Ok(Blame {
-        outcome: judged.outcome,
-        ends: Some(ends),
-    })
+    match refute(alloc, read, table) {
+        Ok(Some(refutation)) => Ok(Blame {
+            outcome: Outcome::Refuted(refutation),
+            ends: Some(find_both(alloc, read, table)?),
+        }),
+        Ok(None) => blame_by_search(alloc, read, table),
+        Err(_) => Err(AllocError),
+    }
 }
 
 /// What is said of the record that `reader` tells.

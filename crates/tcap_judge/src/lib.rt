@@ -5,6 +5,7 @@ mod asked;
 mod blaming;
 mod checking;
 mod command_line;
+mod each_end;
 mod end_checking;
 mod fault_lines;
 mod finding;

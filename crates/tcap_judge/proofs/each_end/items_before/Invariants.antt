@@ -2,7 +2,7 @@
 use Rattle.std.proofs.Common.{◌≡◌, ◌+◌, map, drop}
 use Rattle.tcap_check.specs.Entries.{item_of}
 use Rattle.tcap_judge.specs.Blamed.{items_before}
-use Rattle.tcap_judge.proofs.blaming.items_before.Given as goal
+use Rattle.tcap_judge.proofs.each_end.items_before.Given as goal
 
 abbrev pub invariant-loop-entry : goal.invariant-loop-entry
 invariant-loop-entry l = record {

@@ -1,0 +1,27 @@
+-- What is said of a record and of each of its ends; and how many messages of an end the fates of a record lose.
+use Rattle.std.specs.Prelude.{◌≡◌, ℕ, ◌+◌, List, [], ◌∷◌, Option, Some, None, cond}
+use Rattle.tcap_record.specs.declared.entry.End.{End as Side}
+use Rattle.tcap_record.specs.declared.entry.Entry.{Entry}
+use Rattle.tcap_check.specs.declared.certificate.Fate.{Fate}
+use Rattle.tcap_check.specs.declared.certificate.Fate.TheVariants.{Lost}
+use Rattle.tcap_end.specs.Table.{Table}
+use Rattle.tcap_search.specs.Lines.{is_end}
+use Rattle.tcap_judge.specs.declared.finding.Ends.{Ends}
+use Rattle.tcap_judge.specs.declared.outcome.Outcome.{Outcome}
+use Rattle.tcap_judge.specs.Blamed.{AreFound, ends_of}
+use Rattle.tcap_judge.specs.Judged.{IsShown}
+use Rattle.tcap_judge.specs.Verdict.{verdict}
+
+-- 1 where the entry is of that end and lost, else 0
+abbrev pub lost_by : Side → Fate → Option Side → ℕ
+lost_by side Lost sender = cond (is_end side sender) 1 0
+lost_by side fate sender = 0
+
+abbrev pub lost_of : Side → List Fate → List Entry → ℕ
+lost_of side (fate ∷ fates) (entry ∷ entries) = lost_by side fate entry.side + lost_of side fates entries
+lost_of side _ _ = 0
+
+-- the verdict on entries, which is so, and what is said of both ends
+abbrev pub AreBlamed : Table → List Entry → Outcome → Option Ends → Type 0
+AreBlamed table entries outcome ends = (outcome ≡ verdict table entries) × IsShown None table entries outcome
+    × ((said : Ends) × (ends ≡ Some said) × (said ≡ ends_of table entries) × AreFound table entries said)

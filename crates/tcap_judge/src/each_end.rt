@@ -1,0 +1,153 @@
+//! What is said of each end of a record, by the certificate that is proposed for it.
+
+ghost use Rattle.std.specs.Prelude.{◌≡◌, ◌≤◌, List, length, map, None, Ok, IfOk};
+ghost use Rattle.tcap_check.specs.Entries.{item_of};
+ghost use Rattle.tcap_check.specs.Run.{Event};
+ghost use Rattle.tcap_check.specs.Replayed.{replayed};
+ghost use Rattle.tcap_check.specs.World.{other};
+ghost use Rattle.tcap_refute.specs.Blame.{blamed};
+ghost use Rattle.tcap_search.specs.Proposed.{proposed_for};
+ghost use Rattle.tcap_judge.specs.Blamed.{IsFound, finding, items_before};
+ghost use Rattle.tcap_judge.specs.EachEnd.{lost_by, lost_of};
+
+use crate::finding::Finding;
+use crate::outcome::Outcome;
+use crate::verdicts::replay;
+use std::alloc::{AllocError, Global};
+use tcap_blame::blame;
+use tcap_check::{Certificate, Fate, Reason};
+use tcap_end::Table;
+use tcap_record::{Body, End, Entry, Record};
+use tcap_refute::laws;
+
+/// 1 where the entry is of that end and lost, else 0.
+fn lost_by(end: End, fate: Fate, side: Option<End>) -> u64
+    ensures { result ≡ lost_by end fate side }
+{
+    match (fate, side) {
+        (Fate::Lost, Some(sender)) if sender == end => 1,
+        _ => 0,
+    }
+}
+
+/// How many messages of that end those fates lose.
+fn count_lost(end: End, fates: &[Fate], entries: &[Entry]) -> u64
+    requires few { length entries.now ≤ 100000 }
+    ensures { result ≡ lost_of end fates.now entries.now }
+{
+    let mut count = 0;
+    let mut fates = fates;
+    let mut entries = entries;
+    while let [entry, others @ ..] = entries {
+        let [fate, more @ ..] = fates else {
+            return count;
+        };
+        count += lost_by(end, *fate, entry.side);
+        fates = more;
+        entries = others;
+    }
+    count
+}
+
+/// The other end.
+fn other(end: End) -> End
+    ensures { result ≡ other end }
+{
+    match end {
+        End::A => End::B,
+        End::B => End::A,
+    }
+}
+
+/// What is said of an end, where that certificate gives a run of both ends and is the one that is proposed for the end alone,
+/// too: nothing is blamed on it, it may have sent its part, and it did not hear what the certificate loses.
+pub(crate) fn find_alike(
+    read: &Record,
+    table: &Table,
+    certificate: &Certificate,
+    end: End,
+) -> Finding
+    requires few { length read.now.entries.items ≤ 100000 }
+    requires given { (events : List Event) × (replayed table.now certificate.now read.now.entries.items ≡ Ok events) }
+    requires alike { certificate.now ≡ proposed_for end read.now.entries.items }
+    ensures { (result ≡ finding table.now read.now.entries.items end)
+        × IsFound end table.now read.now.entries.items result }
+{
+    laws::blamed_is_never_given();
+    let entries = &read.entries;
+    let unheard = count_lost(other(end), certificate.fates(), entries);
+    Finding::Lawful(entries.len(), unheard)
+}
+
+/// How many entries stand before the first that is no item, or how many there are.
+pub(crate) fn items_before(entries: &[Entry]) -> usize
+    ensures { result ≡ items_before (map item_of entries.now) }
+{
+    let mut count = 0;
+    for entry in entries {
+        match (entry.side, &entry.body) {
+            (Some(_), Body::Good(_)) | (None, Body::Quiet) => count += 1,
+            _ => return count,
+        }
+    }
+    count
+}
+
+/// What is said of an end on which nothing is blamed, by the certificate that is proposed for it.
+fn find_by(
+    alloc: Global,
+    read: &Record,
+    table: &Table,
+    certificate: &Certificate,
+    end: End,
+) -> Result<Finding, AllocError>
+    requires sound { blamed table.now end read.now.entries.items ≡ None }
+    requires proposed { certificate.now ≡ proposed_for end read.now.entries.items }
+    ensures { IfOk result (λ said. (said ≡ finding table.now read.now.entries.items end)
+        × IsFound end table.now read.now.entries.items said) }
+{
+    let count = items_before(&read.entries);
+    match replay(alloc, read, table, certificate, Some(end)) {
+        Ok(outcome) => Ok(Finding::new(count, outcome)),
+        Err(fault) if matches!(fault.reason, Reason::Memory) => Err(AllocError),
+        Err(fault) => Ok(Finding::new(count, Outcome::Undecided(fault))),
+    }
+}
+
+/// What is said of an end: what is blamed on it, or else what the certificate shows that is proposed for it.
+pub(crate) fn find_with(
+    alloc: Global,
+    read: &Record,
+    table: &Table,
+    certificate: &Certificate,
+    end: End,
+) -> Result<Finding, AllocError>
+    requires proposed { certificate.now ≡ proposed_for end read.now.entries.items }
+    ensures { IfOk result (λ said. (said ≡ finding table.now read.now.entries.items end)
+        × IsFound end table.now read.now.entries.items said) }
+{
+    match blame(alloc, read, table, end) {
+        Ok(Some(refutation)) => Ok(Finding::Blamed(refutation)),
+        Ok(None) => find_by(alloc, read, table, certificate, end),
+        Err(_) => Err(AllocError),
+    }
+}
+
+/// What is said of an end where a certificate gives a run of both ends, by the certificate that is proposed for that end alone:
+/// nothing is blamed on it.
+pub(crate) fn find_lawful(
+    alloc: Global,
+    read: &Record,
+    table: &Table,
+    both: &Certificate,
+    certificate: &Certificate,
+    end: End,
+) -> Result<Finding, AllocError>
+    requires given { (events : List Event) × (replayed table.now both.now read.now.entries.items ≡ Ok events) }
+    requires proposed { certificate.now ≡ proposed_for end read.now.entries.items }
+    ensures { IfOk result (λ said. (said ≡ finding table.now read.now.entries.items end)
+        × IsFound end table.now read.now.entries.items said) }
+{
+    laws::blamed_is_never_given();
+    find_by(alloc, read, table, certificate, end)
+}
