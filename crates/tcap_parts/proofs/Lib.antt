@@ -8,3 +8,4 @@ pub mod CanonicalLaws
 pub mod WritingLaws
 pub mod DialogueCanonicalLaws
 pub mod DialogueWritingLaws
+pub mod ShortIntegerLaws

@@ -11,3 +11,4 @@ pub mod DialogueReading
 pub mod DialogueMeaning
 pub mod DialogueCanonical
 pub mod DialogueValid
+pub mod ShortInteger

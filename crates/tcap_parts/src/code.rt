@@ -6,6 +6,7 @@ ghost use Rattle.tcap_ber.specs.Reading.{Gives, span};
 ghost use Rattle.tcap_parts.specs.Meaning.{code_of};
 ghost use Rattle.tcap_parts.specs.Reading.{code_at};
 
+use crate::short_integer::short_integer;
 use crate::tags::{INTEGER, OBJECT_ID};
 use std::alloc::{AllocError, Global};
 use tcap_ber::{
@@ -30,10 +31,10 @@ pub enum CodeView<'a> {
     Global(ObjectIdView<'a>),
 }
 
-/// The code at the front of a window, and the window behind it (Q.773 4.2.2).
+/// The code at the front of a window, whatever its form, and the window behind it.
 #[tactic(auto, unfolding(crate::specs::Reading::code_at))]
-#[inline(always)]
-pub(crate) fn read_code(window: Window) -> Result<(CodeView, Window), Fault>
+#[inline(never)]
+fn code_of_any_form(window: Window) -> Result<(CodeView, Window), Fault>
     ensures exact { Gives (λ x. (code_of x.0, span x.1)) result (code_at (span window.entry)) }
 {
     let (found, rest) = required_any(window)?;
@@ -44,6 +45,17 @@ pub(crate) fn read_code(window: Window) -> Result<(CodeView, Window), Fault>
         Ok((CodeView::Global(object_id(found)?), rest))
     } else {
         Err(found.refused(Reason::UnexpectedTag))
+    }
+}
+
+/// The code at the front of a window, and the window behind it (Q.773 4.2.2).
+#[inline(always)]
+pub(crate) fn read_code(window: Window) -> Result<(CodeView, Window), Fault>
+    ensures exact { Gives (λ x. (code_of x.0, span x.1)) result (code_at (span window.entry)) }
+{
+    match short_integer(window.octets) {
+        Some(local) => Ok((CodeView::Local(i32::from(local)), window.behind(3))),
+        None => code_of_any_form(window),
     }
 }
 

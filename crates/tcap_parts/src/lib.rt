@@ -12,6 +12,7 @@ mod info;
 mod portion;
 mod problem;
 mod reading;
+mod short_integer;
 mod tags;
 mod writing;
 

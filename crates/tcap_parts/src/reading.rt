@@ -13,6 +13,7 @@ ghost use Rattle.tcap_parts.specs.Reading.{invoke_id_at, linked_id_at, rejected_
 use crate::code::read_code;
 use crate::component::{ComponentView, ResultBodyView};
 use crate::problem::read_problem;
+use crate::short_integer::short_integer;
 use crate::tags::{
     INTEGER, INVOKE, LINKED_ID, NULL, REJECT, RETURN_ERROR, RETURN_RESULT_LAST,
     RETURN_RESULT_NOT_LAST, SEQUENCE,
@@ -21,14 +22,25 @@ use tcap_ber::{
     Fault, RawView, Reason, Window, begins_with, ended, null, octet_integer, required, required_any,
 };
 
-/// The invoke ID at the front of a window.
+/// The invoke ID at the front of a window, whatever its header.
 #[tactic(auto, unfolding(crate::specs::Reading::invoke_id_at))]
-#[inline(always)]
-fn invoke_id(window: Window) -> Result<(i8, Window), Fault>
+#[inline(never)]
+fn invoke_id_of_any_form(window: Window) -> Result<(i8, Window), Fault>
     ensures exact { Gives (λ x. (x.0, span x.1)) result (invoke_id_at (span window.entry)) }
 {
     let (found, rest) = required(window, INTEGER)?;
     Ok((octet_integer(found)?, rest))
+}
+
+/// The invoke ID at the front of a window.
+#[inline(always)]
+fn invoke_id(window: Window) -> Result<(i8, Window), Fault>
+    ensures exact { Gives (λ x. (x.0, span x.1)) result (invoke_id_at (span window.entry)) }
+{
+    match short_integer(window.octets) {
+        Some(id) => Ok((id, window.behind(3))),
+        None => invoke_id_of_any_form(window),
+    }
 }
 
 /// The linked ID at the front of a window, or `None` where the next tag is not its own.
