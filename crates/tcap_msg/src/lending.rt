@@ -170,8 +170,96 @@ impl Message {
     }
 }
 
+/// A Unidirectional of these parts as a value of its own.
+#[inline(never)]
+fn own_unidirectional(
+    dialogue: Option<DialogueView>,
+    components: PortionView,
+    alloc: Global,
+) -> Result<Message, AllocError>
+    ensures { IfOk result (λ made. made ≡ Message.Unidirectional (option_map dialogue_of dialogue.entry)
+        (components_of components.entry)) }
+{
+    Ok(Message::Unidirectional {
+        dialogue: own_dialogue(dialogue, alloc)?,
+        components: components.to_portion(alloc)?,
+    })
+}
+
+/// A Begin of these parts as a value of its own.
+#[inline(never)]
+fn own_begin(
+    otid: TransactionIdView,
+    dialogue: Option<DialogueView>,
+    components: Option<PortionView>,
+    alloc: Global,
+) -> Result<Message, AllocError>
+    ensures { IfOk result (λ made. made ≡ Message.Begin otid.entry.octets.now (option_map dialogue_of dialogue.entry)
+        (option_map components_of components.entry)) }
+{
+    Ok(Message::Begin {
+        otid: otid.to_transaction_id(),
+        dialogue: own_dialogue(dialogue, alloc)?,
+        components: own_portion(components, alloc)?,
+    })
+}
+
+/// A Continue of these parts as a value of its own.
+#[inline(never)]
+fn own_continue(
+    otid: TransactionIdView,
+    dtid: TransactionIdView,
+    dialogue: Option<DialogueView>,
+    components: Option<PortionView>,
+    alloc: Global,
+) -> Result<Message, AllocError>
+    ensures { IfOk result (λ made. made ≡ Message.Continue otid.entry.octets.now dtid.entry.octets.now
+        (option_map dialogue_of dialogue.entry) (option_map components_of components.entry)) }
+{
+    Ok(Message::Continue {
+        otid: otid.to_transaction_id(),
+        dtid: dtid.to_transaction_id(),
+        dialogue: own_dialogue(dialogue, alloc)?,
+        components: own_portion(components, alloc)?,
+    })
+}
+
+/// An End of these parts as a value of its own.
+#[inline(never)]
+fn own_end(
+    dtid: TransactionIdView,
+    dialogue: Option<DialogueView>,
+    components: Option<PortionView>,
+    alloc: Global,
+) -> Result<Message, AllocError>
+    ensures { IfOk result (λ made. made ≡ Message.End dtid.entry.octets.now (option_map dialogue_of dialogue.entry)
+        (option_map components_of components.entry)) }
+{
+    Ok(Message::End {
+        dtid: dtid.to_transaction_id(),
+        dialogue: own_dialogue(dialogue, alloc)?,
+        components: own_portion(components, alloc)?,
+    })
+}
+
+/// An Abort of these parts as a value of its own.
+#[inline(never)]
+fn own_abort(
+    dtid: TransactionIdView,
+    reason: Option<AbortReasonView>,
+    alloc: Global,
+) -> Result<Message, AllocError>
+    ensures { IfOk result (λ made. made ≡ Message.Abort dtid.entry.octets.now (option_map reason_of reason.entry)) }
+{
+    Ok(Message::Abort {
+        dtid: dtid.to_transaction_id(),
+        reason: own_reason(reason, alloc)?,
+    })
+}
+
 impl<'a> MessageView<'a> {
-    /// The message as a value of its own.
+    /// The message as a value of its own. Each kind is made by a function of its own, since a function pays at its entry
+    /// for the size of all of its locals.
     pub(crate) fn own(self, alloc: Global) -> Result<Message, AllocError>
         ensures { IfOk result (λ message. message ≡ message_of self.entry) }
     {
@@ -179,43 +267,24 @@ impl<'a> MessageView<'a> {
             MessageView::Unidirectional {
                 dialogue,
                 components,
-            } => Ok(Message::Unidirectional {
-                dialogue: own_dialogue(dialogue, alloc)?,
-                components: components.to_portion(alloc)?,
-            }),
+            } => own_unidirectional(dialogue, components, alloc),
             MessageView::Begin {
                 otid,
                 dialogue,
                 components,
-            } => Ok(Message::Begin {
-                otid: otid.to_transaction_id(),
-                dialogue: own_dialogue(dialogue, alloc)?,
-                components: own_portion(components, alloc)?,
-            }),
+            } => own_begin(otid, dialogue, components, alloc),
             MessageView::Continue {
                 otid,
                 dtid,
                 dialogue,
                 components,
-            } => Ok(Message::Continue {
-                otid: otid.to_transaction_id(),
-                dtid: dtid.to_transaction_id(),
-                dialogue: own_dialogue(dialogue, alloc)?,
-                components: own_portion(components, alloc)?,
-            }),
+            } => own_continue(otid, dtid, dialogue, components, alloc),
             MessageView::End {
                 dtid,
                 dialogue,
                 components,
-            } => Ok(Message::End {
-                dtid: dtid.to_transaction_id(),
-                dialogue: own_dialogue(dialogue, alloc)?,
-                components: own_portion(components, alloc)?,
-            }),
-            MessageView::Abort { dtid, reason } => Ok(Message::Abort {
-                dtid: dtid.to_transaction_id(),
-                reason: own_reason(reason, alloc)?,
-            }),
+            } => own_end(dtid, dialogue, components, alloc),
+            MessageView::Abort { dtid, reason } => own_abort(dtid, reason, alloc),
         }
     }
 }
