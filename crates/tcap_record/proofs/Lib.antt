@@ -9,3 +9,4 @@ pub mod LendLaws
 pub mod TakenLaws
 pub mod ReadingLaws
 pub mod PackLaws
+pub mod HexLaws

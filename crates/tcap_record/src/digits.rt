@@ -1,11 +1,11 @@
 //! The hexadecimal digits of octets.
 
-ghost use Rattle.std.specs.Prelude.{◌≡◌, ◌<◌, ◌≤◌, ◌++◌, ◌∷◌, [], OnOk, length, slice_index};
+ghost use Rattle.std.specs.Prelude.{◌≡◌, ◌<◌, ◌≤◌, ◌++◌, ◌*◌, ◌∷◌, [], Ok, Err, OnOk, IfOk, IsTrue, false, MatchOption, length, slice_index, unwrap_or};
 ghost use Rattle.std.specs.String.{string_bytes};
-ghost use Rattle.hex.specs.Hex.{encode_lower, lower_digits};
+ghost use Rattle.hex.specs.Hex.{decode_of, decode_pairs, encode_lower, hex_digit_value, lower_digits};
+ghost use Rattle.hex.specs.declared.error.FromHexError.{FromHexError};
 
-use std::alloc::AllocError;
-use std::str;
+use std::alloc::{AllocError, Global};
 
 /// So many octets are spelled one after the other.
 const FEW: usize = 8;
@@ -19,7 +19,7 @@ fn digits_of<'a>(octets: &[u8], room: &'a mut [u8; 256]) -> &'a str
     let Ok(()) = hex::encode_to_slice(octets, digits) else {
         unreachable!();
     };
-    let Ok(digits) = str::from_utf8(digits) else {
+    let Ok(digits) = simdutf8::basic::from_utf8(digits) else {
         unreachable!();
     };
     digits
@@ -81,5 +81,63 @@ pub fn push_hex(text: &mut String, octets: &[u8]) -> Result<(), AllocError>
         push_few(text, octets)
     } else {
         push_many(text, octets)
+    }
+}
+
+/// What stands for no digit's value.
+const NO: u8 = 0xff;
+
+/// The values of the digits, in either case, by their octet.
+const VALUES: [u8; 256] = [
+    NO, NO, NO, NO, NO, NO, NO, NO, NO, NO, NO, NO, NO, NO, NO, NO, NO, NO, NO, NO, NO, NO, NO, NO,
+    NO, NO, NO, NO, NO, NO, NO, NO, NO, NO, NO, NO, NO, NO, NO, NO, NO, NO, NO, NO, NO, NO, NO, NO,
+    0, 1, 2, 3, 4, 5, 6, 7, 8, 9, NO, NO, NO, NO, NO, NO, NO, 10, 11, 12, 13, 14, 15, NO, NO, NO,
+    NO, NO, NO, NO, NO, NO, NO, NO, NO, NO, NO, NO, NO, NO, NO, NO, NO, NO, NO, NO, NO, NO, NO, 10,
+    11, 12, 13, 14, 15, NO, NO, NO, NO, NO, NO, NO, NO, NO, NO, NO, NO, NO, NO, NO, NO, NO, NO, NO,
+    NO, NO, NO, NO, NO, NO, NO, NO, NO, NO, NO, NO, NO, NO, NO, NO, NO, NO, NO, NO, NO, NO, NO, NO,
+    NO, NO, NO, NO, NO, NO, NO, NO, NO, NO, NO, NO, NO, NO, NO, NO, NO, NO, NO, NO, NO, NO, NO, NO,
+    NO, NO, NO, NO, NO, NO, NO, NO, NO, NO, NO, NO, NO, NO, NO, NO, NO, NO, NO, NO, NO, NO, NO, NO,
+    NO, NO, NO, NO, NO, NO, NO, NO, NO, NO, NO, NO, NO, NO, NO, NO, NO, NO, NO, NO, NO, NO, NO, NO,
+    NO, NO, NO, NO, NO, NO, NO, NO, NO, NO, NO, NO, NO, NO, NO, NO, NO, NO, NO, NO, NO, NO, NO, NO,
+    NO, NO, NO, NO, NO, NO, NO, NO, NO, NO, NO, NO, NO, NO,
+];
+
+/// The value of a digit, in either case, or `NO`.
+fn value_of(digit: u8) -> u8
+    ensures { result ≡ unwrap_or (hex_digit_value digit) 255 }
+{
+    VALUES[usize::from(digit)]
+}
+
+/// Reads pairs of digits, and answers whether all of them are digits.
+fn read_pairs(digits: &[u8], octets: &mut [u8]) -> bool
+    requires { length digits.now ≡ 2 * length octets.old }
+    ensures digits { IsTrue result → decode_pairs 0 digits.now ≡ Ok octets.new }
+    ensures others { result ≡ false → (e : FromHexError) × (decode_pairs 0 digits.now ≡ Err e) }
+{
+    'pairs: for i in 0..octets.len() {
+        let high = value_of(digits[2 * i]);
+        let low = value_of(digits[2 * i + 1]);
+        if high > 15 || low > 15 {
+            return false;
+        }
+        octets[i] = high * 16 + low;
+    }
+    true
+}
+
+/// The octets that digits spell, two an octet, in either case; `None` where they spell none.
+pub(crate) fn octets_of(alloc: Global, digits: &[u8]) -> Result<Option<Vec<u8>>, AllocError>
+    ensures { IfOk result (λ found. MatchOption found ((e : FromHexError) × (decode_of digits.now ≡ Err e))
+        (λ octets. decode_of digits.now ≡ Ok octets.items)) }
+{
+    if digits.len() % 2 != 0 {
+        return Ok(None);
+    }
+    let mut octets = vec![in alloc; 0u8; digits.len() / 2]?;
+    if read_pairs(digits, octets.as_mut_slice()) {
+        Ok(Some(octets))
+    } else {
+        Ok(None)
     }
 }

@@ -14,11 +14,12 @@ ghost use Rattle.tcap_record.specs.Framing.{feed_fault};
 ghost use Rattle.tcap_record.specs.HexLines.{HasNoNewline, IsNoLine, StandsFor, IsPacked, IsPackedUpTo, entries_in, line_limit, lines_limit, newline};
 ghost use Rattle.tcap_record.specs.Packing.{Finishes, IsBehind, IsContentOf, IsFresh, IsLineRefused, IsOpen, Packs, PacksFrom, PacksUpTo, line_fault, line_of};
 
+use crate::digits::octets_of;
 use crate::entry::End;
 use crate::fault::{FeedFault, FeedReason};
 use crate::framing::{OUT_OF_MEMORY, QUIET_OCTET, end_of, octet_of};
 use crate::reading::PIECE_LEN;
-use hex::FromHexError;
+use memchr::memchr;
 use std::alloc::{AllocError, Global};
 use tcap_ber::{Failed, RawView, Read, Write};
 
@@ -111,10 +112,8 @@ fn read_element(alloc: Global, digits: &[u8]) -> Result<Vec<u8>, LineFault>
     ensures bad { result ≡ Err LineFault.Bad → (element : List ℕ) → decode_of digits.now ≡ Ok element → IsRaw element
         → ⊥ }
 {
-    let octets = match hex::decode(alloc, digits) {
-        Ok(octets) => octets,
-        Err(FromHexError::OutOfMemory) => return Err(LineFault::Memory),
-        Err(_) => return Err(LineFault::Bad),
+    let Some(octets) = octets_of(alloc, digits)? else {
+        return Err(LineFault::Bad);
     };
     if RawView::new(&octets).is_none() {
         return Err(LineFault::Bad);
@@ -158,10 +157,7 @@ fn line_len(octets: &[u8]) -> usize
     ensures front { HasNoNewline (take result octets.now) }
     ensures end { result < length octets.now → slice_index octets.now result ≡ newline }
 {
-    octets
-        .iter()
-        .position(|octet| *octet == NEWLINE)
-        .unwrap_or(octets.len())
+    memchr(NEWLINE, octets).unwrap_or(octets.len())
 }
 
 /// Lines as they are packed: what came of the line that has no end yet, and how many lines and entries were before it.
