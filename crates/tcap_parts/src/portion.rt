@@ -4,7 +4,7 @@ ghost use Rattle.std.specs.Prelude.{◌≡◌, ◌≢◌, [], ◌<◌, ◌↔◌
 ghost use Rattle.tcap_ber.specs.declared.fault.Fault.{Fault};
 ghost use Rattle.tcap_parts.specs.declared.component.Component.{Component};
 ghost use Rattle.tcap_parts.specs.Component.{portion, SpellsPortion};
-ghost use Rattle.tcap_ber.specs.Reading.{Gives, span, element, is_read};
+ghost use Rattle.tcap_ber.specs.Reading.{Gives, span, element, is_read, read_or_none};
 ghost use Rattle.tcap_parts.specs.Reading.{components_at, portion_at};
 
 use crate::component::{Component, ComponentView};
@@ -18,8 +18,11 @@ use tcap_ber::{Fault, Reason, Tlv, Window};
 #[derive(Clone, Copy, Debug)]
 pub struct OctetPortion<'a> {
     content: Window<'a>,
+    // How many components they are.
+    count: usize,
     pub ghost whole: { is_read (components_at (span content)) ≡ true },
     pub ghost some: { 0 < length content.octets.now },
+    pub ghost counted: { count ≡ length (read_or_none (components_at (span content))) },
 }
 
 /// A component portion, lent from the octets that were read or from a value.
@@ -86,17 +89,20 @@ impl Portion {
     }
 }
 
-/// Reads each component of `content`, and refuses it at the first fault.
-fn check_components(content: Window) -> Result<(), Fault>
+/// Reads each component of `content`, and answers how many they are; refuses it at the first fault.
+fn check_components(content: Window) -> Result<usize, Fault>
     ensures ok { OnOk result (is_read (components_at (span content.entry)) ≡ true) }
+    ensures counted { IfOk result (λ n. n ≡ length (read_or_none (components_at (span content.entry)))) }
     ensures err { IfErr result (λ fault. components_at (span content.entry) ≡ Err fault) }
 {
     let mut rest = content;
+    let mut count = 0;
     while !rest.octets.is_empty() {
         let (_, behind) = view_component(rest)?;
         rest = behind;
+        count += 1;
     }
-    Ok(())
+    Ok(count)
 }
 
 impl<'a> PortionView<'a> {
@@ -112,9 +118,10 @@ impl<'a> PortionView<'a> {
                 place: tlv.start,
             });
         }
-        check_components(tlv.content)?;
+        let count = check_components(tlv.content)?;
         Ok(PortionView::Octets(OctetPortion {
             content: tlv.content,
+            count,
         }))
     }
 
@@ -154,12 +161,12 @@ impl<'a> PortionView<'a> {
         self.some_components()
     }
 
-    /// The count of the components. Where they are octets, it costs the time of reading them.
+    /// The count of the components.
     pub fn count(self) -> usize
         ensures { result ≡ length (components_of self.entry) }
     {
         match self {
-            PortionView::Octets(_) => self.components().count(),
+            PortionView::Octets(portion) => portion.count,
             PortionView::Value(portion) => portion.items().len(),
         }
     }
@@ -180,7 +187,7 @@ impl<'a> PortionView<'a> {
     pub fn to_portion(self, alloc: Global) -> Result<Portion, AllocError>
         ensures { IfOk result (λ portion. portion ≡ components_of self.entry) }
     {
-        let mut components = Vec::new(alloc);
+        let mut components = Vec::with_capacity(alloc, self.count())?;
         for component in self.some_components() {
             components.push(component.to_component(alloc)?)?;
         }
