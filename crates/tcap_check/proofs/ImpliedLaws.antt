@@ -166,7 +166,7 @@ end_sends table e next dtid dialogue components sends =
     (f, g, some_ok _ _ f ok, made)
 
 -- A message that is sent over a half invokes no ID that is in use there.
-sent_frees : (table : Table) (e next : End) (message : Message) (name : HalfName) (id : ℤ) → send table e message ≡ Ok next
+pub sent_frees : (table : Table) (e next : End) (message : Message) (name : HalfName) (id : ℤ) → send table e message ≡ Ok next
     → invoking_half message ≡ Some name → Contains (filter_map invoke_id (components_in message)) id → IsInUse e name id → ⊥
 sent_frees table e next message name id sends over there (kept, own, named_is, found) = by message sends over there
   where

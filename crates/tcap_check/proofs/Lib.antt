@@ -19,6 +19,8 @@ pub mod ReplayGaps
 pub mod ReplayEntries
 pub mod ExpiryLaws
 pub mod ImpliedLaws
+pub mod AnewLaws
+pub mod DeliveringLaws
 pub mod OrderLaws
 pub mod DescribedLaws
 pub mod StepCounts

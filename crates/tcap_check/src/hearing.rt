@@ -13,7 +13,7 @@ use crate::end_checker::EndReport;
 use crate::fault::{CheckFault, Reason};
 use crate::outline::Outline;
 use crate::plan::Plan;
-use crate::progress::{OUT_OF_MEMORY, Progress};
+use crate::progress::{OUT_OF_MEMORY, Progress, receive};
 use crate::sending::other;
 use std::alloc::{AllocError, Global};
 use tcap_end::{EndFault, Table};
@@ -121,8 +121,8 @@ impl Hearing {
         ensures received { YieldsInMemory (heard_or_dropped table.now side message.now self.old) result self.new }
     {
         let received = match side {
-            End::A => self.progress.a.end.receive(table, message),
-            End::B => self.progress.b.end.receive(table, message),
+            End::A => receive(&mut self.progress.a.end, table, message),
+            End::B => receive(&mut self.progress.b.end, table, message),
         };
         match received {
             Ok(()) => {

@@ -1,9 +1,15 @@
 //! What a checker keeps of two ends and two channels between them, and the steps of both (Q.774 3.2 and 3.3).
 
-ghost use Rattle.std.specs.Prelude.{◌≡◌, ◌<◌, ◌≤◌, ◌+◌, ◌^◌, OnOk, length};
+ghost use Rattle.std.specs.Prelude.{◌≡◌, ◌<◌, ◌≤◌, ◌+◌, ◌^◌, IsSome, OnErr, OnOk, length};
+ghost use Rattle.tcap_msg.specs.Parts.{otid_in};
+ghost use Rattle.tcap_end.specs.Step.{AnswersInMemory};
+ghost use Rattle.tcap_end.specs.Message.{receive};
+ghost use Rattle.tcap_check.specs.declared.fault.Reason.TheVariants.{BadReply};
+ghost use Rattle.tcap_check.specs.World.{other};
+ghost use Rattle.tcap_check.specs.Replayed.{fault_at};
 ghost use Rattle.tcap_check.specs.Plan.{IsPlan};
 ghost use Rattle.tcap_check.specs.Progress.{IsTakenFrom, Yields, YieldsInMemory, closing_kept, closings_kept, deliveries_kept};
-ghost use Rattle.tcap_check.specs.Progress.{empty_seat, expiries_kept, expiry_kept, first_delivered, gap_kept, half_closes, invocation_ends};
+ghost use Rattle.tcap_check.specs.Progress.{empty_seat, end_moved, expiries_kept, expiry_kept, first_delivered, gap_kept, half_closes, invocation_ends};
 ghost use Rattle.tcap_check.specs.Progress.{nothing_kept, seat_at};
 
 use crate::certificate::{Certificate, Closing, Expiry};
@@ -57,6 +63,16 @@ pub(crate) const OUT_OF_MEMORY: CheckFault = CheckFault {
     reason: Reason::Memory,
     entry: 0,
 };
+
+/// An end receives a message, which is lent once for all that is asked of it.
+pub(crate) fn receive(end: &mut EndState, table: &Table, message: &Message) -> Result<(), EndFault>
+    ensures step { AnswersInMemory (receive table.now end.old message.now) result end.new }
+    ensures kept { OnErr result (end.new ≡ end.old) }
+    ensures only { OnErr result (IsSome (otid_in message.now)) }
+{
+    let message = message.view();
+    end.receive(table, &message)
+}
 
 impl Progress {
     /// Two ends over which nothing went yet.
@@ -200,7 +216,37 @@ impl Progress {
         }
     }
 
+    /// An end receives a message of its peer, that of the number, and may not refuse it.
+    fn hand_over(
+        &mut self,
+        table: &Table,
+        side: End,
+        number: u32,
+        message: &Message,
+    ) -> Result<(), CheckFault>
+        requires room { self.old.moves + 1 < 2 ^ 128 }
+        ensures { YieldsInMemory (end_moved (other side) (fault_at BadReply number) self.old
+            (receive table.now (seat_at (other side) self.old).end message.now)) result self.new }
+    {
+        let received = match side {
+            End::A => receive(&mut self.b.end, table, message),
+            End::B => receive(&mut self.a.end, table, message),
+        };
+        match received {
+            Ok(()) => {
+                self.moves += 1;
+                Ok(())
+            }
+            Err(EndFault::Memory) => Err(OUT_OF_MEMORY),
+            Err(_) => Err(CheckFault {
+                reason: Reason::BadReply,
+                entry: u64::from(number),
+            }),
+        }
+    }
+
     /// Delivers the first message on its way from an end, which has to be that of the number.
+    #[tactic(auto, using(crate::proofs::DeliveringLaws::hands, crate::proofs::DeliveringLaws::hands_another))]
     fn deliver(&mut self, table: &Table, side: End, number: u32) -> Result<(), CheckFault>
         requires room { self.old.moves + 1 < 2 ^ 128 }
         ensures { YieldsInMemory (first_delivered table.now side number (seat_at side self.old).waiting self.old)
@@ -216,18 +262,7 @@ impl Progress {
         if first.number != u64::from(number) {
             return Err(refused);
         }
-        let received = match side {
-            End::A => self.b.end.receive(table, &first.message),
-            End::B => self.a.end.receive(table, &first.message),
-        };
-        match received {
-            Ok(()) => {
-                self.moves += 1;
-                Ok(())
-            }
-            Err(EndFault::Memory) => Err(OUT_OF_MEMORY),
-            Err(_) => Err(refused),
-        }
+        self.hand_over(table, side, number, &first.message)
     }
 
     /// Delivers messages, in the order of their numbers.

@@ -1,14 +1,16 @@
 //! What a checker does where an end sends a message, its provider answers one, or all is quiet (Q.774 3.2 and 3.3).
 
-ghost use Rattle.std.specs.Prelude.{◌≡◌, ◌<◌, ◌≤◌, ◌+◌, ◌^◌, length, filter_map, OnOk};
+ghost use Rattle.std.specs.Prelude.{◌≡◌, ◌<◌, ◌≤◌, ◌+◌, ◌^◌, length, filter_map, OnErr, OnOk};
 ghost use Rattle.tcap_parts.specs.Meaning.{component_of};
 ghost use Rattle.tcap_msg.specs.Parts.{components_in};
+ghost use Rattle.tcap_end.specs.Step.{AnswersInMemory};
+ghost use Rattle.tcap_end.specs.Message.{send};
 ghost use Rattle.tcap_check.specs.World.{other};
 ghost use Rattle.tcap_check.specs.Run.{may_refuse};
 ghost use Rattle.tcap_check.specs.Follows.{invoke_id, invoking_half};
 ghost use Rattle.tcap_check.specs.Progress.{YieldsInMemory, Yields, end_tried, first_answered};
 ghost use Rattle.tcap_check.specs.Progress.{first_may_be_answered, ids_ended_over, invoked_ended};
-ghost use Rattle.tcap_check.specs.Progress.{mark_kept, message_kept, overtakes, seat_at, seat_with, send_kept, sent_by, time_or_zero};
+ghost use Rattle.tcap_check.specs.Progress.{mark_kept, message_kept, overtakes, seat_at, seat_with, send_kept, sent_by, time_or_zero, with_seat_end};
 
 use crate::certificate::Fate;
 use crate::fault::{CheckFault, Reason};
@@ -165,8 +167,53 @@ impl Progress {
         }
     }
 
-    /// An end sends a message.
+    /// An end sends a message as it is.
+    fn send_as_is<M: MessageParts>(
+        &mut self,
+        table: &Table,
+        side: End,
+        message: &M,
+    ) -> Result<(), EndFault>
+        ensures step { AnswersInMemory (send table.now (seat_at side self.old).end (M.meaning message.now)) result
+            (seat_at side self.new).end }
+        ensures rest { self.new ≡ with_seat_end side (seat_at side self.new).end self.old }
+        ensures kept { OnErr result (self.new ≡ self.old) }
+        ensures stays { self.new.moves ≡ self.old.moves }
+    {
+        match side {
+            End::A => self.a.end.send(table, message),
+            End::B => self.b.end.send(table, message),
+        }
+    }
+
+    /// An end sends a message. As it is where it can: a message that can be sent so invokes no ID that is in use, and
+    /// nothing ends before it.
+    #[tactic(auto, using(crate::proofs::AnewLaws::sends_as_is))]
     fn send<M: MessageParts>(
+        &mut self,
+        alloc: Global,
+        table: &Table,
+        side: End,
+        fate: Fate,
+        number: u64,
+        message: &M,
+    ) -> Result<(), CheckFault>
+        requires room { self.old.moves < 2 ^ 127 }
+        ensures sent { YieldsInMemory (send_kept table.now side fate number (M.meaning message.now) self.old) result
+            self.new }
+        ensures grows { OnOk result (self.new.moves ≤ self.old.moves + 2 ^ 65) }
+    {
+        match self.send_as_is(table, side, message) {
+            Ok(()) => self
+                .join(alloc, side, fate, number, message)
+                .map_err(|_| OUT_OF_MEMORY),
+            Err(EndFault::Memory) => Err(OUT_OF_MEMORY),
+            Err(_) => self.send_anew(alloc, table, side, fate, number, message),
+        }
+    }
+
+    /// An end sends a message, once each earlier invocation ended whose ID it invokes anew.
+    fn send_anew<M: MessageParts>(
         &mut self,
         alloc: Global,
         table: &Table,
