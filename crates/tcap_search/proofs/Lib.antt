@@ -1,3 +1,4 @@
+pub mod AbortLaws
 pub mod ClosingLaws
 pub mod EachLaws
 pub mod EndedLaws
@@ -19,6 +20,7 @@ pub mod NotedLaws
 pub mod NumberedLaws
 pub mod OrderLaws
 pub mod PeerLaws
+pub mod RejectedLaws
 pub mod ReplyLaws
 pub mod SameLaws
 pub mod StackLaws

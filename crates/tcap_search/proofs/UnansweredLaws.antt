@@ -69,7 +69,7 @@ any_entry : (test : Entry → Bool) (lines : List Line)
 any_entry test [] = refl
 any_entry test (x ∷ lines) = ap (λ (b : Bool). test x.entry || b) (any_entry test lines)
 
-any_line : (test : Entry → Bool) (entries : List Entry)
+pub any_line : (test : Entry → Bool) (entries : List Entry)
     → list_any (λ y. test y.entry) (lines_of entries) ≡ list_any test entries
 any_line test entries = any_entry test (lines_of entries) ∙ ap (list_any test) (entries_of_lines entries)
 

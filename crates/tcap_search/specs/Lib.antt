@@ -1,3 +1,4 @@
+pub mod Aborts
 pub mod AloneRows0
 pub mod AloneRows1
 pub mod AloneRows2
@@ -20,6 +21,7 @@ pub mod Listed
 pub mod Order
 pub mod PerEnd
 pub mod Proposed
+pub mod Rejected
 pub mod Shown
 pub mod Sweep
 pub mod Traced

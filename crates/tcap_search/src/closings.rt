@@ -13,7 +13,7 @@ use crate::lines::other;
 use crate::tie::Tie;
 use std::alloc::{AllocError, Global};
 use tcap_check::{Closing, Fate};
-use tcap_msg::{Kind, Message, MessageParts};
+use tcap_msg::{AbortReason, Message};
 use tcap_record::{Body, End, Entry};
 
 /// The message of an entry; octets that are none have none.
@@ -31,12 +31,9 @@ fn ends(entry: &Entry) -> bool
     ensures { result ≡ ends (message_of entry.now) }
 {
     match message_of(entry) {
-        Some(message) => match message.kind() {
-            Kind::End => true,
-            Kind::Abort => message.cause().is_none(),
-            _ => false,
-        },
-        None => false,
+        Some(Message::End { .. }) => true,
+        Some(Message::Abort { reason, .. }) => !matches!(reason, Some(AbortReason::Cause(_))),
+        _ => false,
     }
 }
 
@@ -139,7 +136,7 @@ fn shown_by(
 }
 
 /// The closings of a stretch with these fates, in the order of the Aborts that show them.
-pub(crate) fn closings_of(
+fn shown_closings(
     alloc: Global,
     entries: &[Entry],
     transactions: &[Option<u32>],
@@ -171,4 +168,25 @@ pub(crate) fn closings_of(
         }
     }
     Ok(listed)
+}
+
+/// The closings of a stretch with these fates. Where an Abort answers nothing there are none.
+pub(crate) fn closings_of(
+    alloc: Global,
+    entries: &[Entry],
+    transactions: &[Option<u32>],
+    ties: &[Tie],
+    fates: &[Fate],
+) -> Result<Vec<Closing>, AllocError>
+    requires few { length entries.now ≤ 100000 }
+    requires transactions { AreTransactions entries.now transactions.now }
+    requires ties { AreTies entries.now ties.now }
+    requires count { length fates.now ≡ length entries.now }
+    ensures { IfOk result (λ listed. listed.items
+        ≡ closings_of (fated (lines_of entries.now) fates.now) (lines_of entries.now) (ties_of (lines_of entries.now))) }
+{
+    if ties.is_empty() {
+        return Ok(Vec::new(alloc));
+    }
+    shown_closings(alloc, entries, transactions, ties, fates)
 }

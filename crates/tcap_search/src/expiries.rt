@@ -1,15 +1,17 @@
 //! The fourth rule: which invocations ended unseen.
 
 ghost use Rattle.std.specs.Prelude.{◌≡◌, ◌≤◌, ◌<◌, ◌++◌, ◌∷◌, [], ◌==◌, ℕ, Some, cond, length, IfOk, OnOk};
+ghost use Rattle.std.specs.List.{list_any};
 ghost use Rattle.tcap_search.specs.Lines.{lines_of};
 ghost use Rattle.tcap_search.specs.Proposed.{expiries_of, fated, with_expiry};
 ghost use Rattle.tcap_search.specs.Order.{AreInOrder};
 ghost use Rattle.tcap_search.specs.Traced.{AreTransactions};
 ghost use Rattle.tcap_search.specs.Due.{due_at, due_in};
 ghost use Rattle.tcap_search.specs.Listed.{IsListed, all_rejected, entry_rejected};
+ghost use Rattle.tcap_search.specs.Rejected.{has_rejection, rejects};
 ghost use Rattle.tcap_search.specs.Sweep.{answer_rejected};
 
-use crate::sweep::{Answer, Sweep, components_of};
+use crate::sweep::{Answer, Sweep, components_of, unrecognized};
 use std::alloc::{AllocError, Global};
 use std::collections::BTreeSet;
 use tcap_check::{Expiry, Fate};
@@ -149,8 +151,33 @@ fn due_at(lists: &[Vec<u32>], gap: usize) -> &[u32]
     }
 }
 
-/// The expiries of a stretch with these fates, in the order in which what was unrecognized is rejected.
-pub(crate) fn expiries_of(
+/// Whether one of these components rejects an answer as unrecognized.
+fn has_rejection(components: &[Component]) -> bool
+    ensures { result ≡ list_any rejects components.now }
+{
+    for component in components {
+        if unrecognized(component).is_some() {
+            return true;
+        }
+    }
+    false
+}
+
+/// Whether a component of one of these entries does.
+fn is_any_rejected(entries: &[Entry]) -> bool
+    ensures { result ≡ list_any has_rejection entries.now }
+{
+    for entry in entries {
+        if has_rejection(components_of(entry)) {
+            return true;
+        }
+    }
+    false
+}
+
+/// The expiries of a stretch with these fates, in the order in which what was unrecognized is rejected: found by a sweep
+/// over gaps and entries.
+fn swept_expiries(
     alloc: Global,
     entries: &[Entry],
     transactions: &[Option<u32>],
@@ -174,4 +201,25 @@ pub(crate) fn expiries_of(
     }
     let Listed { expiries, .. } = listed;
     Ok(expiries)
+}
+
+#[tactic(auto, using(crate::proofs::RejectedLaws::no_expiries))]
+/// The expiries of a stretch with these fates. Where nothing is rejected as unrecognized there are none.
+pub(crate) fn expiries_of(
+    alloc: Global,
+    entries: &[Entry],
+    transactions: &[Option<u32>],
+    fates: &[Fate],
+) -> Result<Vec<Expiry>, AllocError>
+    requires few { length entries.now ≤ 100000 }
+    requires transactions { AreTransactions entries.now transactions.now }
+    requires count { length fates.now ≡ length entries.now }
+    requires order { AreInOrder (fated (lines_of entries.now) fates.now) }
+    ensures { IfOk result (λ listed. listed.items
+        ≡ expiries_of (fated (lines_of entries.now) fates.now) (lines_of entries.now)) }
+{
+    if !is_any_rejected(entries) {
+        return Ok(Vec::new(alloc));
+    }
+    swept_expiries(alloc, entries, transactions, fates)
 }

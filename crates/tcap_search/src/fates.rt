@@ -15,7 +15,7 @@ use crate::tie::Tie;
 use crate::unanswered::without_unanswered;
 use std::alloc::{AllocError, Global};
 use tcap_check::Fate;
-use tcap_msg::{Message, MessageParts};
+use tcap_msg::{AbortReason, Message};
 use tcap_record::{Body, End, Entry};
 
 /// Notes the reply to an entry, in place of one that was noted.
@@ -44,11 +44,11 @@ fn replies_of(alloc: Global, count: usize, ties: &[Tie]) -> Result<Vec<Option<u3
 }
 
 /// Whether an entry is an Abort of a provider.
-fn is_provider_abort(entry: &Entry) -> bool
+pub(crate) fn is_provider_abort(entry: &Entry) -> bool
     ensures { result ≡ is_provider_abort (message_of entry.now) }
 {
     match &entry.body {
-        Body::Good(message) => message.cause().is_some(),
+        Body::Good(Message::Abort { reason, .. }) => matches!(reason, Some(AbortReason::Cause(_))),
         _ => false,
     }
 }

@@ -10,7 +10,7 @@ ghost use Rattle.tcap_search.specs.Traced.{AreTransactions};
 
 use std::alloc::{AllocError, Global};
 use std::collections::BTreeMap;
-use tcap_msg::{Message, MessageParts, TransactionId, TransactionIdView};
+use tcap_msg::{Message, TransactionId, TransactionIdView};
 use tcap_record::{Body, End, Entry};
 
 /// The peer of an end.
@@ -78,10 +78,13 @@ impl Latest {
         let Body::Good(message) = &entry.body else {
             return None;
         };
-        if let Message::Begin { .. } = message {
-            return Some(number);
+        match message {
+            Message::Unidirectional { .. } => None,
+            Message::Begin { .. } => Some(number),
+            Message::Continue { dtid, .. }
+            | Message::End { dtid, .. }
+            | Message::Abort { dtid, .. } => self.get(other(entry.side?), dtid.view()),
         }
-        self.get(other(entry.side?), message.dtid()?)
     }
 
     /// One entry more, with its transaction.
@@ -89,13 +92,15 @@ impl Latest {
         ensures { OnOk result ((at : Side) (key : List ℕ) → latest_at at key self.new
             ≡ cond (is_end at entry.now.side && is_from key entry.now) transaction (latest_at at key self.old)) }
     {
-        let Body::Good(message) = &entry.body else {
+        let (Some(side), Body::Good(message)) = (entry.side, &entry.body) else {
             return Ok(());
         };
-        if let (Some(side), Some(id)) = (entry.side, message.otid()) {
-            self.set(side, id, transaction)?;
+        match message {
+            Message::Begin { otid, .. } | Message::Continue { otid, .. } => {
+                self.set(side, otid.view(), transaction)
+            }
+            _ => Ok(()),
         }
-        Ok(())
     }
 }
 

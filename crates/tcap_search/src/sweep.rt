@@ -76,7 +76,7 @@ fn may_invoke(entry: &Entry) -> bool
 }
 
 /// The ID, and whether it is a Return Result, of which a component says unrecognizedInvokeID (Q.773 4.2.2).
-fn unrecognized(component: &Component) -> Option<(bool, i8)>
+pub(crate) fn unrecognized(component: &Component) -> Option<(bool, i8)>
     ensures { result ≡ unrecognized component.now }
 {
     let Component::Reject {

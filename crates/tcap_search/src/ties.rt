@@ -1,11 +1,14 @@
 //! The first rule: what the Aborts of providers answer.
 
-ghost use Rattle.std.specs.Prelude.{◌≤◌, [], length, reverse, IfOk};
+ghost use Rattle.std.specs.Prelude.{◌≡◌, ◌≤◌, [], length, reverse, IfOk};
+ghost use Rattle.std.specs.List.{list_any};
 ghost use Rattle.tcap_search.specs.Candidates.{AreUntied};
+ghost use Rattle.tcap_search.specs.Aborts.{aborts_by_provider};
 ghost use Rattle.tcap_search.specs.Lines.{lines_of};
 ghost use Rattle.tcap_search.specs.Traced.{AreTies};
 
 use crate::candidates::Candidates;
+use crate::fates::is_provider_abort;
 use crate::tie::Tie;
 use std::alloc::{AllocError, Global};
 use tcap_record::Entry;
@@ -22,8 +25,20 @@ fn candidates_of(alloc: Global, entries: &[Entry]) -> Result<Candidates, AllocEr
     Ok(candidates)
 }
 
-/// The ties of a stretch, in the order of the Aborts.
-pub(crate) fn ties_of(alloc: Global, entries: &[Entry]) -> Result<Vec<Tie>, AllocError>
+/// Whether one of the entries is an Abort of a provider.
+fn has_provider_abort(entries: &[Entry]) -> bool
+    ensures { result ≡ list_any aborts_by_provider entries.now }
+{
+    for entry in entries {
+        if is_provider_abort(entry) {
+            return true;
+        }
+    }
+    false
+}
+
+/// The ties of a stretch, in the order of the Aborts, found from the last entry to the first.
+fn traced_ties(alloc: Global, entries: &[Entry]) -> Result<Vec<Tie>, AllocError>
     requires few { length entries.now ≤ 100000 }
     ensures { IfOk result (λ ties. AreTies entries.now ties.items) }
 {
@@ -43,4 +58,16 @@ pub(crate) fn ties_of(alloc: Global, entries: &[Entry]) -> Result<Vec<Tie>, Allo
     }
     ties.reverse();
     Ok(ties)
+}
+
+#[tactic(auto, using(crate::proofs::AbortLaws::no_ties))]
+/// The ties of a stretch, in the order of the Aborts. Where no provider aborts there are none.
+pub(crate) fn ties_of(alloc: Global, entries: &[Entry]) -> Result<Vec<Tie>, AllocError>
+    requires few { length entries.now ≤ 100000 }
+    ensures { IfOk result (λ ties. AreTies entries.now ties.items) }
+{
+    if !has_provider_abort(entries) {
+        return Ok(Vec::new(alloc));
+    }
+    traced_ties(alloc, entries)
 }

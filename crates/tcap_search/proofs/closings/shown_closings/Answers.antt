@@ -3,8 +3,8 @@ use Rattle.tcap_search.specs.declared.tie.Tie.{Tie}
 use Rattle.tcap_search.specs.Lines.{lines_of}
 use Rattle.tcap_search.specs.Proposed.{fated}
 use Rattle.tcap_search.proofs.ClosingLaws.{listed_again, listed_more, listed_same, shown_below}
-use Rattle.tcap_search.proofs.closings.closings_of.Goals.{then-is_none+in_ok-push, else-is_none}
-use Rattle.tcap_search.proofs.closings.closings_of.Goals as goal
+use Rattle.tcap_search.proofs.closings.shown_closings.Goals.{then-is_none+in_ok-push, else-is_none}
+use Rattle.tcap_search.proofs.closings.shown_closings.Goals as goal
 
 pub loop-tie-preserved : goal.loop-tie-preserved
 loop-tie-preserved c =

@@ -10,7 +10,7 @@ use Rattle.tcap_search.proofs.ExpirySteps.{answers_start, answers_stay, answers_
 use Rattle.tcap_search.proofs.FateSteps.{all_lines}
 use Rattle.tcap_search.proofs.LineLaws.{count_transactions}
 use Rattle.tcap_search.proofs.SweepLaws.{answered_in}
-use Rattle.tcap_search.proofs.expiries.expiries_of.Goals as goal
+use Rattle.tcap_search.proofs.expiries.swept_expiries.Goals as goal
 
 pub due_by_gap-requires : goal.due_by_gap-requires
 due_by_gap-requires c = record {

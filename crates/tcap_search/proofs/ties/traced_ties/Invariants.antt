@@ -1,6 +1,6 @@
 -- the ties of the entries from that number on, and what is kept of those before
 use Rattle.tcap_search.proofs.TieLaws.{Tied}
-use Rattle.tcap_search.proofs.ties.ties_of.Given as goal
+use Rattle.tcap_search.proofs.ties.traced_ties.Given as goal
 
 abbrev pub invariant-loop-number : goal.invariant-loop-number
 invariant-loop-number l = Tied l.entries l.number l.candidates l.ties.items

@@ -7,7 +7,7 @@ use Rattle.tcap_search.specs.ByInvocation.{kept_at}
 use Rattle.tcap_search.specs.Listed.{IsListed}
 use Rattle.tcap_search.specs.Sweep.{answer_kept, invoked_in}
 use Rattle.tcap_search.proofs.SweepLaws.{answered_in}
-use Rattle.tcap_search.proofs.expiries.expiries_of.Given as goal
+use Rattle.tcap_search.proofs.expiries.swept_expiries.Given as goal
 
 abbrev pub invariant-loop-number : goal.invariant-loop-number
 invariant-loop-number l = record {

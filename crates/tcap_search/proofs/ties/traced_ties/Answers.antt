@@ -1,7 +1,7 @@
 use Rattle.std.proofs.Common.{◌≡◌, ◌+◌, ◌-◌, ◌<◌, length, Some, None, refl, arith}
 use Rattle.tcap_search.proofs.LineLaws.{reverse_push}
 use Rattle.tcap_search.proofs.TieLaws.{tied_more}
-use Rattle.tcap_search.proofs.ties.ties_of.Goals as goal
+use Rattle.tcap_search.proofs.ties.traced_ties.Goals as goal
 
 pub loop-number-preserved-in-Continue-branch-2 : goal.loop-number-preserved-in-Continue-branch-2
 loop-number-preserved-in-Continue-branch-2 c =

@@ -3,7 +3,7 @@ use Rattle.std.proofs.Common.{length}
 use Rattle.tcap_search.specs.Lines.{lines_of}
 use Rattle.tcap_search.specs.Proposed.{fated}
 use Rattle.tcap_search.proofs.ClosingLaws.{Listed}
-use Rattle.tcap_search.proofs.closings.closings_of.Given as goal
+use Rattle.tcap_search.proofs.closings.shown_closings.Given as goal
 
 abbrev pub invariant-loop-tie : goal.invariant-loop-tie
 invariant-loop-tie l =
