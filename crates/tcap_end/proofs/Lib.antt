@@ -17,6 +17,7 @@ pub mod RoundLaws
 pub mod WayLaws
 pub mod BackLaws
 pub mod NoteLaws
+pub mod NotedLaws
 pub mod ReceivingLaws
 pub mod SendLaws
 pub mod FindLaws

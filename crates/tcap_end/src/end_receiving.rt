@@ -10,6 +10,7 @@ ghost use Rattle.tcap_end.specs.Message.{receive, receive_begin, receive_continu
 ghost use Rattle.tcap_end.specs.Sound.{IsEnd};
 ghost use Rattle.tcap_end.specs.Halves.{AllPlaced, IsHeld, end_of};
 
+use crate::changes::Changes;
 use crate::dialogues::{answers_request, first_standing};
 use crate::fault::EndFault;
 use crate::half::{Phase, Slot};
@@ -17,7 +18,6 @@ use crate::half_components::Way;
 use crate::half_state::HalfState;
 use crate::halves::{Halves, is_id};
 use crate::table::Table;
-use std::alloc::Global;
 use tcap_msg::{Kind, MessageParts, TransactionIdView};
 use tcap_parts::{Components, DialogueView};
 
@@ -25,7 +25,7 @@ impl Halves {
     /// Receives a message.
     pub(crate) fn receive<M: MessageParts>(
         &mut self,
-        alloc: Global,
+        changes: &mut Changes,
         table: &Table,
         message: &M,
     ) -> Result<(), EndFault>
@@ -43,10 +43,10 @@ impl Halves {
         match (message.kind(), message.otid(), message.dtid()) {
             (Kind::Unidirectional, _, _) => Ok(()),
             (Kind::Begin, Some(otid), _) => {
-                self.receive_begin(alloc, table, otid, dialogue, components)
+                self.receive_begin(changes, table, otid, dialogue, components)
             }
             (Kind::Continue, Some(otid), Some(dtid)) => {
-                self.receive_continue(alloc, table, otid, dtid, dialogue, components)
+                self.receive_continue(changes, table, otid, dtid, dialogue, components)
             }
             (Kind::End | Kind::Abort, _, Some(dtid)) => {
                 self.receive_end(dtid);
@@ -60,7 +60,7 @@ impl Halves {
     /// Receives a Begin.
     fn receive_begin(
         &mut self,
-        alloc: Global,
+        changes: &mut Changes,
         table: &Table,
         otid: TransactionIdView,
         dialogue: Option<DialogueView>,
@@ -79,8 +79,15 @@ impl Halves {
         }
         let peer = Some(otid.to_transaction_id());
         let standing = first_standing(dialogue);
-        let mut half = HalfState::new(alloc, Slot::Accepted, Phase::Received, None, peer, standing);
-        half.step_components(alloc, table, Way::In, components)?;
+        let mut half = HalfState::new(
+            changes.alloc(),
+            Slot::Accepted,
+            Phase::Received,
+            None,
+            peer,
+            standing,
+        );
+        half.step_components(changes, table, Way::In, components)?;
         self.add(otid.to_transaction_id(), half)?;
         Ok(())
     }
@@ -88,7 +95,7 @@ impl Halves {
     /// Receives a Continue.
     fn receive_continue(
         &mut self,
-        alloc: Global,
+        changes: &mut Changes,
         table: &Table,
         otid: TransactionIdView,
         dtid: TransactionIdView,
@@ -119,13 +126,13 @@ impl Halves {
                 if !answers_request(standing, dialogue) {
                     return Err(EndFault::WrongDialogue);
                 }
-                self.activate_over(alloc, table, &found, otid.to_transaction_id(), components)
+                self.activate_over(changes, table, &found, otid.to_transaction_id(), components)
             }
             Phase::Active => {
                 if !is_id(otid, &half.peer) {
                     return Err(EndFault::NoTransaction);
                 }
-                self.step_over(alloc, table, &found, Way::In, components)
+                self.step_over(changes, table, &found, Way::In, components)
             }
             _ => Err(EndFault::NoTransaction),
         }

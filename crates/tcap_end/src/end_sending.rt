@@ -24,6 +24,7 @@ ghost use Rattle.tcap_end.specs.Sound.{Has, IsEnd};
 ghost use Rattle.tcap_end.specs.Halves.{AllPlaced, IsNumbered, IsHeld, end_of, kept_half};
 ghost use Rattle.tcap_end.specs.Kinds.{reason_of_dialogue};
 
+use crate::changes::Changes;
 use crate::dialogues::{first_standing, may_abort, may_be_uni, may_begin, may_go_on};
 use crate::fault::EndFault;
 use crate::half::{Phase, Slot};
@@ -69,7 +70,7 @@ impl Halves {
     /// Sends a message.
     pub(crate) fn send<M: MessageParts>(
         &mut self,
-        alloc: Global,
+        changes: &mut Changes,
         table: &Table,
         message: &M,
     ) -> Result<(), EndFault>
@@ -85,14 +86,14 @@ impl Halves {
         let dialogue = message.dialogue();
         let components = message.components();
         match (message.kind(), message.otid(), message.dtid()) {
-            (Kind::Unidirectional, _, _) => check_unidirectional(alloc, table, message),
+            (Kind::Unidirectional, _, _) => check_unidirectional(changes.alloc(), table, message),
             (Kind::Begin, Some(otid), _) => {
-                self.send_begin(alloc, table, otid, dialogue, components)
+                self.send_begin(changes, table, otid, dialogue, components)
             }
             (Kind::Continue, Some(otid), Some(dtid)) => {
-                self.send_continue(alloc, table, otid, dtid, dialogue, components)
+                self.send_continue(changes, table, otid, dtid, dialogue, components)
             }
-            (Kind::End, _, Some(dtid)) => self.send_end(alloc, table, dtid, dialogue, components),
+            (Kind::End, _, Some(dtid)) => self.send_end(changes, table, dtid, dialogue, components),
             (Kind::Abort, _, Some(dtid)) if message.cause().is_none() => {
                 self.send_abort(dtid, dialogue)
             }
@@ -105,7 +106,7 @@ impl Halves {
     /// Sends a Begin.
     fn send_begin(
         &mut self,
-        alloc: Global,
+        changes: &mut Changes,
         table: &Table,
         otid: TransactionIdView,
         dialogue: Option<DialogueView>,
@@ -127,8 +128,15 @@ impl Halves {
         }
         let own = Some(otid.to_transaction_id());
         let standing = first_standing(dialogue);
-        let mut half = HalfState::new(alloc, Slot::Begun, Phase::Sent, own, None, standing);
-        half.step_components(alloc, table, Way::Out, components)?;
+        let mut half = HalfState::new(
+            changes.alloc(),
+            Slot::Begun,
+            Phase::Sent,
+            own,
+            None,
+            standing,
+        );
+        half.step_components(changes, table, Way::Out, components)?;
         self.add(otid.to_transaction_id(), half)?;
         Ok(())
     }
@@ -136,7 +144,7 @@ impl Halves {
     /// Sends a Continue.
     fn send_continue(
         &mut self,
-        alloc: Global,
+        changes: &mut Changes,
         table: &Table,
         otid: TransactionIdView,
         dtid: TransactionIdView,
@@ -155,16 +163,16 @@ impl Halves {
     {
         match self.with_own(otid) {
             Some(found) => {
-                self.send_next_continue(alloc, table, &found, dtid, dialogue, components)
+                self.send_next_continue(changes, table, &found, dtid, dialogue, components)
             }
-            None => self.send_first_continue(alloc, table, otid, dtid, dialogue, components),
+            None => self.send_first_continue(changes, table, otid, dtid, dialogue, components),
         }
     }
 
     /// Sends a Continue over a half that has its originating ID.
     fn send_next_continue(
         &mut self,
-        alloc: Global,
+        changes: &mut Changes,
         table: &Table,
         found: &HalfKey,
         dtid: TransactionIdView,
@@ -194,13 +202,13 @@ impl Halves {
         if !may_go_on(half.phase, half.standing, dialogue) {
             return Err(EndFault::WrongDialogue);
         }
-        self.step_over(alloc, table, found, Way::Out, components)
+        self.step_over(changes, table, found, Way::Out, components)
     }
 
     /// Sends a Continue that answers a Begin: no half has its originating ID.
     fn send_first_continue(
         &mut self,
-        alloc: Global,
+        changes: &mut Changes,
         table: &Table,
         otid: TransactionIdView,
         dtid: TransactionIdView,
@@ -229,13 +237,13 @@ impl Halves {
         if !may_go_on(half.phase, half.standing, dialogue) {
             return Err(EndFault::WrongDialogue);
         }
-        self.activate_over(alloc, table, &found, otid.to_transaction_id(), components)
+        self.activate_over(changes, table, &found, otid.to_transaction_id(), components)
     }
 
     /// Sends an End.
     fn send_end(
         &mut self,
-        alloc: Global,
+        changes: &mut Changes,
         table: &Table,
         dtid: TransactionIdView,
         dialogue: Option<DialogueView>,
@@ -258,7 +266,7 @@ impl Halves {
         if !may_go_on(half.phase, half.standing, dialogue) {
             return Err(EndFault::WrongDialogue);
         }
-        self.step_over(alloc, table, &found, Way::Out, components)?;
+        self.step_over(changes, table, &found, Way::Out, components)?;
         self.close(found);
         Ok(())
     }

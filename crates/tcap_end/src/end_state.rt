@@ -11,6 +11,7 @@ ghost use Rattle.tcap_end.specs.Reply.{refuse_begin, refuse_continue};
 ghost use Rattle.tcap_end.specs.Hidden.{close, expire, open_halves, open_named, quiet_unseen};
 ghost use Rattle.tcap_end.specs.Sound.{IsEnd};
 
+use crate::changes::Changes;
 use crate::end_replies::{refuse_begin, refuse_continue};
 use crate::fault::EndFault;
 use crate::half::{HalfName, Slot};
@@ -28,6 +29,8 @@ use tcap_msg::MessageParts;
 pub struct EndState {
     alloc: Global,
     halves: Halves,
+    /// What the last message changed. Its memory serves each message.
+    changes: Changes,
 }
 
 impl Model for EndState {
@@ -50,6 +53,7 @@ impl EndState {
         EndState {
             alloc,
             halves: Halves::new(alloc),
+            changes: Changes::new(alloc),
         }
     }
 
@@ -63,7 +67,7 @@ impl EndState {
         ensures kept { OnErr result (self.new ≡ self.old) }
         ensures aborts { kind_in (M.meaning message.now) ≡ Kind.Abort → result ≢ Err EndFault.Memory }
     {
-        self.halves.send(self.alloc, table, message)
+        self.halves.send(&mut self.changes, table, message)
     }
 
     /// Receives a message (Q.774 3.2 and 3.3), by the table of operations. On Ok the end is as it is once the message
@@ -75,7 +79,7 @@ impl EndState {
         ensures kept { OnErr result (self.new ≡ self.old) }
         ensures only { OnErr result (IsSome (otid_in (M.meaning message.now))) }
     {
-        self.halves.receive(self.alloc, table, message)
+        self.halves.receive(&mut self.changes, table, message)
     }
 
     /// Whether the provider may answer a Begin by this Abort in place of the end (Q.774 3.3): cause 4, to its

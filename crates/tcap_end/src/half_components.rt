@@ -8,12 +8,12 @@ ghost use Rattle.tcap_end.specs.Message.{active_half};
 ghost use Rattle.tcap_end.specs.Ways.{component_by, components_by, way_of};
 ghost use Rattle.tcap_end.specs.HalfState.{StillUndoes, half_of, other_id, with_other_id};
 
+use crate::changes::Changes;
 use crate::fault::EndFault;
 use crate::half::{Phase, Slot};
-use crate::half_state::{Change, HalfState};
+use crate::half_state::HalfState;
 use crate::table::Table;
 use std::alloc::Global;
-use std::collections::LinkedList;
 use tcap_msg::TransactionId;
 use tcap_parts::{ComponentView, Components};
 
@@ -42,7 +42,7 @@ impl HalfState {
     fn step_component(
         &mut self,
         alloc: Global,
-        changes: &mut LinkedList<Change>,
+        changes: &mut Changes,
         table: &Table,
         way: Way,
         component: ComponentView,
@@ -65,7 +65,7 @@ impl HalfState {
     fn step_noted(
         &mut self,
         alloc: Global,
-        changes: &mut LinkedList<Change>,
+        changes: &mut Changes,
         table: &Table,
         way: Way,
         components: Components,
@@ -86,7 +86,7 @@ impl HalfState {
     /// memory ran out.
     pub(crate) fn step_components(
         &mut self,
-        alloc: Global,
+        changes: &mut Changes,
         table: &Table,
         way: Way,
         components: Components,
@@ -97,8 +97,9 @@ impl HalfState {
         ensures kept { OnErr result (half_of self.new ≡ half_of self.old) }
         ensures slot { self.new.slot ≡ self.old.slot }
     {
-        let mut changes = LinkedList::new(alloc);
-        match self.step_noted(alloc, &mut changes, table, way, components) {
+        changes.clear();
+        let alloc = changes.alloc();
+        match self.step_noted(alloc, changes, table, way, components) {
             Ok(()) => {
                 self.settle(changes);
                 Ok(())
@@ -126,7 +127,7 @@ impl HalfState {
     /// this ID.
     pub(crate) fn activate(
         &mut self,
-        alloc: Global,
+        changes: &mut Changes,
         table: &Table,
         id: TransactionId,
         components: Components,
@@ -141,7 +142,7 @@ impl HalfState {
         let was = self.put_other_id(Some(id));
         self.phase = Phase::Active;
         self.standing = standing.confirm();
-        match self.step_components(alloc, table, self.slot.way(), components) {
+        match self.step_components(changes, table, self.slot.way(), components) {
             Ok(()) => Ok(()),
             Err(fault) => {
                 self.phase = phase;

@@ -17,6 +17,7 @@ ghost use Rattle.tcap_end.specs.Component.{
 ghost use Rattle.tcap_end.specs.HalfState.{StillUndoes, half_of};
 ghost use Rattle.tcap_end.specs.Received.{link_numbers, target_of, target_problems};
 
+use crate::changes::Changes;
 use crate::class::reports;
 use crate::half::InvocationState;
 use crate::half_state::{Change, HalfState};
@@ -24,7 +25,6 @@ use crate::places::{keep_answer, keep_invocation};
 use crate::received::{Link, Target};
 use crate::table::Table;
 use std::alloc::{AllocError, Global};
-use std::collections::LinkedList;
 use tcap_parts::{CodeView, ComponentView, ProblemView};
 
 impl HalfState {
@@ -76,7 +76,7 @@ impl HalfState {
     fn receive_invoke(
         &mut self,
         alloc: Global,
-        changes: &mut LinkedList<Change>,
+        changes: &mut Changes,
         table: &Table,
         id: i8,
         linked: Option<i8>,
@@ -96,7 +96,7 @@ impl HalfState {
     /// An answer joins those of its ID.
     fn join_answer(
         &mut self,
-        changes: &mut LinkedList<Change>,
+        changes: &mut Changes,
         id: i8,
         is_result: bool,
         target: Target,
@@ -113,7 +113,7 @@ impl HalfState {
     /// Receives a Return Result, or a Return Error.
     fn receive_answer(
         &mut self,
-        changes: &mut LinkedList<Change>,
+        changes: &mut Changes,
         table: &Table,
         is_result: bool,
         last: bool,
@@ -134,7 +134,7 @@ impl HalfState {
     }
 
     /// The last answer to an own invocation, which is there, came.
-    fn wait(&mut self, changes: &mut LinkedList<Change>, id: i8) -> Result<(), AllocError>
+    fn wait(&mut self, changes: &mut Changes, id: i8) -> Result<(), AllocError>
         requires there { IsSome (operation_sent (half_of self.old) id) }
         ensures waits { (code : Code) → operation_sent (half_of self.old) id ≡ Some code
             → OnOk result (half_of self.new ≡ wait_for_reject (half_of self.old) id code) }
@@ -148,7 +148,7 @@ impl HalfState {
     /// Receives a Reject.
     fn receive_reject(
         &mut self,
-        changes: &mut LinkedList<Change>,
+        changes: &mut Changes,
         id: Option<i8>,
         problem: ProblemView,
     ) -> Result<(), AllocError>
@@ -170,7 +170,7 @@ impl HalfState {
     pub(crate) fn receive_component(
         &mut self,
         alloc: Global,
-        changes: &mut LinkedList<Change>,
+        changes: &mut Changes,
         table: &Table,
         component: ComponentView,
     ) -> Result<(), AllocError>

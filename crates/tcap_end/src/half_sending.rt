@@ -11,6 +11,7 @@ ghost use Rattle.tcap_end.specs.Lists.{rows_of};
 ghost use Rattle.tcap_end.specs.Places.{place_of, rejected_place};
 ghost use Rattle.tcap_end.specs.Row.{fits_in};
 
+use crate::changes::Changes;
 use crate::fault::EndFault;
 use crate::half::InvocationState;
 use crate::half_state::{Change, HalfState};
@@ -18,7 +19,6 @@ use crate::outs::OwnInvocation;
 use crate::places::{first_answerable, first_linking, first_rejectable, first_rejectable_answer};
 use crate::table::Table;
 use std::alloc::{AllocError, Global};
-use std::collections::LinkedList;
 use tcap_parts::{CodeView, ComponentView, ProblemView};
 
 impl HalfState {
@@ -39,7 +39,7 @@ impl HalfState {
     fn send_invoke(
         &mut self,
         alloc: Global,
-        changes: &mut LinkedList<Change>,
+        changes: &mut Changes,
         table: &Table,
         id: i8,
         linked: Option<i8>,
@@ -60,9 +60,8 @@ impl HalfState {
             return Err(EndFault::BadLink);
         }
         let code = code.to_code(alloc)?;
-        self.out.make(id)?;
         let state = InvocationState::OperationSent;
-        let was = self.out.put(id, Some(OwnInvocation { code, state }));
+        let was = self.out.join(id, OwnInvocation { code, state })?;
         self.note(changes, Change::Out { id, was })?;
         Ok(())
     }
@@ -111,7 +110,7 @@ impl HalfState {
     /// nothing.
     fn send_answer(
         &mut self,
-        changes: &mut LinkedList<Change>,
+        changes: &mut Changes,
         table: &Table,
         is_result: bool,
         last: bool,
@@ -134,12 +133,7 @@ impl HalfState {
     }
 
     /// Takes the invocation in that place of an ID's row.
-    fn take_inn(
-        &mut self,
-        changes: &mut LinkedList<Change>,
-        id: i8,
-        at: usize,
-    ) -> Result<(), AllocError>
+    fn take_inn(&mut self, changes: &mut Changes, id: i8, at: usize) -> Result<(), AllocError>
         requires there { IsSome (slice_index_or (listed id (rows_of self.old.inn)) at None) }
         ensures taken { OnOk result (kept_of self.new ≡ without_inn id at (kept_of self.old)) }
         ensures undoes { StillUndoes changes.old self.old changes.new self.new }
@@ -150,12 +144,7 @@ impl HalfState {
     }
 
     /// Takes the answer in that place of an ID's row.
-    fn take_grant(
-        &mut self,
-        changes: &mut LinkedList<Change>,
-        id: i8,
-        at: usize,
-    ) -> Result<(), AllocError>
+    fn take_grant(&mut self, changes: &mut Changes, id: i8, at: usize) -> Result<(), AllocError>
         requires there { IsSome (slice_index_or (listed id (rows_of self.old.grants)) at None) }
         ensures taken { OnOk result (kept_of self.new ≡ without_grant id at (kept_of self.old)) }
         ensures undoes { StillUndoes changes.old self.old changes.new self.new }
@@ -184,7 +173,7 @@ impl HalfState {
     /// Sends a Reject.
     fn send_reject(
         &mut self,
-        changes: &mut LinkedList<Change>,
+        changes: &mut Changes,
         id: Option<i8>,
         problem: ProblemView,
     ) -> Result<(), EndFault>
@@ -210,7 +199,7 @@ impl HalfState {
     pub(crate) fn send_component(
         &mut self,
         alloc: Global,
-        changes: &mut LinkedList<Change>,
+        changes: &mut Changes,
         table: &Table,
         component: ComponentView,
     ) -> Result<(), EndFault>

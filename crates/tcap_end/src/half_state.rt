@@ -6,13 +6,13 @@ ghost use Rattle.tcap_end.specs.Component.{own_invocation};
 ghost use Rattle.tcap_end.specs.Hidden.{may_expire};
 ghost use Rattle.tcap_end.specs.HalfState.{CanUndo, IsUndone, Undoes, half_of};
 
+use crate::changes::Changes;
 use crate::half::{InvocationState, Phase, Slot, Standing};
 use crate::lists::Lists;
 use crate::outs::{Outs, OwnInvocation};
 use crate::received::{Answer, Invocation};
 use crate::table::Table;
 use std::alloc::{AllocError, Global};
-use std::collections::LinkedList;
 use tcap_msg::TransactionId;
 
 /// What is kept of an open half.
@@ -101,30 +101,25 @@ impl HalfState {
     }
 
     /// Takes back all changes, the last one first.
-    pub(crate) fn undo_all(&mut self, changes: LinkedList<Change>)
-        requires can { (start : Half) × Undoes changes self.old start }
-        ensures undone { (start : Half) → Undoes changes self.old start → half_of self.new ≡ start }
+    pub(crate) fn undo_all(&mut self, changes: &mut Changes)
+        requires can { (start : Half) × Undoes changes.old self.old start }
+        ensures undone { (start : Half) → Undoes changes.old self.old start → half_of self.new ≡ start }
         ensures slot { self.new.slot ≡ self.old.slot }
     {
-        let mut changes = changes;
         for _ in 0..changes.len() {
-            if let Some(change) = changes.pop_front() {
+            if let Some(change) = changes.pop() {
                 self.undo(change);
             }
         }
     }
 
     /// Notes a change that was made, or takes it back where there is no memory to note it.
-    pub(crate) fn note(
-        &mut self,
-        changes: &mut LinkedList<Change>,
-        change: Change,
-    ) -> Result<(), AllocError>
+    pub(crate) fn note(&mut self, changes: &mut Changes, change: Change) -> Result<(), AllocError>
         requires can { CanUndo change self.old }
         ensures noted { OnOk result ((self.new ≡ self.old) × (changes.new ≡ change ∷ changes.old)) }
         ensures undone { OnErr result (IsUndone change self.old self.new × (changes.new ≡ changes.old)) }
     {
-        match changes.push_front(change) {
+        match changes.push(change) {
             Ok(()) => Ok(()),
             Err(failed) => {
                 self.undo(failed.value);
@@ -134,11 +129,11 @@ impl HalfState {
     }
 
     /// What was changed stays: places that nothing will be put back to may go.
-    pub(crate) fn settle(&mut self, changes: LinkedList<Change>)
+    pub(crate) fn settle(&mut self, changes: &Changes)
         ensures half { half_of self.new ≡ half_of self.old }
         ensures slot { self.new.slot ≡ self.old.slot }
     {
-        for change in &changes {
+        for change in changes.as_slice() {
             match change {
                 Change::InnTaken { id, .. } => self.inn.settle(*id),
                 Change::GrantTaken { id, .. } => self.grants.settle(*id),

@@ -18,6 +18,7 @@ ghost use Rattle.tcap_end.specs.End.{KeptHalf, all_closed, is_id, nothing, put, 
 ghost use Rattle.tcap_end.specs.Sound.{Has, IsEnd};
 ghost use Rattle.tcap_end.specs.Halves.{AllPlaced, AnswersOver, Becomes, HasOpen, IsAt, IsNumbered, IsHeld, IsNew, end_of, index_of, kept_half, open_at, places_of};
 
+use crate::changes::Changes;
 use crate::fault::EndFault;
 use crate::half::Slot;
 use crate::half_components::Way;
@@ -181,7 +182,7 @@ impl Halves {
     /// Sends or receives components over the open half that is kept there.
     pub(crate) fn step_over(
         &mut self,
-        alloc: Global,
+        changes: &mut Changes,
         table: &Table,
         found: &HalfKey,
         way: Way,
@@ -200,7 +201,7 @@ impl Halves {
     {
         let number = self.number(found);
         match self.slab.get_mut(number) {
-            Some(half) => half.step_components(alloc, table, way, components),
+            Some(half) => half.step_components(changes, table, way, components),
             None => unreachable!(),
         }
     }
@@ -325,7 +326,7 @@ impl Halves {
     /// which gets this ID: one that began by sending its peer's, one that began by receiving an own. No half has it.
     pub(crate) fn activate_over(
         &mut self,
-        alloc: Global,
+        changes: &mut Changes,
         table: &Table,
         found: &HalfKey,
         id: TransactionId,
@@ -353,7 +354,7 @@ impl Halves {
         let Some(half) = self.slab.get_mut(number) else {
             unreachable!()
         };
-        match half.activate(alloc, table, id, components) {
+        match half.activate(changes, table, id, components) {
             Ok(()) => Ok(()),
             Err(fault) => {
                 self.remove_index(found.slot, &index);

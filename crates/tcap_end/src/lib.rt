@@ -2,6 +2,7 @@
 #![tactic(auto)]
 
 mod chains;
+mod changes;
 mod class;
 mod code_map;
 mod dialogues;

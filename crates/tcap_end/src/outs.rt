@@ -26,7 +26,7 @@ pub(crate) struct Outs {
 }
 
 impl Outs {
-    ghost use Rattle.std.specs.Prelude.{◌≡◌, ℤ, [], option_copied, OnOk};
+    ghost use Rattle.std.specs.Prelude.{◌≡◌, ℤ, [], Some, option_copied, IfOk, OnErr, OnOk};
     ghost use Rattle.std.specs.Ordering.{int_cmp};
     ghost use Rattle.std.specs.Map.{lookup};
     ghost use Rattle.std.specs.BTreeMap.{is_at};
@@ -48,16 +48,23 @@ impl Outs {
         self.places.get(&id)?.as_ref()
     }
 
-    /// Makes a place for an ID where there is none.
-    pub(crate) fn make(&mut self, id: i8) -> Result<(), AllocError>
-        ensures kept { kept_outs self.new ≡ kept_outs self.old }
+    /// Puts an invocation under an ID, in a place that is made where there is none, and answers what stood there.
+    pub(crate) fn join(
+        &mut self,
+        id: i8,
+        invocation: OwnInvocation,
+    ) -> Result<Option<OwnInvocation>, AllocError>
+        ensures was { IfOk result (λ was. was ≡ lookup (is_at (int_cmp id)) (kept_outs self.old)) }
+        ensures put { OnOk result (kept_outs self.new ≡ with_out id (Some invocation) (kept_outs self.old)) }
+        ensures kept { OnErr result (kept_outs self.new ≡ kept_outs self.old) }
         ensures made { OnOk result (HasPlace id self.new) }
         ensures others { (other : ℤ) → HasPlace other self.old → HasPlace other self.new }
     {
-        if !self.places.contains_key(&id) {
-            self.places.insert(id, None)?;
+        match self.places.insert(id, Some(invocation)) {
+            Ok(Some(was)) => Ok(was),
+            Ok(None) => Ok(None),
+            Err(_) => Err(AllocError),
         }
-        Ok(())
     }
 
     /// Puts an invocation, or none, in the place of an ID, and answers what stood there.

@@ -1,0 +1,23 @@
+-- Changes that are noted, the last one first, over those that were made, from the first one on.
+use Rattle.std.proofs.Common.{◌≡◌, Bool, true, false, List, [], ◌∷◌, ◌++◌, length, Option, Some, None, MatchOption, refl, ap, ◌∙◌}
+use Rattle.std.specs.Prelude.{if◌then◌else◌, reverse}
+use Rattle.std.specs.Option.{option_to_list}
+use Rattle.std.proofs.lemmas.List.{reverse-append}
+
+-- One more was made, unless there was no memory,
+pub pushed : {A : Type 0} (done : Bool) (made : List A) (change : A)
+    → reverse (if done then made ++ change ∷ [] else made) ≡ (if done then change ∷ reverse made else reverse made)
+pushed true made change = reverse-append made (change ∷ [])
+pushed false made change = refl
+
+-- none is left where there are none,
+pub none_left : {A : Type 0} (made : List A) → length made ≡ 0 → made ≡ []
+none_left [] is = refl
+none_left (first ∷ more) is = cc
+
+-- and the last one was taken away.
+pub popped : {A : Type 0} (last : Option A) (made left : List A) → made ≡ left ++ option_to_list last
+    → (last ≡ None → (made ≡ []) × (left ≡ []))
+    → MatchOption last ((reverse made ≡ []) × (reverse left ≡ [])) (λ change. reverse made ≡ change ∷ reverse left)
+popped None made left items none = (ap reverse (none refl).0, ap reverse (none refl).1)
+popped (Some change) made left items none = ap reverse items ∙ reverse-append left (change ∷ [])
