@@ -2,7 +2,7 @@
 
 ghost use Rattle.std.specs.Prelude.{◌≡◌, ◌||◌, ℤ, false, OnOk, Some};
 ghost use Rattle.tcap_parts.specs.Meaning.{code_of, component_of};
-ghost use Rattle.tcap_end.specs.Component.{class_reports};
+ghost use Rattle.tcap_end.specs.Class.{of_class, reports};
 ghost use Rattle.tcap_refute.specs.Facts.{IdFact, noted_id, shows};
 ghost use Rattle.tcap_refute.specs.Kept.{tells};
 ghost use Rattle.tcap_refute.specs.Noting.{IsInvoked};
@@ -29,11 +29,11 @@ pub(crate) struct ById {
     pub(crate) codes: Codes,
 }
 
-/// Whether the table has the operation, and its class reports success, or failure (Q.771).
-pub(crate) fn class_reports(table: &Table, is_result: bool, code: CodeView) -> bool
-    ensures { result ≡ class_reports table.now is_result (code_of code.entry) }
+/// Whether an operation has a class, and it reports success, or failure (Q.771).
+fn class_reports(class: Option<u8>, is_result: bool) -> bool
+    ensures { result ≡ of_class (reports is_result) class }
 {
-    match table.class_of(code) {
+    match class {
         Some(1) => true,
         Some(2) => !is_result,
         Some(3) => is_result,
@@ -66,10 +66,11 @@ impl ById {
         ensures { OnOk result (IsInvoked table.now (code_of code.entry) self.old self.new) }
     {
         self.invoked = true;
-        if class_reports(table, false, code) {
+        let class = table.class_of(code);
+        if class_reports(class, false) {
             self.fails = true;
         }
-        if class_reports(table, true, code) {
+        if class_reports(class, true) {
             self.succeeds = true;
             self.codes.add(alloc, code)?;
         }
