@@ -1,11 +1,12 @@
 //! What is asked of the components of a message (Q.774 3.2, component sub-layer; Q.771, operation classes).
 
-ghost use Rattle.std.specs.Prelude.{◌≡◌, option_copied, option_map};
+ghost use Rattle.std.specs.Prelude.{◌≡◌, ◌||◌, option_copied, option_map};
 ghost use Rattle.std.specs.List.{list_any};
 ghost use Rattle.tcap_parts.specs.Meaning.{body_of, code_of, component_of, components_left, problem_of};
 ghost use Rattle.tcap_msg.specs.Parts.{components_in, kind_in};
 ghost use Rattle.tcap_end.specs.Class.{of_class, reports_neither};
 ghost use Rattle.tcap_end.specs.Table.{class_of};
+ghost use Rattle.tcap_refute.specs.declared.components.Test.TheVariants as tests;
 ghost use Rattle.tcap_refute.specs.Facts.{Answered, Fails, Invoked, OfId, Succeeds};
 ghost use Rattle.tcap_refute.specs.Kept.{id_in, told_by_from};
 ghost use Rattle.tcap_refute.specs.Asking.{answers_none, is_not_allowed, one_answers_nothing, one_is_wrong, passes, rejects_none};
@@ -157,6 +158,24 @@ fn any(table: &Table, from: Option<&FromId>, test: Test, components: Components)
     false
 }
 
+/// Whether one of these components is an Invoke whose operation the table lacks, or an answer that no Invoke from there
+/// allows.
+fn any_wrong(table: &Table, from: Option<&FromId>, components: Components) -> bool
+    ensures { result ≡ list_any (passes table.now (told_by_from (option_copied from.entry)) tests.UnknownOperation)
+        (components_left components.entry)
+        || list_any (passes table.now (told_by_from (option_copied from.entry)) tests.NotAllowed)
+        (components_left components.entry) }
+{
+    for component in components {
+        if passes(table, from, Test::UnknownOperation, component)
+            || passes(table, from, Test::NotAllowed, component)
+        {
+            return true;
+        }
+    }
+    false
+}
+
 /// Whether a component of a message of that kind answers or rejects what was never sent from there.
 pub(crate) fn one_answers_nothing<M: MessageParts>(
     table: &Table,
@@ -186,9 +205,6 @@ pub(crate) fn one_is_wrong<M: MessageParts>(
     match message.kind() {
         Form::Unidirectional => any(table, from, Test::NotOfClass4, message.components()),
         Form::Begin => any(table, from, Test::UnknownOperation, message.components()),
-        _ => {
-            any(table, from, Test::UnknownOperation, message.components())
-                || any(table, from, Test::NotAllowed, message.components())
-        }
+        _ => any_wrong(table, from, message.components()),
     }
 }
