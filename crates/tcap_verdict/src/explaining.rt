@@ -1,29 +1,37 @@
 //! What is said of a record, and why.
 
-ghost use Rattle.std.specs.Prelude.{◌≡◌, ◌⊎◌, ◌≤◌, [], ℕ, List, None, Some, Ok, IfOk, OnOk, OnErr, length};
+ghost use Rattle.std.specs.Prelude.{◌≡◌, ◌≢◌, ◌⊎◌, ◌≤◌, [], ℕ, List, None, Some, Ok, Err, IfOk, OnOk, OnErr, length};
 ghost use Rattle.std.specs.String.{string_bytes};
 ghost use Rattle.tcap_ber.specs.Device.{one_more};
+ghost use Rattle.tcap_check.specs.Alone.{unheard_of};
+ghost use Rattle.tcap_check.specs.Checking.{map_ok};
+ghost use Rattle.tcap_check.specs.Replayed.{fault_at};
+ghost use Rattle.tcap_check.specs.declared.fault.Reason.TheVariants as reasons;
+ghost use Rattle.tcap_judge.specs.declared.outcome.Outcome.TheVariants.{Refuted};
 ghost use Rattle.tcap_judge.specs.Checked.{out_of_memory, replay_says};
-ghost use Rattle.tcap_judge.specs.Judged.{IsShown, replayed_by};
-ghost use Rattle.tcap_judge.specs.Verdict.{proposed_by, verdict_of};
+ghost use Rattle.tcap_judge.specs.Judged.{AreLawful, IsShown, lawful_by, replayed_by};
+ghost use Rattle.tcap_judge.specs.Verdict.{named_by, proposed_by, verdict_of};
 ghost use Rattle.tcap_runs.specs.Steps.{events_of};
 ghost use Rattle.tcap_verdict.specs.Faults.{IsFaultBehind};
-ghost use Rattle.tcap_verdict.specs.Why.{AreLines, Explains, ExplainsBy, GivesWhy, GivesWhyBy, IsExplained, IsExplainedBy, IsWhy};
+ghost use Rattle.tcap_verdict.specs.StepLines.{run_lines};
+ghost use Rattle.tcap_verdict.specs.Why.{Explains, ExplainsBy, GivesWhy, GivesWhyBy, IsExplained, IsExplainedBy, IsWhy};
 
-use crate::charts::chart_of;
+use crate::charts::{chart_of, chart_of_steps};
 use crate::faults::fault_text;
 use crate::refuted::refuted_text;
-use crate::step_lines::push_steps;
+use crate::step_lines::{is_lost_from, other, push_steps};
 use crate::stops::stop_text;
 use std::alloc::{AllocError, Global};
 use tcap_ber::{Read, Write};
-use tcap_check::{Certificate, Reason};
+use tcap_blame::blame;
+use tcap_check::{Certificate, CheckFault, Reason};
 use tcap_end::Table;
 use tcap_judge::{
-    OUT_OF_MEMORY, Outcome, Status, WriteFailed, judge_record, propose, read_certificate,
-    read_table, replay, write_outcome,
+    OUT_OF_MEMORY, Outcome, Status, WriteFailed, propose, read_certificate, read_table,
+    write_outcome,
 };
 use tcap_record::{End, Record, read_record};
+use tcap_refute::{Refutation, refute};
 use tcap_runs::{Step, run_of, run_of_end};
 
 /// What is said, and why.
@@ -74,79 +82,105 @@ impl Why {
     }
 }
 
-/// The steps of the run that a certificate gives for a record, of both ends or of the one that is judged.
+/// The entry that is named: the first that no end sends which keeps the rules, or the first that is blamed on that end.
+fn named(
+    alloc: Global,
+    read: &Record,
+    table: &Table,
+    judged: Option<End>,
+) -> Result<Option<Refutation>, AllocError>
+    ensures { IfOk result (λ r. r ≡ named_by judged table.now read.now.entries.items) }
+{
+    let found = match judged {
+        None => refute(alloc, read, table),
+        Some(end) => blame(alloc, read, table, end),
+    };
+    found.map_err(|_| AllocError)
+}
+
+/// The steps of the run that a certificate gives for a record, of both ends or of the one that is judged; else the first reason
+/// why it gives none, at an entry, or `Memory`.
+#[tactic(auto, using(crate::proofs::LawfulRuns::of_both, crate::proofs::LawfulRuns::of_one))]
 fn steps_of(
     alloc: Global,
     read: &Record,
     table: &Table,
     certificate: &Certificate,
     judged: Option<End>,
-) -> Result<Vec<Step>, AllocError>
-    ensures { IfOk result (λ steps. replayed_by judged table.now certificate.now read.now.entries.items
-        ≡ Ok (events_of steps.items)) }
+) -> Result<Vec<Step>, CheckFault>
+    ensures exact { result ≢ Err (fault_at reasons.Memory 0) → map_ok (λ steps. events_of steps.items) result
+        ≡ replayed_by judged table.now certificate.now read.now.entries.items }
+    ensures lawful { IfOk result (λ steps. AreLawful judged table.now read.now.entries.items) }
 {
-    let run = match judged {
+    match judged {
         None => run_of(alloc, read, table, certificate),
         Some(end) => run_of_end(alloc, read, table, certificate, end),
-    };
-    run.map_err(|_| AllocError)
-}
-
-/// The lines of that run.
-fn run_text(
-    alloc: Global,
-    read: &Record,
-    table: &Table,
-    certificate: &Certificate,
-    judged: Option<End>,
-) -> Result<String, AllocError>
-    ensures { IfOk result (λ text. AreLines judged table.now certificate.now read.now.entries.items (string_bytes text)) }
-{
-    let steps = steps_of(alloc, read, table, certificate, judged)?;
-    let mut text = String::new(alloc);
-    push_steps(&mut text, judged, &steps)?;
-    Ok(text)
-}
-
-/// The lines behind that of an outcome.
-fn text_behind(
-    alloc: Global,
-    read: &Record,
-    table: &Table,
-    certificate: &Certificate,
-    judged: Option<End>,
-    outcome: Outcome,
-) -> Result<String, AllocError>
-    requires few { length read.now.entries.items ≤ 100000 }
-    ensures { IfOk result (λ text. IsWhy judged table.now certificate.now read.now.entries.items outcome (string_bytes text)) }
-{
-    match outcome {
-        Outcome::Lawful(_) | Outcome::LawfulFor(_, _) => {
-            run_text(alloc, read, table, certificate, judged)
-        }
-        Outcome::Refuted(refutation) => refuted_text(alloc, read, table, judged, refutation),
-        Outcome::NotShown(fault) | Outcome::Undecided(fault) => {
-            stop_text(alloc, read, table, certificate, judged, fault)
-        }
-        Outcome::Faulty(_, _) => fault_text(alloc, outcome),
     }
 }
 
-/// An outcome, and why, by a certificate.
-fn explain(
+/// How many of its peer's messages an end is taken not to have received in a run.
+fn count_unheard(end: End, steps: &[Step]) -> u64
+    ensures { result ≡ unheard_of end (events_of steps.now) }
+{
+    let mut unheard = 0;
+    for step in steps {
+        if is_lost_from(other(end), step) {
+            unheard += 1;
+        }
+    }
+    unheard
+}
+
+/// What is said of so many entries that have this run.
+fn said_of(judged: Option<End>, count: usize, steps: &[Step]) -> Outcome
+    ensures { result ≡ lawful_by judged count (events_of steps.now) }
+{
+    match judged {
+        None => Outcome::Lawful(count),
+        Some(end) => Outcome::LawfulFor(count, count_unheard(end, steps)),
+    }
+}
+
+/// That a record is lawful, and the run that shows it.
+fn explain_run(
+    alloc: Global,
+    read: &Record,
+    steps: &[Step],
+    asked: Asked,
+) -> Result<Why, AllocError>
+    ensures outcome { IfOk result (λ why. why.outcome
+        ≡ lawful_by asked.judged (length read.now.entries.items) (events_of steps.now)) }
+    ensures behind { IfOk result (λ why. string_bytes why.behind ≡ run_lines asked.judged steps.now) }
+{
+    let outcome = said_of(asked.judged, read.entries.len(), steps);
+    let mut behind = String::new(alloc);
+    push_steps(&mut behind, asked.judged, steps)?;
+    let chart = if asked.with_chart {
+        chart_of_steps(alloc, read, steps, asked.judged, outcome)?
+    } else {
+        String::new(alloc)
+    };
+    Ok(Why {
+        outcome,
+        behind,
+        chart,
+    })
+}
+
+/// That is said of a record of which the certificate shows nothing, and why.
+fn explain_stop(
     alloc: Global,
     read: &Record,
     table: &Table,
     certificate: &Certificate,
     asked: Asked,
+    fault: CheckFault,
     outcome: Outcome,
 ) -> Result<Why, AllocError>
     requires few { length read.now.entries.items ≤ 100000 }
-    ensures outcome { IfOk result (λ why. why.outcome ≡ outcome) }
-    ensures why { IfOk result (λ why. IsWhy asked.judged table.now certificate.now read.now.entries.items outcome
-        (string_bytes why.behind)) }
+    ensures { IfOk result (λ why. why.outcome ≡ outcome) }
 {
-    let behind = text_behind(alloc, read, table, certificate, asked.judged, outcome)?;
+    let behind = stop_text(alloc, read, table, certificate, asked.judged, fault)?;
     let chart = if asked.with_chart {
         chart_of(alloc, read, table, certificate, asked.judged, outcome)?
     } else {
@@ -157,6 +191,57 @@ fn explain(
         behind,
         chart,
     })
+}
+
+/// That an entry is at fault, and why. The certificate that is proposed is needed for the chart alone.
+fn explain_refuted(
+    alloc: Global,
+    read: &Record,
+    table: &Table,
+    asked: Asked,
+    refutation: Refutation,
+) -> Result<Why, AllocError>
+    requires few { length read.now.entries.items ≤ 100000 }
+    ensures { IfOk result (λ why. why.outcome ≡ Refuted refutation) }
+{
+    let outcome = Outcome::Refuted(refutation);
+    let behind = refuted_text(alloc, read, table, asked.judged, refutation)?;
+    let chart = if asked.with_chart {
+        let certificate = propose(alloc, read, asked.judged)?;
+        chart_of(alloc, read, table, &certificate, asked.judged, outcome)?
+    } else {
+        String::new(alloc)
+    };
+    Ok(Why {
+        outcome,
+        behind,
+        chart,
+    })
+}
+
+/// What is said of a record of which no entry is named: what the certificate that is proposed shows, and why.
+fn explain_by_search(
+    alloc: Global,
+    read: &Record,
+    table: &Table,
+    asked: Asked,
+) -> Result<Why, AllocError>
+    requires few { length read.now.entries.items ≤ 100000 }
+    requires sound { named_by asked.judged table.now read.now.entries.items ≡ None }
+    ensures { IfOk result (λ why. (why.outcome ≡ verdict_of asked.judged table.now read.now.entries.items)
+        × IsShown asked.judged table.now read.now.entries.items why.outcome
+        × IsWhy asked.judged table.now (proposed_by asked.judged read.now.entries.items) read.now.entries.items why.outcome
+        (string_bytes why.behind)) }
+{
+    let certificate = propose(alloc, read, asked.judged)?;
+    match steps_of(alloc, read, table, &certificate, asked.judged) {
+        Ok(steps) => explain_run(alloc, read, &steps, asked),
+        Err(fault) if matches!(fault.reason, Reason::Memory) => Err(AllocError),
+        Err(fault) => {
+            let outcome = Outcome::Undecided(fault);
+            explain_stop(alloc, read, table, &certificate, asked, fault, outcome)
+        }
+    }
 }
 
 /// The verdict on a record, and why.
@@ -172,9 +257,10 @@ fn explain_verdict(
         × IsWhy asked.judged table.now (proposed_by asked.judged read.now.entries.items) read.now.entries.items why.outcome
         (string_bytes why.behind)) }
 {
-    let said = judge_record(alloc, read, table, asked.judged, false)?;
-    let certificate = propose(alloc, read, asked.judged)?;
-    explain(alloc, read, table, &certificate, asked, said.outcome)
+    match named(alloc, read, table, asked.judged)? {
+        Some(refutation) => explain_refuted(alloc, read, table, asked, refutation),
+        None => explain_by_search(alloc, read, table, asked),
+    }
 }
 
 /// What a certificate shows of a record, and why.
@@ -191,12 +277,14 @@ fn explain_replay(
         × IsShown asked.judged table.now read.now.entries.items why.outcome
         × IsWhy asked.judged table.now certificate.now read.now.entries.items why.outcome (string_bytes why.behind)) }
 {
-    let outcome = match replay(alloc, read, table, certificate, asked.judged) {
-        Ok(outcome) => outcome,
-        Err(fault) if matches!(fault.reason, Reason::Memory) => return Err(AllocError),
-        Err(fault) => Outcome::NotShown(fault),
-    };
-    explain(alloc, read, table, certificate, asked, outcome)
+    match steps_of(alloc, read, table, certificate, asked.judged) {
+        Ok(steps) => explain_run(alloc, read, &steps, asked),
+        Err(fault) if matches!(fault.reason, Reason::Memory) => Err(AllocError),
+        Err(fault) => {
+            let outcome = Outcome::NotShown(fault);
+            explain_stop(alloc, read, table, certificate, asked, fault, outcome)
+        }
+    }
 }
 
 /// What is said of the record that `reader` tells, and why.

@@ -3,8 +3,10 @@
 ghost use Rattle.std.specs.Prelude.{◌≡◌, ◌++◌, OnOk, codes};
 ghost use Rattle.std.specs.String.{string_bytes};
 ghost use Rattle.hex.specs.Hex.{encode_lower};
+ghost use Rattle.tcap_check.specs.Alone.{is_lost_from};
 ghost use Rattle.tcap_check.specs.World.{is_side, other};
 ghost use Rattle.tcap_judge.specs.Blamed.{letter};
+ghost use Rattle.tcap_runs.specs.Steps.{event_of};
 ghost use Rattle.tcap_verdict.specs.StepLines.{closing_line, deed_text, discard_line, discard_text, expiry_line, half_text, invocation_text, is_entry, lines_from, loss_line, own_label, owner_text, peer_label, reply_line, run_label, run_lines, sent_line, step_line};
 
 use std::alloc::AllocError;
@@ -38,6 +40,16 @@ pub(crate) fn is_side(end: End, side: End) -> bool
     ensures { result ≡ is_side end side }
 {
     end == side
+}
+
+/// Whether a step is the loss of a message that an end sent.
+pub(crate) fn is_lost_from(side: End, step: &Step) -> bool
+    ensures { result ≡ is_lost_from side (event_of step.now) }
+{
+    match step {
+        Step::Loses(sender, _) | Step::Discards(sender, _, _) => is_side(side, *sender),
+        _ => false,
+    }
 }
 
 /// What stands before the ID by which a half is named, its own one.
