@@ -17,6 +17,7 @@ pub mod Given
 pub mod Replays
 pub mod Noted
 pub mod Outlines
+pub mod Held
 pub mod Progress
 pub mod Checking
 pub mod Buckets

@@ -1,6 +1,6 @@
 //! A checker: it replays a certificate over entries that come one after the other, and believes nothing of it.
 
-ghost use Rattle.std.specs.Prelude.{◌≡◌, ◌≢◌, ◌++◌, ◌∷◌, ◌+◌, ◌<◌, ◌≤◌, ◌^◌, [], ℕ, List, length, slice_get, Result, Ok, Err, IfOk, IsTrue, OnOk, is_ok, ok_or};
+ghost use Rattle.std.specs.Prelude.{◌≡◌, ◌≢◌, ◌++◌, ◌∷◌, ◌+◌, ◌<◌, ◌≤◌, ◌^◌, [], ℕ, List, length, slice_get, Result, Ok, Err, IfOk, IfSome, IsTrue, OnOk, is_ok, ok_or};
 ghost use Rattle.tcap_record.specs.declared.entry.End.{End as Side};
 ghost use Rattle.tcap_check.specs.declared.fault.CheckFault.{CheckFault as Refusal};
 ghost use Rattle.tcap_check.specs.declared.fault.Reason.{Reason as Why};
@@ -22,7 +22,7 @@ use std::alloc::Global;
 use std::marker::Model;
 use tcap_ber::Fault;
 use tcap_end::Table;
-use tcap_msg::MessageParts;
+use tcap_msg::{Message, MessageParts};
 use tcap_record::End;
 
 /// What a check that succeeds says of the run.
@@ -33,20 +33,20 @@ pub struct Report {
     pub moves: u128,
 }
 
-/// A replay under way. Of the entries so far it keeps the messages that wait, who sent each, and the IDs of those that a
-/// listed event names.
+/// A replay under way. Of the entries so far it keeps the messages that wait, lent where they outlive it, who sent each, and
+/// the IDs of those that a listed event names.
 #[derive(Debug, Drop)]
 pub(crate) struct Replaying<'a> {
     alloc: Global,
     table: &'a Table,
     certificate: &'a Certificate,
     plan: Plan,
-    progress: Progress,
+    progress: Progress<'a>,
     entries: Vec<Outline>,
     since: usize,
 }
 
-impl Replaying<'_> {
+impl<'a> Replaying<'a> {
     /// A refusal of the next entry.
     fn refusal(&self, reason: Reason) -> CheckFault
         ensures { result ≡ fault_at reason (length self.now.entries.items) }
@@ -104,9 +104,15 @@ impl Replaying<'_> {
         }
     }
 
-    /// The next entry is a message that an end sent.
-    fn take_message<M: MessageParts>(&mut self, side: End, message: &M) -> Result<(), CheckFault>
+    /// The next entry is a message that an end sent; it is lent, where it outlives the replay.
+    fn take_message<M: MessageParts>(
+        &mut self,
+        side: End,
+        message: &M,
+        lent: Option<&'a Message>,
+    ) -> Result<(), CheckFault>
         requires ready { IsReady self.old }
+        requires same { IfSome lent (λ lent. lent.now ≡ M.meaning message.now) }
         ensures taken { YieldsInMemory (kept_next self.old.table.now self.old.certificate.now
             (Ok (Sent side (M.meaning message.now))) (kept_in self.old)) result (kept_in self.new) }
         ensures ready { OnOk result (IsReady self.new) }
@@ -126,12 +132,25 @@ impl Replaying<'_> {
             fate,
             entry as u64,
             message,
+            lent,
             self.plan.taken.get(entry),
         )?;
         let Ok(outline) = Outline::of_message(self.alloc, self.is_named(), side, message) else {
             return Err(OUT_OF_MEMORY);
         };
         self.keep(outline)
+    }
+
+    /// The next entry is a message that an end sent, and that outlives the replay.
+    fn take_lent(&mut self, side: End, message: &'a Message) -> Result<(), CheckFault>
+        requires ready { IsReady self.old }
+        ensures taken { YieldsInMemory (kept_next self.old.table.now self.old.certificate.now
+            (Ok (Sent side message.now)) (kept_in self.old)) result (kept_in self.new) }
+        ensures ready { OnOk result (IsReady self.new) }
+        ensures table { self.new.table ≡ self.old.table }
+        ensures certificate { self.new.certificate ≡ self.old.certificate }
+    {
+        self.take_message(side, &message.view(), Some(message))
     }
 
     /// The next entry is a quiet mark.
@@ -179,7 +198,7 @@ impl Replaying<'_> {
         ensures certificate { self.new.certificate ≡ self.old.certificate }
     {
         match body {
-            Ok(message) => self.take_message(side, message),
+            Ok(message) => self.take_message(side, message, None),
             Err(fault) => Err(self.refuse(Reason::BadMessage(fault))),
         }
     }
@@ -285,6 +304,25 @@ impl<'a> Checker<'a> {
             return Err(fault);
         }
         let answer = self.replaying.take_body(side, body);
+        if let Err(fault) = answer {
+            self.fault = Some(fault);
+        }
+        answer
+    }
+
+    /// As `step` of a message that outlives the checker, and is lent while it waits.
+    pub(crate) fn step_lent(&mut self, side: End, message: &'a Message) -> Result<(), CheckFault>
+        ensures took { (entries : List (Result Item Why)) → Took self.old entries → result ≢ Err (fault_at reasons.Memory 0)
+            → Took self.new (entries ++ Ok (Sent side message.now) ∷ []) }
+        ensures answers { result ≡ answer_of self.new.so_far }
+        ensures table { self.new.table ≡ self.old.table }
+        ensures certificate { self.new.certificate ≡ self.old.certificate }
+        ensures for_ever { (f : Refusal) → self.old.so_far ≡ Err f → self.new ≡ self.old }
+    {
+        if let Some(fault) = self.fault {
+            return Err(fault);
+        }
+        let answer = self.replaying.take_lent(side, message);
         if let Err(fault) = answer {
             self.fault = Some(fault);
         }

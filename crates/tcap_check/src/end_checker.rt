@@ -1,7 +1,7 @@
 //! A checker of one end alone: it replays a certificate for that end over entries that come one after the other, and believes
 //! nothing of it, nor of the peer.
 
-ghost use Rattle.std.specs.Prelude.{◌≡◌, ◌≢◌, ◌++◌, ◌∷◌, ◌+◌, ◌≤◌, ◌^◌, [], ℕ, List, length, slice_get, Result, Ok, Err, IfOk, OnOk, ok_or};
+ghost use Rattle.std.specs.Prelude.{◌≡◌, ◌≢◌, ◌++◌, ◌∷◌, ◌+◌, ◌≤◌, ◌^◌, [], ℕ, List, length, slice_get, Result, Ok, Err, IfOk, IfSome, OnOk, ok_or};
 ghost use Rattle.tcap_check.specs.declared.fault.CheckFault.{CheckFault as Refusal};
 ghost use Rattle.tcap_check.specs.declared.fault.Reason.{Reason as Why};
 ghost use Rattle.tcap_check.specs.declared.fault.Reason.TheVariants as reasons;
@@ -27,7 +27,7 @@ use std::alloc::Global;
 use std::marker::Model;
 use tcap_ber::Fault;
 use tcap_end::Table;
-use tcap_msg::MessageParts;
+use tcap_msg::{Message, MessageParts};
 use tcap_record::End;
 
 /// What a check of one end alone that succeeds says of the run.
@@ -40,8 +40,8 @@ pub struct EndReport {
     pub unheard: u64,
 }
 
-/// A replay for one end under way. Of the entries so far it keeps the peer's messages that wait, who sent each, and the IDs
-/// of those that a listed event names.
+/// A replay for one end under way. Of the entries so far it keeps the peer's messages that wait, lent where they outlive it,
+/// who sent each, and the IDs of those that a listed event names.
 #[derive(Debug, Drop)]
 pub(crate) struct EndReplaying<'a> {
     alloc: Global,
@@ -49,12 +49,12 @@ pub(crate) struct EndReplaying<'a> {
     table: &'a Table,
     certificate: &'a Certificate,
     plan: Plan,
-    hearing: Hearing,
+    hearing: Hearing<'a>,
     entries: Vec<Outline>,
     since: usize,
 }
 
-impl EndReplaying<'_> {
+impl<'a> EndReplaying<'a> {
     /// A refusal of the next entry.
     fn refusal(&self, reason: Reason) -> CheckFault
         ensures { result ≡ fault_at reason (length self.now.entries.items) }
@@ -166,9 +166,14 @@ impl EndReplaying<'_> {
         self.keep_message(self.side, message)
     }
 
-    /// The next entry is a message that the end's peer sent.
-    fn take_told<M: MessageParts>(&mut self, message: &M) -> Result<(), CheckFault>
+    /// The next entry is a message that the end's peer sent; it is lent, where it outlives the replay.
+    fn take_told<M: MessageParts>(
+        &mut self,
+        message: &M,
+        lent: Option<&'a Message>,
+    ) -> Result<(), CheckFault>
         requires ready { IsEndReady self.old }
+        requires same { IfSome lent (λ lent. lent.now ≡ M.meaning message.now) }
         ensures taken { YieldsInMemory (end_kept_next self.old.side self.old.table.now self.old.certificate.now
             (Ok (Sent (other self.old.side) (M.meaning message.now))) (end_kept_in self.old)) result (end_kept_in self.new) }
         ensures ready { OnOk result (IsEndReady self.new) }
@@ -189,9 +194,23 @@ impl EndReplaying<'_> {
             fate,
             self.entries.len() as u64,
             message,
+            lent,
             &tied,
         )?;
         self.keep_message(teller, message)
+    }
+
+    /// The next entry is a message that an end sent, and that outlives the replay.
+    fn take_lent(&mut self, sender: End, message: &'a Message) -> Result<(), CheckFault>
+        requires ready { IsEndReady self.old }
+        ensures taken { YieldsInMemory (end_kept_next self.old.side self.old.table.now self.old.certificate.now
+            (Ok (Sent sender message.now)) (end_kept_in self.old)) result (end_kept_in self.new) }
+        ensures ready { OnOk result (IsEndReady self.new) }
+        ensures side { self.new.side ≡ self.old.side }
+        ensures table { self.new.table ≡ self.old.table }
+        ensures certificate { self.new.certificate ≡ self.old.certificate }
+    {
+        self.take_message(sender, &message.view(), Some(message))
     }
 
     /// The next entry is a quiet mark.
@@ -228,6 +247,29 @@ impl EndReplaying<'_> {
         }
     }
 
+    /// The next entry is a message that an end sent; it is lent, where it outlives the replay.
+    fn take_message<M: MessageParts>(
+        &mut self,
+        sender: End,
+        message: &M,
+        lent: Option<&'a Message>,
+    ) -> Result<(), CheckFault>
+        requires ready { IsEndReady self.old }
+        requires same { IfSome lent (λ lent. lent.now ≡ M.meaning message.now) }
+        ensures taken { YieldsInMemory (end_kept_next self.old.side self.old.table.now self.old.certificate.now
+            (Ok (Sent sender (M.meaning message.now))) (end_kept_in self.old)) result (end_kept_in self.new) }
+        ensures ready { OnOk result (IsEndReady self.new) }
+        ensures side { self.new.side ≡ self.old.side }
+        ensures table { self.new.table ≡ self.old.table }
+        ensures certificate { self.new.certificate ≡ self.old.certificate }
+    {
+        if sender == self.side {
+            self.take_own(message)
+        } else {
+            self.take_told(message, lent)
+        }
+    }
+
     /// The next entry is a message that an end sent, or octets that are none.
     fn take_body<M: MessageParts>(
         &mut self,
@@ -243,8 +285,7 @@ impl EndReplaying<'_> {
         ensures certificate { self.new.certificate ≡ self.old.certificate }
     {
         match body {
-            Ok(message) if sender == self.side => self.take_own(message),
-            Ok(message) => self.take_told(message),
+            Ok(message) => self.take_message(sender, message, None),
             Err(fault) => Err(self.refuse(Reason::BadMessage(fault))),
         }
     }
@@ -343,6 +384,26 @@ impl<'a> EndChecker<'a> {
             return Err(fault);
         }
         let answer = self.replaying.take_body(side, body);
+        if let Err(fault) = answer {
+            self.fault = Some(fault);
+        }
+        answer
+    }
+
+    /// As `step` of a message that outlives the checker, and is lent while it waits.
+    pub(crate) fn step_lent(&mut self, side: End, message: &'a Message) -> Result<(), CheckFault>
+        ensures took { (entries : List (Result Item Why)) → EndTook self.old entries → result ≢ Err (fault_at reasons.Memory 0)
+            → EndTook self.new (entries ++ Ok (Sent side message.now) ∷ []) }
+        ensures answers { result ≡ answer_of self.new.so_far }
+        ensures side { self.new.side ≡ self.old.side }
+        ensures table { self.new.table ≡ self.old.table }
+        ensures certificate { self.new.certificate ≡ self.old.certificate }
+        ensures for_ever { (f : Refusal) → self.old.so_far ≡ Err f → self.new ≡ self.old }
+    {
+        if let Some(fault) = self.fault {
+            return Err(fault);
+        }
+        let answer = self.replaying.take_lent(side, message);
         if let Err(fault) = answer {
             self.fault = Some(fault);
         }

@@ -20,9 +20,9 @@ use crate::fault::CheckFault;
 use std::alloc::Global;
 use tcap_end::Table;
 use tcap_msg::MessageView;
-use tcap_record::{BodyView, End, EntryView, Record};
+use tcap_record::{Body, BodyView, End, Entry, EntryView, Record};
 
-impl EndChecker<'_> {
+impl<'a> EndChecker<'a> {
     /// Takes the next entry of a record: as `step` where it is a message or octets that are none, as `mark` where it is a
     /// quiet mark. `NoItem` where it has a message and no end, or an end and a quiet mark.
     pub fn take(&mut self, entry: &EntryView) -> Result<(), CheckFault>
@@ -39,6 +39,22 @@ impl EndChecker<'_> {
             (_, BodyView::Bad(fault)) => self.step::<MessageView>(End::A, Err(*fault)),
             (None, BodyView::Quiet) => self.mark(),
             _ => self.no_item(),
+        }
+    }
+
+    /// The same of an entry that outlives the checker; its message is lent while it waits.
+    fn take_lent(&mut self, entry: &'a Entry) -> Result<(), CheckFault>
+        ensures took { (entries : List (Result Item Why)) → EndTook self.old entries → result ≢ Err (fault_at reasons.Memory 0)
+            → EndTook self.new (entries ++ item_of entry.now ∷ []) }
+        ensures answers { result ≡ answer_of self.new.so_far }
+        ensures side { self.new.side ≡ self.old.side }
+        ensures table { self.new.table ≡ self.old.table }
+        ensures certificate { self.new.certificate ≡ self.old.certificate }
+        ensures for_ever { (f : Refusal) → self.old.so_far ≡ Err f → self.new ≡ self.old }
+    {
+        match (entry.side, &entry.body) {
+            (Some(side), Body::Good(message)) => self.step_lent(side, message),
+            _ => self.take(&entry.view()),
         }
     }
 }
@@ -63,7 +79,7 @@ pub fn check_end(
 {
     let mut checker = EndChecker::new(alloc, table, certificate, end)?;
     for entry in &record.entries {
-        if let Err(fault) = checker.take(&entry.view()) {
+        if let Err(fault) = checker.take_lent(entry) {
             return Err(fault);
         }
     }

@@ -1,6 +1,6 @@
 //! What a checker keeps of one end alone and of what its peer told, and the steps of that end (Q.774 3.2 and 3.3).
 
-ghost use Rattle.std.specs.Prelude.{◌≡◌, ◌<◌, ◌≤◌, ◌+◌, ◌^◌, IfOk, OnOk, length, slice_get};
+ghost use Rattle.std.specs.Prelude.{◌≡◌, ◌<◌, ◌≤◌, ◌+◌, ◌^◌, IfOk, IfSome, OnOk, length, slice_get};
 ghost use Rattle.tcap_check.specs.Hearing.{all_heard, gap_passed, heard_or_dropped, is_told, mark_taken, message_heard, nothing_heard};
 ghost use Rattle.tcap_check.specs.Hearing.{own_closings, own_expiries, own_taken, told_among, told_taken};
 ghost use Rattle.tcap_check.specs.EndChecking.{end_report_of};
@@ -11,6 +11,7 @@ ghost use Rattle.tcap_check.specs.World.{other};
 use crate::certificate::{Certificate, Closing, Expiry, Fate};
 use crate::end_checker::EndReport;
 use crate::fault::{CheckFault, Reason};
+use crate::held::Held;
 use crate::outline::Outline;
 use crate::plan::Plan;
 use crate::progress::{OUT_OF_MEMORY, Progress, receive};
@@ -23,8 +24,8 @@ use tcap_record::End;
 /// What is kept of a replay for one end. That end's seat has nothing on its way, since what it sends is lost at once; its
 /// peer's has what the peer told, and an end over which nothing goes.
 #[derive(Debug, Drop)]
-pub(crate) struct Hearing {
-    pub(crate) progress: Progress,
+pub(crate) struct Hearing<'r> {
+    pub(crate) progress: Progress<'r>,
     // How many messages the end sent. The steps have a loss for each.
     pub(crate) own: u64,
     // How many of its peer's messages the end is taken not to have received, with the lost ones that are on their way.
@@ -59,7 +60,7 @@ pub(crate) fn told_among(
     Ok(told)
 }
 
-impl Progress {
+impl Progress<'_> {
     /// Closes halves of an end unseen, in the order in which they are listed. What is listed of the other end is passed over.
     fn close_own(
         &mut self,
@@ -102,9 +103,9 @@ impl Progress {
     }
 }
 
-impl Hearing {
+impl<'r> Hearing<'r> {
     /// An end over which nothing went yet.
-    pub(crate) fn new(alloc: Global) -> Hearing
+    pub(crate) fn new(alloc: Global) -> Hearing<'r>
         ensures { result ≡ nothing_heard }
     {
         Hearing {
@@ -115,7 +116,7 @@ impl Hearing {
     }
 
     /// The end receives a message, or it is dropped where the end can't receive it.
-    fn receive(&mut self, table: &Table, side: End, message: &Message) -> Result<(), CheckFault>
+    fn receive(&mut self, table: &Table, side: End, message: &Held) -> Result<(), CheckFault>
         requires room { self.old.progress.moves + 1 < 2 ^ 128 }
         requires count { self.old.unheard + 1 < 2 ^ 64 }
         ensures received { YieldsInMemory (heard_or_dropped table.now side message.now self.old) result self.new }
@@ -235,13 +236,13 @@ impl Hearing {
         ensures own { OnOk result (self.new.own ≡ self.old.own + 1) }
         ensures unheard { OnOk result (self.new.unheard ≡ self.old.unheard) }
     {
-        self.progress
-            .take_message(alloc, table, side, Fate::Lost, number, message, takes)?;
+        self.progress.take_message(alloc, table, side, Fate::Lost, number, message, None, takes)?;
         self.own += 1;
         Ok(())
     }
 
-    /// A message with that number and fate that the end's peer tells. It takes no message.
+    /// A message with that number and fate that the end's peer tells. It takes no message. It is lent, where it outlives
+    /// the replay.
     pub(crate) fn take_told<M: MessageParts>(
         &mut self,
         alloc: Global,
@@ -249,9 +250,11 @@ impl Hearing {
         fate: Fate,
         number: u64,
         message: &M,
+        lent: Option<&'r Message>,
         takes: &[u32],
     ) -> Result<(), CheckFault>
         requires room { self.old.progress.moves < 2 ^ 127 }
+        requires same { IfSome lent (λ lent. lent.now ≡ M.meaning message.now) }
         requires count { self.old.unheard + 1 < 2 ^ 64 }
         ensures taken { YieldsInMemory (told_taken side fate number (M.meaning message.now) takes.now self.old) result
             self.new }
@@ -266,7 +269,7 @@ impl Hearing {
             });
         }
         self.progress
-            .join(alloc, other(side), fate, number, message)
+            .join(alloc, other(side), fate, number, message, lent)
             .map_err(|_| OUT_OF_MEMORY)?;
         if matches!(fate, Fate::Lost) {
             self.unheard += 1;

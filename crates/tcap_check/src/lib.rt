@@ -13,6 +13,7 @@ mod end_records;
 mod fault;
 pub mod given;
 mod hearing;
+mod held;
 pub mod laws;
 mod outline;
 mod plan;

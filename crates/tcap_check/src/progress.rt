@@ -14,40 +14,40 @@ ghost use Rattle.tcap_check.specs.Progress.{nothing_kept, seat_at};
 
 use crate::certificate::{Certificate, Closing, Expiry};
 use crate::fault::{CheckFault, Reason};
+use crate::held::Held;
 use crate::outline::{Outline, half_closed, invocation_ended};
 use crate::plan::Plan;
 use std::alloc::Global;
 use std::collections::LinkedList;
 use tcap_end::{EndFault, EndState, HalfName, Table};
-use tcap_msg::Message;
 use tcap_record::End;
 
 /// A message on its way that is not lost, with the number of its entry.
 #[derive(Debug, Drop)]
-pub(crate) struct Waiting {
+pub(crate) struct Waiting<'r> {
     pub(crate) number: u64,
-    pub(crate) message: Message,
+    pub(crate) message: Held<'r>,
 }
 
 /// An end, what it sent that is on its way and not lost, and the greatest time of what it sent.
 #[derive(Debug, Drop)]
-pub(crate) struct Seat {
+pub(crate) struct Seat<'r> {
     pub(crate) end: EndState,
-    pub(crate) waiting: LinkedList<Waiting>,
+    pub(crate) waiting: LinkedList<Waiting<'r>>,
     pub(crate) latest: u64,
 }
 
 /// Both ends, and the count of steps so far, with the losses of what is still on its way.
 #[derive(Debug, Drop)]
-pub(crate) struct Progress {
-    pub(crate) a: Seat,
-    pub(crate) b: Seat,
+pub(crate) struct Progress<'r> {
+    pub(crate) a: Seat<'r>,
+    pub(crate) b: Seat<'r>,
     pub(crate) moves: u128,
 }
 
-impl Seat {
+impl<'r> Seat<'r> {
     /// An end over which nothing went yet.
-    fn new(alloc: Global) -> Seat
+    fn new(alloc: Global) -> Seat<'r>
         ensures { result ≡ empty_seat }
     {
         Seat {
@@ -65,7 +65,7 @@ pub(crate) const OUT_OF_MEMORY: CheckFault = CheckFault {
 };
 
 /// An end receives a message, which is lent once for all that is asked of it.
-pub(crate) fn receive(end: &mut EndState, table: &Table, message: &Message) -> Result<(), EndFault>
+pub(crate) fn receive(end: &mut EndState, table: &Table, message: &Held) -> Result<(), EndFault>
     ensures step { AnswersInMemory (receive table.now end.old message.now) result end.new }
     ensures kept { OnErr result (end.new ≡ end.old) }
     ensures only { OnErr result (IsSome (otid_in message.now)) }
@@ -74,9 +74,9 @@ pub(crate) fn receive(end: &mut EndState, table: &Table, message: &Message) -> R
     end.receive(table, &message)
 }
 
-impl Progress {
+impl<'r> Progress<'r> {
     /// Two ends over which nothing went yet.
-    pub(crate) fn new(alloc: Global) -> Progress
+    pub(crate) fn new(alloc: Global) -> Progress<'r>
         ensures { result ≡ nothing_kept }
     {
         Progress {
@@ -207,7 +207,7 @@ impl Progress {
     }
 
     /// The first message on its way from an end, which is taken from its channel.
-    pub(crate) fn take_first(&mut self, side: End) -> Option<Waiting>
+    pub(crate) fn take_first(&mut self, side: End) -> Option<Waiting<'r>>
         ensures { IsTakenFrom side (seat_at side self.old).waiting self.old result self.new }
     {
         match side {
@@ -222,7 +222,7 @@ impl Progress {
         table: &Table,
         side: End,
         number: u32,
-        message: &Message,
+        message: &Held,
     ) -> Result<(), CheckFault>
         requires room { self.old.moves + 1 < 2 ^ 128 }
         ensures { YieldsInMemory (end_moved (other side) (fault_at BadReply number) self.old

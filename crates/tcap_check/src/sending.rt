@@ -1,6 +1,6 @@
 //! What a checker does where an end sends a message, its provider answers one, or all is quiet (Q.774 3.2 and 3.3).
 
-ghost use Rattle.std.specs.Prelude.{◌≡◌, ◌<◌, ◌≤◌, ◌+◌, ◌^◌, length, filter_map, OnErr, OnOk};
+ghost use Rattle.std.specs.Prelude.{◌≡◌, ◌<◌, ◌≤◌, ◌+◌, ◌^◌, length, filter_map, IfSome, OnErr, OnOk};
 ghost use Rattle.tcap_parts.specs.Meaning.{component_of};
 ghost use Rattle.tcap_msg.specs.Parts.{components_in};
 ghost use Rattle.tcap_end.specs.Step.{AnswersInMemory};
@@ -14,10 +14,11 @@ ghost use Rattle.tcap_check.specs.Progress.{mark_kept, message_kept, overtakes, 
 
 use crate::certificate::Fate;
 use crate::fault::{CheckFault, Reason};
+use crate::held::Held;
 use crate::progress::{OUT_OF_MEMORY, Progress, Seat, Waiting};
 use std::alloc::{AllocError, Global};
 use tcap_end::{EndFault, HalfName, Table};
-use tcap_msg::{Kind, MessageParts};
+use tcap_msg::{Kind, Message, MessageParts};
 use tcap_parts::ComponentView;
 use tcap_record::End;
 
@@ -50,11 +51,11 @@ fn invoking_half<M: MessageParts>(message: &M) -> Option<HalfName>
 fn may_refuse<A: MessageParts>(seat: &Seat, first: &Waiting, abort: &A) -> bool
     ensures { result ≡ may_refuse seat.now.end first.now.message (A.meaning abort.now) }
 {
-    seat.end.refuse_begin(&first.message, abort).is_ok()
-        || seat.end.refuse_continue(&first.message, abort).is_ok()
+    let first = first.message.view();
+    seat.end.refuse_begin(&first, abort).is_ok() || seat.end.refuse_continue(&first, abort).is_ok()
 }
 
-impl Seat {
+impl<'r> Seat<'r> {
     /// Whether a message with that fate comes before what its end sent earlier.
     pub(crate) fn overtakes(&self, fate: Fate) -> bool
         ensures { result ≡ overtakes fate self.now }
@@ -72,11 +73,13 @@ impl Seat {
         fate: Fate,
         number: u64,
         message: &M,
+        lent: Option<&'r Message>,
     ) -> Result<(), AllocError>
+        requires same { IfSome lent (λ lent. lent.now ≡ M.meaning message.now) }
         ensures { OnOk result (self.new ≡ seat_with fate number (M.meaning message.now) self.old) }
     {
         if !matches!(fate, Fate::Lost) {
-            let message = message.to_message(alloc)?;
+            let message = Held::new(alloc, message, lent)?;
             self.waiting.push_back(Waiting { number, message })?;
         }
         let time = time_or_zero(fate);
@@ -87,9 +90,9 @@ impl Seat {
     }
 }
 
-impl Progress {
+impl<'r> Progress<'r> {
     /// An end and what it sent.
-    pub(crate) fn seat(&self, side: End) -> &Seat
+    pub(crate) fn seat(&self, side: End) -> &Seat<'r>
         ensures { result.now ≡ seat_at side self.now }
     {
         match side {
@@ -106,13 +109,15 @@ impl Progress {
         fate: Fate,
         number: u64,
         message: &M,
+        lent: Option<&'r Message>,
     ) -> Result<(), AllocError>
         requires room { self.old.moves + 2 < 2 ^ 128 }
+        requires same { IfSome lent (λ lent. lent.now ≡ M.meaning message.now) }
         ensures { OnOk result (self.new ≡ sent_by side fate number (M.meaning message.now) self.old) }
     {
         match side {
-            End::A => self.a.join(alloc, fate, number, message)?,
-            End::B => self.b.join(alloc, fate, number, message)?,
+            End::A => self.a.join(alloc, fate, number, message, lent)?,
+            End::B => self.b.join(alloc, fate, number, message, lent)?,
         }
         self.moves += match fate {
             Fate::Lost => 2,
@@ -197,18 +202,20 @@ impl Progress {
         fate: Fate,
         number: u64,
         message: &M,
+        lent: Option<&'r Message>,
     ) -> Result<(), CheckFault>
         requires room { self.old.moves < 2 ^ 127 }
+        requires same { IfSome lent (λ lent. lent.now ≡ M.meaning message.now) }
         ensures sent { YieldsInMemory (send_kept table.now side fate number (M.meaning message.now) self.old) result
             self.new }
         ensures grows { OnOk result (self.new.moves ≤ self.old.moves + 2 ^ 65) }
     {
         match self.send_as_is(table, side, message) {
             Ok(()) => self
-                .join(alloc, side, fate, number, message)
+                .join(alloc, side, fate, number, message, lent)
                 .map_err(|_| OUT_OF_MEMORY),
             Err(EndFault::Memory) => Err(OUT_OF_MEMORY),
-            Err(_) => self.send_anew(alloc, table, side, fate, number, message),
+            Err(_) => self.send_anew(alloc, table, side, fate, number, message, lent),
         }
     }
 
@@ -221,8 +228,10 @@ impl Progress {
         fate: Fate,
         number: u64,
         message: &M,
+        lent: Option<&'r Message>,
     ) -> Result<(), CheckFault>
         requires room { self.old.moves < 2 ^ 127 }
+        requires same { IfSome lent (λ lent. lent.now ≡ M.meaning message.now) }
         ensures sent { YieldsInMemory (send_kept table.now side fate number (M.meaning message.now) self.old) result
             self.new }
         ensures grows { OnOk result (self.new.moves ≤ self.old.moves + 2 ^ 65) }
@@ -236,7 +245,7 @@ impl Progress {
         };
         match sent {
             Ok(()) => self
-                .join(alloc, side, fate, number, message)
+                .join(alloc, side, fate, number, message, lent)
                 .map_err(|_| OUT_OF_MEMORY),
             Err(EndFault::Memory) => Err(OUT_OF_MEMORY),
             Err(fault) => Err(CheckFault {
@@ -269,9 +278,11 @@ impl Progress {
         fate: Fate,
         number: u64,
         abort: &A,
+        lent: Option<&'r Message>,
         taken: u32,
     ) -> Result<(), CheckFault>
         requires room { self.old.moves < 2 ^ 127 }
+        requires same { IfSome lent (λ lent. lent.now ≡ A.meaning abort.now) }
         ensures answered { YieldsInMemory (first_answered side fate number (A.meaning abort.now) taken
             (seat_at (other side) self.old).waiting self.old) result self.new }
         ensures grows { OnOk result (self.new.moves ≤ self.old.moves + 2 ^ 65) }
@@ -283,12 +294,12 @@ impl Progress {
             });
         }
         self.take_first(other(side));
-        self.join(alloc, side, fate, number, abort)
+        self.join(alloc, side, fate, number, abort, lent)
             .map_err(|_| OUT_OF_MEMORY)
     }
 
     /// A message with that number and fate, which takes these messages: the provider's answer to one, where it is an
-    /// Abort with a cause; else one that the end sends, which takes none.
+    /// Abort with a cause; else one that the end sends, which takes none. It is lent, where it outlives the replay.
     pub(crate) fn take_message<M: MessageParts>(
         &mut self,
         alloc: Global,
@@ -297,16 +308,18 @@ impl Progress {
         fate: Fate,
         number: u64,
         message: &M,
+        lent: Option<&'r Message>,
         taken: &[u32],
     ) -> Result<(), CheckFault>
         requires room { self.old.moves < 2 ^ 127 }
+        requires same { IfSome lent (λ lent. lent.now ≡ M.meaning message.now) }
         ensures taken { YieldsInMemory (message_kept table.now side fate number (M.meaning message.now) taken.now self.old)
             result self.new }
         ensures grows { OnOk result (self.new.moves ≤ self.old.moves + 2 ^ 65) }
     {
         match (message.cause(), taken) {
-            (Some(_), [taken]) => self.answer(alloc, side, fate, number, message, *taken),
-            (None, []) => self.send(alloc, table, side, fate, number, message),
+            (Some(_), [taken]) => { self.answer(alloc, side, fate, number, message, lent, *taken) }
+            (None, []) => self.send(alloc, table, side, fate, number, message, lent),
             _ => Err(CheckFault {
                 reason: Reason::BadReply,
                 entry: number,

@@ -1,7 +1,6 @@
 use Rattle.std.proofs.Common.{◌≡◌, List, [], ◌∷◌, Result, sym, ap, ap₂, subst, ◌∙◌, map, take, drop, ◌++◌, ◌+◌}
 use Rattle.tcap_record.specs.declared.entry.End.{End as Side}
 use Rattle.tcap_record.specs.declared.entry.Entry.{Entry}
-use Rattle.tcap_record.specs.Viewed.{entry_read}
 use Rattle.tcap_end.specs.Table.{Table}
 use Rattle.tcap_check.specs.declared.fault.Reason.{Reason}
 use Rattle.tcap_check.specs.declared.fault.Reason.TheVariants.{Memory}
@@ -21,22 +20,20 @@ returns-in-Err c =
     let all = c.args.record.now.entries.items in
     let i = c.loop-entry.entry-index in
     let before = map item_of (take i all) in
-    let next : before ++ item_of c.entry-item.result ∷ [] ≡ before ++ item_of (entry_read c.view.result) ∷ [] =
-    ap (λ (x : Entry). before ++ item_of x ∷ []) (sym c.view.ensures) in
     let so_far = taken_at all c.deref-entry-items.result.now i c.entry-item.result c.deref-entry-items.ensures.value
-    c.loop-entry-test.true c.entry-item.is ∙ next in
-    let same = ap₂ (λ (t : Table) (x : Certificate). map_ok (end_reported c.take.new.self.side) (heard_by c.take.new.self.side t x (map item_of all)))
-    (c.take.ensures.table ∙ c.loop-entry.invariant.table) (c.take.ensures.certificate ∙ c.loop-entry.invariant.certificate)
+    c.loop-entry-test.true c.entry-item.is in
+    let same = ap₂ (λ (t : Table) (x : Certificate). map_ok (end_reported c.take_lent.new.self.side) (heard_by c.take_lent.new.self.side t x (map item_of all)))
+    (c.take_lent.ensures.table ∙ c.loop-entry.invariant.table) (c.take_lent.ensures.certificate ∙ c.loop-entry.invariant.certificate)
     ∙ ap (λ (s : Side). map_ok (end_reported s) (heard_by s c.args.table.now c.args.certificate.now (map item_of all)))
-    (c.take.ensures.side ∙ c.loop-entry.invariant.side) in
+    (c.take_lent.ensures.side ∙ c.loop-entry.invariant.side) in
     record {
       lawful = λ report e. cc;
       exact = λ other.
-          refused_short c.take.new.self (before ++ item_of (entry_read c.view.result) ∷ []) (map item_of (drop (i + 1) all)) (map item_of all)
+          refused_short c.take_lent.new.self (before ++ item_of c.entry-item.result ∷ []) (map item_of (drop (i + 1) all)) (map item_of all)
           c.in-Err.fault
-          (c.take.ensures.took before c.loop-entry.invariant.took
+          (c.take_lent.ensures.took before c.loop-entry.invariant.took
           (λ e. other (same_fault c.in-Err.fault (fault_at Memory 0) (sym c.in-Err.is ∙ e))))
-          (answered_err c.take.new.self.so_far c.in-Err.fault (sym c.take.ensures.answers ∙ c.in-Err.is))
+          (answered_err c.take_lent.new.self.so_far c.in-Err.fault (sym c.take_lent.ensures.answers ∙ c.in-Err.is))
           (ap (λ (x : List (Result Item Reason)). x ++ map item_of (drop (i + 1) all)) (sym so_far) ∙ whole_is all (i + 1))
           ∙ same;
     }
@@ -46,16 +43,14 @@ loop-entry-preserved c =
     let all = c.args.record.now.entries.items in
     let i = c.loop-entry.entry-index in
     let before = map item_of (take i all) in
-    let next : before ++ item_of c.entry-item.result ∷ [] ≡ before ++ item_of (entry_read c.view.result) ∷ [] =
-    ap (λ (x : Entry). before ++ item_of x ∷ []) (sym c.view.ensures) in
     let so_far = taken_at all c.deref-entry-items.result.now i c.entry-item.result c.deref-entry-items.ensures.value
-    c.loop-entry-test.true c.entry-item.is ∙ next in
+    c.loop-entry-test.true c.entry-item.is in
     record {
-      took = subst (λ (x : List (Result Item Reason)). EndTook c.take.new.self x) (sym so_far)
-          (c.take.ensures.took before c.loop-entry.invariant.took (c.in_default.not-Err (fault_at Memory 0)));
-      side = c.take.ensures.side ∙ c.loop-entry.invariant.side;
-      table = c.take.ensures.table ∙ c.loop-entry.invariant.table;
-      certificate = c.take.ensures.certificate ∙ c.loop-entry.invariant.certificate;
+      took = subst (λ (x : List (Result Item Reason)). EndTook c.take_lent.new.self x) (sym so_far)
+          (c.take_lent.ensures.took before c.loop-entry.invariant.took (c.in_default.not-Err (fault_at Memory 0)));
+      side = c.take_lent.ensures.side ∙ c.loop-entry.invariant.side;
+      table = c.take_lent.ensures.table ∙ c.loop-entry.invariant.table;
+      certificate = c.take_lent.ensures.certificate ∙ c.loop-entry.invariant.certificate;
     }
 
 pub returns-clause-lawful : goal.returns-clause-lawful

@@ -1,0 +1,27 @@
+use Rattle.std.proofs.Common.{Option, None, Result, Err, sym, ap, ◌∙◌}
+use Rattle.tcap_check.specs.declared.fault.CheckFault.{CheckFault}
+use Rattle.tcap_check.specs.Checking.{Checking, so_far_of}
+use Rattle.tcap_check.specs.Ready.{kept_in}
+use Rattle.tcap_check.proofs.CheckerLaws.{stays, took_ok, took_err, turned}
+use Rattle.tcap_check.proofs.checker.Checker.step_lent.Goals as goal
+
+pub returns-in-Some-clause-took : goal.returns-in-Some-clause-took
+returns-in-Some-clause-took c = λ entries took other.
+    stays c.args.self.now c.in-Some.fault _
+    (ap (λ (x : Checking). x.so_far) (sym c.self.view_is) ∙ ap (λ (o : Option CheckFault). so_far_of o (kept_in c.self.inside.replaying)) c.in-Some.is)
+    entries took
+
+pub returns-in-Err-clause-took : goal.returns-in-Err-clause-took
+returns-in-Err-clause-took c = λ entries took other.
+    let r = c.self.inside.replaying in
+    rw (c.take_lent-answer.ensures.table, c.take_lent-answer.ensures.certificate)
+    (took_err r.table.now r.certificate.now (kept_in r) (kept_in r) _ c.in-Err.fault
+    (c.in-Err.ensures.taken (λ is. other (ap (λ (f : CheckFault). let x : Result (Unit {0}) CheckFault = Err f in x) is))) entries
+    (turned c.args.self.now r.table.now r.certificate.now c.self.inside.fault None (kept_in r) (sym c.self.view_is) c.in_default.is entries took))
+
+pub returns-in_default-answer-clause-took : goal.returns-in_default-answer-clause-took
+returns-in_default-answer-clause-took c = λ entries took other.
+    let r = c.self.inside.replaying in
+    rw (c.in_default.is, c.take_lent-answer.ensures.table, c.take_lent-answer.ensures.certificate)
+    (took_ok r.table.now r.certificate.now (kept_in r) (kept_in c.take_lent-answer.new.self) _ c.in_default-answer.ensures.taken entries
+    (turned c.args.self.now r.table.now r.certificate.now c.self.inside.fault None (kept_in r) (sym c.self.view_is) c.in_default.is entries took))
