@@ -11,8 +11,8 @@ use Rattle.std.proofs.lemmas.Map.Views.{tells_apart}
 use Rattle.tcap_parts.specs.declared.code.Code.{Code}
 use Rattle.tcap_parts.specs.declared.code.Code.TheVariants.{Local, Global}
 use Rattle.tcap_end.specs.Component.{is_code}
-use Rattle.tcap_refute.specs.declared.codes.Codes.{Codes}
-use Rattle.tcap_refute.specs.Kept.{has_code, holds}
+use Rattle.tcap_refute.specs.declared.codes.CodeSets.{CodeSets}
+use Rattle.tcap_refute.specs.Kept.{holds, is_among}
 use Rattle.tcap_refute.proofs.TestLaws.{or_none}
 
 -- ---- sets
@@ -54,17 +54,17 @@ abbrev vec_cmp : Vec ℕ Alloc → Vec ℕ Alloc → Ordering
 vec_cmp a b = slice_cmp nat_cmp a.items b.items
 
 -- A local code more.
-pub local_added : (codes new : Codes) (n : ℤ) → new.locals.keys ≡ insert_key int_cmp codes.locals.keys n
+pub local_added : (codes new : CodeSets) (n : ℤ) → new.locals.keys ≡ insert_key int_cmp codes.locals.keys n
     → new.globals.keys ≡ codes.globals.keys → (other : Code)
-    → has_code other new ≡ (has_code other codes || is_code other (Local n))
+    → is_among other new ≡ (is_among other codes || is_code other (Local n))
 local_added codes new n is same (Local m) = rw is
     (any_inserted int_cmp (is_at (int_cmp m)) (λ x y e. rw (exact_signed x y e) refl) codes.locals.keys n)
 local_added codes new n is same (Global octets) = rw same (or_none _)
 
 -- A global one.
-pub global_added : (codes new : Codes) (octets : List ℕ) (vec : Vec ℕ Alloc) → vec.items ≡ octets
+pub global_added : (codes new : CodeSets) (octets : List ℕ) (vec : Vec ℕ Alloc) → vec.items ≡ octets
     → new.globals.keys ≡ insert_key vec_cmp codes.globals.keys vec → new.locals.keys ≡ codes.locals.keys
-    → (other : Code) → has_code other new ≡ (has_code other codes || is_code other (Global octets))
+    → (other : Code) → is_among other new ≡ (is_among other codes || is_code other (Global octets))
 global_added codes new octets vec its is same (Local m) = rw same (or_none _)
 global_added codes new octets vec its is same (Global others) = rw (is, ← its)
     (any_inserted vec_cmp (is_at (λ k. slice_cmp nat_cmp others k.items))

@@ -9,8 +9,10 @@ use Rattle.tcap_parts.specs.declared.code.Code.{Code}
 use Rattle.tcap_parts.specs.declared.code.Code.TheVariants.{Local, Global}
 use Rattle.tcap_record.specs.declared.entry.End.{End as Side}
 use Rattle.tcap_record.specs.declared.entry.End.TheVariants as sides
+use Rattle.tcap_end.specs.Component.{is_code}
 use Rattle.tcap_end.specs.Table.{Table, octets_cmp}
 use Rattle.tcap_check.specs.World.{Item}
+use Rattle.tcap_refute.specs.declared.codes.CodeSets.{CodeSets}
 use Rattle.tcap_refute.specs.declared.codes.Codes.{Codes}
 use Rattle.tcap_refute.specs.declared.by_id.ById.{ById}
 use Rattle.tcap_refute.specs.declared.from_id.FromId.{FromId}
@@ -26,9 +28,17 @@ holds test None = false
 holds test (Some x) = test x
 
 -- whether a code is one of these
+abbrev pub is_among : Code → CodeSets → Bool
+is_among (Local n) codes = set.contains int_cmp codes.locals n
+is_among (Global octets) codes = set.contains_by (λ k. slice_cmp nat_cmp octets k.items) codes.globals
+
+-- whether a code is that local one, where it is there
+abbrev pub is_first : Code → Option ℤ → Bool
+is_first code first = holds (λ n. is_code code (Local n)) first
+
+-- whether a code is one of these: the first, or one of the others
 abbrev pub has_code : Code → Codes → Bool
-has_code (Local n) codes = set.contains int_cmp codes.locals n
-has_code (Global octets) codes = set.contains_by (λ k. slice_cmp nat_cmp octets k.items) codes.globals
+has_code code codes = is_first code codes.first || holds (λ others. is_among code others.value) codes.others
 
 abbrev pub tells : IdFact → ById → Bool
 tells Invoked kept = kept.invoked

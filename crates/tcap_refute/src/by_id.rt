@@ -43,7 +43,7 @@ fn class_reports(class: Option<u8>, is_result: bool) -> bool
 
 impl ById {
     /// Nothing.
-    pub(crate) fn new(alloc: Global) -> ById
+    pub(crate) fn new() -> ById
         ensures { (fact : IdFact) → tells fact result ≡ false }
     {
         ById {
@@ -52,7 +52,7 @@ impl ById {
             by_error: false,
             succeeds: false,
             fails: false,
-            codes: Codes::new(alloc),
+            codes: Codes::new(),
         }
     }
 

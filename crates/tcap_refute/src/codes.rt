@@ -4,34 +4,43 @@ ghost use Rattle.std.specs.Prelude.{◌≡◌, ◌||◌, false, OnOk};
 ghost use Rattle.tcap_parts.specs.declared.code.Code.{Code};
 ghost use Rattle.tcap_parts.specs.Meaning.{code_of};
 ghost use Rattle.tcap_end.specs.Component.{is_code};
-ghost use Rattle.tcap_refute.specs.Kept.{has_code};
+ghost use Rattle.tcap_refute.specs.Kept.{has_code, is_among, is_first};
 
 use std::alloc::{AllocError, Global};
 use std::collections::BTreeSet;
 use tcap_parts::CodeView;
 
-/// A set of operation codes.
+/// Operation codes, local and global ones.
 #[derive(Debug, Drop)]
-pub(crate) struct Codes {
+pub(crate) struct CodeSets {
     pub(crate) locals: BTreeSet<i32>,
     /// The octets of global codes.
     pub(crate) globals: BTreeSet<Vec<u8>>,
 }
 
-impl Codes {
+/// A set of operation codes. Most have one code, a local one, which takes no memory.
+#[derive(Debug, Drop)]
+pub(crate) struct Codes {
+    /// The local code that came first.
+    pub(crate) first: Option<i32>,
+    /// The others.
+    pub(crate) others: Option<Box<CodeSets>>,
+}
+
+impl CodeSets {
     /// No codes.
-    pub(crate) fn new(alloc: Global) -> Codes
-        ensures { (code : Code) → has_code code result ≡ false }
+    fn new(alloc: Global) -> CodeSets
+        ensures { (code : Code) → is_among code result ≡ false }
     {
-        Codes {
+        CodeSets {
             locals: BTreeSet::new(alloc),
             globals: BTreeSet::new(alloc),
         }
     }
 
     /// Whether the code is one of them.
-    pub(crate) fn has(&self, code: CodeView) -> bool
-        ensures { result ≡ has_code (code_of code.entry) self.now }
+    fn has(&self, code: CodeView) -> bool
+        ensures { result ≡ is_among (code_of code.entry) self.now }
     {
         match code {
             CodeView::Local(local) => self.locals.contains(&local),
@@ -40,14 +49,78 @@ impl Codes {
     }
 
     /// One code more.
-    pub(crate) fn add(&mut self, alloc: Global, code: CodeView) -> Result<(), AllocError>
-        ensures { OnOk result ((other : Code) → has_code other self.new
-            ≡ has_code other self.old || is_code other (code_of code.entry)) }
+    fn add(&mut self, alloc: Global, code: CodeView) -> Result<(), AllocError>
+        ensures { OnOk result ((other : Code) → is_among other self.new
+            ≡ is_among other self.old || is_code other (code_of code.entry)) }
     {
         match code {
             CodeView::Local(local) => self.locals.insert(local)?,
             CodeView::Global(id) => self.globals.insert(Vec::from_slice(alloc, id.octets)?)?,
         };
         Ok(())
+    }
+}
+
+impl Codes {
+    /// No codes.
+    pub(crate) fn new() -> Codes
+        ensures { (code : Code) → has_code code result ≡ false }
+    {
+        Codes {
+            first: None,
+            others: None,
+        }
+    }
+
+    /// Whether it is the local code that came first.
+    fn is_first(&self, code: CodeView) -> bool
+        ensures { result ≡ is_first (code_of code.entry) self.now.first }
+    {
+        match (code, self.first) {
+            (CodeView::Local(local), Some(first)) => local == first,
+            _ => false,
+        }
+    }
+
+    /// Whether the code is one of them.
+    pub(crate) fn has(&self, code: CodeView) -> bool
+        ensures { result ≡ has_code (code_of code.entry) self.now }
+    {
+        if self.is_first(code) {
+            return true;
+        }
+        match &self.others {
+            Some(others) => others.has(code),
+            None => false,
+        }
+    }
+
+    /// One code more, which is not the first.
+    fn add_other(&mut self, alloc: Global, code: CodeView) -> Result<(), AllocError>
+        ensures { OnOk result ((other : Code) → has_code other self.new
+            ≡ has_code other self.old || is_code other (code_of code.entry)) }
+    {
+        if let Some(others) = &mut self.others {
+            return others.add(alloc, code);
+        }
+        let mut others = Box::new(alloc, CodeSets::new(alloc))?;
+        others.add(alloc, code)?;
+        self.others = Some(others);
+        Ok(())
+    }
+
+    /// One code more.
+    pub(crate) fn add(&mut self, alloc: Global, code: CodeView) -> Result<(), AllocError>
+        ensures { OnOk result ((other : Code) → has_code other self.new
+            ≡ has_code other self.old || is_code other (code_of code.entry)) }
+    {
+        match (code, self.first) {
+            (CodeView::Local(local), None) => {
+                self.first = Some(local);
+                Ok(())
+            }
+            _ if self.is_first(code) => Ok(()),
+            _ => self.add_other(alloc, code),
+        }
     }
 }

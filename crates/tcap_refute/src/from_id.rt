@@ -133,7 +133,7 @@ impl FromId {
         if let Some(kept) = self.ids.get_mut(&id) {
             return kept.note(alloc, table, component);
         }
-        let mut kept = ById::new(alloc);
+        let mut kept = ById::new();
         kept.note(alloc, table, component)?;
         self.ids.insert(id, kept)?;
         Ok(())

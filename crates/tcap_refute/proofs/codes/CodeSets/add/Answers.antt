@@ -1,6 +1,6 @@
 use Rattle.std.proofs.Common.{refl}
 use Rattle.tcap_refute.proofs.SetLaws.{global_added}
-use Rattle.tcap_refute.proofs.codes.Codes.add.Goals as goal
+use Rattle.tcap_refute.proofs.codes.CodeSets.add.Goals as goal
 
 pub returns-in_ok-insert-in-Global : goal.returns-in_ok-insert-in-Global
 returns-in_ok-insert-in-Global c = rw c.in-Global.is

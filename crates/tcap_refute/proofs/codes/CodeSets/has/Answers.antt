@@ -1,5 +1,5 @@
 use Rattle.std.proofs.Common.{to_z-of_z, SFits, w32, rules}
-use Rattle.tcap_refute.proofs.codes.Codes.has.Goals as goal
+use Rattle.tcap_refute.proofs.codes.CodeSets.has.Goals as goal
 
 pub returns-in-Local : goal.returns-in-Local
 returns-in-Local c =
