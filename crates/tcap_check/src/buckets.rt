@@ -20,7 +20,7 @@ impl<T: Drop> Buckets<T> {
         ensures empty { IfOk result (λ made. (n : ℕ) → list_at n made ≡ []) }
         ensures count { IfOk result (λ made. count_lists made ≡ count) }
     {
-        let mut lists = Vec::new(alloc);
+        let mut lists = Vec::with_capacity(alloc, count)?;
         for _ in 0..count {
             lists.push(Vec::new(alloc))?;
         }

@@ -270,6 +270,9 @@ impl<'a> Checker<'a> {
         let Ok(plan) = Plan::new(alloc, certificate) else {
             return Err(OUT_OF_MEMORY);
         };
+        let Ok(entries) = Vec::with_capacity(alloc, certificate.fates().len()) else {
+            return Err(OUT_OF_MEMORY);
+        };
         Ok(Checker {
             replaying: Replaying {
                 alloc,
@@ -277,7 +280,7 @@ impl<'a> Checker<'a> {
                 certificate,
                 plan,
                 progress: Progress::new(alloc),
-                entries: Vec::new(alloc),
+                entries,
                 since: 0,
             },
             fault: None,

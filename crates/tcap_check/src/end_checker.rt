@@ -348,6 +348,9 @@ impl<'a> EndChecker<'a> {
         let Ok(plan) = Plan::new(alloc, certificate) else {
             return Err(OUT_OF_MEMORY);
         };
+        let Ok(entries) = Vec::with_capacity(alloc, certificate.fates().len()) else {
+            return Err(OUT_OF_MEMORY);
+        };
         Ok(EndChecker {
             replaying: EndReplaying {
                 alloc,
@@ -356,7 +359,7 @@ impl<'a> EndChecker<'a> {
                 certificate,
                 plan,
                 hearing: Hearing::new(alloc),
-                entries: Vec::new(alloc),
+                entries,
                 since: 0,
             },
             fault: None,

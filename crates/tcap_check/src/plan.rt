@@ -103,6 +103,9 @@ fn closings_by_gap(
 ) -> Result<Buckets<Closing>, AllocError>
     ensures { IfOk result (λ made. (gap : ℕ) → gap < count → list_at gap made ≡ filter (λ x. x.gap == gap) close.now) }
 {
+    if close.is_empty() {
+        return Buckets::new(alloc, 0);
+    }
     let mut lists = Buckets::new(alloc, count)?;
     for x in close {
         lists.push(x.gap as usize, *x)?;
@@ -118,6 +121,9 @@ fn expiries_by_gap(
 ) -> Result<Buckets<Expiry>, AllocError>
     ensures { IfOk result (λ made. (gap : ℕ) → gap < count → list_at gap made ≡ filter (λ x. x.gap == gap) expire.now) }
 {
+    if expire.is_empty() {
+        return Buckets::new(alloc, 0);
+    }
     let mut lists = Buckets::new(alloc, count)?;
     for x in expire {
         lists.push(x.gap as usize, *x)?;

@@ -185,7 +185,7 @@ fn first_fates(
     let replies = replies_of(alloc, entries.len(), ties)?;
     let gaps = last_gaps(alloc, judged, entries, transactions)?;
     let mut raised = PerEnd::both(0);
-    let mut fates = Vec::new(alloc);
+    let mut fates = Vec::with_capacity(alloc, entries.len())?;
     for (number, entry) in entries.iter().enumerate() {
         let reply = replies[number];
         let behind = receiver_gap(&gaps, entry.side, transactions[number]);

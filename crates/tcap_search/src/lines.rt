@@ -113,7 +113,7 @@ pub(crate) fn transactions_of(
     ensures { IfOk result (λ transactions. AreTransactions entries.now transactions.items) }
 {
     let mut latest = Latest::new(alloc);
-    let mut transactions = Vec::new(alloc);
+    let mut transactions = Vec::with_capacity(alloc, entries.len())?;
     for (number, entry) in entries.iter().enumerate() {
         let transaction = latest.transaction_of(number as u32, entry);
         latest.note(entry, transaction)?;

@@ -4,7 +4,7 @@ use Rattle.tcap_check.proofs.end_checker.EndChecker.new.Goals as goal
 
 pub returns-clause-took : goal.returns-clause-took
 returns-clause-took c = (
-  rw (c.new-2.ensures, c.new-3.ensures.items)
+  rw (c.new-2.ensures, c.in-Ok-with_capacity.ensures.items)
       (took_nothing c.args.end c.args.table.now c.args.certificate.now _ (sym c.check_ranges.ensures ∙ c.in_ok-check_ranges.was) refl),
   refl,
   refl,
