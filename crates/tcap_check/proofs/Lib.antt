@@ -89,3 +89,6 @@ pub mod AloneTies
 pub mod AloneBoth
 pub mod AloneTaken
 pub mod AloneLeft
+pub mod BehindLaws
+pub mod WrittenLaws
+pub mod CompactLaws

@@ -18,6 +18,7 @@ ghost use Rattle.tcap_check.specs.declared.fault.CheckFault.{CheckFault};
 ghost use Rattle.tcap_check.specs.declared.fault.Reason.TheVariants as reasons;
 
 use crate::certificate::{Certificate, Closing, Expiry, FATES_LIMIT, Fate, NUMBER_LIMIT};
+use crate::compact_reading::read_compact;
 use crate::fault::{CheckFault, Reason};
 use serde_json::{Map, Value, json};
 use std::alloc::{AllocError, Global};
@@ -315,8 +316,8 @@ fn refused(reason: Reason) -> CheckFault
     CheckFault { reason, entry: 0 }
 }
 
-/// The certificate that a text of JSON is.
-pub(crate) fn read_certificate(alloc: Global, octets: &[u8]) -> Result<Certificate, CheckFault>
+/// The certificate that a text of JSON is, however it is laid out.
+fn read_any(alloc: Global, octets: &[u8]) -> Result<Certificate, CheckFault>
     ensures read { (c : Meant) → result ≡ Ok c → IsCertificateText octets.now c }
     ensures refused { (f : CheckFault) → result ≡ Err f → f ≢ fault_at reasons.Memory 0
         → (f ≡ fault_at reasons.CertificateShape 0) × ((c : Meant) → IsCertificateText octets.now c → ⊥) }
@@ -329,6 +330,19 @@ pub(crate) fn read_certificate(alloc: Global, octets: &[u8]) -> Result<Certifica
     match certificate_in(alloc, &value) {
         Ok(Some(certificate)) => Ok(certificate),
         Ok(None) => Err(refused(Reason::CertificateShape)),
+        Err(AllocError) => Err(refused(Reason::Memory)),
+    }
+}
+
+/// The certificate that a text of JSON is. A text that is laid out as it is written makes no tree of values.
+pub(crate) fn read_certificate(alloc: Global, octets: &[u8]) -> Result<Certificate, CheckFault>
+    ensures read { (c : Meant) → result ≡ Ok c → IsCertificateText octets.now c }
+    ensures refused { (f : CheckFault) → result ≡ Err f → f ≢ fault_at reasons.Memory 0
+        → (f ≡ fault_at reasons.CertificateShape 0) × ((c : Meant) → IsCertificateText octets.now c → ⊥) }
+{
+    match read_compact(alloc, octets) {
+        Ok(Some(certificate)) => Ok(certificate),
+        Ok(None) => read_any(alloc, octets),
         Err(AllocError) => Err(refused(Reason::Memory)),
     }
 }

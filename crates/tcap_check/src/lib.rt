@@ -8,6 +8,7 @@ mod buckets;
 mod certificate;
 mod certificate_text;
 mod checker;
+mod compact_reading;
 mod end_checker;
 mod end_records;
 mod fault;

@@ -62,7 +62,7 @@ const TEXTS: &str = r#"
 "#;
 
 /// What is written of the certificate that a text is, or the number of the reason why it is none.
-fn written(alloc: Global, octets: &[u8]) -> Result<String, Fail> {
+pub(crate) fn written(alloc: Global, octets: &[u8]) -> Result<String, Fail> {
     match Certificate::from_json(alloc, octets) {
         Ok(certificate) => Ok(certificate.to_json(alloc)?),
         Err(fault) => Ok(format!(in alloc; "{}", fault.reason.number())?),

@@ -7,4 +7,6 @@ mod certificates;
 #[cfg(test)]
 mod checks;
 #[cfg(test)]
+mod layouts;
+#[cfg(test)]
 mod runs;
