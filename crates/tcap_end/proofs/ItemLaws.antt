@@ -1,11 +1,12 @@
 -- The items of places, by the kinds that stand there.
 use Rattle.std.proofs.Common.{◌≡◌, ℕ, zero, suc, ◌<◌, ◌-◌, true, false, List, [], ◌∷◌, ◌++◌, Option, Some, None, length, take, refl, sym, ap, ◌∙◌, arith, get_or, set}
 use Rattle.std.proofs.Math.ListN.{get_or-map}
+use Rattle.std.proofs.lemmas.Option.{none-some}
 use Rattle.std.specs.Prelude.{IsSome}
 use Rattle.std.specs.List.{slice_get}
 use Rattle.tcap_end.specs.declared.row.Row.{Row}
 use Rattle.tcap_end.specs.Lists.{KeepsKinds, row_of}
-use Rattle.tcap_end.specs.Row.{AreNumbered, items_in, kind_in, stood}
+use Rattle.tcap_end.specs.Row.{AreNumbered, is_wanted, items_in, kind_in, stood}
 
 -- ---- kinds
 
@@ -85,6 +86,11 @@ some_stood {K} kinds places at some = by (stood places at) (rw (items_stood kind
     by : (o : Option ℕ) → IsSome (kind_in kinds o) → IsSome o
     by None bad = bad
     by (Some kind) some = refl
+
+-- What has a kind is there.
+pub kind_wanted : {K : Type 0} (kinds : List K) (place : Option ℕ) (kind : K) → kind_in kinds place ≡ Some kind → is_wanted None place ≡ true
+kind_wanted kinds None kind e = absurd (none-some kind e)
+kind_wanted kinds (Some number) kind e = refl
 
 -- ---- an item joins
 

@@ -1,12 +1,14 @@
 -- Where the oldest item of a kind stands.
-use Rattle.std.proofs.Common.{◌≡◌, ℕ, zero, suc, ◌≢◌, ◌⊎◌, inl, inr, Bool, true, false, List, [], ◌∷◌, Option, Some, None, refl, sym, ap, ◌∙◌, arith, get_or, set, length, take, ◌<◌, ◌≤◌}
+use Rattle.std.proofs.Common.{◌≡◌, ℕ, zero, suc, ◌≢◌, ◌⊎◌, inl, inr, Bool, true, false, List, [], ◌∷◌, Option, Some, None, Result, Ok, Err, OnOk, OnErr, refl, sym, ap, ◌∙◌, arith, get_or, set, length, length-append, take, ◌<◌, ◌≤◌}
 use Rattle.std.proofs.lemmas.Bool.{cases_eq, cases_lt}
 use Rattle.std.proofs.lemmas.Bool.Decides.{nat_tests}
 use Rattle.std.proofs.lemmas.Grind.{get_or-set_at}
 use Rattle.std.proofs.lemmas.List.{get_or-set_other}
 use Rattle.std.proofs.lemmas.Option.{none-some}
-use Rattle.std.specs.Prelude.{◌==◌, ◌++◌, IsSome, cond}
+use Rattle.std.specs.Prelude.{◌==◌, ◌++◌, IsSome, cond, is_ok}
+use Rattle.smallvec.specs.SmallVec.{SmallVec}
 use Rattle.tcap_end.specs.Places.{place_of}
+use Rattle.tcap_end.proofs.ChainLaws.{pad_same}
 use Rattle.tcap_end.proofs.PlaceLaws.{place_at, place_nowhere}
 use Rattle.tcap_end.specs.Row.{AreNumbered, AreOldest, IsOldest, is_wanted, stood}
 
@@ -104,6 +106,12 @@ stands_within places at is = by (stood places at) refl is
 
 -- ---- a place comes, or the last ones go
 
+-- One more, or as before where there is no memory for it.
+pub pushed_items : {T E A : Type 0} (pushed : Result T E) (was now : SmallVec A) (new : A) → OnOk pushed (now.items ≡ was.items ++ new ∷ [])
+    → OnErr pushed (now ≡ was) → now.items ≡ cond (is_ok pushed) (was.items ++ new ∷ []) was.items
+pushed_items (Ok value) was now new joined same = joined
+pushed_items {A = A} (Err error) was now new joined same = ap (λ (v : SmallVec A). v.items) same
+
 stood_grown : (places : List (Option ℕ)) (n : ℕ) → stood (places ++ None ∷ []) n ≡ stood places n
 stood_grown [] zero = refl
 stood_grown [] (suc n) = refl
@@ -120,6 +128,16 @@ pub pushed_oldest : (pushed : Bool) (wanted : Option ℕ) (places : List (Option
 pushed_oldest true wanted places oldest was =
     oldest_stays wanted places (places ++ None ∷ []) oldest (λ n. ap (is_wanted wanted) (stood_grown places n)) was
 pushed_oldest false wanted places oldest was = was
+
+-- One kind more of which there is no item.
+pub widened : (pushed : Bool) (places : List (Option ℕ)) (oldest : List ℕ) → AreOldest places oldest
+    → AreOldest places (cond pushed (oldest ++ 0 ∷ []) oldest)
+widened true places oldest were = λ kind. rw (pad_same oldest kind) (were kind)
+widened false places oldest were = were
+
+pub long_enough : (pushed : Bool) (oldest : List ℕ) (count : ℕ) → count ≤ length oldest → count ≤ length (cond pushed (oldest ++ 0 ∷ []) oldest)
+long_enough true oldest count fits = omega (arith, fits, length-append oldest (0 ∷ []))
+long_enough false oldest count fits = fits
 
 stood_front : (places : List (Option ℕ)) (count n : ℕ) → n < count → stood (take count places) n ≡ stood places n
 stood_front [] zero n below = refl

@@ -1,11 +1,16 @@
 //! Items in the order in which they came, each of one kind.
 
-ghost use Rattle.std.specs.Prelude.{◌≡◌, ◌<◌, ◌≤◌, ℕ, List, Option, Some, None, true, false, slice_set, length, vec_len};
+ghost use Rattle.std.specs.Prelude.{◌≡◌, ◌<◌, ◌≤◌, ℕ, List, Option, Some, None, true, false, slice_index_or, slice_set, length, vec_len};
+ghost use Rattle.smallvec.specs.SmallVec.{small_vec_len};
 ghost use Rattle.tcap_end.specs.Chains.{AreMarked, kinds_in};
 ghost use Rattle.tcap_end.specs.Row.{AreNumbered, AreOldest, IsOldest, is_wanted, stood};
 
 use crate::chains::Chains;
-use crate::kind_numbers::{KindNumbers, SORTS};
+use crate::in_place::InPlace;
+use crate::kind_numbers::SORTS;
+use crate::many::Many;
+use crate::wanted::{is_wanted, oldest_before, oldest_behind, stood};
+use smallvec::SmallVec;
 use std::alloc::{AllocError, Global};
 use tcap_parts::CodeView;
 
@@ -17,60 +22,25 @@ pub(crate) const FEW: usize = 8;
 const MANY: usize = 16;
 
 /// Items in the order in which they came, each of one kind. An item stands in a place, which is empty once the item was
-/// taken; neither taking it nor putting it back can fail. Where the oldest item of a kind stands is known; where it is
-/// taken, the next one is looked for behind it: place by place where kinds are few, or else over places of that kind alone.
+/// taken; neither taking it nor putting it back can fail. One item, or two of one kind, take no memory besides the row's.
+/// Where the oldest item of a kind stands is known; where it is taken, the next one is looked for behind it: place by place
+/// where kinds are few, or else over places of that kind alone.
 #[derive(Debug, Drop)]
 pub(crate) struct Row<K> {
-    kinds: Vec<K>,
-    /// By operation codes, where kinds have one: it makes no difference to what is kept.
-    numbers: KindNumbers,
+    kinds: InPlace<K>,
     /// The kind of the item in each place, by its number.
-    places: Vec<Option<usize>>,
+    places: SmallVec<Option<usize>, 2>,
     /// The place of the oldest item of each kind, where there is one.
-    oldest: Vec<usize>,
+    oldest: SmallVec<usize, 1>,
     /// The place of the oldest item of all, where there is one.
     first: usize,
-    /// The places of each kind, where kinds are many.
-    chains: Chains,
-    ghost marked: { AreMarked places.items (kinds_in chains.marks.items) },
-    ghost numbered: { AreNumbered places.items (vec_len kinds) },
-    ghost for_each: { vec_len kinds ≤ vec_len oldest },
+    /// Numbers of kinds and the places of each, where kinds are many.
+    many: Many,
+    ghost marked: { AreMarked places.items many },
+    ghost numbered: { AreNumbered places.items (length kinds.items) },
+    ghost for_each: { length kinds.items ≤ small_vec_len oldest },
     ghost oldest_of_each: { AreOldest places.items oldest.items },
     ghost oldest_of_all: { IsOldest None places.items first },
-}
-
-/// Whether an item stands there, of that kind if one is wanted.
-fn is_wanted(place: Option<usize>, wanted: Option<usize>) -> bool
-    ensures { result ≡ is_wanted wanted place }
-{
-    match (place, wanted) {
-        (None, _) => false,
-        (Some(_), None) => true,
-        (Some(kind), Some(wanted)) => kind == wanted,
-    }
-}
-
-/// What stands in a place: the number of a kind, or nothing.
-fn stood(places: &[Option<usize>], at: usize) -> Option<usize>
-    ensures { result ≡ stood places.now at }
-{
-    if at < places.len() { places[at] } else { None }
-}
-
-/// The first place from there on where an item stands that is wanted, or else how many places there are.
-fn next_of(places: &[Option<usize>], wanted: Option<usize>, from: usize) -> usize
-    ensures behind { from ≤ result }
-    ensures none { (at : ℕ) → from ≤ at → at < result → is_wanted wanted (stood places.now at) ≡ false }
-    ensures there { result < length places.now → is_wanted wanted (stood places.now result) ≡ true }
-{
-    let mut at = from;
-    while at < places.len() {
-        if is_wanted(places[at], wanted) {
-            return at;
-        }
-        at += 1;
-    }
-    at
 }
 
 /// A place that all items of a kind stand before.
@@ -109,7 +79,7 @@ fn next_of_kind(places: &[Option<usize>], chains: &Chains, kind: usize, from: us
 }
 
 /// Where the oldest item of a kind stands, once an item of a place was taken: it stood there before.
-fn oldest_of_kind(
+fn oldest_in_chain(
     places: &[Option<usize>],
     chains: &Chains,
     kind: usize,
@@ -127,57 +97,38 @@ fn oldest_of_kind(
     }
 }
 
-/// The kind of the item in a place, or else the one given.
-fn kind_at(places: &[Option<usize>], at: usize, kind: usize) -> usize
-    ensures { (known : ℕ) → stood places.now at ≡ Some known → result ≡ known }
+/// The same, where kinds may be many.
+fn oldest_of_kind(
+    places: &[Option<usize>],
+    many: &Many,
+    kind: usize,
+    oldest: usize,
+    at: usize,
+) -> usize
+    requires marked { AreMarked places.now many.now }
+    ensures { (before : List (Option ℕ)) → places.now ≡ slice_set before at None → IsOldest (Some kind) before oldest
+        → IsOldest (Some kind) places.now result }
 {
-    match stood(places, at) {
-        Some(known) => known,
-        None => kind,
+    match many.chains() {
+        Some(chains) => oldest_in_chain(places, chains, kind, oldest, at),
+        None => oldest_behind(places, Some(kind), oldest, at),
     }
 }
 
-/// Puts one place more into the chain of its kind; one without an item may be of this kind.
-fn follow_one(places: &[Option<usize>], chains: &mut Chains, kind: usize) -> Result<(), AllocError>
-    ensures { AreMarked places.now (kinds_in chains.old.marks.items) → AreMarked places.now (kinds_in chains.new.marks.items) }
+/// Where the oldest item of a kind stands, if there is one.
+fn place_of_kind(oldest: &[usize], kind: usize) -> usize
+    requires { kind < length oldest.now }
+    ensures { result ≡ slice_index_or oldest.now kind 0 }
 {
-    let known = kind_at(places, chains.len(), kind);
-    chains.push(known)
+    oldest[kind]
 }
 
-/// Puts the places that are in no chain into those of their kinds, and then the next place into that of this kind.
-fn follow(places: &[Option<usize>], chains: &mut Chains, kind: usize) -> Result<(), AllocError>
-    requires marked { AreMarked places.now (kinds_in chains.old.marks.items) }
-    ensures { AreMarked places.now (kinds_in chains.new.marks.items) }
+/// Puts a value in the place of another.
+fn put<T: Copy, const N: usize>(items: &mut SmallVec<T, N>, at: usize, value: T)
+    requires { at < small_vec_len items.old }
+    ensures { items.new.items ≡ slice_set items.old.items at value }
 {
-    for _ in chains.len()..places.len() {
-        follow_one(places, chains, kind)?;
-    }
-    follow_one(places, chains, kind)
-}
-
-/// Where the oldest stands that is wanted, once an item of a place was taken: it stood there before.
-fn oldest_behind(places: &[Option<usize>], wanted: Option<usize>, oldest: usize, at: usize) -> usize
-    ensures { (before : List (Option ℕ)) → places.now ≡ slice_set before at None → IsOldest wanted before oldest
-        → IsOldest wanted places.now result }
-{
-    if oldest == at {
-        next_of(places, wanted, at)
-    } else {
-        oldest
-    }
-}
-
-/// Where the oldest stands that is wanted, once an item that is wanted was put to an empty place: it stood there before.
-fn oldest_before(places: &[Option<usize>], wanted: Option<usize>, oldest: usize, at: usize) -> usize
-    ensures { (kind : ℕ) → at < length places.now → is_wanted wanted (Some kind) ≡ true
-        → IsOldest wanted places.now oldest → IsOldest wanted (slice_set places.now at (Some kind)) result }
-{
-    if oldest < at && is_wanted(stood(places, oldest), wanted) {
-        oldest
-    } else {
-        at
-    }
+    items[at] = value;
 }
 
 impl<K> Row<K> {
@@ -201,9 +152,9 @@ impl<K> Row<K> {
       slice_set,
       take,
       length,
-      vec_len,
     };
     ghost use Rattle.std.specs.List.{slice_get};
+    ghost use Rattle.std.specs.Mem.{FitsInMemory};
     ghost use Rattle.tcap_end.specs.Places.{place_of};
     ghost use Rattle.tcap_end.specs.Row.{is_wanted, kind_in, stood};
     ghost use Rattle.tcap_end.specs.Lists.{KeepsKinds, row_of};
@@ -213,19 +164,19 @@ impl<K> Row<K> {
         ensures { row_of result ≡ [] }
     {
         Row {
-            kinds: Vec::new(alloc),
-            numbers: KindNumbers::new(alloc),
-            places: Vec::new(alloc),
-            oldest: Vec::new(alloc),
+            kinds: InPlace::new(),
+            places: SmallVec::new(alloc),
+            oldest: SmallVec::new(alloc),
             first: 0,
-            chains: Chains::new(alloc),
+            many: Many::new(),
         }
     }
 
     /// The kinds that there were.
     pub(crate) fn kinds(&self) -> &[K]
+        requires { FitsInMemory K.row }
         ensures kinds { result.now ≡ self.now.kinds.items }
-        ensures count { length result.now ≡ vec_len self.now.kinds }
+        ensures count { length result.now ≡ length self.now.kinds.items }
     {
         self.kinds.as_slice()
     }
@@ -234,7 +185,7 @@ impl<K> Row<K> {
     pub(crate) fn guess(&self, code: CodeView, sort: usize) -> Option<usize>
         requires { sort < SORTS }
     {
-        self.numbers.get(code, sort)
+        self.many.guess(code, sort)
     }
 
     /// The next kind will be of this sort, and have this operation code.
@@ -252,20 +203,28 @@ impl<K> Row<K> {
         if number < FEW {
             return Ok(());
         }
-        self.numbers.put(alloc, code, sort, number)
+        self.many.expect(alloc, code, sort, number)
     }
 
     /// The place of the oldest item of a kind.
     pub(crate) fn oldest_of(&self, kind: usize) -> Option<usize>
-        requires { kind < vec_len self.now.kinds }
+        requires { kind < length self.now.kinds.items }
         ensures { result ≡ place_of (is_wanted (Some kind)) self.now.places.items }
     {
-        let at = self.oldest[kind];
+        let at = place_of_kind(self.oldest.as_slice(), kind);
         if is_wanted(stood(self.places.as_slice(), at), Some(kind)) {
             Some(at)
         } else {
             None
         }
+    }
+
+    /// The kind of the item in a place.
+    pub(crate) fn item(&self, at: usize) -> Option<&K>
+        ensures { option_copied result ≡ kind_in self.now.kinds.items (stood self.now.places.items at) }
+    {
+        let kind = stood(self.places.as_slice(), at)?;
+        self.kinds.get(kind)
     }
 
     /// The place of the oldest item, and its kind.
@@ -274,8 +233,8 @@ impl<K> Row<K> {
             (λ first. (place_of (is_wanted None) self.now.places.items ≡ Some first.0)
             × (kind_in self.now.kinds.items (stood self.now.places.items first.0) ≡ Some first.1.now)) }
     {
-        let kind = stood(self.places.as_slice(), self.first)?;
-        Some((self.first, &self.kinds[kind]))
+        let kind = self.item(self.first)?;
+        Some((self.first, kind))
     }
 
     /// How many places no item stands before, at least.
@@ -285,17 +244,9 @@ impl<K> Row<K> {
         self.first
     }
 
-    /// The kind of the item in a place.
-    pub(crate) fn item(&self, at: usize) -> Option<&K>
-        ensures { option_copied result ≡ kind_in self.now.kinds.items (stood self.now.places.items at) }
-    {
-        let kind = stood(self.places.as_slice(), at)?;
-        Some(&self.kinds[kind])
-    }
-
     /// How many places there are.
     pub(crate) fn len(&self) -> usize
-        ensures { result ≡ vec_len self.now.places }
+        ensures { result ≡ small_vec_len self.now.places }
     {
         self.places.len()
     }
@@ -320,32 +271,44 @@ impl<K> Row<K> {
     pub(crate) fn begin(&mut self, kind: K) -> Result<usize, AllocError>
     where
         K: Drop,
-        ensures number { IfOk result (λ number. (number ≡ vec_len self.old.kinds)
+        ensures number { IfOk result (λ number. (number ≡ length self.old.kinds.items)
             × (self.new.kinds.items ≡ self.old.kinds.items ++ kind ∷ [])) }
         ensures kept { OnErr result (self.new.kinds.items ≡ self.old.kinds.items) }
         ensures places { self.new.places ≡ self.old.places }
     {
         let number = self.kinds.len();
-        if self.oldest.len() <= number {
+        let alloc = *self.places.allocator();
+        self.widen()?;
+        self.kinds.push(alloc, kind)?;
+        Ok(number)
+    }
+
+    /// A place for the oldest item of one kind more.
+    fn widen(&mut self) -> Result<(), AllocError>
+        ensures wide { OnOk result (length self.new.kinds.items < small_vec_len self.new.oldest) }
+        ensures kinds { self.new.kinds ≡ self.old.kinds }
+        ensures places { self.new.places ≡ self.old.places }
+    {
+        if self.oldest.len() <= self.kinds.len() {
             self.oldest.push(0)?;
         }
-        self.kinds.push(kind)?;
-        Ok(number)
+        Ok(())
     }
 
     /// Puts an item of a kind to an empty place.
     pub(crate) fn put_back(&mut self, at: usize, kind: usize)
-        requires within { at < vec_len self.old.places }
+        requires within { at < small_vec_len self.old.places }
         requires empty { stood self.old.places.items at ≡ None }
-        requires there { kind < vec_len self.old.kinds }
+        requires there { kind < length self.old.kinds.items }
         ensures put { self.new.places.items ≡ slice_set self.old.places.items at (Some kind) }
         ensures kinds { self.new.kinds ≡ self.old.kinds }
     {
-        self.chains.keep(at, kind);
-        let oldest = self.oldest[kind];
-        self.oldest[kind] = oldest_before(self.places.as_slice(), Some(kind), oldest, at);
+        self.many.keep(at, kind);
+        let oldest = place_of_kind(self.oldest.as_slice(), kind);
+        let oldest = oldest_before(self.places.as_slice(), Some(kind), oldest, at);
+        put(&mut self.oldest, kind, oldest);
         self.first = oldest_before(self.places.as_slice(), None, self.first, at);
-        self.places[at] = Some(kind);
+        put(&mut self.places, at, Some(kind));
     }
 
     /// One place more, which is empty.
@@ -366,12 +329,12 @@ impl<K> Row<K> {
         if self.kinds.len() <= FEW {
             return Ok(());
         }
-        follow(self.places.as_slice(), &mut self.chains, kind)
+        self.many.follow(self.places.as_slice(), kind)
     }
 
     /// One item more of a kind, the newest.
     pub(crate) fn join(&mut self, kind: usize) -> Result<(), AllocError>
-        requires { kind < vec_len self.old.kinds }
+        requires { kind < length self.old.kinds.items }
         ensures joined { OnOk result (self.new.places.items ≡ self.old.places.items ++ Some kind ∷ []) }
         ensures kept { OnErr result (self.new.places.items ≡ self.old.places.items) }
         ensures kinds { self.new.kinds ≡ self.old.kinds }
@@ -401,7 +364,7 @@ impl<K> Row<K> {
         ensures kinds { self.new.kinds ≡ self.old.kinds }
     {
         self.places.pop();
-        self.chains.pop(self.places.len());
+        self.many.pop(self.places.len());
     }
 
     /// Takes the item of a place. The number of its kind.
@@ -414,9 +377,10 @@ impl<K> Row<K> {
         let Some(kind) = stood(self.places.as_slice(), at) else {
             unreachable!()
         };
-        self.places[at] = None;
-        let oldest = self.oldest[kind];
-        self.oldest[kind] = oldest_of_kind(self.places.as_slice(), &self.chains, kind, oldest, at);
+        put(&mut self.places, at, None);
+        let oldest = place_of_kind(self.oldest.as_slice(), kind);
+        let oldest = oldest_of_kind(self.places.as_slice(), &self.many, kind, oldest, at);
+        put(&mut self.oldest, kind, oldest);
         self.first = oldest_behind(self.places.as_slice(), None, self.first, at);
         kind
     }

@@ -3,7 +3,6 @@ use Rattle.std.proofs.Common.{◌≡◌, ◌<◌, Some, arith, ap, length, rules
 use Rattle.std.proofs.lemmas.Int.{to_z-of_z}
 use Rattle.std.specs.Box.{with_value}
 use Rattle.std.specs.List.{slice_get}
-use Rattle.std.specs.Prelude.{vec_len}
 use Rattle.tcap_end.specs.Half.{listed}
 use Rattle.tcap_end.specs.Lists.{kind_of, row_of, rows_of}
 use Rattle.tcap_end.proofs.ItemLaws.{get_within, items_length, none_stood, row_set}
@@ -17,13 +16,11 @@ put_back-requires g c =
     let items : row_of row ≡ listed c.args.id (rows_of l) = rw c.deref_mut.ensures.value (got_row c.args.id l c.in-Some.row.now found) in
     let kind : slice_get row.kinds.items c.args.kind ≡ kind_of c.args.id c.args.kind l =
     rw c.deref_mut.ensures.value (got_kinds c.args.id l c.in-Some.row.now found c.args.kind) in
-    let kinds : vec_len row.kinds ≡ length row.kinds.items = search rules in
-    let places : vec_len row.places ≡ length row.places.items = search rules in
     let below : c.args.at < length (row_of row) = rw items c.requires.within in
     record {
-      within = omega (arith, places, below, items_length row.kinds.items row.places.items);
-      empty = none_stood row.kinds.items row.places.items c.args.at (rw kinds at row.numbered) (rw items c.requires.empty);
-      there = omega (arith, kinds, get_within row.kinds.items c.args.kind (rw kind c.requires.there));
+      within = omega (arith, below, items_length row.kinds.items row.places.items);
+      empty = none_stood row.kinds.items row.places.items c.args.at row.numbered (rw items c.requires.empty);
+      there = get_within row.kinds.items c.args.kind (rw kind c.requires.there);
     }
 
 pub unreachable-requires : goal.unreachable-requires

@@ -1,7 +1,7 @@
 use Rattle.tcap_end.proofs.row.Row.follow.Goals as goal
 
 pub invariant_of-self-2-clause-marked : goal.invariant_of-self-2-clause-marked
-invariant_of-self-2-clause-marked g c = rw c.as_slice.ensures.value at c.follow.ensures
+invariant_of-self-2-clause-marked g c = rw c.as_slice.ensures at c.follow.ensures
 
 pub invariant_of-self-2-clause-numbered : goal.invariant_of-self-2-clause-numbered
 invariant_of-self-2-clause-numbered g c = c.args.self.now.numbered

@@ -1,5 +1,4 @@
 use Rattle.std.proofs.Common.{◌≡◌, ◌∷◌, [], length, rules, ◌∙◌}
-use Rattle.std.specs.Prelude.{vec_len}
 use Rattle.std.proofs.lemmas.Result.{on_ok_weaker, on_err_weaker}
 use Rattle.tcap_end.proofs.ItemLaws.{first_joined, first_kept, get_some}
 use Rattle.tcap_end.proofs.row.Row.join_first.Goals as goal
@@ -7,19 +6,17 @@ use Rattle.tcap_end.proofs.row.Row.join_first.Goals as goal
 pub returns-clause-joined : goal.returns-clause-joined
 returns-clause-joined g c =
     let row = c.args.self.now in
-    let count : vec_len row.kinds ≡ length row.kinds.items = search rules in
     let made = c.in_ok-number.ensures.number in
     on_ok_weaker c.join.result
-    (first_joined row c.begin.new.self c.join.new.self c.args.kind c.in_ok-number.number (rw count at row.numbered) made.1
-    c.in_ok-number.ensures.places c.join.ensures.kinds (made.0 ∙ count))
+    (first_joined row c.begin.new.self c.join.new.self c.args.kind c.in_ok-number.number row.numbered made.1
+    c.in_ok-number.ensures.places c.join.ensures.kinds made.0)
     c.join.ensures.joined
 
 pub returns-clause-kept : goal.returns-clause-kept
 returns-clause-kept g c =
     let row = c.args.self.now in
-    let count : vec_len row.kinds ≡ length row.kinds.items = search rules in
     on_err_weaker c.join.result
-    (first_kept row c.begin.new.self c.join.new.self c.args.kind c.in_ok-number.number (rw count at row.numbered)
+    (first_kept row c.begin.new.self c.join.new.self c.args.kind c.in_ok-number.number row.numbered
     c.in_ok-number.ensures.number.1 c.in_ok-number.ensures.places c.join.ensures.kinds)
     c.join.ensures.kept
 

@@ -1,5 +1,4 @@
 use Rattle.std.proofs.Common.{None, Some, get_or}
-use Rattle.tcap_end.specs.Chains.{kinds_in}
 use Rattle.tcap_end.proofs.ChainLaws.{marked_less}
 use Rattle.tcap_end.proofs.RowLaws.{less_numbered, less_oldest}
 use Rattle.tcap_end.proofs.row.Row.leave.Goals as goal
@@ -7,7 +6,7 @@ use Rattle.tcap_end.proofs.row.Row.leave.Goals as goal
 pub invariant_of-self-clause-marked : goal.invariant_of-self-clause-marked
 invariant_of-self-clause-marked g c =
     rw c.pop.ensures.rest
-    (marked_less c.args.self.now.places.items (kinds_in c.args.self.now.chains.marks.items) (kinds_in c.pop-2.new.self.marks.items) _
+    (marked_less c.args.self.now.places.items c.args.self.now.many c.pop-2.new.self _
     c.pop-2.ensures c.args.self.now.marked)
 
 pub invariant_of-self-clause-numbered : goal.invariant_of-self-clause-numbered

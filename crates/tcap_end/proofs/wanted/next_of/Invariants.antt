@@ -1,6 +1,6 @@
 use Rattle.std.proofs.Common.{◌≡◌, ◌≤◌, ◌<◌, ◌-◌, ℕ, false, length}
 use Rattle.tcap_end.specs.Row.{is_wanted, stood}
-use Rattle.tcap_end.proofs.row.next_of.Given as goal
+use Rattle.tcap_end.proofs.wanted.next_of.Given as goal
 
 -- None that is wanted was passed.
 abbrev pub invariant-loop-at : goal.invariant-loop-at
