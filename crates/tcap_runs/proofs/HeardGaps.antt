@@ -27,7 +27,7 @@ use Rattle.tcap_runs.specs.Gaps.{delivery_by, delivery_from, delivery_played, ex
 use Rattle.tcap_runs.proofs.PlayedGaps.{Stand, all_stand, closings_play, expiries_play, first_stands, more_stand, none_due, skipped, then_plays}
 
 -- A step that adds nothing keeps what was sent.
-keeps_sent : (table : Table) (event : Event) (r next : Replay) → ((items : List Item) → Adds r.world event items → items ≡ [])
+pub keeps_sent : (table : Table) (event : Event) (r next : Replay) → ((items : List Item) → Adds r.world event items → items ≡ [])
     → stepped table event r ≡ Some next → next.world.sent ≡ r.world.sent
 keeps_sent table event r next adds is =
     let s = stepped_adds table event r next is in

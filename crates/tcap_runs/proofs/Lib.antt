@@ -3,3 +3,7 @@ pub mod PlayedGaps
 pub mod PlayedLaws
 pub mod HeardGaps
 pub mod HeardLaws
+pub mod OrderLaws
+pub mod ItemLaws
+pub mod GivenGaps
+pub mod GivenLaws

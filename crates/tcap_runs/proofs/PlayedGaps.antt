@@ -126,7 +126,7 @@ expiries_play table c (x ∷ more) r next is =
 
 -- ---- deliveries
 
-receives : (side : Side) (number : ℕ) → IsGapEvent (Receives side number)
+pub receives : (side : Side) (number : ℕ) → IsGapEvent (Receives side number)
 receives side number = record {
   plain = refl;
   adds = λ table w next is. let g = grows table (Receives side number) w next is in g.2 ∙ ap (λ (x : List Item). w.sent ++ x) g.1;

@@ -37,11 +37,11 @@ use Rattle.tcap_runs.proofs.PlayedGaps.{all_kept, gap_plays}
 
 -- ---- messages
 
-joined_sent : (side : Side) (m : Message) (w : World) → (joined side m w).sent ≡ w.sent ++ Sent side m ∷ []
+pub joined_sent : (side : Side) (m : Message) (w : World) → (joined side m w).sent ≡ w.sent ++ Sent side m ∷ []
 joined_sent sides.A m w = refl
 joined_sent sides.B m w = refl
 
-same_sent : (side : Side) (messages : List OnItsWay) (w : World) → (with_channel side messages w).sent ≡ w.sent
+pub same_sent : (side : Side) (messages : List OnItsWay) (w : World) → (with_channel side messages w).sent ≡ w.sent
 same_sent sides.A messages w = refl
 same_sent sides.B messages w = refl
 

@@ -3,3 +3,4 @@ pub mod Playing
 pub mod Gaps
 pub mod Sending
 pub mod Running
+pub mod Ordered

@@ -7,6 +7,7 @@ mod gaps;
 mod guide;
 mod items;
 mod moves;
+mod order;
 mod partial;
 mod playing;
 mod running;

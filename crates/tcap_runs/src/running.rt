@@ -1,6 +1,6 @@
 //! The run that a certificate gives for a record.
 
-ghost use Rattle.std.specs.Prelude.{◌≡◌, ◌≢◌, map, Some, None, Err, IfOk};
+ghost use Rattle.std.specs.Prelude.{◌≡◌, ◌≢◌, map, Some, None, Ok, Err, IfOk, IfSome};
 ghost use Rattle.tcap_check.specs.declared.fault.Reason.TheVariants as reasons;
 ghost use Rattle.tcap_check.specs.Given.{IsGiven};
 ghost use Rattle.tcap_check.specs.AloneGiven.{IsGivenFor};
@@ -13,9 +13,10 @@ ghost use Rattle.tcap_runs.specs.Playing.{Takes, replay_of};
 ghost use Rattle.tcap_runs.specs.Running.{all_played, run_played};
 
 use crate::guide::Guide;
+use crate::order::is_ordered;
 use crate::playing::{Playing, Stopped};
 use crate::step::Step;
-use std::alloc::Global;
+use std::alloc::{AllocError, Global};
 use tcap_check::alone_laws::gives_a_run_of_one_end;
 use tcap_check::given::gives_a_run;
 use tcap_check::{Certificate, CheckFault, Plan, Reason, check, check_end};
@@ -36,8 +37,18 @@ impl Playing {
     }
 }
 
-/// The steps of the run that a certificate gives for a record, where it gives one.
-fn play(
+/// The steps that a guide says for a record, where each can be taken.
+fn play(guide: &Guide, record: &Record) -> Result<Vec<Step>, Stopped>
+    ensures { IfOk result (λ steps. run_played guide.now.table.now guide.now.certificate.now guide.now.judged
+        (map item_of «record».now.entries.items) ≡ Some (events_of steps.items)) }
+{
+    let mut playing = Playing::new(guide.alloc);
+    playing.take_all(guide, record)?;
+    Ok(playing.steps.into_list())
+}
+
+/// The steps of the run of both ends or of one that a certificate gives for a record, where it gives one.
+fn play_given(
     alloc: Global,
     record: &Record,
     table: &Table,
@@ -55,9 +66,36 @@ fn play(
         plan: &plan,
         judged,
     };
-    let mut playing = Playing::new(alloc);
-    playing.take_all(&guide, record)?;
-    Ok(playing.steps.into_list())
+    play(&guide, record)
+}
+
+/// The run of both ends that a certificate gives for a record, without a check before it: `None` where the certificate is not
+/// in order for the record, or a step can't be taken.
+fn play_unchecked(
+    alloc: Global,
+    record: &Record,
+    table: &Table,
+    certificate: &Certificate,
+) -> Result<Option<Vec<Step>>, AllocError>
+    ensures { IfOk result (λ played. IfSome played (λ steps.
+        replayed table.now certificate.now «record».now.entries.items ≡ Ok (events_of steps.items))) }
+{
+    let plan = Plan::new(alloc, certificate)?;
+    let guide = Guide {
+        alloc,
+        table,
+        certificate,
+        plan: &plan,
+        judged: None,
+    };
+    if !is_ordered(&guide, record) {
+        return Ok(None);
+    }
+    match play(&guide, record) {
+        Ok(steps) => Ok(Some(steps)),
+        Err(Stopped::NoStep) => Ok(None),
+        Err(Stopped::Memory) => Err(AllocError),
+    }
 }
 
 /// Memory ran out.
@@ -65,6 +103,24 @@ const OUT_OF_MEMORY: CheckFault = CheckFault {
     reason: Reason::Memory,
     entry: 0,
 };
+
+/// The run of both ends that a certificate gives for a record, which is checked before it is played; else the first reason why
+/// it gives none.
+fn play_checked(
+    alloc: Global,
+    record: &Record,
+    table: &Table,
+    certificate: &Certificate,
+) -> Result<Vec<Step>, CheckFault>
+    ensures { result ≢ Err (fault_at reasons.Memory 0)
+        → map_ok (λ steps. events_of steps.items) result ≡ replayed table.now certificate.now «record».now.entries.items }
+{
+    check(alloc, record, table, certificate)?;
+    match play_given(alloc, record, table, certificate, None) {
+        Ok(steps) => Ok(steps),
+        Err(_) => Err(OUT_OF_MEMORY),
+    }
+}
 
 /// The run that a certificate gives for a record, step by step: a run of two ends (Q.774 3.2 and 3.3), over two channels
 /// that keep order and may lose messages, that sends the entries of the record, in their order, and nothing else. Else the first
@@ -81,10 +137,11 @@ pub fn run_of(
         → map_ok (λ steps. events_of steps.items) result ≡ replayed table.now certificate.now «record».now.entries.items }
 {
     gives_a_run();
-    check(alloc, record, table, certificate)?;
-    match play(alloc, record, table, certificate, None) {
-        Ok(steps) => Ok(steps),
-        Err(_) => Err(OUT_OF_MEMORY),
+    match play_unchecked(alloc, record, table, certificate) {
+        Ok(Some(steps)) => Ok(steps),
+        // The check says why it gives none.
+        Ok(None) => play_checked(alloc, record, table, certificate),
+        Err(AllocError) => Err(OUT_OF_MEMORY),
     }
 }
 
@@ -107,7 +164,7 @@ pub fn run_of_end(
 {
     gives_a_run_of_one_end();
     check_end(alloc, record, table, certificate, end)?;
-    match play(alloc, record, table, certificate, Some(end)) {
+    match play_given(alloc, record, table, certificate, Some(end)) {
         Ok(steps) => Ok(steps),
         Err(_) => Err(OUT_OF_MEMORY),
     }

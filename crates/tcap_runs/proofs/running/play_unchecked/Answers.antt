@@ -1,0 +1,8 @@
+use Rattle.tcap_runs.specs.Steps.{events_of}
+use Rattle.tcap_runs.proofs.GivenLaws.{run_given}
+use Rattle.tcap_runs.proofs.running.play_unchecked.Goals as goal
+
+pub returns-in-Ok : goal.returns-in-Ok
+returns-in-Ok c =
+    run_given c.args.table.now c.args.certificate.now c.args.record.now.entries.items (events_of c.in-Ok.steps.items)
+    (c.is_ordered.ensures.ranges c.if-not-is_ordered.false) (c.is_ordered.ensures.order c.if-not-is_ordered.false) c.in-Ok.ensures
