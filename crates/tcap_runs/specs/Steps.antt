@@ -20,10 +20,10 @@ event_of (steps.Closes side name) = Closes side name
 event_of steps.Quiet = Event.Quiet
 
 abbrev pub on_its_way : OnWay → OnItsWay
-on_its_way w = record { number = w.number; message = w.message }
+on_its_way w = record { number = w.number; message = w.message.now }
 
 abbrev pub item_of : Kept → Item
-item_of (kept.Message side message) = Sent side message
+item_of (kept.Message side message) = Sent side message.now
 item_of kept.Quiet = Item.Quiet
 
 -- what steps stand for

@@ -5,20 +5,20 @@ use std::collections::LinkedList;
 use std::marker::Model;
 use tcap_msg::Message;
 
-/// A message on its way, with its number.
-#[derive(Debug, Drop)]
-pub(crate) struct OnWay {
+/// A message on its way, with its number: lent from the record.
+#[derive(Clone, Copy, Debug)]
+pub(crate) struct OnWay<'r> {
     pub(crate) number: usize,
-    pub(crate) message: Message,
+    pub(crate) message: &'r Message,
 }
 
 /// What an end sent that was not taken yet, from the oldest on.
 #[derive(Debug, Drop)]
-pub(crate) struct Channel {
-    list: LinkedList<OnWay>,
+pub(crate) struct Channel<'r> {
+    list: LinkedList<OnWay<'r>>,
 }
 
-impl Model for Channel {
+impl<'r> Model for Channel<'r> {
     ghost use Rattle.std.specs.Prelude.{List, map};
     ghost use Rattle.tcap_check.specs.World.{OnItsWay};
     ghost use Rattle.tcap_runs.specs.Steps.{on_its_way};
@@ -28,13 +28,13 @@ impl Model for Channel {
     ghost view = { λ c. map on_its_way c.list };
 }
 
-impl Channel {
+impl<'r> Channel<'r> {
     ghost use Rattle.std.specs.Prelude.{◌≡◌, ℕ, [], ◌∷◌, ◌++◌, drop, length, MatchOption, None, OnOk, Some};
     ghost use Rattle.tcap_runs.specs.Steps.{on_its_way};
     ghost use Rattle.tcap_runs.specs.Playing.{first_number, first_of};
 
     /// Nothing is on its way.
-    pub(crate) fn new(alloc: Global) -> Channel
+    pub(crate) fn new(alloc: Global) -> Channel<'r>
         ensures { result ≡ [] }
     {
         Channel {
@@ -50,7 +50,7 @@ impl Channel {
     }
 
     /// The oldest.
-    pub(crate) fn first(&self) -> Option<&OnWay>
+    pub(crate) fn first(&self) -> Option<&OnWay<'r>>
         ensures { MatchOption result (first_of self.now ≡ None) (λ w. first_of self.now ≡ Some (on_its_way w.now)) }
     {
         self.list.front()
@@ -67,7 +67,7 @@ impl Channel {
     }
 
     /// Takes the oldest.
-    pub(crate) fn pop(&mut self) -> Option<OnWay>
+    pub(crate) fn pop(&mut self) -> Option<OnWay<'r>>
         ensures first { MatchOption result (self.old ≡ [])
             (λ first. self.old ≡ on_its_way first ∷ self.new) }
         ensures left { self.new ≡ drop 1 self.old }
@@ -76,8 +76,8 @@ impl Channel {
     }
 
     /// A message is on its way behind the others.
-    pub(crate) fn push(&mut self, number: usize, message: Message) -> Result<(), AllocError>
-        ensures { OnOk result (self.new ≡ self.old ++ (record { number = number; message = message }) ∷ []) }
+    pub(crate) fn push(&mut self, number: usize, message: &'r Message) -> Result<(), AllocError>
+        ensures { OnOk result (self.new ≡ self.old ++ (record { number = number; message = message.now }) ∷ []) }
     {
         self.list.push_back(OnWay { number, message })?;
         Ok(())

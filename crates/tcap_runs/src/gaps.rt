@@ -69,7 +69,7 @@ fn is_judged(judged: Option<End>, side: End) -> bool
     }
 }
 
-impl Playing {
+impl Playing<'_> {
     /// Closes the half that a closing names.
     fn close_listed(&mut self, table: &Table, x: &Closing) -> Result<(), Stopped>
         ensures { Takes (closing_played table.now x.now (replay_of self.old)) result (replay_of self.new) }

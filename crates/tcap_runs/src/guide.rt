@@ -1,7 +1,6 @@
 //! What a run follows, entry by entry.
 
 ghost use Rattle.std.specs.Prelude.{◌≡◌, IfOk, OnOk, slice_get};
-ghost use Rattle.tcap_record.specs.Viewed.{entry_read};
 ghost use Rattle.tcap_msg.specs.Parts.{cause_in};
 ghost use Rattle.tcap_check.specs.Plan.{IsPlan};
 ghost use Rattle.tcap_check.specs.Entries.{item_of};
@@ -11,12 +10,13 @@ ghost use Rattle.tcap_runs.specs.Running.{message_played, next_gap, sent_by, tie
 
 use crate::gaps::sender;
 use crate::items::Items;
+use crate::lent::Lent;
 use crate::playing::{Playing, Stopped, other};
 use std::alloc::{AllocError, Global};
 use tcap_check::{Certificate, Plan};
 use tcap_end::Table;
 use tcap_msg::MessageParts;
-use tcap_record::{BodyView, End, EntryView};
+use tcap_record::{Body, End, Entry};
 
 /// What a run follows: the operations, the certificate with its plan, and the end that is judged alone, if one is.
 #[derive(Clone, Copy, Debug)]
@@ -57,7 +57,7 @@ fn asked_among(
     Ok(asked)
 }
 
-impl Playing {
+impl<'r> Playing<'r> {
     /// The gap before the next entry.
     pub(crate) fn pass_next_gap(&mut self, guide: &Guide) -> Result<(), Stopped>
         ensures { Takes (next_gap guide.now.table.now guide.now.certificate.now guide.now.judged (replay_of self.old)) result
@@ -95,38 +95,32 @@ impl Playing {
     }
 
     /// A message that an end sends, or its provider, which takes these messages.
-    fn send_by<M: MessageParts>(
+    fn send_by(
         &mut self,
         guide: &Guide,
         side: End,
-        message: &M,
+        message: &Lent<'r>,
         tied: &[u32],
     ) -> Result<(), Stopped>
-        ensures { Takes (sent_by guide.now.table.now guide.now.certificate.now side (M.meaning message.now)
-            (cause_in (M.meaning message.now)) tied.now (replay_of self.old)) result (replay_of self.new) }
+        ensures { Takes (sent_by guide.now.table.now guide.now.certificate.now side message.now.message.now
+            (cause_in message.now.message.now) tied.now (replay_of self.old)) result (replay_of self.new) }
     {
-        match (message.cause(), tied) {
-            (Some(_), [number]) => self.reply(
-                guide.alloc,
-                guide.certificate,
-                side,
-                message,
-                *number as usize,
-            ),
+        match (message.view.cause(), tied) {
+            (Some(_), [number]) => self.reply(guide.certificate, side, message, *number as usize),
             (None, []) => self.send(guide.alloc, guide.table, side, message),
             _ => Err(Stopped::NoStep),
         }
     }
 
     /// A message that an end tells of which nothing is asked, which takes these messages: it takes none.
-    fn tell_by<M: MessageParts>(
+    fn tell_by(
         &mut self,
         guide: &Guide,
         side: End,
-        message: &M,
+        message: &Lent<'r>,
         tied: &[u32],
     ) -> Result<(), Stopped>
-        ensures { Takes (told_by side (M.meaning message.now) tied.now (replay_of self.old)) result (replay_of self.new) }
+        ensures { Takes (told_by side message.now.message.now tied.now (replay_of self.old)) result (replay_of self.new) }
     {
         if !tied.is_empty() {
             return Err(Stopped::NoStep);
@@ -135,15 +129,15 @@ impl Playing {
     }
 
     /// A message that an end sent, which takes these messages, behind its gap.
-    fn take_message_by<M: MessageParts>(
+    fn take_message_by(
         &mut self,
         guide: &Guide,
         side: End,
-        message: &M,
+        message: &Lent<'r>,
         tied: &[u32],
     ) -> Result<(), Stopped>
         ensures { Takes (message_by guide.now.table.now guide.now.certificate.now guide.now.judged side
-            (M.meaning message.now) tied.now (replay_of self.old)) result (replay_of self.new) }
+            message.now.message.now tied.now (replay_of self.old)) result (replay_of self.new) }
     {
         match guide.judged {
             None => self.send_by(guide, side, message, tied),
@@ -156,14 +150,9 @@ impl Playing {
     }
 
     /// The next entry is a message that an end sent.
-    fn take_message<M: MessageParts>(
-        &mut self,
-        guide: &Guide,
-        side: End,
-        message: &M,
-    ) -> Result<(), Stopped>
+    fn take_message(&mut self, guide: &Guide, side: End, message: &Lent<'r>) -> Result<(), Stopped>
         ensures { Takes (message_played guide.now.table.now guide.now.certificate.now guide.now.judged side
-            (M.meaning message.now) (replay_of self.old)) result (replay_of self.new) }
+            message.now.message.now (replay_of self.old)) result (replay_of self.new) }
     {
         self.pass_next_gap(guide)?;
         let tied = self.tied(guide)?;
@@ -215,13 +204,15 @@ impl Playing {
     }
 
     /// The next entry.
-    pub(crate) fn take(&mut self, guide: &Guide, entry: &EntryView) -> Result<(), Stopped>
+    pub(crate) fn take(&mut self, guide: &Guide, entry: &'r Entry) -> Result<(), Stopped>
         ensures { Takes (entry_played guide.now.table.now guide.now.certificate.now guide.now.judged
-            (item_of (entry_read entry.now)) (replay_of self.old)) result (replay_of self.new) }
+            (item_of entry.now) (replay_of self.old)) result (replay_of self.new) }
     {
         match (entry.side, &entry.body) {
-            (Some(side), BodyView::Good(message)) => self.take_message(guide, side, message),
-            (None, BodyView::Quiet) => self.take_mark(guide),
+            (Some(side), Body::Good(message)) => {
+                self.take_message(guide, side, &Lent::new(message))
+            }
+            (None, Body::Quiet) => self.take_mark(guide),
             _ => Err(Stopped::NoStep),
         }
     }

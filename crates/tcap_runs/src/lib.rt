@@ -6,6 +6,7 @@ mod channel;
 mod gaps;
 mod guide;
 mod items;
+mod lent;
 mod moves;
 mod order;
 mod partial;

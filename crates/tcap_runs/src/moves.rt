@@ -33,14 +33,14 @@ fn hear(
     if first.number != number {
         return Err(Stopped::NoStep);
     }
-    match end.receive(table, &first.message) {
+    match end.receive(table, &first.message.view()) {
         Ok(()) => Ok(None),
         Err(EndFault::Memory) => Err(Stopped::Memory),
         Err(reason) => Ok(Some(reason)),
     }
 }
 
-impl Playing {
+impl Playing<'_> {
     /// The oldest message on its way from an end, which is that of the number, is lost.
     fn lose(&mut self, side: End, number: usize) -> Result<(), Stopped>
         ensures { OnOk result (replay_of self.new ≡ losing side (number ∷ []) (replay_of self.old)) }

@@ -43,15 +43,15 @@ impl From<EndFault> for Stopped {
     }
 }
 
-/// A run under way.
+/// A run under way, over a record that outlives it.
 #[derive(Debug, Drop)]
-pub(crate) struct Playing {
+pub(crate) struct Playing<'r> {
     pub(crate) steps: Steps,
     pub(crate) a: EndState,
     pub(crate) b: EndState,
-    pub(crate) from_a: Channel,
-    pub(crate) from_b: Channel,
-    pub(crate) sent: Items,
+    pub(crate) from_a: Channel<'r>,
+    pub(crate) from_b: Channel<'r>,
+    pub(crate) sent: Items<'r>,
 }
 
 /// The end that is not this one.
@@ -81,9 +81,9 @@ fn is_lost(certificate: &Certificate, number: usize) -> bool
     matches!(certificate.fates().get(number), Some(Fate::Lost))
 }
 
-impl Playing {
+impl<'r> Playing<'r> {
     /// Nothing happened yet.
-    pub(crate) fn new(alloc: Global) -> Playing
+    pub(crate) fn new(alloc: Global) -> Playing<'r>
         ensures { replay_of result ≡ nothing_replayed }
     {
         Playing {
@@ -107,7 +107,7 @@ impl Playing {
     }
 
     /// What is on its way from an end.
-    pub(crate) fn channel(&self, side: End) -> &Channel
+    pub(crate) fn channel(&self, side: End) -> &Channel<'r>
         ensures { result.now ≡ channel_at side self.now }
     {
         match side {

@@ -23,14 +23,14 @@ use tcap_check::{Certificate, CheckFault, Plan, Reason, check, check_end};
 use tcap_end::Table;
 use tcap_record::{End, Record};
 
-impl Playing {
+impl<'r> Playing<'r> {
     /// The entries of a record, the last gap, and the loss of what is still on its way.
-    pub(crate) fn take_all(&mut self, guide: &Guide, record: &Record) -> Result<(), Stopped>
+    pub(crate) fn take_all(&mut self, guide: &Guide, record: &'r Record) -> Result<(), Stopped>
         ensures { Takes (all_played guide.now.table.now guide.now.certificate.now guide.now.judged
             (map item_of «record».now.entries.items) (replay_of self.old)) result (replay_of self.new) }
     {
         for entry in &record.entries {
-            self.take(guide, &entry.view())?;
+            self.take(guide, entry)?;
         }
         self.pass_next_gap(guide)?;
         self.lose_last(guide)

@@ -12,12 +12,13 @@ ghost use Rattle.tcap_runs.specs.Sending.{answer_played, implied_by, may_answer,
 
 use crate::channel::OnWay;
 use crate::items::Kept;
+use crate::lent::Lent;
 use crate::playing::{Playing, Stopped, other};
 use crate::step::Step;
 use std::alloc::{AllocError, Global};
 use tcap_check::Certificate;
 use tcap_end::{EndState, HalfName, Table};
-use tcap_msg::{Kind, MessageParts};
+use tcap_msg::{Kind, Message, MessageParts};
 use tcap_parts::ComponentView;
 use tcap_record::End;
 
@@ -37,13 +38,13 @@ fn invoking_half<M: MessageParts>(message: &M) -> Option<HalfName>
 
 /// Whether the provider of an end may answer a message by this Abort.
 fn may_refuse<A: MessageParts>(end: &EndState, first: &OnWay, abort: &A) -> bool
-    ensures { result ≡ may_refuse end.now first.now.message (A.meaning abort.now) }
+    ensures { result ≡ may_refuse end.now first.now.message.now (A.meaning abort.now) }
 {
-    end.refuse_begin(&first.message, abort).is_ok()
-        || end.refuse_continue(&first.message, abort).is_ok()
+    let message = first.message.view();
+    end.refuse_begin(&message, abort).is_ok() || end.refuse_continue(&message, abort).is_ok()
 }
 
-impl Playing {
+impl<'r> Playing<'r> {
     /// Ends the earlier invocation whose ID a component invokes anew over that half, where that may be.
     fn end_invoked(
         &mut self,
@@ -95,43 +96,37 @@ impl Playing {
     }
 
     /// A message that an end sent, or its provider, joins what is on its way and what was sent.
-    fn join<M: MessageParts>(
-        &mut self,
-        alloc: Global,
-        side: End,
-        message: &M,
-    ) -> Result<(), AllocError>
-        ensures joined { OnOk result (world_of self.new ≡ joined side (M.meaning message.now) (world_of self.old)) }
+    fn join(&mut self, side: End, message: &'r Message) -> Result<(), AllocError>
+        ensures joined { OnOk result (world_of self.new ≡ joined side message.now (world_of self.old)) }
         ensures steps { self.new.steps ≡ self.old.steps }
     {
         let number = self.sent.len();
         match side {
-            End::A => self.from_a.push(number, message.to_message(alloc)?)?,
-            End::B => self.from_b.push(number, message.to_message(alloc)?)?,
+            End::A => self.from_a.push(number, message)?,
+            End::B => self.from_b.push(number, message)?,
         }
-        self.sent
-            .push(Kept::Message(side, message.to_message(alloc)?))
+        self.sent.push(Kept::Message(side, message))
     }
 
     /// An end sends a message.
-    pub(crate) fn send<M: MessageParts>(
+    pub(crate) fn send(
         &mut self,
         alloc: Global,
         table: &Table,
         side: End,
-        message: &M,
+        message: &Lent<'r>,
     ) -> Result<(), Stopped>
-        ensures { OnOk result (send_replayed table.now side (M.meaning message.now) (implied_over table.now side
-            (M.meaning message.now) (invoking_half (M.meaning message.now)) (replay_of self.old)) ≡ Ok (replay_of self.new)) }
+        ensures { OnOk result (send_replayed table.now side message.now.message.now (implied_over table.now side
+            message.now.message.now (invoking_half message.now.message.now) (replay_of self.old)) ≡ Ok (replay_of self.new)) }
     {
-        self.end_implied(table, side, message)?;
+        self.end_implied(table, side, &message.view)?;
         match side {
-            End::A => self.a.send(table, message)?,
-            End::B => self.b.send(table, message)?,
+            End::A => self.a.send(table, &message.view)?,
+            End::B => self.b.send(table, &message.view)?,
         }
-        self.join(alloc, side, message)?;
+        self.join(side, message.message)?;
         self.steps
-            .push(Step::Sends(side, message.to_message(alloc)?))?;
+            .push(Step::Sends(side, message.view.to_message(alloc)?))?;
         Ok(())
     }
 
@@ -147,39 +142,38 @@ impl Playing {
 
     /// The provider of an end answers the oldest message on its way to it, which has that number, by an Abort; what is lost
     /// before it is lost first.
-    pub(crate) fn reply<M: MessageParts>(
+    pub(crate) fn reply(
         &mut self,
-        alloc: Global,
         certificate: &Certificate,
         side: End,
-        abort: &M,
+        abort: &Lent<'r>,
         number: usize,
     ) -> Result<(), Stopped>
-        ensures { Takes (answer_played certificate.now side (M.meaning abort.now) number (replay_of self.old)) result
+        ensures { Takes (answer_played certificate.now side abort.now.message.now number (replay_of self.old)) result
             (replay_of self.new) }
     {
         self.lose_front(certificate, other(side))?;
-        if !self.may_answer(side, abort, number) {
+        if !self.may_answer(side, &abort.view, number) {
             return Err(Stopped::NoStep);
         }
         self.drop_first(other(side));
-        self.join(alloc, side, abort)?;
+        self.join(side, abort.message)?;
         self.steps.push(Step::Replies(side, number as u64))?;
         Ok(())
     }
 
     /// An end of which nothing is asked tells a message.
-    pub(crate) fn tell<M: MessageParts>(
+    pub(crate) fn tell(
         &mut self,
         alloc: Global,
         side: End,
-        message: &M,
+        message: &Lent<'r>,
     ) -> Result<(), Stopped>
-        ensures { OnOk result (replay_of self.new ≡ tell_played side (M.meaning message.now) (replay_of self.old)) }
+        ensures { OnOk result (replay_of self.new ≡ tell_played side message.now.message.now (replay_of self.old)) }
     {
-        self.join(alloc, side, message)?;
+        self.join(side, message.message)?;
         self.steps
-            .push(Step::Tells(side, message.to_message(alloc)?))?;
+            .push(Step::Tells(side, message.view.to_message(alloc)?))?;
         Ok(())
     }
 }
