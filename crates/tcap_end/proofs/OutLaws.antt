@@ -1,5 +1,5 @@
 -- Own invocations by their invoke IDs: what stands in a place, and changing it.
-use Rattle.std.proofs.Common.{◌≡◌, ℤ, false, true, List, Option, Some, None, is_some, refl, ap, ◌∙◌}
+use Rattle.std.proofs.Common.{◌≡◌, ℤ, List, Option, Some, None, refl, ap, ◌∙◌}
 use Rattle.std.specs.Prelude.{option_and_then}
 use Rattle.std.specs.Ordering.{int_cmp}
 use Rattle.std.specs.Map.{lookup}
@@ -8,7 +8,7 @@ use Rattle.tcap_end.specs.declared.outs.OwnInvocation.{OwnInvocation}
 use Rattle.tcap_end.specs.Sound.{Rises}
 use Rattle.tcap_end.specs.Lists.{keep}
 use Rattle.tcap_end.specs.Outs.{with_out}
-use Rattle.tcap_end.proofs.KeepLaws.{insert_dropped, insert_keep, lookup_keep, remove_absent}
+use Rattle.tcap_end.proofs.KeepLaws.{insert_dropped, insert_keep, lookup_keep}
 
 -- what stands in the place of an ID, from what was looked up
 pub stands : (id : ℤ) (places : List (ℤ × Option OwnInvocation)) (found : Option (Option OwnInvocation)) → Rises int_cmp places
@@ -21,14 +21,3 @@ pub puts : (id : ℤ) (own_invocation : Option OwnInvocation) (places : List (�
     → keep (λ place. place) (insert_entry int_cmp places id own_invocation) ≡ with_out id own_invocation (keep (λ place. place) places)
 puts id None places rises = insert_dropped (λ place. place) id None places rises refl
 puts id (Some own_invocation) places rises = insert_keep (λ place. place) id (Some own_invocation) own_invocation places rises refl
-
--- an empty place is made where there was none
-pub made : (id : ℤ) (places : List (ℤ × Option OwnInvocation)) → Rises int_cmp places → is_some (lookup (is_at (int_cmp id)) places) ≡ false
-    → keep (λ place. place) (insert_entry int_cmp places id None) ≡ keep (λ place. place) places
-made id places rises absent =
-    puts id None places rises ∙ remove_absent id (keep (λ place. place) places)
-    (stands id places None rises (none (lookup (is_at (int_cmp id)) places) absent))
-  where
-    none : {A : Type 0} (o : Option A) → is_some o ≡ false → o ≡ None
-    none None e = refl
-    none (Some x) e = let bad : true ≡ false = e in cc

@@ -6,7 +6,10 @@ use crate::half_state::Change;
 use std::alloc::{AllocFailed, Global};
 use std::marker::Model;
 
-/// Changes of a half, the last one first. What held those of one message holds those of the next.
+/// How many changes the list keeps memory for between two messages.
+const KEPT: usize = 32;
+
+/// Changes of a half, the last one first. What held those of one message holds those of the next, where they are few.
 #[derive(Debug, Drop)]
 pub(crate) struct Changes {
     /// From the first one on.
@@ -64,10 +67,14 @@ impl Changes {
         self.made.pop()
     }
 
-    /// None any more.
+    /// None any more. Memory for many is given back.
     pub(crate) fn clear(&mut self)
         ensures { self.new ≡ [] }
     {
-        self.made.clear();
+        if self.made.capacity() > KEPT {
+            self.made = Vec::new(self.alloc());
+        } else {
+            self.made.clear();
+        }
     }
 }

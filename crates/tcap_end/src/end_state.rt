@@ -29,7 +29,7 @@ use tcap_msg::MessageParts;
 pub struct EndState {
     alloc: Global,
     halves: Halves,
-    /// What the last message changed. Its memory serves each message.
+    /// What a message changed, while it is taken. The memory of a short list serves the next message.
     changes: Changes,
 }
 

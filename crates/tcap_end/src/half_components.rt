@@ -102,10 +102,12 @@ impl HalfState {
         match self.step_noted(alloc, changes, table, way, components) {
             Ok(()) => {
                 self.settle(changes);
+                changes.clear();
                 Ok(())
             }
             Err(fault) => {
                 self.undo_all(changes);
+                changes.clear();
                 Err(fault)
             }
         }

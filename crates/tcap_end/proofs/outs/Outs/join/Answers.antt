@@ -1,12 +1,7 @@
 use mir.Syntax.{w8}
-use Rattle.std.proofs.Common.{Some, None, is_some, sym, ap, ◌∙◌}
-use Rattle.std.specs.Ordering.{int_cmp}
-use Rattle.std.specs.Map.{lookup}
-use Rattle.std.specs.BTreeMap.{is_at}
-use Rattle.std.proofs.lemmas.Cmp.{int_cmp_total}
+use Rattle.std.proofs.Common.{Some, None, sym, ap, ◌∙◌}
 use Rattle.std.proofs.lemmas.Int.{to_z-of_z}
 use Rattle.tcap_end.specs.Lists.{keep}
-use Rattle.tcap_end.proofs.MapLaws.{found_new}
 use Rattle.tcap_end.proofs.OutLaws.{puts, stands}
 use Rattle.tcap_end.proofs.outs.Outs.join.Goals as goal
 
