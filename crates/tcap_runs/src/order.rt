@@ -60,7 +60,7 @@ fn expiries_fit(count: usize, expire: &[Expiry]) -> bool
 }
 
 /// Whether all numbers of a certificate are in their ranges.
-fn is_in_ranges(certificate: &Certificate) -> bool
+pub(crate) fn is_in_ranges(certificate: &Certificate) -> bool
     ensures { result ≡ true → certificate_fits certificate.now ≡ Ok tt }
 {
     let count = certificate.fates().len();
@@ -185,7 +185,7 @@ fn listed_reach(guide: &Guide, entries: &[Entry], gap: usize, since: usize) -> b
 }
 
 /// Whether the fates of a certificate are in their order for a record, and what is listed names entries that it may.
-fn is_in_order(guide: &Guide, record: &Record) -> bool
+pub(crate) fn is_in_order(guide: &Guide, record: &Record) -> bool
     ensures { result ≡ is_ordered guide.now.certificate.now «record».now.entries.items }
 {
     let fates = guide.certificate.fates();
@@ -207,12 +207,4 @@ fn is_in_order(guide: &Guide, record: &Record) -> bool
         number += 1;
     }
     number == fates.len() && listed_reach(guide, &record.entries, number, since)
-}
-
-/// Whether a certificate is all that it has to be for a record beside the steps that it gives.
-pub(crate) fn is_ordered(guide: &Guide, record: &Record) -> bool
-    ensures ranges { result ≡ true → certificate_fits guide.now.certificate.now ≡ Ok tt }
-    ensures order { result ≡ true → is_ordered guide.now.certificate.now «record».now.entries.items ≡ true }
-{
-    is_in_ranges(guide.certificate) && is_in_order(guide, record)
 }

@@ -13,7 +13,7 @@ ghost use Rattle.tcap_runs.specs.Playing.{Takes, replay_of};
 ghost use Rattle.tcap_runs.specs.Running.{all_played, run_played};
 
 use crate::guide::Guide;
-use crate::order::is_ordered;
+use crate::order::{is_in_order, is_in_ranges};
 use crate::playing::{Playing, Stopped};
 use crate::step::Step;
 use std::alloc::{AllocError, Global};
@@ -80,6 +80,9 @@ fn play_unchecked(
     ensures { IfOk result (λ played. IfSome played (λ steps.
         replayed table.now certificate.now «record».now.entries.items ≡ Ok (events_of steps.items))) }
 {
+    if !is_in_ranges(certificate) {
+        return Ok(None);
+    }
     let plan = Plan::new(alloc, certificate)?;
     let guide = Guide {
         alloc,
@@ -88,7 +91,7 @@ fn play_unchecked(
         plan: &plan,
         judged: None,
     };
-    if !is_ordered(&guide, record) {
+    if !is_in_order(&guide, record) {
         return Ok(None);
     }
     match play(&guide, record) {

@@ -1,3 +1,4 @@
+use Rattle.std.proofs.Common.{sym, ◌∙◌}
 use Rattle.tcap_runs.specs.Steps.{events_of}
 use Rattle.tcap_runs.proofs.GivenLaws.{run_given}
 use Rattle.tcap_runs.proofs.running.play_unchecked.Goals as goal
@@ -5,4 +6,4 @@ use Rattle.tcap_runs.proofs.running.play_unchecked.Goals as goal
 pub returns-in-Ok : goal.returns-in-Ok
 returns-in-Ok c =
     run_given c.args.table.now c.args.certificate.now c.args.record.now.entries.items (events_of c.in-Ok.steps.items)
-    (c.is_ordered.ensures.ranges c.if-not-is_ordered.false) (c.is_ordered.ensures.order c.if-not-is_ordered.false) c.in-Ok.ensures
+    (c.is_in_ranges.ensures c.if-not-is_in_ranges.false) (sym c.is_in_order.ensures ∙ c.if-not-is_in_order.false) c.in-Ok.ensures
