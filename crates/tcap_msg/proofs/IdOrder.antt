@@ -114,9 +114,6 @@ four_octets (a ∷ b ∷ []) l h i z k = grind arith
 four_octets (a ∷ b ∷ c ∷ []) l h i z k = grind arith
 four_octets (a ∷ b ∷ c ∷ d ∷ x ∷ xs) l h i z k = grind arith
 
-pub id_length : (kept : List ℕ) (n : ℕ) → length kept ≡ 4 → (0 < n) × (n ≤ 4) → IsTransactionId (take n kept)
-id_length kept n l h = let e : length (take n kept) ≡ n = length-take-le n kept (omega arith) in (omega arith, omega arith)
-
 pub id_octets : (kept : List ℕ) (n : ℕ) → length kept ≡ 4 → (0 < n) × (n ≤ 4) → AreOctets kept
     → IsTransactionId (take n kept) × AreOctets (take n kept)
 id_octets kept n l h are =

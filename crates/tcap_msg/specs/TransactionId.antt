@@ -1,5 +1,5 @@
 -- Transaction IDs (Q.773 4.2.1).
-use Rattle.std.specs.Prelude.{◌≡◌, ℕ, zero, suc, ◌+◌, ◌*◌, ◌<◌, ◌≤◌, List, [], ◌∷◌, length, take, drop, replicate, ◌-◌, All, Result, Ok, Err, nat_lt, Bool, ◌&&◌, if◌then◌else◌}
+use Rattle.std.specs.Prelude.{◌≡◌, ℕ, zero, suc, ◌+◌, ◌*◌, ◌<◌, ◌≤◌, List, [], ◌∷◌, length, drop, replicate, ◌-◌, Result, Ok, Err, nat_lt, Bool, ◌&&◌, if◌then◌else◌}
 use Rattle.tcap_ber.specs.declared.fault.Fault.{Fault}
 use Rattle.tcap_ber.specs.declared.fault.Reason.TheVariants.{BadTransactionId}
 use Rattle.tcap_ber.specs.Grammar.{Body}
@@ -38,8 +38,3 @@ key octets = filled 4 0 octets * 256 + length octets
 -- four octets: those of an ID, and noughts behind them
 abbrev pub IsPadded : ℕ → List ℕ → Type 0
 IsPadded len octets = (length octets ≡ 4) × (0 < len) × (len ≤ 4) × (drop len octets ≡ replicate (4 - len) 0)
-
--- the same with the number by which the ID is ordered
-abbrev pub IsKept : ℕ → List ℕ → ℕ → Type 0
-IsKept len octets number = IsPadded len octets × All (λ octet. octet < 256) (take len octets)
-    × (number ≡ key (take len octets))

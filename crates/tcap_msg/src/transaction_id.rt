@@ -3,9 +3,10 @@
 ghost use Rattle.std.specs.Prelude.{◌≡◌, ◌↔◌, ◌<◌, ◌+◌, ◌*◌, ℕ, List, All, Err, IsSome, IfSome, IfOk, IsOkAnd, take};
 ghost use Rattle.tcap_ber.specs.declared.fault.Fault.{Fault};
 ghost use Rattle.tcap_ber.specs.Reading.{Gives, element, span};
-ghost use Rattle.tcap_msg.specs.TransactionId.{IsKept, IsPadded, IsTransactionId, key, transaction_id, transaction_id_of};
+ghost use Rattle.tcap_msg.specs.TransactionId.{IsPadded, IsTransactionId, key, transaction_id, transaction_id_of};
 
 use std::cmp::Ordering;
+use std::fmt;
 use std::marker::Model;
 use tcap_ber::{Fault, Reason, Tlv};
 
@@ -19,24 +20,22 @@ pub struct TransactionIdView<'a> {
 
 /// A transaction ID (Q.773 4.2.1): one to four octets. Two are equal exactly where their octets are; they are ordered
 /// by their octets, from the first on, a shorter one before those that it begins.
-#[derive(Debug, Drop)]
+#[derive(Drop)]
 pub struct TransactionId {
     // Noughts behind the octets of the ID.
     octets: [u8; 4],
     len: u8,
-    // They as one number, by which IDs are compared.
-    key: u64,
 }
 
 impl Model for TransactionId {
     ghost use Rattle.std.specs.Prelude.{List, ℕ, take};
-    ghost use Rattle.tcap_msg.specs.TransactionId.{IsKept};
+    ghost use Rattle.tcap_msg.specs.TransactionId.{IsPadded};
 
     ghost Value = { List ℕ };
 
     ghost view = { λ a. take a.len a.octets };
 
-    ghost invariant = { λ a. IsKept a.len a.octets a.key };
+    ghost invariant = { λ a. IsPadded a.len a.octets };
 }
 
 /// Four octets as one number, which tells that they are octets.
@@ -47,26 +46,7 @@ fn number(a: u8, b: u8, c: u8, d: u8) -> u64
     u64::from(u32::from_be_bytes([a, b, c, d]))
 }
 
-/// A number by which IDs are equal and ordered as by their octets: the octets, with noughts for those that are not there,
-/// and their count.
-fn key_of(octets: [u8; 4], len: u8) -> u64
-    requires { IsPadded len octets }
-    ensures { IsKept len octets result }
-{
-    let [a, b, c, d] = octets;
-    number(a, b, c, d) * 256 + u64::from(len)
-}
-
 impl TransactionId {
-    /// An ID of so many of these octets.
-    fn of_octets(octets: [u8; 4], len: u8) -> TransactionId
-        requires { IsPadded len octets }
-        ensures { result ≡ take len octets }
-    {
-        let key = key_of(octets, len);
-        TransactionId { octets, len, key }
-    }
-
     /// The octets as a transaction ID; `None` exactly where they are none or over four.
     pub fn new(octets: &[u8]) -> Option<TransactionId>
         ensures found { IfSome result (λ id. id ≡ octets.now) }
@@ -79,7 +59,7 @@ impl TransactionId {
             [a, b, c, d] => ([*a, *b, *c, *d], 4),
             _ => return None,
         };
-        Some(TransactionId::of_octets(octets, len))
+        Some(TransactionId { octets, len })
     }
 
     /// The transaction ID, lent.
@@ -99,12 +79,28 @@ impl TransactionId {
         &self.octets[..usize::from(self.len)]
     }
 
-    /// A number by which IDs are equal and ordered as by their octets.
+    /// A number by which IDs are equal and ordered as by their octets: the octets, with noughts for those that are not
+    /// there, and their count.
     fn key(&self) -> u64
         ensures value { result ≡ key self.now }
         ensures octets { IsTransactionId self.now × All (λ octet. octet < 256) self.now }
     {
-        self.key
+        let TransactionId {
+            octets: [a, b, c, d],
+            len,
+        } = *self;
+        number(a, b, c, d) * 256 + u64::from(len)
+    }
+}
+
+// The number by which it is compared is printed beside its octets.
+impl fmt::Debug for TransactionId {
+    fn fmt<W: fmt::Write>(&self, f: &mut fmt::Formatter<W>) -> fmt::Result {
+        f.debug_struct("TransactionId")
+            .field("octets", &self.octets)
+            .field("len", &self.len)
+            .field("key", &self.key())
+            .finish()
     }
 }
 
