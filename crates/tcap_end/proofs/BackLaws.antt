@@ -63,8 +63,8 @@ place_some {A} fits places at e = let there = stands places at e in (any_filled 
 -- An ID of an invocation has a place.
 pub has_place : (id : ℤ) (o : Outs) (i : OwnInvocation) → lookup (is_at (int_cmp id)) (kept_outs o) ≡ Some i → HasPlace id o
 has_place id o i there =
-    by (lookup (is_at (int_cmp id)) o.places.entries)
-    (stands id o.places.entries (lookup (is_at (int_cmp id)) o.places.entries) o.ordered refl)
+    by (lookup (is_at (int_cmp id)) o.places.items)
+    (stands id o.places.items (lookup (is_at (int_cmp id)) o.places.items) o.ordered refl)
   where
     by : (found : Option (Option OwnInvocation)) → lookup (is_at (int_cmp id)) (kept_outs o) ≡ option_and_then (λ place. place) found
         → IsSome found
@@ -125,7 +125,7 @@ less_again {A} id item m whole =
 -- Of two changes of an invocation the second counts.
 pub out_twice : (id : ℤ) (a b : Option OwnInvocation) (o : Outs) → with_out id b (with_out id a (kept_outs o)) ≡ with_out id b (kept_outs o)
 out_twice id a b o =
-    let es : List (ℤ × Option OwnInvocation) = o.places.entries in
+    let es : List (ℤ × Option OwnInvocation) = o.places.items in
     ap (with_out id b) (sym (puts id a es o.ordered))
     ∙ sym (puts id b (insert_entry int_cmp es id a) (rises_inserted int_cmp_total es id a o.ordered))
     ∙ ap (keep (λ place. place)) (insert_twice int_cmp_total id a b es)
@@ -134,7 +134,7 @@ out_twice id a b o =
 -- what stands under an ID that was changed
 pub out_there : (id : ℤ) (x : Option OwnInvocation) (o : Outs) → lookup (is_at (int_cmp id)) (with_out id x (kept_outs o)) ≡ x
 out_there id x o =
-    let es : List (ℤ × Option OwnInvocation) = o.places.entries in
+    let es : List (ℤ × Option OwnInvocation) = o.places.items in
     ap (lookup (is_at (int_cmp id))) (sym (puts id x es o.ordered))
     ∙ stands id (insert_entry int_cmp es id x) (Some x) (rises_inserted int_cmp_total es id x o.ordered) (found_new int_cmp_total id x es)
 
@@ -143,17 +143,17 @@ pub out_again : (id : ℤ) (x : Option OwnInvocation) (o : Outs)
     → with_out id (lookup (is_at (int_cmp id)) (kept_outs o)) (with_out id x (kept_outs o)) ≡ kept_outs o
 out_again id x o =
     out_twice id x (lookup (is_at (int_cmp id)) (kept_outs o)) o
-    ∙ by (lookup (is_at (int_cmp id)) o.places.entries) refl
-    (stands id o.places.entries (lookup (is_at (int_cmp id)) o.places.entries) o.ordered refl)
+    ∙ by (lookup (is_at (int_cmp id)) o.places.items) refl
+    (stands id o.places.items (lookup (is_at (int_cmp id)) o.places.items) o.ordered refl)
   where
-    by : (found : Option (Option OwnInvocation)) → lookup (is_at (int_cmp id)) o.places.entries ≡ found
+    by : (found : Option (Option OwnInvocation)) → lookup (is_at (int_cmp id)) o.places.items ≡ found
         → lookup (is_at (int_cmp id)) (kept_outs o) ≡ option_and_then (λ place. place) found
         → with_out id (lookup (is_at (int_cmp id)) (kept_outs o)) (kept_outs o) ≡ kept_outs o
     by None is e = rw e (remove_absent id (kept_outs o) e)
     by (Some None) is e = rw e (remove_absent id (kept_outs o) e)
     by (Some (Some own_invocation)) is e =
-        rw e (sym (puts id (Some own_invocation) o.places.entries o.ordered)
-        ∙ ap (keep (λ place. place)) (insert_again int_cmp_total id (Some own_invocation) o.places.entries o.ordered is))
+        rw e (sym (puts id (Some own_invocation) o.places.items o.ordered)
+        ∙ ap (keep (λ place. place)) (insert_again int_cmp_total id (Some own_invocation) o.places.items o.ordered is))
 
 -- An invocation that was sent waits, and is as one that was sent again.
 pub state_again : (id : ℤ) (code : Code) (o : Outs)

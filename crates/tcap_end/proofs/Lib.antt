@@ -10,6 +10,7 @@ pub mod CodeMapLaws
 pub mod TableLaws
 pub mod TableRows
 pub mod KeepLaws
+pub mod FoundAtLaws
 pub mod OutLaws
 pub mod PlaceLaws
 pub mod UndoLaws

@@ -1,5 +1,5 @@
 -- Rows by invoke IDs: what is read of one, and what is changed in it.
-use Rattle.std.proofs.Common.{◌≡◌, ◌≢◌, ◌⊎◌, inl, inr, ℕ, suc, ℤ, true, false, get_or, List, [], ◌∷◌, ◌++◌, Option, Some, None, Result, Ok, Err, OnOk, OnErr, refl, sym, ap, ◌∙◌}
+use Rattle.std.proofs.Common.{◌≡◌, ◌≢◌, ◌⊎◌, inl, inr, ℕ, suc, ℤ, true, false, get_or, List, [], ◌∷◌, ◌++◌, Option, Some, None, Result, Ok, Err, OnOk, OnErr, refl, sym, ap, subst, ◌∙◌}
 use Rattle.std.specs.Prelude.{IsSome, cond, is_some, option_and_then, option_map}
 use Rattle.std.specs.Borrow.{Bor}
 use Rattle.std.specs.List.{slice_get}
@@ -9,7 +9,7 @@ use Rattle.std.specs.declared.cmp.Ordering.TheVariants.{Less, Equal, Greater}
 use Rattle.std.specs.Global.{Box}
 use Rattle.std.specs.List.Sorted.{IsStrictlySortedBy}
 use Rattle.std.specs.Map.{keys_of, lookup, set_value}
-use Rattle.std.specs.Option.{MatchOption, option_copied}
+use Rattle.std.specs.Option.{MatchOption}
 use Rattle.std.specs.BTreeMap.{insert_entry, is_at}
 use Rattle.std.specs.FinMap.{int_cmp-IsAntisymmetric}
 use Rattle.std.proofs.lemmas.Cmp.{int_cmp_total}
@@ -23,7 +23,7 @@ use Rattle.tcap_end.specs.Row.{filled, fits_in, is_wanted, items_in, kind_in, st
 use Rattle.tcap_end.specs.Sound.{Rises}
 use Rattle.tcap_end.proofs.KeepLaws.{Whole, given_back, insert_listed, list_in, listed_keep, lookup_above, lookup_keep, remove_keep, some_listed, whole_keep}
 use Rattle.tcap_end.proofs.PlaceLaws.{none_at_all, oldest_fits}
-use Rattle.tcap_end.proofs.MapLaws.{below_all, found_new, found_other, keys_eq}
+use Rattle.tcap_end.proofs.MapLaws.{below_all, found_new, found_other, keys_eq, still_found}
 
 pub whole_rows : {K : Type 0} (l : Lists K) → Whole (rows_of l)
 whole_rows l = whole_keep row_in l.rows.entries l.ordered
@@ -130,15 +130,8 @@ module _ {K : Type 0} (id : ℤ) (es next : List (ℤ × Box (Row K))) (rises : 
       ap (lookup (is_at (int_cmp other))) given ∙ found_other int_cmp_total int_cmp-IsAntisymmetric other id row was es apart found
 
   pub given_keeps_rows : (other : ℤ) → IsSome (lookup (is_at (int_cmp other)) es) → IsSome (lookup (is_at (int_cmp other)) next)
-  given_keeps_rows other has = rows_at has (keys_eq int_cmp_total int_cmp-IsAntisymmetric other id)
-    where
-      rows_at : IsSome (lookup (is_at (int_cmp other)) es) → (other ≡ id) ⊎ (other ≢ id) → IsSome (lookup (is_at (int_cmp other)) next)
-      rows_at has (inl e) = rw (e, found_here) refl
-      rows_at has (inr apart) = by (lookup (is_at (int_cmp other)) es) refl has
-        where
-          by : (o : Option (Box (Row K))) → lookup (is_at (int_cmp other)) es ≡ o → IsSome o → IsSome (lookup (is_at (int_cmp other)) next)
-          by None e bad = let wrong : false ≡ true = bad in cc
-          by (Some was) e some = rw (found_there other was apart e) refl
+  given_keeps_rows other has =
+      subst (λ rows. IsSome (lookup (is_at (int_cmp other)) rows)) (sym given) (still_found int_cmp_total other id row es has)
 
   -- The kinds of this ID are kept, and so are all.
   pub given_keeps_kinds : ((number : ℕ)

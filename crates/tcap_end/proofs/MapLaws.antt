@@ -1,5 +1,5 @@
 -- Entries in the order of their keys: what a look-up finds behind a change, and that the keys still rise.
-use Rattle.std.proofs.Common.{◌≡◌, ◌≢◌, Bool, true, false, cond, List, [], ◌∷◌, Option, Some, ◌⊎◌, inl, inr, refl, sym, ap, ◌∙◌}
+use Rattle.std.proofs.Common.{◌≡◌, ◌≢◌, Bool, true, false, cond, List, [], ◌∷◌, Option, Some, IsSome, ◌⊎◌, inl, inr, refl, sym, ap, subst, ◌∙◌}
 use Rattle.std.specs.declared.cmp.Ordering.{Ordering}
 use Rattle.std.specs.declared.cmp.Ordering.TheVariants.{Less, Equal, Greater}
 use Rattle.std.specs.Cmp.{IsTotalOrder}
@@ -83,8 +83,11 @@ equal {cmp = cmp} exact x y same = exact x y (by (cmp x y) same)
     by Greater is = cc
 
 module _ {K : Type 0} {cmp : K → K → Ordering} (total : IsTotalOrder cmp) where
-  turned : (x y : K) → cmp x y ≡ Greater → cmp y x ≡ Less
+  pub turned : (x y : K) → cmp x y ≡ Greater → cmp y x ≡ Less
   turned x y is = total.antisymm y x ∙ ap ordering_reverse is
+
+  pub turned_less : (x y : K) → cmp x y ≡ Less → cmp y x ≡ Greater
+  turned_less x y is = total.antisymm y x ∙ ap ordering_reverse is
 
   -- What is below a key is below all that are above it.
   pub below_all : (k x : K) (ks : List K) → cmp k x ≡ Less
@@ -169,6 +172,14 @@ module _ {K A : Type 0} {cmp : K → K → Ordering} (total : IsTotalOrder cmp) 
       by Less is rest = refl
       by Equal is rest = rw (alike_right total k e.0 q is) (alike (is_eq (cmp q e.0)))
       by Greater is rest = rw rest (apart is (cmp q e.0) refl)
+
+  -- What is found is found still behind an insertion.
+  pub still_found : (q k : K) (v : A) (es : List (K × A)) → IsSome (kept_at cmp es q) → IsSome (kept_at cmp (insert_entry cmp es k v) q)
+  still_found q k v es there = subst IsSome (sym (inserted q k v es)) (by (is_at (cmp q) k))
+    where
+      by : (b : Bool) → IsSome (cond b (Some v) (kept_at cmp es q))
+      by true = refl
+      by false = there
 
   module _ (exact : CmpEqualImpliesEq cmp) where
     -- What is found is the new value, or was there.

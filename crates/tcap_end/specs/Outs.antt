@@ -1,6 +1,6 @@
 -- What the own invocations of a half are, as they are kept: places where none stands are left out.
-use Rattle.std.specs.Prelude.{ℤ, List, Option, Some, None, IsSome}
-use Rattle.std.specs.Ordering.{int_cmp}
+use Rattle.std.specs.Prelude.{ℕ, suc, ℤ, List, [], ◌∷◌, Option, Some, None, IsSome, Result, Ok, Err}
+use Rattle.std.specs.Ordering.{int_cmp, match_ordering}
 use Rattle.std.specs.Map.{lookup, remove_entry}
 use Rattle.std.specs.BTreeMap.{insert_entry, is_at}
 use Rattle.tcap_end.specs.declared.half.InvocationState.{InvocationState}
@@ -9,11 +9,21 @@ use Rattle.tcap_end.specs.declared.outs.Outs.{Outs}
 use Rattle.tcap_end.specs.Lists.{keep}
 
 abbrev pub kept_outs : Outs → List (ℤ × OwnInvocation)
-kept_outs o = keep (λ place. place) o.places.entries
+kept_outs o = keep (λ place. place) o.places.items
+
+-- an index, one on
+abbrev pub one_on : Result ℕ ℕ → Result ℕ ℕ
+one_on (Ok at) = Ok (suc at)
+one_on (Err at) = Err (suc at)
+
+-- where an ID stands; or where it would, were it put there
+abbrev pub found_at : {A : Type 0} → ℤ → List (ℤ × A) → Result ℕ ℕ
+found_at id [] = Err 0
+found_at id (place ∷ places) = match_ordering (int_cmp id place.0) (Err 0) (Ok 0) (one_on (found_at id places))
 
 -- There is a place for that ID, and maybe nothing stands there.
 abbrev pub HasPlace : ℤ → Outs → Type 0
-HasPlace id o = IsSome (lookup (is_at (int_cmp id)) o.places.entries)
+HasPlace id o = IsSome (lookup (is_at (int_cmp id)) o.places.items)
 
 -- the same with that invocation, or none, under an ID
 abbrev pub with_out : ℤ → Option OwnInvocation → List (ℤ × OwnInvocation) → List (ℤ × OwnInvocation)

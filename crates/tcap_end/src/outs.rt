@@ -1,12 +1,16 @@
 //! The own invocations of a half.
 
+ghost use Rattle.std.specs.Prelude.{◌≡◌, ◌≤◌, OnErr, OnOk};
 ghost use Rattle.std.specs.Ordering.{int_cmp};
+ghost use Rattle.std.specs.List.{insert};
 ghost use Rattle.std.specs.Map.{keys_of};
+ghost use Rattle.std.specs.Vec.{vec_len};
 ghost use Rattle.std.specs.List.Sorted.{IsStrictlySortedBy, IsStrictlySortedBy-prop};
 
 use crate::half::InvocationState;
 use std::alloc::{AllocError, Global};
-use std::collections::BTreeMap;
+use std::cmp::Ordering;
+use std::mem;
 use tcap_parts::Code;
 
 /// An own invocation: its operation, and what it waits for.
@@ -20,32 +24,65 @@ pub(crate) struct OwnInvocation {
 /// memory.
 #[derive(Debug, Drop)]
 pub(crate) struct Outs {
-    places: BTreeMap<i8, Option<OwnInvocation>>,
-    ghost ordered: { IsStrictlySortedBy int_cmp (keys_of places.entries) } by { IsStrictlySortedBy-prop int_cmp
-        (keys_of places.entries) },
+    // In the order of the IDs: at most 256.
+    places: Vec<(i8, Option<OwnInvocation>)>,
+    ghost ordered: { IsStrictlySortedBy int_cmp (keys_of places.items) } by { IsStrictlySortedBy-prop int_cmp
+        (keys_of places.items) },
+}
+
+/// Puts one more place between the others. The first one takes memory for itself alone: many halves have no other.
+fn insert_at(
+    places: &mut Vec<(i8, Option<OwnInvocation>)>,
+    at: usize,
+    place: (i8, Option<OwnInvocation>),
+) -> Result<(), AllocError>
+    requires { at ≤ vec_len places.old }
+    ensures put { OnOk result (places.new.items ≡ insert places.old.items at place) }
+    ensures kept { OnErr result (places.new.items ≡ places.old.items) }
+{
+    if places.is_empty() {
+        places.try_reserve_exact(1)?;
+    }
+    places.insert(at, place)?;
+    Ok(())
 }
 
 impl Outs {
-    ghost use Rattle.std.specs.Prelude.{◌≡◌, ℤ, [], Some, option_copied, IfOk, OnErr, OnOk};
-    ghost use Rattle.std.specs.Ordering.{int_cmp};
+    ghost use Rattle.std.specs.Prelude.{ℤ, [], Some, option_copied, IfOk};
+    ghost use Rattle.std.specs.List.Sorted.{IsSearchInRange};
     ghost use Rattle.std.specs.Map.{lookup};
     ghost use Rattle.std.specs.BTreeMap.{is_at};
-    ghost use Rattle.tcap_end.specs.Outs.{HasPlace, kept_outs, with_state, with_out};
+    ghost use Rattle.tcap_end.specs.Outs.{HasPlace, found_at, kept_outs, with_state, with_out};
 
     /// No invocations.
     pub(crate) fn new(alloc: Global) -> Outs
         ensures { kept_outs result ≡ [] }
     {
         Outs {
-            places: BTreeMap::new(alloc),
+            places: Vec::new(alloc),
         }
+    }
+
+    /// Where the place of an ID is; or, as an error, where it would be.
+    fn find(&self, id: i8) -> Result<usize, usize>
+        ensures value { result ≡ found_at id self.now.places.items }
+        ensures range { IsSearchInRange result (vec_len self.now.places) }
+    {
+        self.places.binary_search_by(
+            |place: &(i8, Option<OwnInvocation>)| -> Ordering
+                ensures { result ≡ int_cmp place.now.0 id }
+            { place.0.cmp(&id) },
+        )
     }
 
     /// The invocation of an ID.
     pub(crate) fn get(&self, id: i8) -> Option<&OwnInvocation>
         ensures { option_copied result ≡ lookup (is_at (int_cmp id)) (kept_outs self.now) }
     {
-        self.places.get(&id)?.as_ref()
+        match self.find(id) {
+            Ok(at) => self.places[at].1.as_ref(),
+            Err(_) => None,
+        }
     }
 
     /// Puts an invocation under an ID, in a place that is made where there is none, and answers what stood there.
@@ -60,10 +97,12 @@ impl Outs {
         ensures made { OnOk result (HasPlace id self.new) }
         ensures others { (other : ℤ) → HasPlace other self.old → HasPlace other self.new }
     {
-        match self.places.insert(id, Some(invocation)) {
-            Ok(Some(was)) => Ok(was),
-            Ok(None) => Ok(None),
-            Err(_) => Err(AllocError),
+        match self.find(id) {
+            Ok(at) => Ok(mem::replace(&mut self.places[at].1, Some(invocation))),
+            Err(at) => {
+                insert_at(&mut self.places, at, (id, Some(invocation)))?;
+                Ok(None)
+            }
         }
     }
 
@@ -74,9 +113,9 @@ impl Outs {
         ensures put { kept_outs self.new ≡ with_out id invocation (kept_outs self.old) }
         ensures others { (other : ℤ) → HasPlace other self.old → HasPlace other self.new }
     {
-        match self.places.insert(id, invocation) {
-            Ok(Some(was)) => was,
-            _ => unreachable!(),
+        match self.find(id) {
+            Ok(at) => mem::replace(&mut self.places[at].1, invocation),
+            Err(_) => unreachable!(),
         }
     }
 
