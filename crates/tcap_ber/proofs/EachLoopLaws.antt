@@ -1,8 +1,7 @@
 -- Reading items one after the other, as a loop or a cursor does it.
-use Rattle.std.proofs.Common.{◌≡◌, ◌≢◌, ℕ, ◌<◌, ◌≤◌, Bool, true, false, List, [], ◌∷◌, ◌++◌, length, Result, Ok, Err, refl, sym, ap, subst, ◌∙◌, arith, append_assoc}
+use Rattle.std.proofs.Common.{◌≡◌, ◌≢◌, ℕ, ◌<◌, Bool, true, false, List, [], ◌∷◌, ◌++◌, length, Result, Ok, Err, refl, sym, ap, subst, ◌∙◌, arith, append_assoc}
 use Rattle.std.specs.Prelude.{◌==◌}
 use Rattle.std.proofs.lemmas.Bool.{eqb-true, eqb-false}
-use Rattle.std.proofs.lemmas.List.{length-append}
 use Rattle.tcap_ber.specs.declared.fault.Fault.{Fault}
 use Rattle.tcap_ber.specs.Grammar.{Field, SpellsEach}
 use Rattle.tcap_ber.specs.Reads.{ReadsField}
@@ -80,12 +79,6 @@ pub filled : {V : Type 0} (item : Field V) (vs : List V) (octets : List ℕ) →
 filled item [] octets some spelled e = absurd (omega (arith, ap length spelled, some))
 filled item (v ∷ vs) octets some spelled e = cc
 
--- items that octets spell are no more than these
-no_more : {V : Type 0} (item : Field V) → HasOctets item → (vs : List V) (octets : List ℕ) → SpellsEach item vs octets → length vs ≤ length octets
-no_more item has [] octets spelled = omega arith
-no_more item has (v ∷ vs) octets spelled =
-    omega (arith, ap length spelled.2, length-append spelled.0 spelled.1, has v spelled.0 spelled.1 spelled.3, no_more item has vs spelled.1 spelled.4)
-
 -- what is read is spelled so
 each_sound : {V : Type 0} (item : Field V) (read : Span → Result (V × Span) Fault) → ReadsField item read → HasOctets item
     → (s : Span) (vs : List V) → each_of read s ≡ Ok vs → SpellsEach item vs s.octets
@@ -101,12 +94,3 @@ some_left {V} item read reads has s some whole = of_it (each_of read s) refl
     of_it : (r : Result (List V) Fault) → each_of read s ≡ r → read_or_none (each_of read s) ≢ []
     of_it (Ok vs) e = λ none. filled item vs s.octets some (each_sound item read reads has s vs e) (sym (ap read_or_none e) ∙ none)
     of_it (Err f) e = absurd (not_read (each_of read s) f whole e)
-
--- no more items are left than octets
-pub left_within : {V : Type 0} (item : Field V) (read : Span → Result (V × Span) Fault) → ReadsField item read → HasOctets item
-    → (s : Span) → length (read_or_none (each_of read s)) ≤ length s.octets
-left_within {V} item read reads has s = of_it (each_of read s) refl
-  where
-    of_it : (r : Result (List V) Fault) → each_of read s ≡ r → length (read_or_none (each_of read s)) ≤ length s.octets
-    of_it (Ok vs) e = rw e (no_more item has vs s.octets (each_sound item read reads has s vs e))
-    of_it (Err f) e = rw e (omega arith)

@@ -15,9 +15,9 @@ pub mod CodeMap
 pub mod TableText
 pub mod TableReading
 pub mod Chains
-pub mod Many
+pub mod KindIndex
 pub mod InPlace
-pub mod Kept
+pub mod Room
 pub mod Row
 pub mod Lists
 pub mod Outs

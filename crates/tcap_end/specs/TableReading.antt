@@ -3,12 +3,12 @@ use Rattle.std.specs.Prelude.{Bool, true, false, List, [], ◌∷◌, Result, Ok
 use Rattle.tcap_parts.specs.declared.code.Code.{Code}
 use Rattle.tcap_end.specs.declared.code_map.CodeMap.{CodeMap}
 use Rattle.tcap_end.specs.declared.table.TableFault.{TableFault}
-use Rattle.tcap_end.specs.declared.table_text.Row.{Row as Kept}
+use Rattle.tcap_end.specs.declared.table_text.Row.{Row as TextRow}
 use Rattle.tcap_end.specs.CodeMap.{coded, key_code}
 use Rattle.tcap_end.specs.Table.{Operation}
 use Rattle.tcap_end.specs.TableText.{Row}
 
-abbrev pub row_of : Kept → Row
+abbrev pub row_of : TextRow → Row
 row_of r = record { code = key_code r.key; class = r.class; linked = coded r.linked; expires = r.expires }
 
 abbrev pub operations_of : Result (CodeMap Operation) TableFault → Result (List (Code × Operation)) TableFault

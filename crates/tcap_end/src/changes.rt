@@ -7,10 +7,10 @@ use std::alloc::{AllocFailed, Global};
 use std::marker::Model;
 
 /// How many changes the list keeps memory for between two messages.
-const KEPT: usize = 32;
+const CHANGES_KEPT: usize = 32;
 
 /// Changes of a half, the last one first. What held those of one message holds those of the next, where they are few.
-#[derive(Debug, Drop)]
+#[derive(Drop)]
 pub(crate) struct Changes {
     /// From the first one on.
     made: Vec<Change>,
@@ -71,7 +71,7 @@ impl Changes {
     pub(crate) fn clear(&mut self)
         ensures { self.new ≡ [] }
     {
-        if self.made.capacity() > KEPT {
+        if self.made.capacity() > CHANGES_KEPT {
             self.made = Vec::new(self.alloc());
         } else {
             self.made.clear();

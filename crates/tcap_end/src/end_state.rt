@@ -19,18 +19,29 @@ use crate::half_view::OpenHalf;
 use crate::halves::Halves;
 use crate::table::Table;
 use std::alloc::{AllocError, Global};
+use std::fmt;
 use std::marker::Model;
 use tcap_msg::MessageParts;
 
 /// One end of TCAP dialogues: the halves of its transactions (Q.774 3.3) with their invocations (Q.774 3.2). It says of
 /// each message whether a lawful end may send it there, and takes what the peer sent. What it stands for is an end of
 /// which the laws speak (`laws::is_end`).
-#[derive(Debug, Drop)]
+#[derive(Drop)]
 pub struct EndState {
     alloc: Global,
     halves: Halves,
     /// What a message changed, while it is taken. The memory of a short list serves the next message.
     changes: Changes,
+}
+
+// What a message changed is not printed: between two messages there is nothing of it.
+impl fmt::Debug for EndState {
+    fn fmt<W: fmt::Write>(&self, f: &mut fmt::Formatter<W>) -> fmt::Result {
+        f.debug_struct("EndState")
+            .field("alloc", &self.alloc)
+            .field("halves", &self.halves)
+            .finish()
+    }
 }
 
 impl Model for EndState {
@@ -175,7 +186,7 @@ impl EndState {
         if !self.halves.all_closed() {
             return Err(EndFault::StillOpen);
         }
-        self.halves = Halves::new(self.alloc);
+        *self = EndState::new(self.alloc);
         Ok(())
     }
 
@@ -191,7 +202,7 @@ impl EndState {
         let Some(closed) = self.halves.closing(table) else {
             return Err(EndFault::CannotClose);
         };
-        self.halves = Halves::new(self.alloc);
+        *self = EndState::new(self.alloc);
         Ok(closed)
     }
 }

@@ -1,35 +1,47 @@
-//! Lists that take no memory for their first item.
+//! Lists that take no memory for their first item, of any type. The lists of `smallvec`, which serve for numbers, fill unused
+//! places with a blank value, which a type parameter has not.
 
 ghost use Rattle.std.specs.Prelude.{◌≡◌, ◌≤◌, ◌++◌, ◌∷◌, [], OnErr, OnOk, IfOk, length, option_copied, slice_get, vec_capacity};
 ghost use Rattle.std.specs.Option.{option_to_list};
 ghost use Rattle.std.specs.Mem.{FitsInMemory};
 
 use std::alloc::{AllocError, Global};
+use std::fmt;
 use std::marker::Model;
 
 /// Where the items are.
-#[derive(Debug, Drop)]
-pub(crate) enum Kept<T> {
+#[derive(Drop)]
+pub(crate) enum Room<T> {
     /// One at most, in place.
-    Few(Option<T>),
-    Many(Vec<T>),
+    Inside(Option<T>),
+    Outside(Vec<T>),
 }
 
 /// Items, one after the other.
-#[derive(Debug, Drop)]
+#[derive(Drop)]
 pub(crate) struct InPlace<T> {
-    kept: Kept<T>,
+    room: Room<T>,
 }
 
 impl<T> Model for InPlace<T> {
     ghost use Rattle.tcap_end.specs.InPlace.{Items, items_code};
-    ghost use Rattle.tcap_end.specs.Kept.{kept_items};
+    ghost use Rattle.tcap_end.specs.Room.{items_in};
 
     ghost Value = { Items T };
 
     ghost coded = { items_code T.code };
 
-    ghost view = { λ a. kept_items a.kept };
+    ghost view = { λ a. items_in a.room };
+}
+
+// The items are printed, wherever they are.
+impl<T: fmt::Debug> fmt::Debug for InPlace<T> {
+    fn fmt<W: fmt::Write>(&self, f: &mut fmt::Formatter<W>) -> fmt::Result {
+        match &self.room {
+            Room::Inside(item) => f.debug_list().entries(item).finish(),
+            Room::Outside(items) => items.fmt(f),
+        }
+    }
 }
 
 /// A list of no items, with room for two.
@@ -61,7 +73,7 @@ impl<T> InPlace<T> {
         ensures { result.items ≡ [] }
     {
         InPlace {
-            kept: Kept::Few(None),
+            room: Room::Inside(None),
         }
     }
 
@@ -69,10 +81,10 @@ impl<T> InPlace<T> {
     pub(crate) fn len(&self) -> usize
         ensures { result ≡ length self.now.items }
     {
-        match &self.kept {
-            Kept::Few(None) => 0,
-            Kept::Few(Some(_)) => 1,
-            Kept::Many(items) => items.len(),
+        match &self.room {
+            Room::Inside(None) => 0,
+            Room::Inside(Some(_)) => 1,
+            Room::Outside(items) => items.len(),
         }
     }
 
@@ -81,9 +93,9 @@ impl<T> InPlace<T> {
         requires { FitsInMemory T.row }
         ensures { result.now ≡ self.now.items }
     {
-        match &self.kept {
-            Kept::Few(item) => item.as_slice(),
-            Kept::Many(items) => items.as_slice(),
+        match &self.room {
+            Room::Inside(item) => item.as_slice(),
+            Room::Outside(items) => items.as_slice(),
         }
     }
 
@@ -91,10 +103,10 @@ impl<T> InPlace<T> {
     pub(crate) fn get(&self, number: usize) -> Option<&T>
         ensures { option_copied result ≡ slice_get self.now.items number }
     {
-        match &self.kept {
-            Kept::Few(Some(item)) if number == 0 => Some(item),
-            Kept::Few(_) => None,
-            Kept::Many(items) => items.get(number),
+        match &self.room {
+            Room::Inside(Some(item)) if number == 0 => Some(item),
+            Room::Inside(_) => None,
+            Room::Outside(items) => items.get(number),
         }
     }
 
@@ -105,12 +117,12 @@ impl<T> InPlace<T> {
         ensures more { OnOk result (self.new.items ≡ self.old.items ++ item ∷ []) }
         ensures kept { OnErr result (self.new ≡ self.old) }
     {
-        match &mut self.kept {
-            Kept::Many(items) => items.push(item)?,
-            Kept::Few(None) => self.kept = Kept::Few(Some(item)),
-            Kept::Few(first) => {
+        match &mut self.room {
+            Room::Outside(items) => items.push(item)?,
+            Room::Inside(None) => self.room = Room::Inside(Some(item)),
+            Room::Inside(first) => {
                 let items = with_room(alloc)?;
-                self.kept = Kept::Many(both(first, item, items));
+                self.room = Room::Outside(both(first, item, items));
             }
         }
         Ok(())

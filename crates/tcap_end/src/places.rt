@@ -14,7 +14,7 @@ use crate::class::reports;
 use crate::kind_numbers::SORTS;
 use crate::lists::Lists;
 use crate::received::{Answer, Invocation, Link, Target};
-use crate::row::{FEW, Row};
+use crate::row::{FEW_KINDS, Row};
 use crate::table::Table;
 use std::alloc::{AllocError, Global};
 use tcap_parts::CodeView;
@@ -245,7 +245,7 @@ fn invocations(row: &Row<Invocation>, code: CodeView, duplicate: bool, link: Lin
     ensures { (number : ℕ) → result ≡ Some number → slice_get row.now.kinds.items number
         ≡ Some (record { code = code_of code.entry; problems = invoke_problems duplicate link }) }
 {
-    if row.kinds().len() <= FEW {
+    if row.kinds().len() <= FEW_KINDS {
         some_invocations(row.kinds(), code, duplicate, link)
     } else {
         guessed_invocations(row, code, duplicate, link)

@@ -7,25 +7,26 @@ ghost use Rattle.tcap_end.specs.Row.{AreNumbered, AreOldest, IsOldest, is_wanted
 
 use crate::chains::Chains;
 use crate::in_place::InPlace;
+use crate::kind_index::{IndexParts, KindIndex};
 use crate::kind_numbers::SORTS;
-use crate::many::Many;
 use crate::wanted::{is_wanted, oldest_before, oldest_behind, stood};
 use smallvec::SmallVec;
 use std::alloc::{AllocError, Global};
+use std::fmt;
 use tcap_parts::CodeView;
 
 /// How many kinds are looked through one by one; where there are more they have numbers by their codes, and places of one
 /// kind are in chains.
-pub(crate) const FEW: usize = 8;
+pub(crate) const FEW_KINDS: usize = 8;
 
-/// How many places a row without an item keeps at most.
-const MANY: usize = 16;
+/// From how many places on a row without an item is spent.
+const SPENT_FROM: usize = 16;
 
 /// Items in the order in which they came, each of one kind. An item stands in a place, which is empty once the item was
 /// taken; neither taking it nor putting it back can fail. One item, or two of one kind, take no memory besides the row's.
 /// Where the oldest item of a kind stands is known; where it is taken, the next one is looked for behind it: place by place
 /// where kinds are few, or else over places of that kind alone.
-#[derive(Debug, Drop)]
+#[derive(Drop)]
 pub(crate) struct Row<K> {
     kinds: InPlace<K>,
     /// The kind of the item in each place, by its number.
@@ -35,12 +36,28 @@ pub(crate) struct Row<K> {
     /// The place of the oldest item of all, where there is one.
     first: usize,
     /// Numbers of kinds and the places of each, where kinds are many.
-    many: Many,
-    ghost marked: { AreMarked places.items many },
+    index: KindIndex,
+    ghost marked: { AreMarked places.items index },
     ghost numbered: { AreNumbered places.items (length kinds.items) },
     ghost for_each: { length kinds.items ≤ small_vec_len oldest },
     ghost oldest_of_each: { AreOldest places.items oldest.items },
     ghost oldest_of_all: { IsOldest None places.items first },
+}
+
+// Where there is no index of the kinds, an empty one is printed.
+impl<K: fmt::Debug> fmt::Debug for Row<K> {
+    fn fmt<W: fmt::Write>(&self, f: &mut fmt::Formatter<W>) -> fmt::Result {
+        let none = IndexParts::new(*self.places.allocator());
+        let index = self.index.parts().unwrap_or(&none);
+        f.debug_struct("Row")
+            .field("kinds", &self.kinds)
+            .field("numbers", &index.numbers)
+            .field("places", &self.places)
+            .field("oldest", &self.oldest)
+            .field("first", &self.first)
+            .field("chains", &index.chains)
+            .finish()
+    }
 }
 
 /// A place that all items of a kind stand before.
@@ -100,16 +117,16 @@ fn oldest_in_chain(
 /// The same, where kinds may be many.
 fn oldest_of_kind(
     places: &[Option<usize>],
-    many: &Many,
+    index: &KindIndex,
     kind: usize,
     oldest: usize,
     at: usize,
 ) -> usize
-    requires marked { AreMarked places.now many.now }
+    requires marked { AreMarked places.now index.now }
     ensures { (before : List (Option ℕ)) → places.now ≡ slice_set before at None → IsOldest (Some kind) before oldest
         → IsOldest (Some kind) places.now result }
 {
-    match many.chains() {
+    match index.chains() {
         Some(chains) => oldest_in_chain(places, chains, kind, oldest, at),
         None => oldest_behind(places, Some(kind), oldest, at),
     }
@@ -168,7 +185,7 @@ impl<K> Row<K> {
             places: SmallVec::new(alloc),
             oldest: SmallVec::new(alloc),
             first: 0,
-            many: Many::new(),
+            index: KindIndex::new(),
         }
     }
 
@@ -185,7 +202,7 @@ impl<K> Row<K> {
     pub(crate) fn guess(&self, code: CodeView, sort: usize) -> Option<usize>
         requires { sort < SORTS }
     {
-        self.many.guess(code, sort)
+        self.index.guess(code, sort)
     }
 
     /// The next kind will be of this sort, and have this operation code.
@@ -200,10 +217,10 @@ impl<K> Row<K> {
         ensures places { self.new.places ≡ self.old.places }
     {
         let number = self.kinds.len();
-        if number < FEW {
+        if number < FEW_KINDS {
             return Ok(());
         }
-        self.many.expect(alloc, code, sort, number)
+        self.index.expect(alloc, code, sort, number)
     }
 
     /// The place of the oldest item of a kind.
@@ -255,7 +272,7 @@ impl<K> Row<K> {
     pub(crate) fn is_spent(&self) -> bool
         ensures { IsTrue result → place_of (is_wanted None) self.now.places.items ≡ None }
     {
-        self.places.len() >= MANY && self.oldest().is_none()
+        self.places.len() >= SPENT_FROM && self.oldest().is_none()
     }
 
     /// Lets all places go, and all kinds.
@@ -303,7 +320,7 @@ impl<K> Row<K> {
         ensures put { self.new.places.items ≡ slice_set self.old.places.items at (Some kind) }
         ensures kinds { self.new.kinds ≡ self.old.kinds }
     {
-        self.many.keep(at, kind);
+        self.index.keep(at, kind);
         let oldest = place_of_kind(self.oldest.as_slice(), kind);
         let oldest = oldest_before(self.places.as_slice(), Some(kind), oldest, at);
         put(&mut self.oldest, kind, oldest);
@@ -326,10 +343,10 @@ impl<K> Row<K> {
         ensures places { self.new.places ≡ self.old.places }
         ensures kinds { self.new.kinds ≡ self.old.kinds }
     {
-        if self.kinds.len() <= FEW {
+        if self.kinds.len() <= FEW_KINDS {
             return Ok(());
         }
-        self.many.follow(self.places.as_slice(), kind)
+        self.index.follow(self.places.as_slice(), kind)
     }
 
     /// One item more of a kind, the newest.
@@ -364,7 +381,7 @@ impl<K> Row<K> {
         ensures kinds { self.new.kinds ≡ self.old.kinds }
     {
         self.places.pop();
-        self.many.pop(self.places.len());
+        self.index.pop(self.places.len());
     }
 
     /// Takes the item of a place. The number of its kind.
@@ -379,7 +396,7 @@ impl<K> Row<K> {
         };
         put(&mut self.places, at, None);
         let oldest = place_of_kind(self.oldest.as_slice(), kind);
-        let oldest = oldest_of_kind(self.places.as_slice(), &self.many, kind, oldest, at);
+        let oldest = oldest_of_kind(self.places.as_slice(), &self.index, kind, oldest, at);
         put(&mut self.oldest, kind, oldest);
         self.first = oldest_behind(self.places.as_slice(), None, self.first, at);
         kind

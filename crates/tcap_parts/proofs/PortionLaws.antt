@@ -1,5 +1,5 @@
 -- Reading components one after the other: the laws of `EachLoopLaws` at components, and the portion's reader.
-use Rattle.std.proofs.Common.{◌≡◌, ◌≢◌, ℕ, ◌<◌, ◌≤◌, true, List, [], ◌∷◌, length, Ok, Err, refl, sym, ap, subst, inl, inr, arith}
+use Rattle.std.proofs.Common.{◌≡◌, ◌≢◌, ℕ, ◌<◌, true, List, [], ◌∷◌, length, Ok, Err, refl, sym, ap, subst, inl, inr, arith}
 use Rattle.std.specs.Prelude.{◌==◌}
 use Rattle.std.proofs.lemmas.Bool.{ne_eqb, eq-eqb, eqb-true, eqb-false}
 use Rattle.std.proofs.lemmas.List.{length-append, nil_from_length}
@@ -54,10 +54,6 @@ left_end s e = items.left_end component_at s e
 pub some_left : (s : Span) → 0 < length s.octets → is_read (components_at s) ≡ true → read_or_none (components_at s) ≢ []
 unfolding components_at
 some_left s some whole = items.some_left component component_at reads_component component_has_octets s some whole
-
-pub left_within : (s : Span) → length (read_or_none (components_at s)) ≤ length s.octets
-unfolding components_at
-left_within s = items.left_within component component_at reads_component component_has_octets s
 
 -- ---- the portion's reader
 

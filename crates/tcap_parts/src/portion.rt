@@ -11,11 +11,12 @@ use crate::component::{Component, ComponentView};
 use crate::components::{Components, OctetComponents};
 use crate::reading::view_component;
 use std::alloc::{AllocError, Global};
+use std::fmt;
 use std::marker::Model;
 use tcap_ber::{Fault, Reason, Tlv, Window};
 
 /// A component portion as octets, which are components up to their end.
-#[derive(Clone, Copy, Debug)]
+#[derive(Clone, Copy)]
 pub struct OctetPortion<'a> {
     content: Window<'a>,
     // How many components they are.
@@ -23,6 +24,15 @@ pub struct OctetPortion<'a> {
     pub ghost whole: { is_read (components_at (span content)) ≡ true },
     pub ghost some: { 0 < length content.octets.now },
     pub ghost counted: { count ≡ length (read_or_none (components_at (span content))) },
+}
+
+// Its octets alone are printed: how many components they are follows from them.
+impl fmt::Debug for OctetPortion<'_> {
+    fn fmt<W: fmt::Write>(&self, f: &mut fmt::Formatter<W>) -> fmt::Result {
+        f.debug_struct("OctetPortion")
+            .field("content", &self.content)
+            .finish()
+    }
 }
 
 /// A component portion, lent from the octets that were read or from a value.

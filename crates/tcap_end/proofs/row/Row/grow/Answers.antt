@@ -6,7 +6,7 @@ use Rattle.tcap_end.proofs.row.Row.grow.Goals as goal
 pub invariant_of-self-clause-marked : goal.invariant_of-self-clause-marked
 invariant_of-self-clause-marked g c =
     rw (pushed_items c.push.result c.args.self.now.places c.push.new.self None c.push.ensures.ok c.push.ensures.err)
-    (marked_pushed (is_ok c.push.result) c.args.self.now.places.items c.args.self.now.many c.args.self.now.marked)
+    (marked_pushed (is_ok c.push.result) c.args.self.now.places.items c.args.self.now.index c.args.self.now.marked)
 
 pub invariant_of-self-clause-numbered : goal.invariant_of-self-clause-numbered
 invariant_of-self-clause-numbered g c =

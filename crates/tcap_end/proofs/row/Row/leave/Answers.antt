@@ -6,7 +6,7 @@ use Rattle.tcap_end.proofs.row.Row.leave.Goals as goal
 pub invariant_of-self-clause-marked : goal.invariant_of-self-clause-marked
 invariant_of-self-clause-marked g c =
     rw c.pop.ensures.rest
-    (marked_less c.args.self.now.places.items c.args.self.now.many c.pop-2.new.self _
+    (marked_less c.args.self.now.places.items c.args.self.now.index c.pop-2.new.self _
     c.pop-2.ensures c.args.self.now.marked)
 
 pub invariant_of-self-clause-numbered : goal.invariant_of-self-clause-numbered

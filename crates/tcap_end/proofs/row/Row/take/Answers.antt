@@ -9,14 +9,14 @@ put-requires g c = (search rules, stands_within c.args.self.now.places.items c.a
 
 pub oldest_of_kind-oldest-requires : goal.oldest_of_kind-oldest-requires
 oldest_of_kind-oldest-requires g c = record {
-  marked = rw (c.as_slice-3.ensures, c.put.ensures) (marked_taken c.args.self.now.places.items c.args.self.now.many
+  marked = rw (c.as_slice-3.ensures, c.put.ensures) (marked_taken c.args.self.now.places.items c.args.self.now.index
       c.args.at (stands_within c.args.self.now.places.items c.args.at c.requires) c.args.self.now.marked);
 }
 
 pub invariant_of-self-clause-marked : goal.invariant_of-self-clause-marked
 invariant_of-self-clause-marked g c =
     rw c.put.ensures
-    (marked_taken c.args.self.now.places.items c.args.self.now.many c.args.at
+    (marked_taken c.args.self.now.places.items c.args.self.now.index c.args.at
     (stands_within c.args.self.now.places.items c.args.at c.requires) c.args.self.now.marked)
 
 pub invariant_of-self-clause-numbered : goal.invariant_of-self-clause-numbered

@@ -1,4 +1,4 @@
-//! What is kept of the kinds of a row where they are many.
+//! An index of the kinds of a row, which is made where they are many.
 
 ghost use Rattle.std.specs.Prelude.{◌≡◌, ◌<◌, ℕ, List, [], Option, Some, IfSome, length, slice_get, slice_set};
 ghost use Rattle.tcap_end.specs.Chains.{AreMarked, kinds_in};
@@ -12,27 +12,27 @@ use std::marker::Model;
 use tcap_parts::CodeView;
 
 /// Kinds by their codes, and places by their kinds.
-#[derive(Debug, Drop)]
-pub(crate) struct ManyKinds {
+#[derive(Drop)]
+pub(crate) struct IndexParts {
     /// By operation codes, where kinds have one: it makes no difference to what is kept.
-    numbers: KindNumbers,
+    pub(crate) numbers: KindNumbers,
     /// The places of each kind.
-    chains: Chains,
+    pub(crate) chains: Chains,
 }
 
-/// The same where kinds are many; before, it takes no memory.
-#[derive(Debug, Drop)]
-pub(crate) struct Many {
-    kept: Option<Box<ManyKinds>>,
+/// The same, made where kinds are many; before, it takes no memory.
+#[derive(Drop)]
+pub(crate) struct KindIndex {
+    parts: Option<Box<IndexParts>>,
 }
 
-impl Model for Many {
+impl Model for KindIndex {
     ghost use Rattle.std.specs.Prelude.{ℕ, List};
-    ghost use Rattle.tcap_end.specs.Many.{known_kinds};
+    ghost use Rattle.tcap_end.specs.KindIndex.{indexed_kinds};
 
     ghost Value = { List ℕ };
 
-    ghost view = { λ a. known_kinds a.kept };
+    ghost view = { λ a. indexed_kinds a.parts };
 }
 
 /// The kind of the item in a place, or else the one given.
@@ -64,20 +64,35 @@ fn follow(places: &[Option<usize>], chains: &mut Chains, kind: usize) -> Result<
     follow_one(places, chains, kind)
 }
 
-impl Many {
+impl IndexParts {
+    /// Of no kinds and no places.
+    pub(crate) fn new(alloc: Global) -> IndexParts {
+        IndexParts {
+            numbers: KindNumbers::new(alloc),
+            chains: Chains::new(alloc),
+        }
+    }
+}
+
+impl KindIndex {
     /// Nothing.
-    pub(crate) fn new() -> Many
+    pub(crate) fn new() -> KindIndex
         ensures { result ≡ [] }
     {
-        Many { kept: None }
+        KindIndex { parts: None }
+    }
+
+    /// Its parts, where it was made.
+    pub(crate) fn parts(&self) -> Option<&IndexParts> {
+        self.parts.as_deref()
     }
 
     /// A guess of the number of the kind of this sort that has this operation code.
     pub(crate) fn guess(&self, code: CodeView, sort: usize) -> Option<usize>
         requires { sort < SORTS }
     {
-        match &self.kept {
-            Some(kept) => kept.numbers.get(code, sort),
+        match &self.parts {
+            Some(parts) => parts.numbers.get(code, sort),
             None => None,
         }
     }
@@ -93,15 +108,12 @@ impl Many {
         requires { sort < SORTS }
         ensures { self.new ≡ self.old }
     {
-        match &mut self.kept {
-            Some(kept) => kept.numbers.put(alloc, code, sort, number),
+        match &mut self.parts {
+            Some(parts) => parts.numbers.put(alloc, code, sort, number),
             None => {
-                let mut kept = ManyKinds {
-                    numbers: KindNumbers::new(alloc),
-                    chains: Chains::new(alloc),
-                };
-                kept.numbers.put(alloc, code, sort, number)?;
-                self.kept = Some(Box::new(alloc, kept)?);
+                let mut parts = IndexParts::new(alloc);
+                parts.numbers.put(alloc, code, sort, number)?;
+                self.parts = Some(Box::new(alloc, parts)?);
                 Ok(())
             }
         }
@@ -111,8 +123,8 @@ impl Many {
     pub(crate) fn chains(&self) -> Option<&Chains>
         ensures { IfSome result (λ chains. kinds_in chains.now.marks.items ≡ self.now) }
     {
-        match &self.kept {
-            Some(kept) => Some(&kept.chains),
+        match &self.parts {
+            Some(parts) => Some(&parts.chains),
             None => None,
         }
     }
@@ -122,8 +134,8 @@ impl Many {
         requires marked { AreMarked places.now self.old }
         ensures { AreMarked places.now self.new }
     {
-        match &mut self.kept {
-            Some(kept) => follow(places, &mut kept.chains, kind),
+        match &mut self.parts {
+            Some(parts) => follow(places, &mut parts.chains, kind),
             None => Ok(()),
         }
     }
@@ -132,8 +144,8 @@ impl Many {
     pub(crate) fn pop(&mut self, places: usize)
         ensures { (at kind : ℕ) → slice_get self.new at ≡ Some kind → slice_get self.old at ≡ Some kind }
     {
-        if let Some(kept) = &mut self.kept {
-            kept.chains.pop(places);
+        if let Some(parts) = &mut self.parts {
+            parts.chains.pop(places);
         }
     }
 
@@ -142,8 +154,8 @@ impl Many {
         ensures { (places : List (Option ℕ)) → at < length places → AreMarked places self.old
             → AreMarked (slice_set places at (Some kind)) self.new }
     {
-        if let Some(kept) = &mut self.kept {
-            kept.chains.keep(at, kind);
+        if let Some(parts) = &mut self.parts {
+            parts.chains.keep(at, kind);
         }
     }
 }
