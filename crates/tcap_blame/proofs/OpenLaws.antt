@@ -13,7 +13,7 @@ use Rattle.tcap_msg.specs.Parts.{dtid_in, otid_in}
 use Rattle.tcap_record.specs.declared.entry.End.{End as Side}
 use Rattle.tcap_end.specs.End.{is_id}
 use Rattle.tcap_end.specs.Table.{Table, octets_cmp}
-use Rattle.tcap_check.specs.World.{Item, other}
+use Rattle.tcap_check.specs.World.{Item}
 use Rattle.tcap_check.specs.Run.{then_so}
 use Rattle.tcap_check.specs.Since.{ended_by}
 use Rattle.tcap_refute.specs.Before.{asked, has_a, is_a, sent_by}

@@ -14,7 +14,8 @@ use Rattle.tcap_end.specs.Message.{receive}
 use Rattle.tcap_check.specs.declared.certificate.Fate.{Fate}
 use Rattle.tcap_check.specs.declared.certificate.Fate.TheVariants.{Gap, Lost, By}
 use Rattle.tcap_check.specs.Certificate.{Certificate}
-use Rattle.tcap_check.specs.World.{Item, OnItsWay, World, channel_from, empty, end_at, other, with_channel, with_end}
+use Rattle.tcap_record.specs.Ends.{other}
+use Rattle.tcap_check.specs.World.{Item, OnItsWay, World, channel_from, empty, end_at, with_channel, with_end}
 use Rattle.tcap_check.specs.Run.{Event, Sends, Receives, Replies, Loses, Expires, Closes, Quiet, Tells, Runs, after, joined, played, reply_to}
 use Rattle.tcap_check.specs.Follows.{without_losses}
 use Rattle.tcap_check.specs.Replayed.{Replay, if_lost, lost_before, lost_from_both, lost_from_front, lost_front, stepped, with_step}

@@ -17,7 +17,8 @@ use Rattle.tcap_check.specs.declared.certificate.Fate.{Fate}
 use Rattle.tcap_check.specs.declared.fault.CheckFault.{CheckFault}
 use Rattle.tcap_check.specs.declared.fault.Reason.{Reason}
 use Rattle.tcap_check.specs.declared.fault.Reason.TheVariants.{BadReply, FateCount, FateRange, NotQuiet, OutOfOrder}
-use Rattle.tcap_check.specs.World.{Item, Sent, World, end_at, other}
+use Rattle.tcap_record.specs.Ends.{other}
+use Rattle.tcap_check.specs.World.{Item, Sent, World, end_at}
 use Rattle.tcap_check.specs.Run.{Event, Quiet, after}
 use Rattle.tcap_check.specs.Certificate.{Certificate}
 use Rattle.tcap_check.specs.Entries.{AreItems, item_of}

@@ -19,7 +19,8 @@ use Rattle.tcap_check.specs.declared.certificate.Fate.TheVariants.{Gap, Lost, By
 use Rattle.tcap_check.specs.declared.fault.CheckFault.{CheckFault}
 use Rattle.tcap_check.specs.declared.fault.Reason.{Reason}
 use Rattle.tcap_check.specs.declared.fault.Reason.TheVariants.{BadReply, FateRange, HiddenRefused}
-use Rattle.tcap_check.specs.World.{Item, Sent, World, is_side, other, with_channel, with_end}
+use Rattle.tcap_record.specs.Ends.{other}
+use Rattle.tcap_check.specs.World.{Item, Sent, World, is_side, with_channel, with_end}
 use Rattle.tcap_check.specs.Run.{Event, Receives, Expires, Closes, after, then_so}
 use Rattle.tcap_check.specs.Certificate.{Certificate}
 use Rattle.tcap_check.specs.Follows.{closing_by, closing_event, expiry_by, expiry_event, half_begun, invoke_id, losses_from, named_entry, originating}

@@ -14,7 +14,8 @@ use Rattle.tcap_check.specs.declared.certificate.Fate.TheVariants.{Gap, Lost, By
 use Rattle.tcap_check.specs.declared.fault.CheckFault.{CheckFault}
 use Rattle.tcap_check.specs.declared.fault.Reason.{Reason}
 use Rattle.tcap_check.specs.declared.fault.Reason.TheVariants.{FateCount}
-use Rattle.tcap_check.specs.World.{Item, OnItsWay, World, channel_from, empty, is_side, other}
+use Rattle.tcap_record.specs.Ends.{other}
+use Rattle.tcap_check.specs.World.{Item, OnItsWay, World, channel_from, empty, is_side}
 use Rattle.tcap_check.specs.Run.{Event, Sends, Receives, Replies, Loses, Expires, Closes, Quiet, Tells, Runs, numbers_of, numbers_taken, played}
 use Rattle.tcap_check.specs.Certificate.{Certificate}
 use Rattle.tcap_check.specs.Entries.{item_of}

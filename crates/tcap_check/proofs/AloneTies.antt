@@ -16,7 +16,8 @@ use Rattle.tcap_end.specs.Message.{send}
 use Rattle.tcap_end.proofs.AnsweringLaws.{needs_ok, ok_same, some_ok, then_ok}
 use Rattle.tcap_check.specs.declared.fault.CheckFault.{CheckFault}
 use Rattle.tcap_check.specs.declared.fault.Reason.TheVariants.{BadReply}
-use Rattle.tcap_check.specs.World.{Item, OnItsWay, Sent, World, channel_from, empty, end_at, is_side, other, with_channel, with_end}
+use Rattle.tcap_record.specs.Ends.{other}
+use Rattle.tcap_check.specs.World.{Item, OnItsWay, Sent, World, channel_from, empty, end_at, is_side, with_channel, with_end}
 use Rattle.tcap_check.specs.Run.{Event, Sends, Receives, Replies, Loses, Expires, Closes, Quiet, Tells, Runs, after, joined, played}
 use Rattle.tcap_check.specs.Certificate.{Certificate}
 use Rattle.tcap_check.specs.Follows.{invoke_id, invoking_half, losses_from, sending_by}

@@ -15,7 +15,8 @@ use Rattle.tcap_end.specs.End.{End, all_closed, nothing}
 use Rattle.tcap_end.specs.Hidden.{close, expire}
 use Rattle.tcap_end.specs.Message.{receive}
 use Rattle.tcap_end.specs.Step.{needs, ◌>>◌}
-use Rattle.tcap_check.specs.World.{Item, OnItsWay, World, channel_from, end_at, other, with_channel, with_end}
+use Rattle.tcap_record.specs.Ends.{other}
+use Rattle.tcap_check.specs.World.{Item, OnItsWay, World, channel_from, end_at, with_channel, with_end}
 use Rattle.tcap_check.specs.Run.{Receives, Replies, Expires, Closes, Quiet, after, after_quiet, joined, reply_to, then_so}
 use Rattle.tcap_check.proofs.RunLaws.{closing, delivery, quiet, reply}
 

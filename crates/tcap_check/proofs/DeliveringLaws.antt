@@ -8,7 +8,7 @@ use Rattle.tcap_end.specs.Table.{Table}
 use Rattle.tcap_check.specs.declared.fault.Reason.TheVariants.{BadReply}
 use Rattle.tcap_check.specs.declared.progress.Progress.{Progress}
 use Rattle.tcap_check.specs.declared.progress.Waiting.{Waiting}
-use Rattle.tcap_check.specs.World.{other}
+use Rattle.tcap_record.specs.Ends.{other}
 use Rattle.tcap_check.specs.Replayed.{fault_at}
 use Rattle.tcap_check.specs.Progress.{IsTakenFrom, end_moved, first_delivered, seat_at, with_waiting}
 

@@ -12,7 +12,8 @@ use Rattle.tcap_check.specs.declared.certificate.Closing.{Closing}
 use Rattle.tcap_check.specs.declared.certificate.Expiry.{Expiry}
 use Rattle.tcap_check.specs.declared.certificate.Fate.{Fate}
 use Rattle.tcap_check.specs.declared.certificate.Fate.TheVariants.{Gap, Lost, By}
-use Rattle.tcap_check.specs.World.{Item, Sent, World, channel_from, is_side, other}
+use Rattle.tcap_record.specs.Ends.{other}
+use Rattle.tcap_check.specs.World.{Item, Sent, World, channel_from, is_side}
 use Rattle.tcap_check.specs.Run.{Event, Receives, Replies, Runs, numbers_of, numbers_sent, numbers_taken, takes_from, then_so, where_so}
 use Rattle.tcap_check.specs.Certificate.{Certificate}
 use Rattle.tcap_check.specs.Follows.{FatesFit, Follows, FollowsFrom, closing_by, closing_event, deliveries, expiry_by, expiry_event, gap_events, has_quiet, named_entry, taken_by, without_losses}

@@ -11,7 +11,8 @@ use Rattle.tcap_check.specs.declared.end_checker.EndReport.{EndReport}
 use Rattle.tcap_check.specs.declared.fault.CheckFault.{CheckFault}
 use Rattle.tcap_check.specs.declared.fault.Reason.{Reason}
 use Rattle.tcap_check.specs.declared.hearing.Hearing.{Hearing}
-use Rattle.tcap_check.specs.World.{Item, OnItsWay, channel_from, other}
+use Rattle.tcap_record.specs.Ends.{other}
+use Rattle.tcap_check.specs.World.{Item, OnItsWay, channel_from}
 use Rattle.tcap_check.specs.Run.{Event}
 use Rattle.tcap_check.specs.Certificate.{Certificate}
 use Rattle.tcap_check.specs.Alone.{entries_heard, heard_by, is_lost_from, steps_of}

@@ -14,7 +14,8 @@ use Rattle.tcap_record.specs.declared.entry.Entry.{Entry}
 use Rattle.tcap_end.specs.Step.{◌>>◌}
 use Rattle.tcap_end.specs.Table.{Table}
 use Rattle.tcap_end.proofs.AnsweringLaws.{ok_same, then_ok}
-use Rattle.tcap_check.specs.World.{Item, OnItsWay, Sent, World, channel_from, is_side, other}
+use Rattle.tcap_record.specs.Ends.{other}
+use Rattle.tcap_check.specs.World.{Item, OnItsWay, Sent, World, channel_from, is_side}
 use Rattle.tcap_check.specs.Run.{BothKeepRules, Event, Receives, Runs, numbers_taken, takes_from}
 use Rattle.tcap_check.specs.declared.certificate.Closing.{Closing}
 use Rattle.tcap_check.specs.declared.certificate.Expiry.{Expiry}

@@ -8,7 +8,8 @@ use Rattle.tcap_end.specs.End.{End}
 use Rattle.tcap_end.specs.Message.{receive}
 use Rattle.tcap_end.specs.Table.{Table}
 use Rattle.tcap_end.specs.Step.{needs, ◌>>◌, ◌>>=◌}
-use Rattle.tcap_check.specs.World.{Item, Sent, channel_from, end_at, is_side, other, with_end}
+use Rattle.tcap_record.specs.Ends.{other}
+use Rattle.tcap_check.specs.World.{Item, Sent, channel_from, end_at, is_side, with_end}
 use Rattle.tcap_check.specs.Run.{Loses, Receives}
 use Rattle.tcap_check.specs.declared.certificate.Fate.{Fate}
 use Rattle.tcap_check.specs.declared.certificate.Fate.TheVariants.{Gap, Lost, By}

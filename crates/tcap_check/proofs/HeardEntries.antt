@@ -11,7 +11,8 @@ use Rattle.tcap_check.specs.declared.fault.Reason.{Reason}
 use Rattle.tcap_check.specs.declared.fault.Reason.TheVariants.{BadReply, FateCount, FateRange, OutOfOrder}
 use Rattle.tcap_check.specs.declared.hearing.Hearing.{Hearing}
 use Rattle.tcap_check.specs.declared.outline.Outline.{Outline}
-use Rattle.tcap_check.specs.World.{Item, Sent, channel_from, is_side, other}
+use Rattle.tcap_record.specs.Ends.{other}
+use Rattle.tcap_check.specs.World.{Item, Sent, channel_from, is_side}
 use Rattle.tcap_check.specs.Run.{Tells, joined}
 use Rattle.tcap_check.specs.Certificate.{Certificate}
 use Rattle.tcap_check.specs.Follows.{sending_by, taken_by}

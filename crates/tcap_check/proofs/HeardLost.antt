@@ -26,7 +26,7 @@ use Rattle.tcap_check.specs.declared.outline.Outline.{Outline}
 use Rattle.tcap_check.specs.declared.progress.Progress.{Progress}
 use Rattle.tcap_check.specs.declared.progress.Seat.{Seat}
 use Rattle.tcap_check.specs.declared.progress.Waiting.{Waiting}
-use Rattle.tcap_check.specs.World.{other}
+use Rattle.tcap_record.specs.Ends.{other}
 use Rattle.tcap_check.specs.Run.{may_refuse}
 use Rattle.tcap_check.specs.Follows.{invoke_id, invoking_half}
 use Rattle.tcap_check.specs.Replayed.{fault_at}

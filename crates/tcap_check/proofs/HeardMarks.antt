@@ -16,7 +16,8 @@ use Rattle.tcap_check.specs.declared.fault.Reason.TheVariants.{NotQuiet}
 use Rattle.tcap_check.specs.declared.hearing.Hearing.{Hearing}
 use Rattle.tcap_check.specs.declared.progress.Progress.{Progress}
 use Rattle.tcap_check.specs.declared.progress.Waiting.{Waiting}
-use Rattle.tcap_check.specs.World.{Item, OnItsWay, World, channel_from, end_at, other, with_end}
+use Rattle.tcap_record.specs.Ends.{other}
+use Rattle.tcap_check.specs.World.{Item, OnItsWay, World, channel_from, end_at, with_end}
 use Rattle.tcap_check.specs.Run.{Event, Closes, Quiet, after}
 use Rattle.tcap_check.specs.Certificate.{Certificate}
 use Rattle.tcap_check.specs.Alone.{closed_at_mark}

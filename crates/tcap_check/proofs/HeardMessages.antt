@@ -17,7 +17,8 @@ use Rattle.tcap_check.specs.declared.fault.CheckFault.{CheckFault}
 use Rattle.tcap_check.specs.declared.fault.Reason.TheVariants.{BadReply}
 use Rattle.tcap_check.specs.declared.hearing.Hearing.{Hearing}
 use Rattle.tcap_check.specs.declared.progress.Progress.{Progress}
-use Rattle.tcap_check.specs.World.{OnItsWay, Sent, World, channel_from, end_at, other, with_channel, with_end}
+use Rattle.tcap_record.specs.Ends.{other}
+use Rattle.tcap_check.specs.World.{OnItsWay, Sent, World, channel_from, end_at, with_channel, with_end}
 use Rattle.tcap_check.specs.Run.{Event, Sends, Receives, Replies, Loses, Expires, Closes, Quiet, Tells, after, joined, numbers_of}
 use Rattle.tcap_check.specs.Certificate.{Certificate}
 use Rattle.tcap_check.specs.Follows.{invoking_half, sending_by}

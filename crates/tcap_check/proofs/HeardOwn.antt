@@ -16,7 +16,8 @@ use Rattle.tcap_check.specs.declared.certificate.Fate.TheVariants.{Gap, Lost, By
 use Rattle.tcap_check.specs.declared.fault.CheckFault.{CheckFault}
 use Rattle.tcap_check.specs.declared.fault.Reason.{Reason}
 use Rattle.tcap_check.specs.declared.fault.Reason.TheVariants.{BadReply, FateCount, FateRange, NotQuiet, OutOfOrder}
-use Rattle.tcap_check.specs.World.{Item, OnItsWay, Sent, World, channel_from, end_at, is_side, other, with_channel, with_end}
+use Rattle.tcap_record.specs.Ends.{other}
+use Rattle.tcap_check.specs.World.{Item, OnItsWay, Sent, World, channel_from, end_at, is_side, with_channel, with_end}
 use Rattle.tcap_check.specs.Run.{Loses, Quiet, Receives, Tells, after, joined}
 use Rattle.tcap_check.specs.Certificate.{Certificate}
 use Rattle.tcap_check.specs.Follows.{sending_by}

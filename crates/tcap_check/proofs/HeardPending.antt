@@ -24,7 +24,8 @@ use Rattle.tcap_check.specs.declared.fault.CheckFault.{CheckFault}
 use Rattle.tcap_check.specs.declared.fault.Reason.{Reason}
 use Rattle.tcap_check.specs.declared.fault.Reason.TheVariants.{BadReply, FateCount, FateRange, NotQuiet, OutOfOrder}
 use Rattle.tcap_check.specs.declared.progress.Waiting.{Waiting}
-use Rattle.tcap_check.specs.World.{Item, OnItsWay, Sent, World, channel_from, end_at, is_side, other, with_channel, with_end}
+use Rattle.tcap_record.specs.Ends.{other}
+use Rattle.tcap_check.specs.World.{Item, OnItsWay, Sent, World, channel_from, end_at, is_side, with_channel, with_end}
 use Rattle.tcap_check.specs.Run.{Event, Closes, Sends, Receives, Replies, Loses, Quiet, Tells, after, joined}
 use Rattle.tcap_check.specs.Certificate.{Certificate}
 use Rattle.tcap_check.specs.Follows.{FatesFit, invoking_half, sending_by, taken_by}

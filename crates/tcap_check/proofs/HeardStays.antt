@@ -18,7 +18,8 @@ use Rattle.tcap_check.specs.declared.certificate.Expiry.{Expiry}
 use Rattle.tcap_check.specs.declared.fault.CheckFault.{CheckFault}
 use Rattle.tcap_check.specs.declared.fault.Reason.{Reason}
 use Rattle.tcap_check.specs.declared.fault.Reason.TheVariants.{FateRange, HiddenRefused}
-use Rattle.tcap_check.specs.World.{Item, OnItsWay, Sent, World, channel_from, is_side, other, with_end}
+use Rattle.tcap_record.specs.Ends.{other}
+use Rattle.tcap_check.specs.World.{Item, OnItsWay, Sent, World, channel_from, is_side, with_end}
 use Rattle.tcap_check.specs.Run.{Event, Closes, Expires, after, then_so}
 use Rattle.tcap_check.specs.Certificate.{Certificate}
 use Rattle.tcap_check.specs.Follows.{closing_by, closing_event, expiry_by, expiry_event, half_begun, invoke_id, named_entry, originating}

@@ -16,7 +16,7 @@ use Rattle.tcap_check.specs.declared.progress.Waiting.{Waiting}
 use Rattle.tcap_end.specs.Table.{Table}
 use Rattle.tcap_check.specs.declared.hearing.Hearing.{Hearing}
 use Rattle.tcap_check.specs.declared.outline.Outline.{Outline}
-use Rattle.tcap_check.specs.World.{other}
+use Rattle.tcap_record.specs.Ends.{other}
 use Rattle.tcap_check.specs.Replayed.{fault_at}
 use Rattle.tcap_check.specs.Progress.{IsTakenFrom, YieldsInMemory, moved, seat_at, with_seat_end, with_waiting}
 use Rattle.tcap_check.specs.Hearing.{all_heard, first_heard, heard_or_dropped, is_told, message_heard, received_or_dropped, told_among, with_progress}

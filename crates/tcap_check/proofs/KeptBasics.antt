@@ -9,7 +9,8 @@ use Rattle.tcap_check.specs.declared.certificate.Fate.TheVariants.{Gap, Lost, By
 use Rattle.tcap_check.specs.declared.progress.Progress.{Progress}
 use Rattle.tcap_check.specs.declared.progress.Seat.{Seat}
 use Rattle.tcap_check.specs.declared.progress.Waiting.{Waiting}
-use Rattle.tcap_check.specs.World.{OnItsWay, channel_from, end_at, other, with_channel, with_end}
+use Rattle.tcap_record.specs.Ends.{other}
+use Rattle.tcap_check.specs.World.{OnItsWay, channel_from, end_at, with_channel, with_end}
 use Rattle.tcap_check.specs.Run.{Event, Loses, Receives}
 use Rattle.tcap_check.specs.declared.fault.CheckFault.{CheckFault}
 use Rattle.tcap_check.specs.declared.fault.Reason.TheVariants.{BadReply}

@@ -23,7 +23,8 @@ use Rattle.tcap_check.specs.declared.fault.CheckFault.{CheckFault}
 use Rattle.tcap_check.specs.declared.fault.Reason.TheVariants.{SendRefused}
 use Rattle.tcap_check.specs.declared.progress.Progress.{Progress}
 use Rattle.tcap_check.specs.declared.progress.Waiting.{Waiting}
-use Rattle.tcap_check.specs.World.{OnItsWay, Sent, World, channel_from, end_at, other, with_channel, with_end}
+use Rattle.tcap_record.specs.Ends.{other}
+use Rattle.tcap_check.specs.World.{OnItsWay, Sent, World, channel_from, end_at, with_channel, with_end}
 use Rattle.tcap_check.specs.Run.{Sends, Replies, Expires, joined, may_refuse, provider_abort, reply_to, where_so}
 use Rattle.tcap_check.specs.Certificate.{Certificate}
 use Rattle.tcap_check.specs.Follows.{invoke_id, invoking_half, sending_by, taken_by}

@@ -12,7 +12,8 @@ use Rattle.tcap_end.specs.Table.{Table}
 use Rattle.tcap_end.specs.Half.{Answer, Half, Invocation, listed}
 use Rattle.tcap_end.specs.End.{KeptHalf}
 use Rattle.tcap_end.specs.Sound.{FitsPhase, Has, IsEnd, IsHalf}
-use Rattle.tcap_check.specs.World.{World, end_at, other}
+use Rattle.tcap_record.specs.Ends.{other}
+use Rattle.tcap_check.specs.World.{World, end_at}
 use Rattle.tcap_check.specs.Run.{Event, Runs}
 use Rattle.tcap_check.specs.Follows.{originating}
 use Rattle.tcap_check.specs.Since.{AnswersWereSent, CameFromPeer, InvokesWereSent, IsAnswer, PeerWasSent, RequestWasSent, SentSince, asks}

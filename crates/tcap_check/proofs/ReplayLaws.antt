@@ -21,7 +21,8 @@ use Rattle.tcap_end.specs.declared.half.HalfName.TheVariants as names
 use Rattle.tcap_end.specs.Table.{Table}
 use Rattle.tcap_end.specs.Message.{send}
 use Rattle.tcap_end.proofs.AnsweringLaws.{needs_ok, ok_same, some_ok, then_ok}
-use Rattle.tcap_check.specs.World.{Item, Sent, World, end_at, is_side, other, with_end}
+use Rattle.tcap_record.specs.Ends.{other}
+use Rattle.tcap_check.specs.World.{Item, Sent, World, end_at, is_side, with_end}
 use Rattle.tcap_check.specs.Run.{Event, Sends, Receives, Replies, Loses, Expires, Closes, Quiet, Tells, after, joined, then_so}
 use Rattle.tcap_check.specs.declared.certificate.Closing.{Closing}
 use Rattle.tcap_check.specs.declared.certificate.Expiry.{Expiry}

@@ -11,7 +11,7 @@ use Rattle.tcap_check.specs.declared.certificate.Fate.{Fate}
 use Rattle.tcap_check.specs.declared.fault.Reason.TheVariants.{BadReply}
 use Rattle.tcap_check.specs.declared.progress.Progress.{Progress}
 use Rattle.tcap_check.specs.declared.progress.Waiting.{Waiting}
-use Rattle.tcap_check.specs.World.{other}
+use Rattle.tcap_record.specs.Ends.{other}
 use Rattle.tcap_check.specs.Follows.{invoke_id}
 use Rattle.tcap_check.specs.Replayed.{fault_at}
 use Rattle.tcap_end.specs.declared.fault.EndFault.{EndFault}

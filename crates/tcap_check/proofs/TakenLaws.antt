@@ -11,7 +11,8 @@ use Rattle.tcap_msg.specs.declared.message.Message.{Message}
 use Rattle.tcap_record.specs.declared.entry.End.{End as Side}
 use Rattle.tcap_record.specs.declared.entry.End.TheVariants as sides
 use Rattle.tcap_end.specs.Table.{Table}
-use Rattle.tcap_check.specs.World.{Item, OnItsWay, Sent, World, channel_from, is_side, other}
+use Rattle.tcap_record.specs.Ends.{other}
+use Rattle.tcap_check.specs.World.{Item, OnItsWay, Sent, World, channel_from, is_side}
 use Rattle.tcap_check.specs.Run.{Event, Receives, Replies, Runs, numbers_of, numbers_sent, numbers_taken, takes_from}
 use Rattle.tcap_check.specs.Follows.{is_loss, without_losses}
 use Rattle.tcap_check.proofs.ChannelLaws.{are_whole, in_order}

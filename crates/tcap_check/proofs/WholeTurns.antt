@@ -11,7 +11,8 @@ use Rattle.tcap_end.specs.Table.{Table}
 use Rattle.tcap_end.specs.End.{End, nothing, quiet}
 use Rattle.tcap_end.specs.Hidden.{close, expire}
 use Rattle.tcap_end.specs.Message.{receive, send}
-use Rattle.tcap_check.specs.World.{Item, OnItsWay, Sent, World, is_side, other, with_channel, with_end}
+use Rattle.tcap_record.specs.Ends.{other}
+use Rattle.tcap_check.specs.World.{Item, OnItsWay, Sent, World, is_side, with_channel, with_end}
 use Rattle.tcap_check.specs.Run.{Event, Sends, Receives, Replies, Loses, Expires, Closes, BothKeepRules, KeepsRules, after, joined, played, reply_to, tells}
 use Rattle.tcap_check.proofs.ReplaySteps.{played_on}
 

@@ -14,7 +14,8 @@ use Rattle.tcap_end.specs.End.{End, all_closed, nothing, quiet}
 use Rattle.tcap_end.specs.Hidden.{close, expire}
 use Rattle.tcap_end.specs.Message.{receive, send}
 use Rattle.tcap_end.specs.Step.{needs, ◌>>◌}
-use Rattle.tcap_check.specs.World.{Item, OnItsWay, Sent, World, channel_from, empty, end_at, is_side, other, with_channel, with_end}
+use Rattle.tcap_record.specs.Ends.{other}
+use Rattle.tcap_check.specs.World.{Item, OnItsWay, Sent, World, channel_from, empty, end_at, is_side, with_channel, with_end}
 use Rattle.tcap_check.specs.Run.{Event, Sends, Receives, Replies, Loses, Expires, Closes, Quiet, Tells, IsLawfulFor, KeepsRules, after, after_quiet, is_told_by, joined, played, reply_to, tells, then_so}
 use Rattle.tcap_check.proofs.RunLaws.{IsQuiet, closing, delivery, expiry, loss, quiet as quiet_step, reply, sending, telling}
 use Rattle.tcap_check.proofs.WholeTurns.{Drifts, Goes, Says, Takes, closes, drifts_first, expires, hears, misses, no_drift, replies, sends}

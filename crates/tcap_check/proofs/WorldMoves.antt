@@ -14,7 +14,8 @@ use Rattle.tcap_end.specs.End.{End, KeptHalf, nothing}
 use Rattle.tcap_end.specs.Message.{send}
 use Rattle.tcap_end.specs.Sound.{Has, IsEnd}
 use Rattle.tcap_end.proofs.EndLaws.{no_half}
-use Rattle.tcap_check.specs.World.{OnItsWay, Sent, World, channel_from, empty, end_at, is_side, other, with_channel, with_end}
+use Rattle.tcap_record.specs.Ends.{other}
+use Rattle.tcap_check.specs.World.{OnItsWay, Sent, World, channel_from, empty, end_at, is_side, with_channel, with_end}
 use Rattle.tcap_check.specs.Run.{Event, Sends, Receives, Replies, Loses, Expires, Closes, Quiet, Tells, Runs, after, is_told_by, joined, reply_to}
 use Rattle.tcap_check.specs.Since.{HasUsed, SentSince, WasSent, ended_by}
 use Rattle.tcap_check.proofs.Moves.{Moves}

@@ -14,7 +14,8 @@ use Rattle.tcap_check.specs.declared.certificate.Fate.TheVariants.{Gap}
 use Rattle.tcap_check.specs.declared.fault.CheckFault.{CheckFault}
 use Rattle.tcap_check.specs.declared.fault.Reason.{Reason}
 use Rattle.tcap_check.specs.declared.fault.Reason.TheVariants.{BadReply, FateCount, FateRange, NotQuiet, OutOfOrder}
-use Rattle.tcap_check.specs.World.{Item, Sent, channel_from, end_at, is_side, other}
+use Rattle.tcap_record.specs.Ends.{other}
+use Rattle.tcap_check.specs.World.{Item, Sent, channel_from, end_at, is_side}
 use Rattle.tcap_check.specs.Run.{Event, Receives, Loses, Closes, Quiet, Tells, joined, numbers_of}
 use Rattle.tcap_check.specs.Certificate.{Certificate}
 use Rattle.tcap_check.specs.Entries.{item_of}

@@ -12,7 +12,8 @@ use Rattle.tcap_check.specs.declared.hearing.Hearing.{Hearing}
 use Rattle.tcap_check.specs.declared.outline.Outline.{Outline}
 use Rattle.tcap_check.specs.declared.progress.Progress.{Progress}
 use Rattle.tcap_check.specs.Run.{Event}
-use Rattle.tcap_check.specs.World.{Item, Sent, channel_from, is_side, other}
+use Rattle.tcap_record.specs.Ends.{other}
+use Rattle.tcap_check.specs.World.{Item, Sent, channel_from, is_side}
 use Rattle.tcap_check.specs.Alone.{entry_heard, gap_heard, is_lost_from, steps_of, unheard_of}
 use Rattle.tcap_check.specs.Certificate.{Certificate}
 use Rattle.tcap_check.specs.Checking.{count_lost, map_ok, progress_of}

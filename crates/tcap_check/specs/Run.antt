@@ -13,7 +13,8 @@ use Rattle.tcap_end.specs.End.{End, quiet}
 use Rattle.tcap_end.specs.Message.{receive, send}
 use Rattle.tcap_end.specs.Reply.{refuse_begin, refuse_continue}
 use Rattle.tcap_end.specs.Hidden.{close, expire}
-use Rattle.tcap_check.specs.World.{Item, OnItsWay, Sent, World, channel_from, empty, end_at, is_side, other, with_channel, with_end}
+use Rattle.tcap_record.specs.Ends.{other}
+use Rattle.tcap_check.specs.World.{Item, OnItsWay, Sent, World, channel_from, empty, end_at, is_side, with_channel, with_end}
 
 -- where the test passes
 abbrev pub where_so : {A : Type 0} → Bool → Option A → Option A

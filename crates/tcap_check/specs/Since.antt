@@ -13,7 +13,8 @@ use Rattle.tcap_end.specs.Half.{Answer, listed}
 use Rattle.tcap_end.specs.End.{KeptHalf}
 use Rattle.tcap_end.specs.Dialogue.{is_request}
 use Rattle.tcap_end.specs.Sound.{Has}
-use Rattle.tcap_check.specs.World.{Item, OnItsWay, Sent, World, end_at, other}
+use Rattle.tcap_record.specs.Ends.{other}
+use Rattle.tcap_check.specs.World.{Item, OnItsWay, Sent, World, end_at}
 use Rattle.tcap_check.specs.Follows.{has_quiet, originating}
 
 -- An end sent the message, and no quiet mark stands behind it.

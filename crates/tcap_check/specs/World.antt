@@ -28,10 +28,6 @@ pub record World : Type 0 where
 abbrev pub empty : World
 empty = record { a = nothing; b = nothing; from_a = []; from_b = []; sent = [] }
 
-abbrev pub other : Side → Side
-other sides.A = sides.B
-other sides.B = sides.A
-
 abbrev pub is_side : Side → Side → Bool
 is_side sides.A sides.A = true
 is_side sides.B sides.B = true

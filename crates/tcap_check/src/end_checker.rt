@@ -5,7 +5,8 @@ ghost use Rattle.std.specs.Prelude.{◌≡◌, ◌≢◌, ◌++◌, ◌∷◌, �
 ghost use Rattle.tcap_check.specs.declared.fault.CheckFault.{CheckFault as Refusal};
 ghost use Rattle.tcap_check.specs.declared.fault.Reason.{Reason as Why};
 ghost use Rattle.tcap_check.specs.declared.fault.Reason.TheVariants as reasons;
-ghost use Rattle.tcap_check.specs.World.{Item, Sent, other};
+ghost use Rattle.tcap_record.specs.Ends.{other};
+ghost use Rattle.tcap_check.specs.World.{Item, Sent};
 ghost use Rattle.tcap_check.specs.Alone.{heard_by};
 ghost use Rattle.tcap_check.specs.Checking.{answer_of, map_ok, reading};
 ghost use Rattle.tcap_check.specs.EndChecking.{EndChecking, EndKept, EndTook, end_kept_ended, end_kept_next, end_reported, gap_before, tied_now};
@@ -22,7 +23,6 @@ use crate::hearing::{Hearing, told_among};
 use crate::outline::Outline;
 use crate::plan::{Plan, check_ranges};
 use crate::progress::OUT_OF_MEMORY;
-use crate::sending::other;
 use std::alloc::Global;
 use std::marker::Model;
 use tcap_ber::Fault;
@@ -90,7 +90,7 @@ impl<'a> EndReplaying<'a> {
         ensures memory { (f : Refusal) → result ≡ Err f → f ≡ fault_at reasons.Memory 0 }
     {
         let takes = self.plan.taken.get(self.entries.len());
-        match told_among(self.alloc, &self.entries, other(self.side), takes) {
+        match told_among(self.alloc, &self.entries, self.side.other(), takes) {
             Ok(tied) => Ok(tied),
             Err(_) => Err(OUT_OF_MEMORY),
         }
@@ -182,7 +182,7 @@ impl<'a> EndReplaying<'a> {
         ensures certificate { self.new.certificate ≡ self.old.certificate }
     {
         let fate = self.fate()?;
-        let teller = other(self.side);
+        let teller = self.side.other();
         if self.hearing.progress.seat(teller).overtakes(fate) {
             return Err(self.refusal(Reason::OutOfOrder));
         }
@@ -463,7 +463,7 @@ impl<'a> EndChecker<'a> {
         replaying
             .hearing
             .progress
-            .seat(other(replaying.side))
+            .seat(replaying.side.other())
             .waiting
             .len()
     }

@@ -6,7 +6,7 @@ ghost use Rattle.tcap_check.specs.Hearing.{own_closings, own_expiries, own_taken
 ghost use Rattle.tcap_check.specs.EndChecking.{end_report_of};
 ghost use Rattle.tcap_check.specs.Plan.{IsPlan};
 ghost use Rattle.tcap_check.specs.Progress.{Yields, YieldsInMemory};
-ghost use Rattle.tcap_check.specs.World.{other};
+ghost use Rattle.tcap_record.specs.Ends.{other};
 
 use crate::certificate::{Certificate, Closing, Expiry, Fate};
 use crate::end_checker::EndReport;
@@ -15,7 +15,6 @@ use crate::held::Held;
 use crate::outline::Outline;
 use crate::plan::Plan;
 use crate::progress::{OUT_OF_MEMORY, Progress, receive};
-use crate::sending::other;
 use std::alloc::{AllocError, Global};
 use tcap_end::{EndFault, Table};
 use tcap_msg::{Message, MessageParts};
@@ -150,7 +149,7 @@ impl<'r> Hearing<'r> {
             reason: Reason::BadReply,
             entry: u64::from(number),
         };
-        let Some(first) = self.progress.take_first(other(side)) else {
+        let Some(first) = self.progress.take_first(side.other()) else {
             return Err(refused);
         };
         if first.number != u64::from(number) {
@@ -173,7 +172,7 @@ impl<'r> Hearing<'r> {
             self.new }
     {
         for number in numbers {
-            if is_told(entries, other(side), *number) {
+            if is_told(entries, side.other(), *number) {
                 self.hear(table, side, *number)?;
             }
         }
@@ -269,7 +268,7 @@ impl<'r> Hearing<'r> {
             });
         }
         self.progress
-            .join(alloc, other(side), fate, number, message, lent)
+            .join(alloc, side.other(), fate, number, message, lent)
             .map_err(|_| OUT_OF_MEMORY)?;
         if matches!(fate, Fate::Lost) {
             self.unheard += 1;

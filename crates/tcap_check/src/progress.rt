@@ -5,7 +5,7 @@ ghost use Rattle.tcap_msg.specs.Parts.{otid_in};
 ghost use Rattle.tcap_end.specs.Step.{AnswersInMemory};
 ghost use Rattle.tcap_end.specs.Message.{receive};
 ghost use Rattle.tcap_check.specs.declared.fault.Reason.TheVariants.{BadReply};
-ghost use Rattle.tcap_check.specs.World.{other};
+ghost use Rattle.tcap_record.specs.Ends.{other};
 ghost use Rattle.tcap_check.specs.Replayed.{fault_at};
 ghost use Rattle.tcap_check.specs.Plan.{IsPlan};
 ghost use Rattle.tcap_check.specs.Progress.{IsTakenFrom, Yields, YieldsInMemory, closing_kept, closings_kept, deliveries_kept};

@@ -5,7 +5,7 @@ ghost use Rattle.tcap_parts.specs.Meaning.{component_of};
 ghost use Rattle.tcap_msg.specs.Parts.{components_in};
 ghost use Rattle.tcap_end.specs.Step.{AnswersInMemory};
 ghost use Rattle.tcap_end.specs.Message.{send};
-ghost use Rattle.tcap_check.specs.World.{other};
+ghost use Rattle.tcap_record.specs.Ends.{other};
 ghost use Rattle.tcap_check.specs.Run.{may_refuse};
 ghost use Rattle.tcap_check.specs.Follows.{invoke_id, invoking_half};
 ghost use Rattle.tcap_check.specs.Progress.{YieldsInMemory, Yields, end_tried, first_answered};
@@ -261,7 +261,7 @@ impl<'r> Progress<'r> {
         ensures { result ≡ first_may_be_answered side (A.meaning abort.now) taken
             (seat_at (other side) self.now).waiting self.now }
     {
-        match self.seat(other(side)).waiting.front() {
+        match self.seat(side.other()).waiting.front() {
             Some(first) => {
                 first.number == u64::from(taken) && may_refuse(self.seat(side), first, abort)
             }
@@ -293,7 +293,7 @@ impl<'r> Progress<'r> {
                 entry: number,
             });
         }
-        self.take_first(other(side));
+        self.take_first(side.other());
         self.join(alloc, side, fate, number, abort, lent)
             .map_err(|_| OUT_OF_MEMORY)
     }
@@ -345,12 +345,3 @@ impl<'r> Progress<'r> {
     }
 }
 
-/// The other end.
-pub(crate) fn other(side: End) -> End
-    ensures { result ≡ other side }
-{
-    match side {
-        End::A => End::B,
-        End::B => End::A,
-    }
-}

@@ -4,7 +4,6 @@ ghost use Rattle.std.specs.Prelude.{◌≡◌, ◌≤◌, List, length, map, Non
 ghost use Rattle.tcap_check.specs.Entries.{item_of};
 ghost use Rattle.tcap_check.specs.Run.{Event};
 ghost use Rattle.tcap_check.specs.Replayed.{replayed};
-ghost use Rattle.tcap_check.specs.World.{other};
 ghost use Rattle.tcap_refute.specs.Blame.{blamed};
 ghost use Rattle.tcap_search.specs.Proposed.{proposed_for};
 ghost use Rattle.tcap_judge.specs.Blamed.{IsFound, finding, items_before};
@@ -49,16 +48,6 @@ fn count_lost(end: End, fates: &[Fate], entries: &[Entry]) -> u64
     count
 }
 
-/// The other end.
-fn other(end: End) -> End
-    ensures { result ≡ other end }
-{
-    match end {
-        End::A => End::B,
-        End::B => End::A,
-    }
-}
-
 /// What is said of an end, where that certificate gives a run of both ends and is the one that is proposed for the end alone,
 /// too: nothing is blamed on it, it may have sent its part, and it did not hear what the certificate loses.
 pub(crate) fn find_alike(
@@ -75,7 +64,7 @@ pub(crate) fn find_alike(
 {
     laws::blamed_is_never_given();
     let entries = &read.entries;
-    let unheard = count_lost(other(end), certificate.fates(), entries);
+    let unheard = count_lost(end.other(), certificate.fates(), entries);
     Finding::Lawful(entries.len(), unheard)
 }
 

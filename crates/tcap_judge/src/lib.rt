@@ -30,5 +30,5 @@ pub use outcome::{OUT_OF_MEMORY, Outcome, inner_number, push_outcome, write_outc
 pub use packing::run_pack;
 pub use showing::run_show;
 pub use status::{Status, WriteFailed};
-pub use verdicts::{Said, judge_record, propose, replay};
+pub use verdicts::{Said, judge_record, named, propose, replay};
 pub use words::{WordsFault, request};

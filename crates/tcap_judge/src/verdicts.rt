@@ -40,7 +40,8 @@ impl Said {
 }
 
 /// The entry that is named: the first that no end sends which keeps the rules, or the first that is blamed on that end.
-fn named(
+/// `AllocError` where memory ran out.
+pub fn named(
     alloc: Global,
     read: &Record,
     table: &Table,

@@ -1,3 +1,4 @@
+pub mod Ends
 pub mod Framed
 pub mod Lines
 pub mod FeedFault

@@ -16,6 +16,20 @@ pub enum End {
     B,
 }
 
+impl End {
+    ghost use Rattle.tcap_record.specs.Ends.{other};
+
+    /// The other end.
+    pub fn other(self) -> End
+        ensures { result ≡ other self }
+    {
+        match self {
+            End::A => End::B,
+            End::B => End::A,
+        }
+    }
+}
+
 /// What an entry is.
 #[derive(Debug, Drop)]
 pub enum Body {

@@ -15,7 +15,8 @@ use Rattle.tcap_end.specs.Message.{receive, send}
 use Rattle.tcap_end.specs.Reply.{aborts, is_open}
 use Rattle.tcap_end.specs.Sound.{IsEnd}
 use Rattle.tcap_end.proofs.StepLaws.{none_is, receives, sends}
-use Rattle.tcap_check.specs.World.{Item, Sent, other}
+use Rattle.tcap_record.specs.Ends.{other}
+use Rattle.tcap_check.specs.World.{Item, Sent}
 use Rattle.tcap_check.specs.Run.{provider_abort, reply_to}
 use Rattle.tcap_check.proofs.ExpiryLaws.{contains_first}
 use Rattle.tcap_refute.specs.Before.{sent_by}

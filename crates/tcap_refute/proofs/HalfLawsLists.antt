@@ -12,7 +12,8 @@ use Rattle.tcap_msg.specs.Parts.{dtid_in, otid_in}
 use Rattle.tcap_record.specs.declared.entry.End.{End as Side}
 use Rattle.tcap_record.specs.declared.entry.End.TheVariants as sides
 use Rattle.tcap_end.specs.End.{is_id}
-use Rattle.tcap_check.specs.World.{Item, Sent, is_side, other}
+use Rattle.tcap_record.specs.Ends.{other}
+use Rattle.tcap_check.specs.World.{Item, Sent, is_side}
 use Rattle.tcap_refute.specs.Before.{asked, is_a, sent_by}
 use Rattle.tcap_refute.specs.Kind.{is_begin_with_request}
 use Rattle.tcap_refute.specs.Speaker.{accepts_to, back, back_behind, begin_from, is_back, told}

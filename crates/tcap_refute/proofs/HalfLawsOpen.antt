@@ -16,7 +16,8 @@ use Rattle.tcap_end.specs.Half.{Half}
 use Rattle.tcap_end.specs.End.{End, KeptHalf, is_id}
 use Rattle.tcap_end.specs.Hidden.{may_close}
 use Rattle.tcap_end.specs.Sound.{Has}
-use Rattle.tcap_check.specs.World.{Item, other}
+use Rattle.tcap_record.specs.Ends.{other}
+use Rattle.tcap_check.specs.World.{Item}
 use Rattle.tcap_check.specs.Since.{ended_by}
 use Rattle.tcap_check.proofs.TurnLaws.{id_is}
 use Rattle.tcap_refute.specs.Before.{is_a, sent_by}

@@ -11,7 +11,8 @@ use Rattle.tcap_end.specs.Table.{Table}
 use Rattle.tcap_end.specs.End.{End, nothing}
 use Rattle.tcap_end.specs.Message.{receive, send}
 use Rattle.tcap_end.specs.Sound.{IsEnd}
-use Rattle.tcap_check.specs.World.{Item, OnItsWay, Sent, World, channel_from, end_at, other, with_channel, with_end}
+use Rattle.tcap_record.specs.Ends.{other}
+use Rattle.tcap_check.specs.World.{Item, OnItsWay, Sent, World, channel_from, end_at, with_channel, with_end}
 use Rattle.tcap_check.specs.Run.{Event, KeepsRules, Runs, joined, reply_to}
 use Rattle.tcap_check.specs.Since.{WasSent}
 use Rattle.tcap_check.proofs.ChannelLaws.{were_sent}

@@ -19,7 +19,8 @@ use Rattle.tcap_end.specs.Message.{receive, send}
 use Rattle.tcap_end.specs.Sound.{Has, IsEnd}
 use Rattle.tcap_end.proofs.EndLaws.{no_half}
 use Rattle.tcap_end.proofs.StepLaws.{sends}
-use Rattle.tcap_check.specs.World.{Item, OnItsWay, Sent, World, channel_from, empty, end_at, is_side, other, with_channel, with_end}
+use Rattle.tcap_record.specs.Ends.{other}
+use Rattle.tcap_check.specs.World.{Item, OnItsWay, Sent, World, channel_from, empty, end_at, is_side, with_channel, with_end}
 use Rattle.tcap_check.specs.Run.{Event, Sends, Receives, Replies, Loses, Expires, Closes, Quiet, Tells, KeepsRules, Runs, after, is_told_by, joined, reply_to}
 use Rattle.tcap_check.proofs.RunLaws.{IsQuiet, closing, delivery, expiry, loss, quiet, reply, runs_keep, sending, sound, telling}
 use Rattle.tcap_refute.specs.Before.{sent_by, since_quiet}

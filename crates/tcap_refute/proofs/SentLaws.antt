@@ -6,7 +6,8 @@ use Rattle.tcap_record.specs.declared.entry.End.{End as Side}
 use Rattle.tcap_end.specs.Table.{Table}
 use Rattle.tcap_end.specs.End.{End}
 use Rattle.tcap_end.specs.Message.{send}
-use Rattle.tcap_check.specs.World.{World, end_at, other}
+use Rattle.tcap_record.specs.Ends.{other}
+use Rattle.tcap_check.specs.World.{World, end_at}
 use Rattle.tcap_check.specs.Run.{Event, KeepsRules, Runs}
 use Rattle.tcap_check.specs.Since.{SentSince}
 use Rattle.tcap_check.proofs.PeerLaws.{knows}

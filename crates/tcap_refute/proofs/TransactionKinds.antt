@@ -20,7 +20,8 @@ use Rattle.tcap_end.specs.Sound.{Has, IsEnd, IsSame}
 use Rattle.tcap_end.proofs.AnsweringLaws.{needs_ok}
 use Rattle.tcap_end.proofs.FoundLaws.{none_own}
 use Rattle.tcap_end.proofs.StepLaws.{none_is, sends}
-use Rattle.tcap_check.specs.World.{World, end_at, other}
+use Rattle.tcap_record.specs.Ends.{other}
+use Rattle.tcap_check.specs.World.{World, end_at}
 use Rattle.tcap_check.specs.Run.{Event, Runs, provider_abort, reply_to}
 use Rattle.tcap_check.specs.Since.{HasUsed, SentSince, WasSent, ended_by}
 use Rattle.tcap_check.proofs.ChannelLaws.{were_sent}

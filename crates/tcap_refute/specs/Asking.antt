@@ -13,7 +13,7 @@ use Rattle.tcap_msg.specs.Parts.{cause_in, components_in, dialogue_in, dtid_in, 
 use Rattle.tcap_record.specs.declared.entry.End.{End as Side}
 use Rattle.tcap_end.specs.Dialogue.{is_request, is_uni}
 use Rattle.tcap_end.specs.Table.{Table}
-use Rattle.tcap_check.specs.World.{other}
+use Rattle.tcap_record.specs.Ends.{other}
 use Rattle.tcap_refute.specs.declared.components.Test.{Test}
 use Rattle.tcap_refute.specs.declared.components.Test.TheVariants as tests
 use Rattle.tcap_refute.specs.declared.kind.Kind.{Kind}

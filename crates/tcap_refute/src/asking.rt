@@ -11,7 +11,7 @@ use crate::components::{one_answers_nothing, one_is_wrong};
 use crate::dialogues::{is_misplaced_aborting, is_misplaced_going_on, is_request, is_uni};
 use crate::from_id::FromId;
 use crate::kind::Kind;
-use crate::notes::{EndNotes, Notes, other};
+use crate::notes::{EndNotes, Notes};
 use tcap_ber::SmallView;
 use tcap_end::Table;
 use tcap_msg::{Kind as Form, MessageParts, TransactionIdView};
@@ -176,7 +176,7 @@ impl Notes {
     ) -> Option<Kind>
         ensures { result ≡ kind_by table.now (told_by_notes self.now) side (M.meaning message.now) }
     {
-        let there = self.at(other(side)).from_there(message.dtid());
+        let there = self.at(side.other()).from_there(message.dtid());
         match self.at(side).kind_of_ids(there, message) {
             Some(kind) => Some(kind),
             None => kind_of_parts(table, there, message),

@@ -8,7 +8,8 @@ ghost use Rattle.tcap_msg.specs.Meaning.{id_of};
 ghost use Rattle.tcap_record.specs.declared.entry.End.{End as Side};
 ghost use Rattle.tcap_end.specs.End.{is_id};
 ghost use Rattle.tcap_end.specs.Table.{octets_cmp};
-ghost use Rattle.tcap_check.specs.World.{is_side, other};
+ghost use Rattle.tcap_record.specs.Ends.{other};
+ghost use Rattle.tcap_check.specs.World.{is_side};
 ghost use Rattle.tcap_check.specs.Since.{ended_by};
 ghost use Rattle.tcap_refute.specs.Facts.{EndFact, Ended, From, FromFact, shows_end, shows_from};
 ghost use Rattle.tcap_refute.specs.Kept.{holds, notes_at, tells_end, tells_from, told_by_notes};
@@ -43,16 +44,6 @@ fn ended_by<M: MessageParts>(message: &M) -> Option<TransactionIdView<'_>>
     match (message.kind(), message.cause()) {
         (Form::End, _) | (Form::Abort, None) => message.dtid(),
         _ => None,
-    }
-}
-
-/// The other end.
-pub(crate) fn other(side: End) -> End
-    ensures { result ≡ other side }
-{
-    match side {
-        End::A => End::B,
-        End::B => End::A,
     }
 }
 

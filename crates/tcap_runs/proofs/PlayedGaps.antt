@@ -11,7 +11,8 @@ use Rattle.tcap_end.specs.declared.fault.EndFault.TheVariants as faults
 use Rattle.tcap_end.specs.Table.{Table}
 use Rattle.tcap_end.specs.Step.{◌>>=◌}
 use Rattle.tcap_end.proofs.AnsweringLaws.{some_ok, then_ok}
-use Rattle.tcap_check.specs.World.{Item, Sent, is_side, other}
+use Rattle.tcap_record.specs.Ends.{other}
+use Rattle.tcap_check.specs.World.{Item, Sent, is_side}
 use Rattle.tcap_check.specs.Run.{Event, Closes, Expires, Receives, then_so, where_so}
 use Rattle.tcap_check.specs.declared.certificate.Closing.{Closing}
 use Rattle.tcap_check.specs.declared.certificate.Expiry.{Expiry}

@@ -6,7 +6,8 @@ use Rattle.tcap_record.specs.declared.entry.End.{End as Side}
 use Rattle.tcap_end.specs.declared.half.HalfName.{HalfName}
 use Rattle.tcap_end.specs.declared.half.HalfName.TheVariants as names
 use Rattle.tcap_end.specs.Table.{Table}
-use Rattle.tcap_check.specs.World.{Item, Sent, is_side, other}
+use Rattle.tcap_record.specs.Ends.{other}
+use Rattle.tcap_check.specs.World.{Item, Sent, is_side}
 use Rattle.tcap_check.specs.Run.{Closes, Expires, Receives, then_so}
 use Rattle.tcap_check.specs.declared.certificate.Closing.{Closing}
 use Rattle.tcap_check.specs.declared.certificate.Expiry.{Expiry}

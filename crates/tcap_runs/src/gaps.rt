@@ -6,7 +6,7 @@ ghost use Rattle.tcap_runs.specs.Gaps.{closing_played, closings_judged, delivery
 ghost use Rattle.tcap_runs.specs.Gaps.{gap_played, half_named, invocation_named, is_judged, plays, sender_of};
 
 use crate::items::{Items, Kept};
-use crate::playing::{Playing, Stopped, other};
+use crate::playing::{Playing, Stopped};
 use tcap_check::{Certificate, Closing, Expiry};
 use tcap_end::{HalfName, Table};
 use tcap_msg::{Kind, MessageParts};
@@ -104,7 +104,7 @@ impl Playing<'_> {
             (replay_of self.new) }
     {
         match judged {
-            None => self.deliver(table, certificate, other(side), number),
+            None => self.deliver(table, certificate, side.other(), number),
             Some(judged) if judged == side => Ok(()),
             Some(judged) => self.deliver_or_discard(table, certificate, judged, number),
         }

@@ -11,7 +11,7 @@ ghost use Rattle.tcap_runs.specs.Running.{message_played, next_gap, sent_by, tie
 use crate::gaps::sender;
 use crate::items::Items;
 use crate::lent::Lent;
-use crate::playing::{Playing, Stopped, other};
+use crate::playing::{Playing, Stopped};
 use std::alloc::{AllocError, Global};
 use tcap_check::{Certificate, Plan};
 use tcap_end::Table;
@@ -35,7 +35,7 @@ fn is_asked(judged: Option<End>, sent: &Items, number: usize) -> bool
 {
     match judged {
         None => true,
-        Some(judged) => sender(sent, number) == Some(other(judged)),
+        Some(judged) => sender(sent, number) == Some(judged.other()),
     }
 }
 
@@ -165,7 +165,7 @@ impl<'r> Playing<'r> {
     {
         match guide.judged {
             None => self.lose_both(guide.certificate),
-            Some(judged) => self.lose_front(guide.certificate, other(judged)),
+            Some(judged) => self.lose_front(guide.certificate, judged.other()),
         }
     }
 

@@ -2,7 +2,7 @@
 
 ghost use Rattle.std.specs.Prelude.{◌≡◌, [], ◌∷◌, IfOk, OnOk, Some, is_ok};
 ghost use Rattle.tcap_check.specs.Run.{Closes, Expires, Receives};
-ghost use Rattle.tcap_check.specs.World.{other};
+ghost use Rattle.tcap_record.specs.Ends.{other};
 ghost use Rattle.tcap_check.specs.Alone.{all_lost_from};
 ghost use Rattle.tcap_check.specs.Replayed.{losing, lost_from_both, lost_from_front, or_same, stepped};
 ghost use Rattle.tcap_end.specs.Hidden.{expire, open_halves};
@@ -11,7 +11,7 @@ ghost use Rattle.tcap_runs.specs.Playing.{Hears, IsReceived, Takes, close_played
 
 use crate::channel::Channel;
 use crate::items::Kept;
-use crate::playing::{Playing, Stopped, copy_name, other};
+use crate::playing::{Playing, Stopped, copy_name};
 use crate::step::Step;
 use std::alloc::Global;
 use tcap_check::Certificate;
@@ -187,7 +187,7 @@ impl Playing<'_> {
             End::B => hear(&mut self.b, table, &self.from_a, number)?,
         };
         if refusal.is_none() {
-            self.drop_first(other(side));
+            self.drop_first(side.other());
             self.steps.push(Step::Receives(side, number as u64))?;
         }
         Ok(refusal)
@@ -204,7 +204,7 @@ impl Playing<'_> {
         ensures { Takes (stepped table.now (Receives side number)
             (lost_from_front certificate.now (other side) (replay_of self.old))) result (replay_of self.new) }
     {
-        self.lose_front(certificate, other(side))?;
+        self.lose_front(certificate, side.other())?;
         match self.receive(table, side, number)? {
             None => Ok(()),
             Some(_) => Err(Stopped::NoStep),
@@ -222,10 +222,10 @@ impl Playing<'_> {
         ensures { Takes (received_or_lost table.now side number
             (lost_from_front certificate.now (other side) (replay_of self.old))) result (replay_of self.new) }
     {
-        self.lose_front(certificate, other(side))?;
+        self.lose_front(certificate, side.other())?;
         match self.receive(table, side, number)? {
             None => Ok(()),
-            Some(reason) => self.discard(other(side), number, reason),
+            Some(reason) => self.discard(side.other(), number, reason),
         }
     }
 

@@ -1,7 +1,7 @@
 //! A run under way: both ends, what is on its way, what was sent, and the steps so far.
 
 ghost use Rattle.std.specs.Prelude.{◌≡◌, drop};
-ghost use Rattle.tcap_check.specs.World.{other, with_channel};
+ghost use Rattle.tcap_check.specs.World.{with_channel};
 ghost use Rattle.tcap_check.specs.Replayed.{nothing_replayed};
 ghost use Rattle.tcap_runs.specs.Playing.{channel_at, end_of, first_lost, is_lost, replay_of, world_of};
 
@@ -52,16 +52,6 @@ pub(crate) struct Playing<'r> {
     pub(crate) from_a: Channel<'r>,
     pub(crate) from_b: Channel<'r>,
     pub(crate) sent: Items<'r>,
-}
-
-/// The end that is not this one.
-pub(crate) fn other(side: End) -> End
-    ensures { result ≡ other side }
-{
-    match side {
-        End::A => End::B,
-        End::B => End::A,
-    }
 }
 
 /// The same name, once more.

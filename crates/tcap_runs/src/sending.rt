@@ -3,7 +3,7 @@
 ghost use Rattle.std.specs.Prelude.{◌≡◌, OnOk, Ok, filter_map};
 ghost use Rattle.tcap_parts.specs.Meaning.{component_of};
 ghost use Rattle.tcap_msg.specs.Parts.{components_in};
-ghost use Rattle.tcap_check.specs.World.{other};
+ghost use Rattle.tcap_record.specs.Ends.{other};
 ghost use Rattle.tcap_check.specs.Run.{joined, may_refuse};
 ghost use Rattle.tcap_check.specs.Follows.{invoke_id, invoking_half};
 ghost use Rattle.tcap_check.specs.Replayed.{implied, implied_over, send_replayed};
@@ -13,7 +13,7 @@ ghost use Rattle.tcap_runs.specs.Sending.{answer_played, implied_by, may_answer,
 use crate::channel::OnWay;
 use crate::items::Kept;
 use crate::lent::Lent;
-use crate::playing::{Playing, Stopped, other};
+use crate::playing::{Playing, Stopped};
 use crate::step::Step;
 use std::alloc::{AllocError, Global};
 use tcap_check::Certificate;
@@ -134,7 +134,7 @@ impl<'r> Playing<'r> {
     fn may_answer<M: MessageParts>(&self, side: End, abort: &M, number: usize) -> bool
         ensures { result ≡ may_answer (end_of side self.now) (M.meaning abort.now) number (channel_at (other side) self.now) }
     {
-        match self.channel(other(side)).first() {
+        match self.channel(side.other()).first() {
             Some(first) => first.number == number && may_refuse(self.end(side), first, abort),
             None => false,
         }
@@ -152,11 +152,11 @@ impl<'r> Playing<'r> {
         ensures { Takes (answer_played certificate.now side abort.now.message.now number (replay_of self.old)) result
             (replay_of self.new) }
     {
-        self.lose_front(certificate, other(side))?;
+        self.lose_front(certificate, side.other())?;
         if !self.may_answer(side, &abort.view, number) {
             return Err(Stopped::NoStep);
         }
-        self.drop_first(other(side));
+        self.drop_first(side.other());
         self.join(side, abort.message)?;
         self.steps.push(Step::Replies(side, number as u64))?;
         Ok(())

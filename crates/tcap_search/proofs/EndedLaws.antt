@@ -4,7 +4,7 @@ use Rattle.std.specs.Prelude.{nat_lt}
 use Rattle.std.proofs.lemmas.List.{take_all}
 use Rattle.tcap_record.specs.declared.entry.End.{End as Side}
 use Rattle.tcap_record.specs.declared.entry.Entry.{Entry}
-use Rattle.tcap_check.specs.World.{other}
+use Rattle.tcap_record.specs.Ends.{other}
 use Rattle.tcap_search.specs.declared.leasts.Leasts.{Leasts}
 use Rattle.tcap_search.specs.Leasts.{HasRoom, is_below, is_transaction, least_at, lesser}
 use Rattle.tcap_search.specs.Lines.{Line, is_end, is_of_peer, line_behind, lines_of, message_of, share_transaction}

@@ -10,7 +10,8 @@ use Rattle.tcap_record.specs.declared.entry.End.{End as Side}
 use Rattle.tcap_record.specs.declared.entry.End.TheVariants as sides
 use Rattle.tcap_record.specs.declared.entry.Entry.{Entry}
 use Rattle.tcap_end.specs.Table.{octets_cmp}
-use Rattle.tcap_check.specs.World.{is_side, other}
+use Rattle.tcap_record.specs.Ends.{other}
+use Rattle.tcap_check.specs.World.{is_side}
 use Rattle.tcap_check.specs.Run.{then_so}
 use Rattle.tcap_search.specs.declared.lines.Latest.{Latest}
 use Rattle.tcap_search.specs.Latest.{belongs, belongs_by, latest_asked, latest_at, latest_of}

@@ -5,7 +5,7 @@ use Rattle.std.specs.List.{list_any}
 use Rattle.std.proofs.lemmas.Bool.{eq-eqb, eqb-false, eqb-true, ne_eqb}
 use Rattle.std.proofs.lemmas.Bool.Decides.{nat_tests}
 use Rattle.std.proofs.lemmas.List.Folds.{list_any-append}
-use Rattle.tcap_check.specs.World.{other}
+use Rattle.tcap_record.specs.Ends.{other}
 use Rattle.tcap_search.specs.Leasts.{is_below, is_transaction, is_within, lesser}
 use Rattle.tcap_search.specs.Lines.{Line, share_transaction}
 use Rattle.tcap_search.proofs.TestLaws.{and_true, or_false}

@@ -2,7 +2,7 @@
 use Rattle.std.proofs.Common.{◌≡◌, false, Some, None, refl}
 use Rattle.tcap_record.specs.declared.entry.End.{End as Side}
 use Rattle.tcap_record.specs.declared.entry.Entry.{Entry}
-use Rattle.tcap_check.specs.World.{other}
+use Rattle.tcap_record.specs.Ends.{other}
 use Rattle.tcap_search.specs.Lines.{are_of_one_end, is_end, is_of_peer}
 
 -- Entries are of one end where the second is of the first one's,

@@ -11,7 +11,7 @@ use Rattle.tcap_record.specs.declared.entry.End.{End as Side}
 use Rattle.tcap_record.specs.declared.entry.End.TheVariants as sides
 use Rattle.tcap_record.specs.declared.entry.Entry.{Entry}
 use Rattle.tcap_end.specs.Table.{octets_cmp}
-use Rattle.tcap_check.specs.World.{other}
+use Rattle.tcap_record.specs.Ends.{other}
 use Rattle.tcap_search.specs.declared.stacks.Stacks.{Stacks}
 use Rattle.tcap_search.specs.declared.candidates.Candidates.{Candidates}
 use Rattle.tcap_search.specs.declared.tie.Tie.{Tie}

@@ -9,7 +9,8 @@ use Rattle.tcap_record.specs.declared.entry.Body.TheVariants.{Good}
 use Rattle.tcap_record.specs.declared.entry.End.{End as Side}
 use Rattle.tcap_record.specs.declared.entry.Entry.{Entry}
 use Rattle.tcap_end.specs.End.{is_id}
-use Rattle.tcap_check.specs.World.{is_side, other}
+use Rattle.tcap_record.specs.Ends.{other}
+use Rattle.tcap_check.specs.World.{is_side}
 use Rattle.tcap_check.specs.Run.{then_so, where_so}
 
 -- this one, or the other where there is none

@@ -8,7 +8,7 @@ use Rattle.tcap_msg.specs.Parts.{otid_in}
 use Rattle.tcap_record.specs.declared.entry.End.{End as Side}
 use Rattle.tcap_record.specs.declared.entry.Entry.{Entry}
 use Rattle.tcap_end.specs.Table.{octets_cmp}
-use Rattle.tcap_check.specs.World.{other}
+use Rattle.tcap_record.specs.Ends.{other}
 use Rattle.tcap_check.specs.declared.certificate.Fate.{Fate}
 use Rattle.tcap_check.specs.declared.certificate.Fate.TheVariants.{Lost}
 use Rattle.tcap_search.specs.declared.unanswered.Spoken.{Spoken}

@@ -4,7 +4,6 @@ ghost use Rattle.std.specs.Prelude.{◌≡◌, ◌∷◌, [], ℕ, List, cond, O
 ghost use Rattle.tcap_record.specs.declared.entry.End.{End as Side};
 ghost use Rattle.tcap_search.specs.Candidates.{answered_of, asks, candidates_at, is_candidate, under_top, without};
 
-use crate::lines::other;
 use crate::stacks::Stacks;
 use std::alloc::{AllocError, Global};
 use tcap_msg::{AbortReason, Message};
@@ -89,8 +88,8 @@ impl Candidates {
             return None;
         };
         match cause.view().number {
-            UNRECOGNIZED_TRANSACTION_ID => self.continues.pop(other(side), dtid.view()),
-            RESOURCE_LIMITATION => self.begins.pop(other(side), dtid.view()),
+            UNRECOGNIZED_TRANSACTION_ID => self.continues.pop(side.other(), dtid.view()),
+            RESOURCE_LIMITATION => self.begins.pop(side.other(), dtid.view()),
             _ => None,
         }
     }

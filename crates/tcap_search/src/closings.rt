@@ -1,7 +1,7 @@
 //! The fifth rule: which halves closed unseen.
 
 ghost use Rattle.std.specs.Prelude.{◌≡◌, ◌≤◌, ◌&&◌, not, List, length, option_copied, slice_get, IfOk};
-ghost use Rattle.tcap_check.specs.World.{other};
+ghost use Rattle.tcap_record.specs.Ends.{other};
 ghost use Rattle.tcap_search.specs.Leasts.{is_below, is_within, least_at};
 ghost use Rattle.tcap_search.specs.Lines.{lines_of, message_of};
 ghost use Rattle.tcap_search.specs.Proposed.{Fated, closings_of, ends, fated, is_continue, ties_of};
@@ -9,7 +9,6 @@ ghost use Rattle.tcap_search.specs.Shown.{KeepsEnded, KeepsTold, gap_told, shown
 ghost use Rattle.tcap_search.specs.Traced.{AreTies, AreTransactions};
 
 use crate::leasts::Leasts;
-use crate::lines::other;
 use crate::tie::Tie;
 use std::alloc::{AllocError, Global};
 use tcap_check::{Closing, Fate};
@@ -108,7 +107,7 @@ fn is_unseen(
         && not (is_within reply (least_at side transaction told.now)) }
 {
     is_continue(entry)
-        && !ended.has_below(other(side), transaction, reply)
+        && !ended.has_below(side.other(), transaction, reply)
         && !told.has_within(side, transaction, reply)
 }
 
@@ -129,7 +128,7 @@ fn shown_by(
     let side = entry.side?;
     let transaction = transactions[tie.entry as usize]?;
     if is_unseen(entry, side, transaction, ended, told, tie.reply) {
-        Some((other(side), transaction))
+        Some((side.other(), transaction))
     } else {
         None
     }

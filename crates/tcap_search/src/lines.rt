@@ -3,7 +3,7 @@
 ghost use Rattle.std.specs.Prelude.{◌≡◌, ◌≤◌, ◌&&◌, ℕ, List, None, cond, length, IfOk, OnOk};
 ghost use Rattle.std.specs.Str.{bytes_eq};
 ghost use Rattle.tcap_record.specs.declared.entry.End.{End as Side};
-ghost use Rattle.tcap_check.specs.World.{is_side, other};
+ghost use Rattle.tcap_check.specs.World.{is_side};
 ghost use Rattle.tcap_search.specs.Latest.{belongs, latest_at};
 ghost use Rattle.tcap_search.specs.Lines.{is_end, is_from};
 ghost use Rattle.tcap_search.specs.Traced.{AreTransactions};
@@ -12,16 +12,6 @@ use std::alloc::{AllocError, Global};
 use std::collections::BTreeMap;
 use tcap_msg::{Message, TransactionId, TransactionIdView};
 use tcap_record::{Body, End, Entry};
-
-/// The peer of an end.
-pub(crate) fn other(side: End) -> End
-    ensures { result ≡ other side }
-{
-    match side {
-        End::A => End::B,
-        End::B => End::A,
-    }
-}
 
 /// The transactions of the last entries of each end, by their originating IDs.
 #[derive(Debug, Drop)]
@@ -83,7 +73,7 @@ impl Latest {
             Message::Begin { .. } => Some(number),
             Message::Continue { dtid, .. }
             | Message::End { dtid, .. }
-            | Message::Abort { dtid, .. } => self.get(other(entry.side?), dtid.view()),
+            | Message::Abort { dtid, .. } => self.get(entry.side?.other(), dtid.view()),
         }
     }
 

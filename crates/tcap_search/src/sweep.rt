@@ -4,7 +4,7 @@ ghost use Rattle.std.specs.Prelude.{◌≡◌, ◌==◌, ◌&&◌, ℕ, ℤ, Boo
 ghost use Rattle.std.specs.List.{list_any};
 ghost use Rattle.tcap_record.specs.declared.entry.End.{End as Side};
 ghost use Rattle.tcap_msg.specs.Parts.{items_of};
-ghost use Rattle.tcap_check.specs.World.{is_side, other};
+ghost use Rattle.tcap_check.specs.World.{is_side};
 ghost use Rattle.tcap_check.specs.Run.{where_so};
 ghost use Rattle.tcap_search.specs.Lines.{message_of, or_else};
 ghost use Rattle.tcap_search.specs.Proposed.{is_answer_of, is_invoke_of, last_invoke, may_invoke, number_limit, unrecognized};
@@ -13,7 +13,6 @@ ghost use Rattle.tcap_search.specs.Fates.{is_of};
 ghost use Rattle.tcap_search.specs.Sweep.{answer_at, answer_kept, answer_rejected, answers, answers_at, components_of, invoked_by};
 
 use crate::by_invocation::ByInvocation;
-use crate::lines::other;
 use std::alloc::{AllocError, Global};
 use tcap_msg::Message;
 use tcap_parts::{Component, Portion, Problem};
@@ -170,7 +169,7 @@ impl Sweep {
     {
         match (entry.side, transaction) {
             (Some(sender), Some(transaction)) => {
-                self.note_answers(gap, transaction, other(sender), components_of(entry))
+                self.note_answers(gap, transaction, sender.other(), components_of(entry))
             }
             _ => Ok(()),
         }

@@ -10,7 +10,6 @@ ghost use Rattle.tcap_search.specs.Lines.{is_end, lines_of, message_of};
 ghost use Rattle.tcap_search.specs.Proposed.{fated, goes_on_from, speaks_to, without_unanswered};
 ghost use Rattle.tcap_search.specs.Unanswered.{IsSpoken, continued_from, fate_heard, unanswered_by};
 
-use crate::lines::other;
 use std::alloc::{AllocError, Global};
 use std::collections::BTreeSet;
 use tcap_check::Fate;
@@ -115,7 +114,7 @@ impl Spoken {
         ensures { result ≡ fate_heard self.now side entry.now fate }
     {
         match fate {
-            Fate::Gap(_) if is_end(other(side), entry.side) && self.is_unanswered(entry) => {
+            Fate::Gap(_) if is_end(side.other(), entry.side) && self.is_unanswered(entry) => {
                 Fate::Lost
             }
             _ => fate,

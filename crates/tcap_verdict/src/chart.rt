@@ -7,7 +7,7 @@ use crate::chart_shapes::{
     inside, push_line, push_number, push_rectangle, push_text, push_word,
 };
 use crate::chart_texts::{Chart, Place};
-use crate::step_lines::{letter, other};
+use crate::step_lines::letter;
 use std::alloc::{AllocError, Global};
 use tcap_record::{End, Record};
 use tcap_runs::Step;
@@ -180,7 +180,7 @@ fn push_end(
     judged: Option<End>,
 ) -> Result<(), AllocError> {
     let x = inside(end, 0);
-    let stroke = if judged == Some(other(end)) {
+    let stroke = if judged == Some(end.other()) {
         Stroke::Dashed
     } else {
         Stroke::Plain
@@ -283,7 +283,7 @@ fn push_legend(text: &mut String, y: u64, judged: Option<End>) -> Result<u64, Al
     text.push_str(">")?;
     text.push_str(letter(end))?;
     text.push_str(" is judged alone: nothing is asked of what ")?;
-    text.push_str(letter(other(end)))?;
+    text.push_str(letter(end.other()))?;
     text.push_str(" sends, nor of what it hears")?;
     end_text(text)?;
     Ok(y)

@@ -5,7 +5,6 @@ use crate::chart_shapes::{
     BLACK, Point, Stroke, inside, outside, push_cross, push_line, push_rectangle,
 };
 use crate::chart_texts::{Chart, Place, SHORT};
-use crate::step_lines::other;
 use std::alloc::AllocError;
 use tcap_record::End;
 use tcap_runs::Step;
@@ -47,7 +46,7 @@ fn push_slanted(
     stroke: Stroke,
 ) -> Result<(), AllocError> {
     match comes {
-        Some(y) => push_line(text, at(end, line), at(other(end), y), stroke),
+        Some(y) => push_line(text, at(end, line), at(end.other(), y), stroke),
         None => {
             let to = Point {
                 x: inside(end, PART_WIDTH),
@@ -193,7 +192,7 @@ impl Chart<'_> {
                     self.push_part(text, shown, *end, place.comes, *number)
                 }
                 Some(Step::Discards(end, number, _)) => {
-                    let receiver = other(*end);
+                    let receiver = end.other();
                     self.push_part(text, shown, receiver, place.comes, *number)?;
                     push_cross(text, at(receiver, place.comes))
                 }

@@ -7,7 +7,6 @@ use crate::chart_shapes::{
     outer_anchor, outside, push_plate, push_text,
 };
 use crate::reasons::fault_words;
-use crate::step_lines::other;
 use std::alloc::{AllocError, Global};
 use tcap_end::{EndFault, HalfName};
 use tcap_record::{BodyView, End, EntryView, Record, push_hex};
@@ -298,7 +297,7 @@ impl Chart<'_> {
                 Ok(place)
             }
             Some(Step::Discards(end, number, reason)) => {
-                self.push_discard(text, other(*end), top, *number, *reason)
+                self.push_discard(text, end.other(), top, *number, *reason)
             }
             Some(Step::Expires(end, name, id)) => {
                 let words = expiry_words(self.alloc, name, *id)?;

@@ -19,19 +19,18 @@ ghost use Rattle.tcap_verdict.specs.Why.{Explains, ExplainsBy, GivesWhy, GivesWh
 use crate::charts::{chart_of, chart_of_steps};
 use crate::faults::fault_text;
 use crate::refuted::refuted_text;
-use crate::step_lines::{is_lost_from, other, push_steps};
+use crate::step_lines::{is_lost_from, push_steps};
 use crate::stops::stop_text;
 use std::alloc::{AllocError, Global};
 use tcap_ber::{Read, Write};
-use tcap_blame::blame;
 use tcap_check::{Certificate, CheckFault, Reason};
 use tcap_end::Table;
 use tcap_judge::{
-    OUT_OF_MEMORY, Outcome, Status, WriteFailed, propose, read_certificate, read_table,
+    OUT_OF_MEMORY, Outcome, Status, WriteFailed, named, propose, read_certificate, read_table,
     write_outcome,
 };
 use tcap_record::{End, Record, read_record};
-use tcap_refute::{Refutation, refute};
+use tcap_refute::Refutation;
 use tcap_runs::{Step, run_of, run_of_end};
 
 /// What is said, and why.
@@ -82,22 +81,6 @@ impl Why {
     }
 }
 
-/// The entry that is named: the first that no end sends which keeps the rules, or the first that is blamed on that end.
-fn named(
-    alloc: Global,
-    read: &Record,
-    table: &Table,
-    judged: Option<End>,
-) -> Result<Option<Refutation>, AllocError>
-    ensures { IfOk result (λ r. r ≡ named_by judged table.now read.now.entries.items) }
-{
-    let found = match judged {
-        None => refute(alloc, read, table),
-        Some(end) => blame(alloc, read, table, end),
-    };
-    found.map_err(|_| AllocError)
-}
-
 /// The steps of the run that a certificate gives for a record, of both ends or of the one that is judged; else the first reason
 /// why it gives none, at an entry, or `Memory`.
 #[tactic(auto, using(crate::proofs::LawfulRuns::of_both, crate::proofs::LawfulRuns::of_one))]
@@ -124,7 +107,7 @@ fn count_unheard(end: End, steps: &[Step]) -> u64
 {
     let mut unheard = 0;
     for step in steps {
-        if is_lost_from(other(end), step) {
+        if is_lost_from(end.other(), step) {
             unheard += 1;
         }
     }

@@ -8,7 +8,7 @@ use crate::facts_operations::invoked_in;
 use crate::facts_sorts::{Parts, Sort, invoke_id, operation_in};
 use crate::facts_stretch::{Sent, Stretch};
 use crate::facts_words::{
-    letter, other, push_all, push_id, push_invoke_id, push_ordinal, push_times,
+    letter, push_all, push_id, push_invoke_id, push_ordinal, push_times,
 };
 use std::alloc::AllocError;
 use tcap_msg::MessageParts;
@@ -143,7 +143,7 @@ fn push_invoked(
         text,
         &[
             "  in this transaction ",
-            letter(other(stretch.end)),
+            letter(stretch.end.other()),
             " invoked ",
         ],
     )?;
@@ -270,7 +270,7 @@ fn push_named(
         text,
         &[
             "\n  in this transaction ",
-            letter(other(stretch.end)),
+            letter(stretch.end.other()),
             " invoked ",
         ],
     )?;

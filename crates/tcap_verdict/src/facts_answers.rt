@@ -2,7 +2,7 @@
 
 use crate::facts_stretch::{Sent, Stretch};
 use crate::facts_words::{
-    form_of, letter, other, push_all, push_component, push_count, push_id, push_invoke_id,
+    form_of, letter, push_all, push_component, push_count, push_id, push_invoke_id,
     push_number, push_start,
 };
 use std::alloc::{AllocError, Global};
@@ -115,7 +115,7 @@ fn push_invoked(
     asked: &[Sent],
     id: &[u8],
 ) -> Result<(), AllocError> {
-    let peer = letter(other(stretch.end));
+    let peer = letter(stretch.end.other());
     let mut ids = BTreeSet::new(stretch.alloc);
     let mut count: u64 = 0;
     for sent in asked {
@@ -170,7 +170,7 @@ fn push_lacking(
     id: &[u8],
     lacking: Lacking,
 ) -> Result<(), AllocError> {
-    let peer = letter(other(stretch.end));
+    let peer = letter(stretch.end.other());
     let (name, of) = match lacking {
         Lacking::Invoke(of) => ("Invoke", of),
         Lacking::Result(of) => ("Return Result of invocation", of),

@@ -3,7 +3,7 @@
 use crate::facts_half::Half;
 use crate::facts_stretch::{Sent, Stretch, listed_of};
 use crate::facts_words::{
-    form_of, letter, name_of_pdu, other, push_all, push_entry, push_id, push_pdu, push_start,
+    form_of, letter, name_of_pdu, push_all, push_entry, push_id, push_pdu, push_start,
 };
 use std::alloc::AllocError;
 use tcap_msg::{Kind as Form, MessageParts};
@@ -97,7 +97,7 @@ fn push_not_asked(
     asked: &[Sent],
     to: &[u8],
 ) -> Result<(), AllocError> {
-    let peer = letter(other(stretch.end));
+    let peer = letter(stretch.end.other());
     let begins = listed_of(stretch.alloc, asked, true)?;
     push_all(text, &["  ", peer, " sent no Begin with an AARQ from "])?;
     push_id(text, to)?;
@@ -150,7 +150,7 @@ fn push_begun(text: &mut String, stretch: &Stretch, half: &Half) -> Result<(), A
             push_all(text, &["  ", end, " began the transaction: "])?;
             push_all(
                 text,
-                &["no Begin of ", letter(other(stretch.end)), " from "],
+                &["no Begin of ", letter(stretch.end.other()), " from "],
             )?;
             push_id(text, half.to)?;
             text.push_str(" stands")?;
@@ -193,7 +193,7 @@ fn push_unanswered(
         if begin.asks() {
             push_start(text, sent.number, stretch.end)?;
             push_all(text, &[" is the first answer, ", form_of(sent), ", to "])?;
-            push_entry(text, begin.number, other(stretch.end))?;
+            push_entry(text, begin.number, stretch.end.other())?;
             text.push_str(
                 ", a Begin with an AARQ\n  so it has to carry an AARE, and it carries none\n",
             )?;

@@ -3,7 +3,7 @@
 use crate::facts_listed::Listed;
 use crate::facts_stretch::{Sent, Stretch, listed_of};
 use crate::facts_words::{
-    form_of, letter, other, push_all, push_count, push_entry, push_id, push_number, push_start,
+    form_of, letter, push_all, push_count, push_entry, push_id, push_number, push_start,
 };
 use std::alloc::AllocError;
 use std::collections::BTreeSet;
@@ -53,7 +53,7 @@ fn push_known(text: &mut String, is_first: bool, sent: Sent) -> Result<(), Alloc
 
 /// Appends from which IDs the peer sent messages.
 fn push_spoken(text: &mut String, stretch: &Stretch) -> Result<(), AllocError> {
-    let peer = letter(other(stretch.end));
+    let peer = letter(stretch.end.other());
     let mut ids = BTreeSet::new(stretch.alloc);
     let mut count: u64 = 0;
     for sent in &stretch.peer {
@@ -90,7 +90,7 @@ fn push_elsewhere(
     number: usize,
     id: &[u8],
 ) -> Result<(), AllocError> {
-    let peer = other(stretch.end);
+    let peer = stretch.end.other();
     let mark = stretch.mark.unwrap_or(0);
     for (at, entry) in record.entries.iter().enumerate() {
         let (Body::Good(message), true) = (&entry.body, entry.side == Some(peer)) else {
@@ -124,7 +124,7 @@ fn push_unasked(
     sent: Sent,
     id: &[u8],
 ) -> Result<(), AllocError> {
-    let peer = letter(other(stretch.end));
+    let peer = letter(stretch.end.other());
     push_start(text, sent.number, stretch.end)?;
     push_all(text, &[" is ", form_of(sent), " to "])?;
     push_id(text, id)?;
@@ -148,7 +148,7 @@ fn push_unfounded(
     wanted: &str,
     others: &Listed,
 ) -> Result<(), AllocError> {
-    let peer = letter(other(stretch.end));
+    let peer = letter(stretch.end.other());
     let cause = match sent.message.cause() {
         Some(cause) => cause.number,
         None => 0,

@@ -4,7 +4,7 @@ use crate::facts_half::Half;
 use crate::facts_listed::Listed;
 use crate::facts_stretch::{Sent, Stretch, listed_of};
 use crate::facts_words::{
-    form_of, letter, other, push_all, push_entry, push_id, push_number, push_start,
+    form_of, letter, push_all, push_entry, push_id, push_number, push_start,
 };
 use std::alloc::AllocError;
 use std::collections::BTreeMap;
@@ -15,7 +15,7 @@ const NAMED: usize = 8;
 
 /// Appends why no Begin from the ID may stand: none was sent, or it was refused.
 fn push_no_begin(text: &mut String, stretch: &Stretch, half: &Half) -> Result<(), AllocError> {
-    let peer = letter(other(stretch.end));
+    let peer = letter(stretch.end.other());
     let begins = listed_of(stretch.alloc, &half.asked, true)?;
     if begins.is_empty() {
         push_all(text, &["  ", peer, " sent no Begin from "])?;
@@ -40,7 +40,7 @@ fn push_not_back(
     own: &[u8],
     begin: Sent,
 ) -> Result<(), AllocError> {
-    let peer = letter(other(stretch.end));
+    let peer = letter(stretch.end.other());
     let mut came = Listed::new(stretch.alloc);
     for sent in &half.asked {
         if sent.is_continue() && sent.is_to(own) {
@@ -164,7 +164,7 @@ fn push_came(
 
 /// Appends the Continues of the peer, none of which came back.
 fn push_none_back(text: &mut String, stretch: &Stretch, half: &Half) -> Result<(), AllocError> {
-    let peer = letter(other(stretch.end));
+    let peer = letter(stretch.end.other());
     let begins = stretch.begins()?;
     let mut count: usize = 0;
     for sent in &half.asked {

@@ -3,7 +3,7 @@
 use crate::facts_listed::Listed;
 use crate::facts_sorts::{Parts, Sort};
 use crate::facts_stretch::{Sent, Stretch};
-use crate::facts_words::{letter, other, push_all, push_id, push_invoke_id};
+use crate::facts_words::{letter, push_all, push_id, push_invoke_id};
 use std::alloc::AllocError;
 use std::collections::{BTreeMap, BTreeSet};
 use tcap_msg::TransactionId;
@@ -214,7 +214,7 @@ pub(crate) fn push_not_invoked(
     half: &Half,
     id: i8,
 ) -> Result<(), AllocError> {
-    let (own, peer) = (letter(stretch.end), letter(other(stretch.end)));
+    let (own, peer) = (letter(stretch.end), letter(stretch.end.other()));
     let parts = Parts::of(&half.asked);
     let invoked = parts.listed(stretch.alloc, stretch.table, id, Sort::Invokes)?;
     push_all(text, &["  ", peer])?;

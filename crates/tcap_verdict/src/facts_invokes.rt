@@ -8,7 +8,7 @@ use crate::facts_operations::{invoked_in, push_invocations};
 use crate::facts_sorts::{Parts, Sort};
 use crate::facts_stretch::{Sent, Stretch};
 use crate::facts_words::{
-    form_of, letter, other, push_all, push_code, push_count, push_invoke_id, push_number,
+    form_of, letter, push_all, push_code, push_count, push_invoke_id, push_number,
     push_times,
 };
 use std::alloc::AllocError;
@@ -92,7 +92,7 @@ fn push_left(
     lasting: ByClass,
     left: Left,
 ) -> Result<(), AllocError> {
-    let (own, peer) = (letter(stretch.end), letter(other(stretch.end)));
+    let (own, peer) = (letter(stretch.end), letter(stretch.end.other()));
     let invoked = Parts::of(&half.invoked);
     let listed = invoked.listed(stretch.alloc, stretch.table, id, Sort::Lasting)?;
     push_all(text, &["  in this transaction ", own, " invoked it "])?;
@@ -191,7 +191,7 @@ fn push_none_there(
     before: Parts,
     linked: i8,
 ) -> Result<(), AllocError> {
-    let (own, peer) = (letter(stretch.end), letter(other(stretch.end)));
+    let (own, peer) = (letter(stretch.end), letter(stretch.end.other()));
     let heard = Parts::of(&half.heard);
     let invoked = heard.listed(stretch.alloc, stretch.table, linked, Sort::Invokes)?;
     text.push_str("\n")?;
@@ -221,7 +221,7 @@ fn push_no_link(
         text,
         &[
             "\n  in this transaction ",
-            letter(other(stretch.end)),
+            letter(stretch.end.other()),
             " invoked ",
         ],
     )?;

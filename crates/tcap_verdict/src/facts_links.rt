@@ -7,7 +7,7 @@ use crate::facts_counts::Tally;
 use crate::facts_half::Half;
 use crate::facts_operations::{invoked_in, push_invocations};
 use crate::facts_stretch::{Sent, Stretch};
-use crate::facts_words::{letter, other, push_all, push_entry, push_invoke_id};
+use crate::facts_words::{letter, push_all, push_entry, push_invoke_id};
 use std::alloc::AllocError;
 use std::collections::BTreeSet;
 use tcap_end::Table;
@@ -84,7 +84,7 @@ fn push_linked(
         return Ok(());
     };
     text.push_str("  in ")?;
-    push_entry(text, number, other(stretch.end))?;
+    push_entry(text, number, stretch.end.other())?;
     text.push_str(", Invoke ")?;
     push_invoke_id(text, id)?;
     text.push_str(" is linked to ")?;

@@ -4,7 +4,7 @@
 use crate::facts_listed::Listed;
 use crate::facts_stretch::{Sent, Stretch, listed_of};
 use crate::facts_words::{
-    form_of, letter, other, push_all, push_count, push_entry, push_id, push_number, push_start,
+    form_of, letter, push_all, push_count, push_entry, push_id, push_number, push_start,
     push_times,
 };
 use std::alloc::AllocError;
@@ -138,7 +138,7 @@ fn push_answered_more(
     )?;
     push_all(
         text,
-        &["  ", letter(other(stretch.end)), " sent a Continue from "],
+        &["  ", letter(stretch.end.other()), " sent a Continue from "],
     )?;
     push_id(text, to)?;
     text.push_str(" ")?;
@@ -161,7 +161,7 @@ fn push_all_open(
     continues: &Listed,
     open: Sent,
 ) -> Result<(), AllocError> {
-    let (own, peer) = (letter(stretch.end), letter(other(stretch.end)));
+    let (own, peer) = (letter(stretch.end), letter(stretch.end.other()));
     push_abort(
         text,
         stretch,
@@ -182,7 +182,7 @@ fn push_all_open(
 
 /// Appends why a half is surely open.
 fn push_open(text: &mut String, stretch: &Stretch, open: Sent) -> Result<(), AllocError> {
-    let (own, peer) = (letter(stretch.end), letter(other(stretch.end)));
+    let (own, peer) = (letter(stretch.end), letter(stretch.end.other()));
     let (Some(from), Some(to)) = (open.from_id(), open.to_id()) else {
         return Ok(());
     };

@@ -4,7 +4,7 @@ use crate::facts_answers::push_part;
 use crate::facts_codes::{Codes, Operated, is_code};
 use crate::facts_stretch::{Sent, Stretch};
 use crate::facts_words::{
-    letter, other, push_all, push_code, push_count, push_id, push_invoke_id, push_number,
+    letter, push_all, push_code, push_count, push_id, push_invoke_id, push_number,
 };
 use std::alloc::AllocError;
 use tcap_end::Table;
@@ -224,7 +224,7 @@ fn push_not_allowed(
     from: &[u8],
     answer: Answer,
 ) -> Result<(), AllocError> {
-    let peer = letter(other(stretch.end));
+    let peer = letter(stretch.end.other());
     push_all(text, &["\n  ", peer, " invoked "])?;
     push_invoke_id(text, answer.id)?;
     text.push_str(" from ")?;

@@ -7,7 +7,7 @@ use crate::facts_links::push_link_fine;
 use crate::facts_operations::push_invocations;
 use crate::facts_sorts::{Parts, Sort};
 use crate::facts_stretch::{Sent, Stretch};
-use crate::facts_words::{letter, other, push_all, push_count, push_invoke_id, push_ordinal};
+use crate::facts_words::{letter, push_all, push_count, push_invoke_id, push_ordinal};
 use std::alloc::AllocError;
 use tcap_msg::MessageParts;
 use tcap_parts::{ComponentView, ProblemView};
@@ -125,7 +125,7 @@ fn push_many(
     rejects: Sort,
     heard: Sort,
 ) -> Result<(), AllocError> {
-    let (own, peer) = (letter(stretch.end), letter(other(stretch.end)));
+    let (own, peer) = (letter(stretch.end), letter(stretch.end.other()));
     text.push_str(rejected(rejects))?;
     push_invoke_id(text, id)?;
     push_all(text, &["; in this transaction ", peer, " sent: "])?;

@@ -14,14 +14,6 @@ pub(crate) fn letter(end: End) -> &'static str {
     }
 }
 
-/// The peer of an end.
-pub(crate) fn other(end: End) -> End {
-    match end {
-        End::A => End::B,
-        End::B => End::A,
-    }
-}
-
 /// Appends texts, one after the other.
 pub(crate) fn push_all(text: &mut String, parts: &[&str]) -> Result<(), AllocError> {
     for part in parts {

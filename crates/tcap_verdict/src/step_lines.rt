@@ -4,7 +4,7 @@ ghost use Rattle.std.specs.Prelude.{◌≡◌, ◌++◌, OnOk, codes};
 ghost use Rattle.std.specs.String.{string_bytes};
 ghost use Rattle.hex.specs.Hex.{encode_lower};
 ghost use Rattle.tcap_check.specs.Alone.{is_lost_from};
-ghost use Rattle.tcap_check.specs.World.{is_side, other};
+ghost use Rattle.tcap_check.specs.World.{is_side};
 ghost use Rattle.tcap_judge.specs.Blamed.{letter};
 ghost use Rattle.tcap_runs.specs.Steps.{event_of};
 ghost use Rattle.tcap_verdict.specs.StepLines.{closing_line, deed_text, discard_line, discard_text, expiry_line, half_text, invocation_text, is_entry, lines_from, loss_line, own_label, owner_text, peer_label, reply_line, run_label, run_lines, sent_line, step_line};
@@ -22,16 +22,6 @@ pub(crate) fn letter(end: End) -> &'static str
     match end {
         End::A => "A",
         End::B => "B",
-    }
-}
-
-/// The other end.
-pub(crate) fn other(end: End) -> End
-    ensures { result ≡ other end }
-{
-    match end {
-        End::A => End::B,
-        End::B => End::A,
     }
 }
 
@@ -215,7 +205,7 @@ fn push_discard(
 ) -> Result<(), AllocError>
     ensures { OnOk result (string_bytes text.new ≡ string_bytes text.old ++ discard_line sender number reason) }
 {
-    push_deed(text, other(sender), " could not receive ", number)?;
+    push_deed(text, sender.other(), " could not receive ", number)?;
     text.push_str(": ")?;
     push_reason(text, reason)?;
     text.push_str("\n")

@@ -6,7 +6,7 @@ use crate::half_states::{push_component_state, push_half_state};
 use crate::reasons::{fault_words, reason_words};
 use crate::refusing::{MANY, is_of_component, refused_component};
 use crate::refuted::push_ends;
-use crate::step_lines::{letter, other};
+use crate::step_lines::letter;
 use std::alloc::{AllocError, Global};
 use tcap_ber::Fault;
 use tcap_check::{Certificate, CheckFault, Fate, Reason};
@@ -317,7 +317,7 @@ fn push_known(
         Reason::BadReply if is_tied(stop) => push_tied(text, stop, false),
         Reason::BadReply => {
             let mut run = stop.run(alloc)?;
-            push_receiver(text, &mut run, stop.table, other(sender), message)
+            push_receiver(text, &mut run, stop.table, sender.other(), message)
         }
         Reason::HiddenRefused(_) => push_listed(alloc, text, stop),
         _ => Ok(()),

@@ -3,7 +3,7 @@ use Rattle.std.specs.BTreeSet as set
 use Rattle.std.proofs.lemmas.Result.{on_ok_weaker}
 use Rattle.tcap_end.specs.End.{is_id}
 use Rattle.tcap_end.specs.Table.{octets_cmp}
-use Rattle.tcap_check.specs.World.{other}
+use Rattle.tcap_record.specs.Ends.{other}
 use Rattle.tcap_refute.specs.Before.{asked}
 use Rattle.tcap_blame.specs.History.{sent_to}
 use Rattle.tcap_blame.proofs.HistoryLaws.{history_sent}

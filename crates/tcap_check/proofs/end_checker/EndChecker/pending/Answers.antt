@@ -2,7 +2,7 @@ use Rattle.std.proofs.Common.{length, ap, sym, ◌∙◌}
 use Rattle.tcap_check.specs.EndChecking.{EndChecking, EndKept}
 use Rattle.tcap_check.specs.EndReady.{end_kept_in}
 use Rattle.tcap_check.specs.Progress.{seat_at}
-use Rattle.tcap_check.specs.World.{other}
+use Rattle.tcap_record.specs.Ends.{other}
 use Rattle.tcap_check.proofs.EndCheckerLaws.{keeps_so}
 use Rattle.tcap_check.proofs.end_checker.EndChecker.pending.Goals as goal
 
