@@ -9,8 +9,8 @@ use Rattle.tcap_msg.specs.declared.message.Message.{Message}
 use Rattle.tcap_msg.specs.Parts.{dtid_in}
 use Rattle.tcap_record.specs.declared.entry.End.{End as Side}
 use Rattle.tcap_end.specs.End.{is_id}
-use Rattle.tcap_check.specs.World.{Item}
-use Rattle.tcap_check.proofs.TurnLaws.{id_is}
+use Rattle.tcap_model.specs.World.{Item}
+use Rattle.tcap_model.proofs.TurnLaws.{id_is}
 use Rattle.tcap_refute.specs.Before.{asked, is_a}
 use Rattle.tcap_refute.specs.Kind.{is_begin_with_request}
 use Rattle.tcap_refute.specs.Speaker.{accepts_to, back, back_behind, begin_from, goes_on_to, is_back, is_nothing}

@@ -11,7 +11,7 @@ use Rattle.tcap_msg.specs.Parts.{dtid_in}
 use Rattle.tcap_record.specs.declared.entry.End.{End as Side}
 use Rattle.tcap_end.specs.End.{is_id}
 use Rattle.tcap_end.specs.Table.{Table, octets_cmp}
-use Rattle.tcap_check.specs.World.{Item}
+use Rattle.tcap_model.specs.World.{Item}
 use Rattle.tcap_refute.specs.Before.{asked, has_a, is_a}
 use Rattle.tcap_refute.specs.Kept.{holds}
 use Rattle.tcap_refute.specs.Kind.{is_begin_with_request}

@@ -13,7 +13,7 @@ use Rattle.tcap_record.specs.declared.entry.End.TheVariants as sides
 use Rattle.tcap_end.specs.End.{is_id}
 use Rattle.tcap_end.specs.Table.{Table, octets_cmp}
 use Rattle.tcap_record.specs.Ends.{other}
-use Rattle.tcap_check.specs.World.{Item}
+use Rattle.tcap_model.specs.World.{Item}
 use Rattle.tcap_refute.specs.Before.{asked, sent_by}
 use Rattle.tcap_refute.specs.HalfKinds.{all_go_on_to}
 use Rattle.tcap_refute.specs.Speaker.{is_nothing}

@@ -11,8 +11,8 @@ use Rattle.tcap_record.specs.declared.entry.End.{End as Side}
 use Rattle.tcap_record.specs.declared.entry.End.TheVariants as sides
 use Rattle.tcap_end.specs.End.{is_id}
 use Rattle.tcap_record.specs.Ends.{other}
-use Rattle.tcap_check.specs.World.{Item, Sent, is_side}
-use Rattle.tcap_check.specs.Follows.{has_quiet}
+use Rattle.tcap_model.specs.World.{Item, Sent, is_side}
+use Rattle.tcap_model.specs.World.{has_quiet}
 use Rattle.tcap_refute.specs.Before.{asked, components_of, is_a, message_of, sent_by, since_quiet}
 use Rattle.tcap_refute.specs.Speaker.{back, back_behind, begin_from, goes_on_to, goes_to, heard_begin, heard_by, heard_later, is_accepted, is_back, is_begun, own_begin, own_id, speaker, told}
 use Rattle.tcap_blame.specs.Searching.{components_in_all}

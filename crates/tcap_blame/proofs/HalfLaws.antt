@@ -9,7 +9,7 @@ use Rattle.tcap_msg.specs.Parts.{dialogue_in}
 use Rattle.tcap_record.specs.declared.entry.End.{End as Side}
 use Rattle.tcap_end.specs.Dialogue.{is_response, is_user_abort}
 use Rattle.tcap_end.specs.Table.{Table}
-use Rattle.tcap_check.specs.World.{Item}
+use Rattle.tcap_model.specs.World.{Item}
 use Rattle.tcap_refute.specs.Before.{asked, is_a}
 use Rattle.tcap_refute.specs.Speaker.{Speaker as Speaking, back, is_nothing, may_stand, own_id}
 use Rattle.tcap_refute.specs.HalfKinds.{fits_no_half, goes_to_begun, has_no_half, has_requested, is_provider_abort, is_wrong_aborting, is_wrong_dialogue, is_wrong_going_on}

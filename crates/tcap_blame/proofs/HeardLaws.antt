@@ -13,7 +13,7 @@ use Rattle.tcap_msg.specs.Parts.{components_in, dtid_in}
 use Rattle.tcap_record.specs.declared.entry.End.{End as Side}
 use Rattle.tcap_end.specs.End.{is_id}
 use Rattle.tcap_end.specs.Table.{Table, octets_cmp}
-use Rattle.tcap_check.specs.World.{Item}
+use Rattle.tcap_model.specs.World.{Item}
 use Rattle.tcap_refute.specs.Before.{asked, components_of, has_a, is_a}
 use Rattle.tcap_refute.specs.Kind.{is_begin_with_request}
 use Rattle.tcap_refute.specs.Speaker.{accepts_to, back, began, begin_from, goes_on_to, goes_to, heard_begin, heard_by, heard_later, is_nothing, own_begin, told}

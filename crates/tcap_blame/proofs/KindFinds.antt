@@ -9,7 +9,7 @@ use Rattle.tcap_msg.specs.declared.message.AbortReason.TheVariants.{Cause, Dialo
 use Rattle.tcap_msg.specs.Parts.{cause_in, components_in, dtid_in}
 use Rattle.tcap_record.specs.declared.entry.End.{End as Side}
 use Rattle.tcap_end.specs.Table.{Table}
-use Rattle.tcap_check.specs.World.{Item, Sent}
+use Rattle.tcap_model.specs.World.{Item, Sent}
 use Rattle.tcap_refute.specs.declared.kind.Kind.{Kind}
 use Rattle.tcap_refute.specs.declared.kind.Kind.TheVariants as kinds
 use Rattle.tcap_refute.specs.Before.{asked, is_a, since_quiet}

@@ -10,7 +10,7 @@ use Rattle.std.proofs.lemmas.Grind.{flat_map-append}
 use Rattle.tcap_msg.specs.declared.message.Message.{Message}
 use Rattle.tcap_msg.specs.Parts.{components_in}
 use Rattle.tcap_end.specs.Table.{Table}
-use Rattle.tcap_check.specs.Run.{then_so}
+use Rattle.tcap_model.specs.Run.{then_so}
 use Rattle.tcap_refute.specs.Before.{components_of}
 use Rattle.tcap_refute.specs.Counts.{count}
 use Rattle.tcap_refute.specs.Kind.{or_else}

@@ -9,7 +9,7 @@ use Rattle.tcap_msg.specs.declared.message.Message.{Message}
 use Rattle.tcap_msg.specs.declared.message.Message.TheVariants.{Unidirectional, Begin, Continue, End as EndMessage, Abort}
 use Rattle.tcap_msg.specs.Parts.{dtid_in}
 use Rattle.tcap_end.specs.Table.{Table}
-use Rattle.tcap_check.specs.Run.{then_so}
+use Rattle.tcap_model.specs.Run.{then_so}
 use Rattle.tcap_refute.specs.Before.{is_a}
 use Rattle.tcap_refute.specs.Kind.{or_else}
 use Rattle.tcap_blame.specs.declared.own.OwnBegin.{OwnBegin}

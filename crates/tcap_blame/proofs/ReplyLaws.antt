@@ -10,7 +10,7 @@ use Rattle.tcap_record.specs.declared.entry.End.{End as Side}
 use Rattle.tcap_end.specs.End.{is_id}
 use Rattle.tcap_end.specs.Table.{Table}
 use Rattle.tcap_record.specs.Ends.{other}
-use Rattle.tcap_check.specs.World.{Item}
+use Rattle.tcap_model.specs.World.{Item}
 use Rattle.tcap_refute.specs.Before.{asked, has_a, is_a, message_of, sent_by}
 use Rattle.tcap_refute.specs.Blame.{all_go_to_open, count_received, is_abort_with, is_wrong_reply}
 use Rattle.tcap_refute.specs.Counts.{count}

@@ -8,8 +8,8 @@ use Rattle.tcap_msg.specs.declared.message.Message.TheVariants.{Unidirectional, 
 use Rattle.tcap_msg.specs.Parts.{otid_in}
 use Rattle.tcap_record.specs.declared.entry.End.{End as Side}
 use Rattle.tcap_end.specs.Table.{Table}
-use Rattle.tcap_check.specs.World.{Item}
-use Rattle.tcap_check.specs.Run.{then_so}
+use Rattle.tcap_model.specs.World.{Item}
+use Rattle.tcap_model.specs.Run.{then_so}
 use Rattle.tcap_refute.specs.Before.{asked, is_a}
 use Rattle.tcap_refute.specs.Kind.{or_else}
 use Rattle.tcap_refute.specs.Speaker.{back, began, begin_from, is_nothing, known_own, own_id, speaker_by, told}

@@ -6,8 +6,8 @@ use Rattle.std.specs.BTreeSet as set
 use Rattle.std.specs.Option.{option_to_list}
 use Rattle.tcap_record.specs.declared.entry.End.{End as Side}
 use Rattle.tcap_end.specs.Table.{Table, octets_cmp}
-use Rattle.tcap_check.specs.World.{Item}
-use Rattle.tcap_check.specs.Run.{then_so}
+use Rattle.tcap_model.specs.World.{Item}
+use Rattle.tcap_model.specs.Run.{then_so}
 use Rattle.tcap_refute.specs.Before.{asked}
 use Rattle.tcap_refute.specs.Kept.{holds}
 use Rattle.tcap_blame.specs.declared.tally.Tally.{Tally}

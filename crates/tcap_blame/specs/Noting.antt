@@ -9,7 +9,7 @@ use Rattle.tcap_msg.specs.Parts.{otid_in}
 use Rattle.tcap_record.specs.declared.entry.End.{End as Side}
 use Rattle.tcap_end.specs.End.{is_id}
 use Rattle.tcap_end.specs.Table.{Table, octets_cmp}
-use Rattle.tcap_check.specs.World.{Item}
+use Rattle.tcap_model.specs.World.{Item}
 use Rattle.tcap_refute.specs.Before.{is_a, sent_by}
 use Rattle.tcap_refute.specs.Kind.{or_else}
 use Rattle.tcap_blame.specs.declared.asked.Begins.{Begins}

@@ -5,9 +5,9 @@ use Rattle.tcap_msg.specs.Parts.{components_in}
 use Rattle.tcap_record.specs.declared.entry.End.{End as Side}
 use Rattle.tcap_record.specs.declared.entry.Entry.{Entry}
 use Rattle.tcap_end.specs.Table.{Table}
-use Rattle.tcap_check.specs.World.{Item, Sent}
-use Rattle.tcap_check.specs.Entries.{item_of}
-use Rattle.tcap_check.specs.declared.fault.Reason.{Reason}
+use Rattle.tcap_model.specs.World.{Item, Sent}
+use Rattle.tcap_model.specs.Entries.{item_of}
+use Rattle.tcap_model.specs.declared.reason.Reason.{Reason}
 use Rattle.tcap_refute.specs.declared.kind.Kind.{Kind}
 use Rattle.tcap_refute.specs.Before.{since_quiet}
 use Rattle.tcap_refute.specs.Kept.{AreNotesOf}

@@ -6,7 +6,7 @@ ghost use Rattle.std.specs.Option.{option_to_list};
 ghost use Rattle.std.specs.BTreeMap.{IsOrdered};
 ghost use Rattle.tcap_record.specs.declared.entry.End.{End as Side};
 ghost use Rattle.tcap_end.specs.Table.{Table, octets_cmp};
-ghost use Rattle.tcap_check.specs.World.{Item};
+ghost use Rattle.tcap_model.specs.World.{Item};
 ghost use Rattle.tcap_refute.specs.Before.{asked};
 ghost use Rattle.tcap_refute.specs.Speaker.{back, goes_on_to, is_nothing};
 ghost use Rattle.tcap_refute.specs.HalfKinds.{goes_to_begun, has_requested};

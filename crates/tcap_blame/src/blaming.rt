@@ -2,8 +2,8 @@
 
 ghost use Rattle.std.specs.Prelude.{◌≡◌, ◌≤◌, ◌<◌, ◌^◌, ◌∷◌, [], Ok, length, IfOk};
 ghost use Rattle.tcap_msg.specs.Parts.{components_in};
-ghost use Rattle.tcap_check.specs.Entries.{item_of};
-ghost use Rattle.tcap_check.specs.World.{Item};
+ghost use Rattle.tcap_model.specs.Entries.{item_of};
+ghost use Rattle.tcap_model.specs.World.{Item};
 ghost use Rattle.tcap_refute.specs.Blame.{blamed};
 ghost use Rattle.tcap_blame.specs.Searching.{components_in_all};
 

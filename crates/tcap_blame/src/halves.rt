@@ -8,7 +8,7 @@ ghost use Rattle.tcap_record.specs.declared.entry.End.{End as Side};
 ghost use Rattle.tcap_end.specs.Dialogue.{is_response, is_user_abort};
 ghost use Rattle.tcap_end.specs.Table.{Table};
 ghost use Rattle.tcap_msg.specs.declared.kind.Kind.TheVariants as forms;
-ghost use Rattle.tcap_check.specs.World.{Item};
+ghost use Rattle.tcap_model.specs.World.{Item};
 ghost use Rattle.tcap_refute.specs.Before.{asked, is_a};
 ghost use Rattle.tcap_refute.specs.Counts.{count};
 ghost use Rattle.tcap_refute.specs.Speaker.{Speaker as Speaking, back, began, goes_on_to, is_nothing, may_stand, own_id, speaker};

@@ -4,8 +4,8 @@ ghost use Rattle.std.specs.Prelude.{◌≡◌, ◌≤◌, ◌^◌, [], ◌∷◌
 ghost use Rattle.std.specs.List.{find};
 ghost use Rattle.tcap_end.specs.Table.{Table};
 ghost use Rattle.tcap_record.specs.declared.entry.End.{End as Side};
-ghost use Rattle.tcap_check.specs.World.{Item, Sent};
-ghost use Rattle.tcap_check.specs.Entries.{item_of};
+ghost use Rattle.tcap_model.specs.World.{Item, Sent};
+ghost use Rattle.tcap_model.specs.Entries.{item_of};
 ghost use Rattle.tcap_refute.specs.Before.{since_quiet};
 ghost use Rattle.tcap_refute.specs.declared.kind.Kind.TheVariants.{WrongReply};
 ghost use Rattle.tcap_refute.specs.Blame.{further_kinds, is_of_further_kind, is_wrong_reply, lowest_fault};

@@ -6,7 +6,7 @@ ghost use Rattle.std.specs.BTreeMap.{IsOrdered};
 ghost use Rattle.tcap_msg.specs.declared.kind.Kind.TheVariants as forms;
 ghost use Rattle.tcap_record.specs.declared.entry.End.{End as Side};
 ghost use Rattle.tcap_end.specs.Table.{Table, octets_cmp};
-ghost use Rattle.tcap_check.specs.World.{Item};
+ghost use Rattle.tcap_model.specs.World.{Item};
 ghost use Rattle.tcap_refute.specs.Before.{asked, is_a, sent_by};
 ghost use Rattle.tcap_refute.specs.Counts.{count};
 ghost use Rattle.tcap_refute.specs.Blame.{all_go_to_open, count_received, is_abort_with, is_open_at_mark, is_wrong_reply};

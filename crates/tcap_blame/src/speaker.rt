@@ -5,7 +5,7 @@ ghost use Rattle.std.specs.Option.{option_to_list};
 ghost use Rattle.tcap_msg.specs.declared.kind.Kind.TheVariants as forms;
 ghost use Rattle.tcap_record.specs.declared.entry.End.{End as Side};
 ghost use Rattle.tcap_end.specs.Table.{Table};
-ghost use Rattle.tcap_check.specs.World.{Item};
+ghost use Rattle.tcap_model.specs.World.{Item};
 ghost use Rattle.tcap_refute.specs.Before.{is_a};
 ghost use Rattle.tcap_refute.specs.Speaker.{known_own, own_id, speaker, speaker_by};
 ghost use Rattle.tcap_blame.specs.History.{IsHistory};

@@ -3,7 +3,7 @@
 ghost use Rattle.std.specs.Prelude.{◌≡◌, List, option_copied};
 ghost use Rattle.tcap_record.specs.declared.entry.End.{End as Side};
 ghost use Rattle.tcap_end.specs.Table.{Table};
-ghost use Rattle.tcap_check.specs.World.{Item};
+ghost use Rattle.tcap_model.specs.World.{Item};
 ghost use Rattle.tcap_blame.specs.History.{IsHistory};
 ghost use Rattle.tcap_blame.specs.Lookups.{IsThere, begun_there, came_there, continues_from, first_own, goes_from_other, may_stand, told_there, unknown_to, was_begun, was_begun_twice, was_refused, was_requested, was_spoken, went_on};
 

@@ -15,12 +15,13 @@ use Rattle.tcap_check.specs.declared.certificate.Fate.{Fate}
 use Rattle.tcap_check.specs.declared.certificate.Fate.TheVariants.{Gap, Lost, By}
 use Rattle.tcap_check.specs.Certificate.{Certificate}
 use Rattle.tcap_record.specs.Ends.{other}
-use Rattle.tcap_check.specs.World.{Item, OnItsWay, World, channel_from, empty, end_at, with_channel, with_end}
-use Rattle.tcap_check.specs.Run.{Event, Sends, Receives, Replies, Loses, Expires, Closes, Quiet, Tells, Runs, after, joined, played, reply_to}
+use Rattle.tcap_model.specs.World.{Item, OnItsWay, World, channel_from, empty, end_at, with_channel, with_end}
+use Rattle.tcap_model.specs.Run.{Event, Sends, Receives, Replies, Loses, Expires, Closes, Quiet, Tells, Runs, after, joined, played, reply_to}
 use Rattle.tcap_check.specs.Follows.{without_losses}
 use Rattle.tcap_check.specs.Replayed.{Replay, if_lost, lost_before, lost_from_both, lost_from_front, lost_front, stepped, with_step}
-use Rattle.tcap_check.proofs.ReplaySteps.{played_on, with_same, channel_with}
-use Rattle.tcap_check.proofs.RunLaws.{closing, delivery, expiry, loss, quiet, reply, then_some}
+use Rattle.tcap_model.proofs.RunLaws.{played_on}
+use Rattle.tcap_check.proofs.ReplaySteps.{with_same, channel_with}
+use Rattle.tcap_model.proofs.RunLaws.{closing, delivery, expiry, loss, quiet, reply, then_some}
 
 -- ---- messages that are not lost
 

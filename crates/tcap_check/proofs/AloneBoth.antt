@@ -15,13 +15,13 @@ use Rattle.tcap_end.specs.End.{End, all_closed}
 use Rattle.tcap_end.proofs.AnsweringLaws.{needs_ok, ok_same, some_ok, then_ok}
 use Rattle.tcap_check.specs.declared.certificate.Fate.{Fate}
 use Rattle.tcap_check.specs.declared.fault.CheckFault.{CheckFault}
-use Rattle.tcap_check.specs.declared.fault.Reason.{Reason}
-use Rattle.tcap_check.specs.declared.fault.Reason.TheVariants.{BadReply, FateCount, FateRange, NotQuiet, OutOfOrder}
+use Rattle.tcap_model.specs.declared.reason.Reason.{Reason}
+use Rattle.tcap_model.specs.declared.reason.Reason.TheVariants.{BadReply, FateCount, FateRange, NotQuiet, OutOfOrder}
 use Rattle.tcap_record.specs.Ends.{other}
-use Rattle.tcap_check.specs.World.{Item, Sent, World, end_at}
-use Rattle.tcap_check.specs.Run.{Event, Quiet, after}
+use Rattle.tcap_model.specs.World.{Item, Sent, World, end_at}
+use Rattle.tcap_model.specs.Run.{Event, Quiet, after}
 use Rattle.tcap_check.specs.Certificate.{Certificate}
-use Rattle.tcap_check.specs.Entries.{AreItems, item_of}
+use Rattle.tcap_model.specs.Entries.{AreItems, item_of}
 use Rattle.tcap_check.specs.Follows.{losses_from, lost_from, sending_by, taken_by}
 use Rattle.tcap_check.specs.Replayed.{Replay, certificate_fits, entries_replayed, entry_replayed, fault_at, gap_replayed, is_gap, is_nothing, is_overtaking, item_replayed, lost_from_both, lost_from_front, message_by, message_replayed, next_entry, nothing_replayed, quiet_replayed, replayed, sent_replayed, stepped}
 use Rattle.tcap_check.specs.Alone.{all_lost_from, closed_at_mark, entries_heard, gap_heard, item_heard, mark_replayed, own_replayed, replayed_for, tied_to_next, told_replayed}
@@ -32,7 +32,7 @@ use Rattle.tcap_check.proofs.GivenBound.{same_end}
 use Rattle.tcap_check.proofs.GivenRuns.{both_ok, gives}
 use Rattle.tcap_check.proofs.ReplayEntries.{item_replays, nothing_is}
 use Rattle.tcap_check.proofs.ReplayLaws.{gap_replays}
-use Rattle.tcap_check.proofs.RunLaws.{map_some}
+use Rattle.tcap_model.proofs.RunLaws.{map_some}
 use Rattle.tcap_check.proofs.AloneGaps.{gap_reflects}
 use Rattle.tcap_check.proofs.AloneMirrors.{Mirrors, Reflects, all_lost_mirrors, both_fronts_mirror, same_sent, seen_step}
 use Rattle.tcap_check.proofs.AloneTies.{IsReached, is_from, own_reflects, peer_mirrors, peer_ties, reached_on, told}

@@ -17,18 +17,19 @@ use Rattle.tcap_check.specs.declared.certificate.Expiry.{Expiry}
 use Rattle.tcap_check.specs.declared.certificate.Fate.{Fate}
 use Rattle.tcap_check.specs.declared.certificate.Fate.TheVariants.{Gap, Lost, By}
 use Rattle.tcap_check.specs.declared.fault.CheckFault.{CheckFault}
-use Rattle.tcap_check.specs.declared.fault.Reason.{Reason}
-use Rattle.tcap_check.specs.declared.fault.Reason.TheVariants.{BadReply, FateRange, HiddenRefused}
+use Rattle.tcap_model.specs.declared.reason.Reason.{Reason}
+use Rattle.tcap_model.specs.declared.reason.Reason.TheVariants.{BadReply, FateRange, HiddenRefused}
 use Rattle.tcap_record.specs.Ends.{other}
-use Rattle.tcap_check.specs.World.{Item, Sent, World, is_side, with_channel, with_end}
-use Rattle.tcap_check.specs.Run.{Event, Receives, Expires, Closes, after, then_so}
+use Rattle.tcap_model.specs.World.{Item, Sent, World, is_side, with_channel, with_end}
+use Rattle.tcap_model.specs.Run.{Event, Receives, Expires, Closes, after, then_so}
 use Rattle.tcap_check.specs.Certificate.{Certificate}
-use Rattle.tcap_check.specs.Follows.{closing_by, closing_event, expiry_by, expiry_event, half_begun, invoke_id, losses_from, named_entry, originating}
+use Rattle.tcap_model.specs.Since.{originating}
+use Rattle.tcap_check.specs.Follows.{closing_by, closing_event, expiry_by, expiry_event, half_begun, invoke_id, losses_from, named_entry}
 use Rattle.tcap_check.specs.Replayed.{Replay, closings_replayed, deliveries_replayed, delivery_replayed, expiries_replayed, fault_at, gap_replayed, happens, lost_before, lost_from_front, next_entry, stepped}
 use Rattle.tcap_check.specs.Alone.{deliveries_heard, delivery_heard, gap_heard, heard}
 use Rattle.tcap_check.proofs.DescribedGaps.{ok_some, ok_then}
 use Rattle.tcap_check.proofs.GivenLosses.{same_side}
-use Rattle.tcap_check.proofs.RunLaws.{closing, delivery, expiry, some_is, then_some, where_some}
+use Rattle.tcap_model.proofs.RunLaws.{closing, delivery, expiry, some_is, then_some, where_some}
 use Rattle.tcap_check.proofs.AloneMirrors.{Mirrors, Reflects, front_mirrors, own_front_mirrors, reflects_then, reflects_this, same_sent, seen_step, unseen_step}
 use Rattle.tcap_check.proofs.AloneViews.{seen_by, seen_closing, seen_delivery, seen_expiry, unseen_channel, unseen_end}
 

@@ -12,18 +12,18 @@ use Rattle.tcap_end.proofs.AnsweringLaws.{needs_ok, ok_same, then_ok}
 use Rattle.tcap_check.specs.declared.certificate.Fate.{Fate}
 use Rattle.tcap_check.specs.declared.certificate.Fate.TheVariants.{Gap, Lost, By}
 use Rattle.tcap_check.specs.declared.fault.CheckFault.{CheckFault}
-use Rattle.tcap_check.specs.declared.fault.Reason.{Reason}
-use Rattle.tcap_check.specs.declared.fault.Reason.TheVariants.{FateCount}
+use Rattle.tcap_model.specs.declared.reason.Reason.{Reason}
+use Rattle.tcap_model.specs.declared.reason.Reason.TheVariants.{FateCount}
 use Rattle.tcap_record.specs.Ends.{other}
-use Rattle.tcap_check.specs.World.{Item, OnItsWay, World, channel_from, empty, is_side}
-use Rattle.tcap_check.specs.Run.{Event, Sends, Receives, Replies, Loses, Expires, Closes, Quiet, Tells, Runs, numbers_of, numbers_taken, played}
+use Rattle.tcap_model.specs.World.{Item, OnItsWay, World, channel_from, empty, is_side}
+use Rattle.tcap_model.specs.Run.{Event, Sends, Receives, Replies, Loses, Expires, Closes, Quiet, Tells, Runs, numbers_of, numbers_taken, played}
 use Rattle.tcap_check.specs.Certificate.{Certificate}
-use Rattle.tcap_check.specs.Entries.{item_of}
+use Rattle.tcap_model.specs.Entries.{item_of}
 use Rattle.tcap_check.specs.Follows.{FatesFit, losses_from}
 use Rattle.tcap_check.specs.Replayed.{Replay, certificate_fits, fault_at, lost_from_front, next_entry, nothing_replayed}
-use Rattle.tcap_check.specs.Since.{WasSent}
+use Rattle.tcap_model.specs.Since.{WasSent}
 use Rattle.tcap_check.specs.Alone.{entries_heard, entry_heard, gap_heard, is_lost_from, replayed_for, unheard_of}
-use Rattle.tcap_check.proofs.ChannelLaws.{in_order, were_sent}
+use Rattle.tcap_model.proofs.ChannelLaws.{in_order, were_sent}
 use Rattle.tcap_check.proofs.GivenLosses.{all_numbered, fits_gap, fits_reply, is_lost, says_lost}
 use Rattle.tcap_check.proofs.GivenRuns.{are_fit, both_ok, front_empty}
 use Rattle.tcap_check.proofs.NumberLaws.{IsAmong, parts_apart}

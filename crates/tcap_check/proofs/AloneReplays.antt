@@ -17,16 +17,17 @@ use Rattle.tcap_check.specs.declared.certificate.Expiry.{Expiry}
 use Rattle.tcap_check.specs.declared.certificate.Fate.{Fate}
 use Rattle.tcap_check.specs.declared.certificate.Fate.TheVariants.{Gap, Lost, By}
 use Rattle.tcap_check.specs.declared.fault.CheckFault.{CheckFault}
-use Rattle.tcap_check.specs.declared.fault.Reason.{Reason}
-use Rattle.tcap_check.specs.declared.fault.Reason.TheVariants.{BadReply, FateCount, FateRange, NotQuiet, OutOfOrder}
+use Rattle.tcap_model.specs.declared.reason.Reason.{Reason}
+use Rattle.tcap_model.specs.declared.reason.Reason.TheVariants.{BadReply, FateCount, FateRange, NotQuiet, OutOfOrder}
 use Rattle.tcap_record.specs.Ends.{other}
-use Rattle.tcap_check.specs.World.{Item, Sent, end_at, is_side}
-use Rattle.tcap_check.specs.Run.{Event, Sends, Receives, Replies, Loses, Expires, Closes, Quiet, Tells, joined, then_so}
+use Rattle.tcap_model.specs.World.{Item, Sent, end_at, is_side}
+use Rattle.tcap_model.specs.Run.{Event, Sends, Receives, Replies, Loses, Expires, Closes, Quiet, Tells, joined, then_so}
 use Rattle.tcap_check.specs.Certificate.{Certificate}
-use Rattle.tcap_check.specs.Follows.{IsImplied, closing_by, closing_event, expiry_by, expiry_event, invoke_id, invoking_half, named_entry, originating, sending_by}
+use Rattle.tcap_model.specs.Since.{originating}
+use Rattle.tcap_check.specs.Follows.{IsImplied, closing_by, closing_event, expiry_by, expiry_event, invoke_id, invoking_half, named_entry, sending_by}
 use Rattle.tcap_check.specs.Replayed.{Replay, closings_replayed, expiries_replayed, fault_at, implied_over, is_gap, is_nothing, is_overtaking, lost_from_front, message_by, next_entry, stepped, with_step}
 use Rattle.tcap_check.specs.Alone.{all_lost_from, closed_at_mark, deliveries_heard, delivery_heard, entries_heard, entry_heard, gap_heard, heard, item_heard, mark_replayed, or_else, own_replayed, tied_to_next, told_replayed}
-use Rattle.tcap_check.proofs.RunLaws.{some_is, then_some, where_some}
+use Rattle.tcap_model.proofs.RunLaws.{some_is, then_some, where_some}
 use Rattle.tcap_check.proofs.GivenLosses.{same_side}
 use Rattle.tcap_check.proofs.ReplayEntries.{ok_item}
 use Rattle.tcap_check.proofs.ReplayLaws.{closings_replay, expiries_replay, implied_by, reply_replays, send_replays}

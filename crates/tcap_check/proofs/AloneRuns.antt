@@ -6,10 +6,10 @@ use Rattle.tcap_end.specs.Table.{Table}
 use Rattle.tcap_end.proofs.AnsweringLaws.{ok_same, then_ok}
 use Rattle.tcap_check.specs.declared.fault.CheckFault.{CheckFault}
 use Rattle.tcap_record.specs.Ends.{other}
-use Rattle.tcap_check.specs.World.{Item}
-use Rattle.tcap_check.specs.Run.{Event}
+use Rattle.tcap_model.specs.World.{Item}
+use Rattle.tcap_model.specs.Run.{Event}
 use Rattle.tcap_check.specs.Certificate.{Certificate}
-use Rattle.tcap_check.specs.Entries.{AreItems, count_components, item_of}
+use Rattle.tcap_model.specs.Entries.{AreItems, count_components, item_of}
 use Rattle.tcap_check.specs.Replayed.{Replay, certificate_fits, lost_from_front, nothing_replayed}
 use Rattle.tcap_check.specs.Alone.{entries_heard, replayed_for}
 use Rattle.tcap_check.specs.AloneGiven.{IsGivenFor}

@@ -13,11 +13,11 @@ use Rattle.tcap_check.specs.declared.certificate.Expiry.{Expiry}
 use Rattle.tcap_check.specs.declared.certificate.Fate.{Fate}
 use Rattle.tcap_check.specs.declared.certificate.Fate.TheVariants.{Gap, Lost, By}
 use Rattle.tcap_check.specs.declared.fault.CheckFault.{CheckFault}
-use Rattle.tcap_check.specs.declared.fault.Reason.{Reason}
-use Rattle.tcap_check.specs.declared.fault.Reason.TheVariants.{BadReply, FateCount, FateRange, NotQuiet, OutOfOrder}
+use Rattle.tcap_model.specs.declared.reason.Reason.{Reason}
+use Rattle.tcap_model.specs.declared.reason.Reason.TheVariants.{BadReply, FateCount, FateRange, NotQuiet, OutOfOrder}
 use Rattle.tcap_record.specs.Ends.{other}
-use Rattle.tcap_check.specs.World.{Item, Sent, is_side}
-use Rattle.tcap_check.specs.Run.{Event, Receives, Replies, Loses, after, numbers_taken, takes_from}
+use Rattle.tcap_model.specs.World.{Item, Sent, is_side}
+use Rattle.tcap_model.specs.Run.{Event, Receives, Replies, Loses, after, numbers_taken, takes_from}
 use Rattle.tcap_check.specs.Certificate.{Certificate}
 use Rattle.tcap_check.specs.Follows.{sending_by, taken_by}
 use Rattle.tcap_check.specs.Replayed.{Replay, closings_replayed, expiries_replayed, fault_at, is_gap, is_nothing, is_overtaking, lost_from_front, message_by, next_entry, reply_replayed, stepped}
@@ -28,7 +28,7 @@ use Rattle.tcap_check.proofs.NumberLaws.{IsAmong, among_plain, taken_left, taken
 use Rattle.tcap_check.proofs.ReplayEntries.{nothing_is}
 use Rattle.tcap_check.proofs.ReplayGaps.{get_before}
 use Rattle.tcap_check.proofs.ReplayLaws.{reply_replays}
-use Rattle.tcap_check.proofs.RunLaws.{map_some}
+use Rattle.tcap_model.proofs.RunLaws.{map_some}
 use Rattle.tcap_check.proofs.AloneReplays.{deliveries_lead, entries_lead, gap_leads, item_leads, mark_rest, own_rest, peer_rest}
 use Rattle.tcap_check.proofs.AloneSteps.{Leads, all_lost_leads}
 use Rattle.tcap_check.proofs.AloneTies.{is_from, is_same}

@@ -16,9 +16,9 @@ use Rattle.tcap_end.specs.Hidden.{close, expire}
 use Rattle.tcap_end.specs.Message.{receive}
 use Rattle.tcap_end.specs.Step.{needs, ◌>>◌}
 use Rattle.tcap_record.specs.Ends.{other}
-use Rattle.tcap_check.specs.World.{Item, OnItsWay, World, channel_from, end_at, with_channel, with_end}
-use Rattle.tcap_check.specs.Run.{Receives, Replies, Expires, Closes, Quiet, after, after_quiet, joined, reply_to, then_so}
-use Rattle.tcap_check.proofs.RunLaws.{closing, delivery, quiet, reply}
+use Rattle.tcap_model.specs.World.{Item, OnItsWay, World, channel_from, end_at, with_channel, with_end}
+use Rattle.tcap_model.specs.Run.{Receives, Replies, Expires, Closes, Quiet, after, after_quiet, joined, reply_to, then_so}
+use Rattle.tcap_model.proofs.RunLaws.{closing, delivery, quiet, reply}
 
 -- what is left of a world for that end
 abbrev pub seen_by : Side → World → World

@@ -11,15 +11,15 @@ use Rattle.tcap_end.specs.End.{End}
 use Rattle.tcap_end.specs.Message.{send}
 use Rattle.tcap_end.specs.Table.{Table}
 use Rattle.tcap_record.specs.Ends.{other}
-use Rattle.tcap_check.specs.World.{Item, OnItsWay, Sent, World, channel_from, empty, with_end}
-use Rattle.tcap_check.specs.Run.{Event, Sends, Receives, Replies, Loses, Expires, Closes, Quiet, Tells, IsRunOf, Runs, after, joined, numbers_of, numbers_sent, numbers_taken, played, then_so}
+use Rattle.tcap_model.specs.World.{Item, OnItsWay, Sent, World, channel_from, empty, with_end}
+use Rattle.tcap_model.specs.Run.{Event, Sends, Receives, Replies, Loses, Expires, Closes, Quiet, Tells, IsRunOf, Runs, after, joined, numbers_of, numbers_sent, numbers_taken, played, then_so}
 use Rattle.tcap_check.specs.Certificate.{Certificate, IsPrompt, prompt}
 use Rattle.tcap_check.specs.Follows.{Follows, IsPlain, deliveries, is_loss, losses_from, without_losses}
 use Rattle.tcap_check.specs.Given.{DeliversAtOnce, IsSeen, is_over_or_sends}
-use Rattle.tcap_check.proofs.ListLaws.{all_weaker}
-use Rattle.tcap_check.proofs.RunLaws.{IsDelivery, delivery, grows, quiet, reply, sending}
-use Rattle.tcap_check.proofs.ReplaySteps.{played_on}
-use Rattle.tcap_check.proofs.ChannelLaws.{are_whole}
+use Rattle.tcap_model.proofs.ListLaws.{all_weaker}
+use Rattle.tcap_model.proofs.RunLaws.{IsDelivery, delivery, grows, quiet, reply, sending}
+use Rattle.tcap_model.proofs.RunLaws.{played_on}
+use Rattle.tcap_model.proofs.ChannelLaws.{are_whole}
 use Rattle.tcap_check.proofs.PromptLaws.{prompt_plain}
 use Rattle.tcap_check.proofs.AtOnceRuns.{Prompt, balanced, delivery_of, event_of, fates_count, fates_in, fates_prompt, follows_prompt, has_no_cause, none_before, prompt_behind, prompt_follows, sent_both, sent_in}
 use Rattle.tcap_check.proofs.PromptLaws.{none_lost}

@@ -7,10 +7,10 @@ use Rattle.tcap_check.specs.declared.certificate.Fate.{Fate}
 use Rattle.tcap_end.specs.Step.{◌>>◌, ◌>>=◌}
 use Rattle.tcap_check.specs.declared.checker.Report.{Report}
 use Rattle.tcap_check.specs.declared.fault.CheckFault.{CheckFault}
-use Rattle.tcap_check.specs.declared.fault.Reason.{Reason}
+use Rattle.tcap_model.specs.declared.reason.Reason.{Reason}
 use Rattle.tcap_check.specs.declared.progress.Progress.{Progress}
-use Rattle.tcap_check.specs.World.{Item}
-use Rattle.tcap_check.specs.Run.{Event}
+use Rattle.tcap_model.specs.World.{Item}
+use Rattle.tcap_model.specs.Run.{Event}
 use Rattle.tcap_check.specs.Certificate.{Certificate}
 use Rattle.tcap_check.specs.Replayed.{Replay, certificate_fits, entries_replayed, lost_from_both, nothing_replayed}
 use Rattle.tcap_check.specs.Progress.{nothing_kept}

@@ -16,22 +16,22 @@ use Rattle.tcap_end.specs.End.{End}
 use Rattle.tcap_end.specs.Table.{Table}
 use Rattle.tcap_end.specs.Message.{send}
 use Rattle.tcap_end.specs.Sound.{IsEnd}
-use Rattle.tcap_check.specs.World.{Item, Sent, World, end_at, with_end}
-use Rattle.tcap_check.specs.Run.{Event, Sends, Receives, Replies, Loses, Expires, Closes, Quiet, Tells, after, joined, played, then_so}
+use Rattle.tcap_model.specs.World.{Item, Sent, World, end_at, with_end}
+use Rattle.tcap_model.specs.Run.{Event, Sends, Receives, Replies, Loses, Expires, Closes, Quiet, Tells, after, joined, played, then_so}
 use Rattle.tcap_check.specs.declared.certificate.Fate.{Fate}
 use Rattle.tcap_check.specs.declared.certificate.Fate.TheVariants.{By}
 use Rattle.tcap_check.specs.declared.fault.CheckFault.{CheckFault}
-use Rattle.tcap_check.specs.declared.fault.Reason.TheVariants.{BadReply}
+use Rattle.tcap_model.specs.declared.reason.Reason.TheVariants.{BadReply}
 use Rattle.tcap_check.specs.Certificate.{Certificate}
 use Rattle.tcap_check.specs.Follows.{IsImplied, invoke_id, invoking_half, sending, sending_by, taken_by}
 use Rattle.tcap_check.specs.Replayed.{Replay, fault_at, happens, implied, implied_over, is_abort, lost_before, message_by, message_replayed, next_entry, or_same, reply_replayed, send_replayed, stepped, with_step}
-use Rattle.tcap_check.proofs.ChannelLaws.{get_new}
-use Rattle.tcap_check.proofs.RunLaws.{expiry, grows, map_some, sending as sending_of, sound}
+use Rattle.tcap_model.proofs.ChannelLaws.{get_new}
+use Rattle.tcap_model.proofs.RunLaws.{expiry, grows, map_some, sending as sending_of, sound}
 use Rattle.tcap_check.proofs.ReplayLaws.{reply_replays, send_replays}
 use Rattle.tcap_check.proofs.ImpliedLaws.{implied_same}
 use Rattle.tcap_check.proofs.AlikeLaws.{Ahead, Alike, alike_end, alike_joined, to_same, ends_same, expires_goes, go_on, next_step, replies_goes}
 use Rattle.tcap_check.proofs.DescribedGaps.{from_start, ok_needs, ok_some, ok_then, plain, plain_more, plain_step, some_same, taken_are}
-use Rattle.tcap_check.proofs.RunLaws.{then_some}
+use Rattle.tcap_model.proofs.RunLaws.{then_some}
 
 -- ---- a message
 

@@ -9,11 +9,11 @@ use Rattle.tcap_end.specs.Step.{◌>>◌, ◌>>=◌}
 use Rattle.tcap_check.specs.declared.certificate.Fate.{Fate}
 use Rattle.tcap_check.specs.declared.end_checker.EndReport.{EndReport}
 use Rattle.tcap_check.specs.declared.fault.CheckFault.{CheckFault}
-use Rattle.tcap_check.specs.declared.fault.Reason.{Reason}
+use Rattle.tcap_model.specs.declared.reason.Reason.{Reason}
 use Rattle.tcap_check.specs.declared.hearing.Hearing.{Hearing}
 use Rattle.tcap_record.specs.Ends.{other}
-use Rattle.tcap_check.specs.World.{Item, OnItsWay, channel_from}
-use Rattle.tcap_check.specs.Run.{Event}
+use Rattle.tcap_model.specs.World.{Item, OnItsWay, channel_from}
+use Rattle.tcap_model.specs.Run.{Event}
 use Rattle.tcap_check.specs.Certificate.{Certificate}
 use Rattle.tcap_check.specs.Alone.{entries_heard, heard_by, is_lost_from, steps_of}
 use Rattle.tcap_check.specs.Replayed.{Replay, certificate_fits, lost_from_front, nothing_replayed}

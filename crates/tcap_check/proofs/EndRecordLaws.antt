@@ -6,11 +6,11 @@ use Rattle.tcap_end.specs.Table.{Table}
 use Rattle.tcap_end.specs.Step.{◌>>=◌}
 use Rattle.tcap_check.specs.declared.end_checker.EndReport.{EndReport}
 use Rattle.tcap_check.specs.declared.fault.CheckFault.{CheckFault}
-use Rattle.tcap_check.specs.declared.fault.Reason.{Reason}
-use Rattle.tcap_check.specs.World.{Item}
-use Rattle.tcap_check.specs.Run.{Event, IsLawfulFor}
+use Rattle.tcap_model.specs.declared.reason.Reason.{Reason}
+use Rattle.tcap_model.specs.World.{Item}
+use Rattle.tcap_model.specs.Run.{Event, IsLawfulFor}
 use Rattle.tcap_check.specs.Certificate.{Certificate}
-use Rattle.tcap_check.specs.Entries.{AreItems}
+use Rattle.tcap_model.specs.Entries.{AreItems}
 use Rattle.tcap_check.specs.Alone.{heard_by, replayed_for}
 use Rattle.tcap_check.specs.Replayed.{Replay}
 use Rattle.tcap_check.specs.Checking.{answer_of, map_ok}

@@ -30,20 +30,7 @@ use Rattle.tcap_end.proofs.FoundLaws.{named_has, octets_total}
 use Rattle.tcap_end.proofs.HiddenLaws.{invoked_ends}
 use Rattle.tcap_end.proofs.MapLaws.{behind_first, insert_twice, keys_eq}
 use Rattle.tcap_check.specs.Given.{IsInUse}
-
--- ---- lists
-
--- An element is the first one, or one of the others.
-pub contains_first : {A : Type 0} (x : A) (xs : List A) (y : A) → Contains (x ∷ xs) y → (x ≡ y) ⊎ Contains xs y
-contains_first x xs y h = by (Contains-append_cases (x ∷ []) xs y h)
-  where
-    one : (k : ℕ) → k < 1 → get_or (x ∷ []) k y ≡ y → x ≡ y
-    one zero lt is = is
-    one (suc k) lt is = absurd (omega arith)
-
-    by : Contains (x ∷ []) y ⊎ Contains xs y → (x ≡ y) ⊎ Contains xs y
-    by (inl g) = inl (one g.0 g.1 g.2)
-    by (inr g) = inr g
+use Rattle.tcap_model.proofs.ListLaws.{contains_first}
 
 -- ---- entries by key
 

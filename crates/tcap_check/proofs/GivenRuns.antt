@@ -15,16 +15,16 @@ use Rattle.tcap_end.specs.Step.{◌>>◌}
 use Rattle.tcap_end.specs.Table.{Table}
 use Rattle.tcap_end.proofs.AnsweringLaws.{ok_same, then_ok}
 use Rattle.tcap_record.specs.Ends.{other}
-use Rattle.tcap_check.specs.World.{Item, OnItsWay, Sent, World, channel_from, is_side}
-use Rattle.tcap_check.specs.Run.{BothKeepRules, Event, Receives, Runs, numbers_taken, takes_from}
+use Rattle.tcap_model.specs.World.{Item, OnItsWay, Sent, World, channel_from, is_side}
+use Rattle.tcap_model.specs.Run.{BothKeepRules, Event, Receives, Runs, numbers_taken, takes_from}
 use Rattle.tcap_check.specs.declared.certificate.Closing.{Closing}
 use Rattle.tcap_check.specs.declared.certificate.Expiry.{Expiry}
 use Rattle.tcap_check.specs.declared.certificate.Fate.{Fate}
 use Rattle.tcap_check.specs.declared.certificate.Fate.TheVariants.{Gap, Lost, By}
 use Rattle.tcap_check.specs.declared.fault.CheckFault.{CheckFault}
-use Rattle.tcap_check.specs.declared.fault.Reason.{Reason}
+use Rattle.tcap_model.specs.declared.reason.Reason.{Reason}
 use Rattle.tcap_check.specs.Certificate.{Certificate}
-use Rattle.tcap_check.specs.Entries.{AreItems, IsItem, count_components, item_by, item_of}
+use Rattle.tcap_model.specs.Entries.{AreItems, IsItem, count_components, item_by, item_of}
 use Rattle.tcap_check.specs.Follows.{FatesFit, Follows, FollowsFrom, deliveries, taken_by, without_losses}
 use Rattle.tcap_check.specs.Given.{IsGiven}
 use Rattle.tcap_check.specs.Replayed.{Replay, all_fit, certificate_fits, entries_replayed, fates_fit, if_lost, lost_from_both, lost_front, nothing_replayed, replayed}

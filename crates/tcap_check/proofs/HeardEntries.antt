@@ -7,13 +7,13 @@ use Rattle.tcap_end.specs.Table.{Table}
 use Rattle.tcap_end.specs.Step.{needs, ◌>>◌, ◌>>=◌}
 use Rattle.tcap_check.specs.declared.certificate.Fate.{Fate}
 use Rattle.tcap_check.specs.declared.fault.CheckFault.{CheckFault}
-use Rattle.tcap_check.specs.declared.fault.Reason.{Reason}
-use Rattle.tcap_check.specs.declared.fault.Reason.TheVariants.{BadReply, FateCount, FateRange, OutOfOrder}
+use Rattle.tcap_model.specs.declared.reason.Reason.{Reason}
+use Rattle.tcap_model.specs.declared.reason.Reason.TheVariants.{BadReply, FateCount, FateRange, OutOfOrder}
 use Rattle.tcap_check.specs.declared.hearing.Hearing.{Hearing}
 use Rattle.tcap_check.specs.declared.outline.Outline.{Outline}
 use Rattle.tcap_record.specs.Ends.{other}
-use Rattle.tcap_check.specs.World.{Item, Sent, channel_from, is_side}
-use Rattle.tcap_check.specs.Run.{Tells, joined}
+use Rattle.tcap_model.specs.World.{Item, Sent, channel_from, is_side}
+use Rattle.tcap_model.specs.Run.{Tells, joined}
 use Rattle.tcap_check.specs.Certificate.{Certificate}
 use Rattle.tcap_check.specs.Follows.{sending_by, taken_by}
 use Rattle.tcap_check.specs.Alone.{all_lost_from, entries_heard, entry_heard, gap_heard, is_sent_by, item_heard, mark_replayed, own_replayed, tied_to_next, told_replayed}

@@ -12,7 +12,7 @@ use Rattle.tcap_check.specs.declared.hearing.Hearing.{Hearing}
 use Rattle.tcap_check.specs.declared.outline.Outline.{Outline}
 use Rattle.tcap_check.specs.declared.progress.Progress.{Progress}
 use Rattle.tcap_record.specs.Ends.{other}
-use Rattle.tcap_check.specs.World.{Item, is_side}
+use Rattle.tcap_model.specs.World.{Item, is_side}
 use Rattle.tcap_check.specs.Certificate.{Certificate}
 use Rattle.tcap_check.specs.Replayed.{Replay, closings_replayed, expiries_replayed, next_entry}
 use Rattle.tcap_check.specs.Alone.{deliveries_heard, gap_heard}
@@ -21,7 +21,7 @@ use Rattle.tcap_check.specs.Progress.{closings_kept, due_in, expiries_kept}
 use Rattle.tcap_check.specs.Checking.{map_ok, progress_of}
 use Rattle.tcap_check.specs.Hearing.{all_heard, gap_passed, own_closings, own_expiries, told_among, with_progress}
 use Rattle.tcap_check.specs.EndChecking.{all_lost, hearing_of}
-use Rattle.tcap_check.proofs.ListLaws.{all_weaker}
+use Rattle.tcap_model.proofs.ListLaws.{all_weaker}
 use Rattle.tcap_check.proofs.KeptBasics.{then_is}
 use Rattle.tcap_check.proofs.KeptEntries.{map_both, then_then}
 use Rattle.tcap_check.proofs.KeptHidden.{IsListed, closings_from, closings_listed, each_passing, expiries_from, expiries_listed, outlines_count}

@@ -12,13 +12,13 @@ use Rattle.tcap_end.specs.Table.{Table}
 use Rattle.tcap_end.specs.Step.{needs, ◌>>◌, ◌>>=◌}
 use Rattle.tcap_end.proofs.AnsweringLaws.{needs_ok, ok_same, some_ok, then_ok}
 use Rattle.tcap_check.specs.declared.fault.CheckFault.{CheckFault}
-use Rattle.tcap_check.specs.declared.fault.Reason.TheVariants.{NotQuiet}
+use Rattle.tcap_model.specs.declared.reason.Reason.TheVariants.{NotQuiet}
 use Rattle.tcap_check.specs.declared.hearing.Hearing.{Hearing}
 use Rattle.tcap_check.specs.declared.progress.Progress.{Progress}
 use Rattle.tcap_check.specs.declared.progress.Waiting.{Waiting}
 use Rattle.tcap_record.specs.Ends.{other}
-use Rattle.tcap_check.specs.World.{Item, OnItsWay, World, channel_from, end_at, with_end}
-use Rattle.tcap_check.specs.Run.{Event, Closes, Quiet, after}
+use Rattle.tcap_model.specs.World.{Item, OnItsWay, World, channel_from, end_at, with_end}
+use Rattle.tcap_model.specs.Run.{Event, Closes, Quiet, after}
 use Rattle.tcap_check.specs.Certificate.{Certificate}
 use Rattle.tcap_check.specs.Alone.{closed_at_mark}
 use Rattle.tcap_check.specs.Replayed.{Replay, fault_at, happens, is_nothing, lost_from_both, lost_from_front, next_entry, refused, stepped, with_step}
@@ -26,7 +26,7 @@ use Rattle.tcap_check.specs.Progress.{both_quiet, is_empty, mark_kept, moved, se
 use Rattle.tcap_check.specs.Checking.{count_lost, map_ok, progress_of, waiting}
 use Rattle.tcap_check.specs.Hearing.{mark_by, mark_taken, quieted, with_progress}
 use Rattle.tcap_check.specs.EndChecking.{all_lost, count_losses, hearing_of}
-use Rattle.tcap_check.proofs.RunLaws.{map_some, quiet as quiet_step}
+use Rattle.tcap_model.proofs.RunLaws.{map_some, quiet as quiet_step}
 use Rattle.tcap_check.proofs.KeptBasics.{end_kept, waiting_kept}
 use Rattle.tcap_check.proofs.KeptEntries.{map_both, mark_by_is}
 use Rattle.tcap_check.proofs.HeardLost.{end_is_moved, end_stays}

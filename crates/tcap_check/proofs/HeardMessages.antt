@@ -14,12 +14,12 @@ use Rattle.tcap_end.proofs.AnsweringLaws.{needs_ok, ok_same, some_ok, then_ok}
 use Rattle.tcap_check.specs.declared.certificate.Fate.{Fate}
 use Rattle.tcap_check.specs.declared.certificate.Fate.TheVariants.{Gap, Lost, By}
 use Rattle.tcap_check.specs.declared.fault.CheckFault.{CheckFault}
-use Rattle.tcap_check.specs.declared.fault.Reason.TheVariants.{BadReply}
+use Rattle.tcap_model.specs.declared.reason.Reason.TheVariants.{BadReply}
 use Rattle.tcap_check.specs.declared.hearing.Hearing.{Hearing}
 use Rattle.tcap_check.specs.declared.progress.Progress.{Progress}
 use Rattle.tcap_record.specs.Ends.{other}
-use Rattle.tcap_check.specs.World.{OnItsWay, Sent, World, channel_from, end_at, with_channel, with_end}
-use Rattle.tcap_check.specs.Run.{Event, Sends, Receives, Replies, Loses, Expires, Closes, Quiet, Tells, after, joined, numbers_of}
+use Rattle.tcap_model.specs.World.{OnItsWay, Sent, World, channel_from, end_at, with_channel, with_end}
+use Rattle.tcap_model.specs.Run.{Event, Sends, Receives, Replies, Loses, Expires, Closes, Quiet, Tells, after, joined, numbers_of}
 use Rattle.tcap_check.specs.Certificate.{Certificate}
 use Rattle.tcap_check.specs.Follows.{invoking_half, sending_by}
 use Rattle.tcap_check.specs.Alone.{all_lost_from}
@@ -28,7 +28,7 @@ use Rattle.tcap_check.specs.Progress.{message_kept, sent_by}
 use Rattle.tcap_check.specs.Checking.{count_lost, lost_by, map_ok, progress_of, waiting, waiting_by}
 use Rattle.tcap_check.specs.Hearing.{own_counted, own_taken, told_taken, told_with, unheard_with}
 use Rattle.tcap_check.specs.EndChecking.{all_lost, count_losses, hearing_of}
-use Rattle.tcap_check.proofs.RunLaws.{map_some, reply}
+use Rattle.tcap_model.proofs.RunLaws.{map_some, reply}
 use Rattle.tcap_check.proofs.ReplaySteps.{channel_with}
 use Rattle.tcap_check.proofs.KeptMessages.{message_by_is}
 use Rattle.tcap_check.proofs.KeptSends.{joined_is, lost_more, lost_one}

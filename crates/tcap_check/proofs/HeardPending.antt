@@ -21,19 +21,19 @@ use Rattle.tcap_check.specs.declared.certificate.Expiry.{Expiry}
 use Rattle.tcap_check.specs.declared.certificate.Fate.{Fate}
 use Rattle.tcap_check.specs.declared.certificate.Fate.TheVariants.{Gap, Lost, By}
 use Rattle.tcap_check.specs.declared.fault.CheckFault.{CheckFault}
-use Rattle.tcap_check.specs.declared.fault.Reason.{Reason}
-use Rattle.tcap_check.specs.declared.fault.Reason.TheVariants.{BadReply, FateCount, FateRange, NotQuiet, OutOfOrder}
+use Rattle.tcap_model.specs.declared.reason.Reason.{Reason}
+use Rattle.tcap_model.specs.declared.reason.Reason.TheVariants.{BadReply, FateCount, FateRange, NotQuiet, OutOfOrder}
 use Rattle.tcap_check.specs.declared.progress.Waiting.{Waiting}
 use Rattle.tcap_record.specs.Ends.{other}
-use Rattle.tcap_check.specs.World.{Item, OnItsWay, Sent, World, channel_from, end_at, is_side, with_channel, with_end}
-use Rattle.tcap_check.specs.Run.{Event, Closes, Sends, Receives, Replies, Loses, Quiet, Tells, after, joined}
+use Rattle.tcap_model.specs.World.{Item, OnItsWay, Sent, World, channel_from, end_at, is_side, with_channel, with_end}
+use Rattle.tcap_model.specs.Run.{Event, Closes, Sends, Receives, Replies, Loses, Quiet, Tells, after, joined}
 use Rattle.tcap_check.specs.Certificate.{Certificate}
 use Rattle.tcap_check.specs.Follows.{FatesFit, invoking_half, sending_by, taken_by}
 use Rattle.tcap_check.specs.Alone.{all_lost_from, closed_at_mark, deliveries_heard, delivery_heard, entries_heard, entry_heard, gap_heard, heard, item_heard, mark_replayed, or_else, own_replayed, tied_to_next, told_replayed}
 use Rattle.tcap_check.specs.Replayed.{Replay, certificate_fits, closings_replayed, expiries_replayed, fault_at, happens, implied_over, is_abort, is_gap, is_nothing, is_overtaking, lost_from_front, lost_front, message_by, next_entry, nothing_replayed, send_replayed, sent_or_refused, stepped, with_step}
 use Rattle.tcap_check.specs.Checking.{waiting}
 use Rattle.tcap_check.specs.EndChecking.{heard_ended, heard_from, heard_next, heard_of}
-use Rattle.tcap_check.proofs.RunLaws.{delivery, loss, map_some, quiet as quiet_step, reply}
+use Rattle.tcap_model.proofs.RunLaws.{delivery, loss, map_some, quiet as quiet_step, reply}
 use Rattle.tcap_check.proofs.PendingLaws.{IsAhead, ahead}
 use Rattle.tcap_check.proofs.ReplaySteps.{channel_with}
 use Rattle.tcap_check.proofs.ReplayEntries.{nothing_is}

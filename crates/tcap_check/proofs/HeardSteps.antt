@@ -9,8 +9,8 @@ use Rattle.tcap_check.specs.declared.hearing.Hearing.{Hearing}
 use Rattle.tcap_check.specs.declared.progress.Progress.{Progress}
 use Rattle.tcap_check.specs.declared.progress.Waiting.{Waiting}
 use Rattle.tcap_record.specs.Ends.{other}
-use Rattle.tcap_check.specs.World.{OnItsWay, World, channel_from, is_side, with_channel, with_end}
-use Rattle.tcap_check.specs.Run.{Event, Loses}
+use Rattle.tcap_model.specs.World.{OnItsWay, World, channel_from, is_side, with_channel, with_end}
+use Rattle.tcap_model.specs.Run.{Event, Loses}
 use Rattle.tcap_check.specs.Certificate.{Certificate}
 use Rattle.tcap_check.specs.Alone.{is_lost_from}
 use Rattle.tcap_check.specs.Replayed.{Replay, lost_from_front, lost_front, with_step}

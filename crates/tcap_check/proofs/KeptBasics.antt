@@ -10,10 +10,10 @@ use Rattle.tcap_check.specs.declared.progress.Progress.{Progress}
 use Rattle.tcap_check.specs.declared.progress.Seat.{Seat}
 use Rattle.tcap_check.specs.declared.progress.Waiting.{Waiting}
 use Rattle.tcap_record.specs.Ends.{other}
-use Rattle.tcap_check.specs.World.{OnItsWay, channel_from, end_at, with_channel, with_end}
-use Rattle.tcap_check.specs.Run.{Event, Loses, Receives}
+use Rattle.tcap_model.specs.World.{OnItsWay, channel_from, end_at, with_channel, with_end}
+use Rattle.tcap_model.specs.Run.{Event, Loses, Receives}
 use Rattle.tcap_check.specs.declared.fault.CheckFault.{CheckFault}
-use Rattle.tcap_check.specs.declared.fault.Reason.TheVariants.{BadReply}
+use Rattle.tcap_model.specs.declared.reason.Reason.TheVariants.{BadReply}
 use Rattle.tcap_end.specs.declared.fault.EndFault.{EndFault}
 use Rattle.tcap_end.specs.Message.{receive}
 use Rattle.tcap_end.specs.Step.{needs, ◌>>◌, ◌>>=◌}

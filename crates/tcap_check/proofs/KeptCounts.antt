@@ -6,12 +6,12 @@ use Rattle.tcap_msg.specs.declared.message.Message.{Message}
 use Rattle.tcap_record.specs.declared.entry.End.{End as Side}
 use Rattle.tcap_record.specs.declared.entry.End.TheVariants as sides
 use Rattle.tcap_end.specs.End.{End}
-use Rattle.tcap_check.specs.declared.fault.Reason.{Reason}
+use Rattle.tcap_model.specs.declared.reason.Reason.{Reason}
 use Rattle.tcap_check.specs.declared.certificate.Fate.{Fate}
 use Rattle.tcap_check.specs.declared.certificate.Fate.TheVariants.{Gap, Lost, By}
 use Rattle.tcap_check.specs.declared.progress.Waiting.{Waiting}
-use Rattle.tcap_check.specs.World.{Item, OnItsWay, Sent, World, channel_from, with_channel, with_end}
-use Rattle.tcap_check.specs.Run.{joined}
+use Rattle.tcap_model.specs.World.{Item, OnItsWay, Sent, World, channel_from, with_channel, with_end}
+use Rattle.tcap_model.specs.Run.{joined}
 use Rattle.tcap_check.specs.Certificate.{Certificate}
 use Rattle.tcap_check.specs.Follows.{FatesFit, taken_by}
 use Rattle.tcap_check.specs.Replayed.{Replay, if_lost, lost_from_front, lost_front}

@@ -10,13 +10,13 @@ use Rattle.tcap_end.specs.End.{End, quiet}
 use Rattle.tcap_end.specs.Step.{needs, ◌>>◌, ◌>>=◌}
 use Rattle.tcap_check.specs.declared.certificate.Fate.{Fate}
 use Rattle.tcap_check.specs.declared.fault.CheckFault.{CheckFault}
-use Rattle.tcap_check.specs.declared.fault.Reason.{Reason}
-use Rattle.tcap_check.specs.declared.fault.Reason.TheVariants.{FateCount, FateRange, NotQuiet, OutOfOrder}
+use Rattle.tcap_model.specs.declared.reason.Reason.{Reason}
+use Rattle.tcap_model.specs.declared.reason.Reason.TheVariants.{FateCount, FateRange, NotQuiet, OutOfOrder}
 use Rattle.tcap_check.specs.declared.outline.Outline.{Outline}
 use Rattle.tcap_check.specs.declared.progress.Progress.{Progress}
 use Rattle.tcap_check.specs.declared.progress.Waiting.{Waiting}
-use Rattle.tcap_check.specs.World.{Item, Sent}
-use Rattle.tcap_check.specs.Run.{Quiet}
+use Rattle.tcap_model.specs.World.{Item, Sent}
+use Rattle.tcap_model.specs.Run.{Quiet}
 use Rattle.tcap_check.specs.Certificate.{Certificate}
 use Rattle.tcap_check.specs.Follows.{taken_by}
 use Rattle.tcap_check.specs.Replayed.{Replay, certificate_fits, closings_replayed, deliveries_replayed, entries_replayed, entry_replayed, expiries_replayed, fault_at, gap_replayed, happens, is_gap, is_nothing, is_overtaking, item_replayed, lost_from_both, lost_from_front, message_replayed, next_entry, nothing_replayed}

@@ -20,18 +20,18 @@ use Rattle.tcap_end.specs.Reply.{aborts, is_open}
 use Rattle.tcap_end.specs.Step.{needs, ◌>>◌}
 use Rattle.tcap_check.specs.declared.certificate.Fate.{Fate}
 use Rattle.tcap_check.specs.declared.fault.CheckFault.{CheckFault}
-use Rattle.tcap_check.specs.declared.fault.Reason.TheVariants.{SendRefused}
+use Rattle.tcap_model.specs.declared.reason.Reason.TheVariants.{SendRefused}
 use Rattle.tcap_check.specs.declared.progress.Progress.{Progress}
 use Rattle.tcap_check.specs.declared.progress.Waiting.{Waiting}
 use Rattle.tcap_record.specs.Ends.{other}
-use Rattle.tcap_check.specs.World.{OnItsWay, Sent, World, channel_from, end_at, with_channel, with_end}
-use Rattle.tcap_check.specs.Run.{Sends, Replies, Expires, joined, may_refuse, provider_abort, reply_to, where_so}
+use Rattle.tcap_model.specs.World.{OnItsWay, Sent, World, channel_from, end_at, with_channel, with_end}
+use Rattle.tcap_model.specs.Run.{Sends, Replies, Expires, joined, may_refuse, provider_abort, reply_to, where_so}
 use Rattle.tcap_check.specs.Certificate.{Certificate}
 use Rattle.tcap_check.specs.Follows.{invoke_id, invoking_half, sending_by, taken_by}
 use Rattle.tcap_check.specs.Replayed.{Replay, implied, implied_over, lost_from_front, message_by, message_replayed, next_entry, or_same, refused, reply_replayed, send_replayed, sent_or_refused, stepped}
 use Rattle.tcap_check.specs.Progress.{end_tried, first_answered, ids_ended, ids_ended_over, message_kept, or_still, seat_at, send_kept, sent_by, sent_or_not, with_seat_end}
 use Rattle.tcap_check.specs.Checking.{map_ok, progress_of, waiting}
-use Rattle.tcap_check.proofs.ChannelLaws.{get_new}
+use Rattle.tcap_model.proofs.ChannelLaws.{get_new}
 use Rattle.tcap_check.proofs.ReplayLaws.{abort_of}
 use Rattle.tcap_check.proofs.KeptBasics.{HasFront, end_kept, end_step_is, front_is, front_none, head_taken_is, waiting_kept}
 use Rattle.tcap_check.proofs.KeptSends.{joined_is}

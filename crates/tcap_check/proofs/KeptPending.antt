@@ -10,12 +10,12 @@ use Rattle.tcap_end.specs.Table.{Table}
 use Rattle.tcap_end.specs.Step.{◌>>◌}
 use Rattle.tcap_end.proofs.AnsweringLaws.{needs_ok, ok_same, some_ok, then_ok}
 use Rattle.tcap_check.specs.declared.fault.CheckFault.{CheckFault}
-use Rattle.tcap_check.specs.declared.fault.Reason.{Reason}
-use Rattle.tcap_check.specs.declared.fault.Reason.TheVariants.{FateCount, FateRange, NotQuiet, OutOfOrder}
+use Rattle.tcap_model.specs.declared.reason.Reason.{Reason}
+use Rattle.tcap_model.specs.declared.reason.Reason.TheVariants.{FateCount, FateRange, NotQuiet, OutOfOrder}
 use Rattle.tcap_check.specs.declared.certificate.Fate.{Fate}
 use Rattle.tcap_check.specs.declared.certificate.Fate.TheVariants.{Gap, Lost, By}
-use Rattle.tcap_check.specs.World.{Item, OnItsWay, Sent, channel_from}
-use Rattle.tcap_check.specs.Run.{Loses}
+use Rattle.tcap_model.specs.World.{Item, OnItsWay, Sent, channel_from}
+use Rattle.tcap_model.specs.Run.{Loses}
 use Rattle.tcap_check.specs.Certificate.{Certificate}
 use Rattle.tcap_check.specs.Follows.{FatesFit, FollowsFrom, taken_by, without_losses}
 use Rattle.tcap_check.specs.Replayed.{Replay, certificate_fits, entries_replayed, entry_replayed, fates_fit, fault_at, gap_replayed, if_lost, is_gap, is_nothing, is_overtaking, lost_from_both, lost_front, next_entry, nothing_replayed, quiet_replayed, sent_replayed}

@@ -9,8 +9,8 @@ use Rattle.tcap_record.specs.declared.entry.End.TheVariants as sides
 use Rattle.tcap_check.specs.declared.certificate.Fate.{Fate}
 use Rattle.tcap_check.specs.declared.certificate.Fate.TheVariants.{Gap, Lost, By}
 use Rattle.tcap_check.specs.declared.progress.Waiting.{Waiting}
-use Rattle.tcap_check.specs.World.{Item, OnItsWay, Sent, is_side}
-use Rattle.tcap_check.specs.Run.{Event, joined}
+use Rattle.tcap_model.specs.World.{Item, OnItsWay, Sent, is_side}
+use Rattle.tcap_model.specs.Run.{Event, joined}
 use Rattle.tcap_check.specs.Certificate.{Certificate}
 use Rattle.tcap_check.specs.Replayed.{Replay, is_later, is_overtaking, next_entry, time_of, with_step}
 use Rattle.tcap_check.specs.Progress.{greater, moves_with, overtakes, seat_at, sent_by, time_or_zero, waiting_with}

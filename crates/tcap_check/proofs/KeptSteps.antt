@@ -17,20 +17,21 @@ use Rattle.tcap_end.specs.Message.{send}
 use Rattle.tcap_end.specs.Step.{◌>>=◌}
 use Rattle.tcap_end.proofs.AnsweringLaws.{needs_ok, ok_same, some_ok, then_ok}
 use Rattle.tcap_check.specs.declared.fault.CheckFault.{CheckFault}
-use Rattle.tcap_check.specs.declared.fault.Reason.{Reason}
-use Rattle.tcap_check.specs.declared.fault.Reason.TheVariants.{BadReply, FateRange, HiddenRefused}
+use Rattle.tcap_model.specs.declared.reason.Reason.{Reason}
+use Rattle.tcap_model.specs.declared.reason.Reason.TheVariants.{BadReply, FateRange, HiddenRefused}
 use Rattle.tcap_check.specs.declared.certificate.Closing.{Closing}
 use Rattle.tcap_check.specs.declared.certificate.Expiry.{Expiry}
 use Rattle.tcap_check.specs.declared.certificate.Fate.{Fate}
 use Rattle.tcap_check.specs.declared.certificate.Fate.TheVariants.{Gap, Lost, By}
 use Rattle.tcap_record.specs.Ends.{other}
-use Rattle.tcap_check.specs.World.{Item, OnItsWay, Sent, World, end_at, is_side, with_channel, with_end}
-use Rattle.tcap_check.specs.Run.{Event, Sends, Receives, Replies, Loses, Expires, Closes, Quiet, Tells, after, joined, then_so}
+use Rattle.tcap_model.specs.World.{Item, OnItsWay, Sent, World, end_at, is_side, with_channel, with_end}
+use Rattle.tcap_model.specs.Run.{Event, Sends, Receives, Replies, Loses, Expires, Closes, Quiet, Tells, after, joined, then_so}
 use Rattle.tcap_check.specs.Certificate.{Certificate}
-use Rattle.tcap_check.specs.Follows.{closing_by, closing_event, expiry_by, expiry_event, half_begun, invoke_id, invoking_half, named_entry, originating, sending, taken_by}
+use Rattle.tcap_model.specs.Since.{originating}
+use Rattle.tcap_check.specs.Follows.{closing_by, closing_event, expiry_by, expiry_event, half_begun, invoke_id, invoking_half, named_entry, sending, taken_by}
 use Rattle.tcap_check.specs.Replayed.{Replay, closings_replayed, deliveries_replayed, expiries_replayed, fault_at, gap_replayed, happens, implied, implied_over, is_abort, lost_from_both, lost_from_front, message_by, message_replayed, next_entry, or_same, reply_replayed, send_replayed, sent_or_refused, stepped, with_step}
 use Rattle.tcap_check.specs.Checking.{waiting}
-use Rattle.tcap_check.proofs.RunLaws.{closing, delivery, expiry, map_some, quiet, reply, some_is, then_some, where_some}
+use Rattle.tcap_model.proofs.RunLaws.{closing, delivery, expiry, map_some, quiet, reply, some_is, then_some, where_some}
 use Rattle.tcap_check.proofs.TakenLaws.{takes_replied}
 use Rattle.tcap_check.proofs.OrderLaws.{Takes, sending_takes}
 use Rattle.tcap_check.proofs.KeptCounts.{end_waits, joined_waits, losses_wait, taken_waits, not_next, is_next, count_waiting, new_by, count_behind}

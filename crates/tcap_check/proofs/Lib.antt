@@ -1,17 +1,6 @@
 pub mod WorkedRuns
 pub mod WorkedRefusals
-pub mod ListLaws
-pub mod Moves
-pub mod TurnLaws
-pub mod SentMoves
-pub mod ReceivedMoves
-pub mod RunLaws
-pub mod SinceLaws
-pub mod ChannelLaws
 pub mod PromptLaws
-pub mod WorldMoves
-pub mod PeerLaws
-pub mod UsedLaws
 pub mod NotDescribed
 pub mod ReplaySteps
 pub mod ReplayLaws
@@ -59,9 +48,6 @@ pub mod PlanLaws
 pub mod CheckerLaws
 pub mod KeptSends
 pub mod RecordLaws
-pub mod WholeTurns
-pub mod WholeViews
-pub mod WholeLaws
 pub mod HearingLaws
 pub mod HeardLost
 pub mod HeardStays

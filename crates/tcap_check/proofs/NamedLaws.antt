@@ -12,10 +12,10 @@ use Rattle.tcap_end.specs.Component.{own_invocation}
 use Rattle.tcap_end.specs.End.{End, KeptHalf, named, put}
 use Rattle.tcap_end.specs.Hidden.{close, expire, may_close, may_expire, without_invocation}
 use Rattle.tcap_end.specs.Step.{needs, ◌>>◌, ◌>>=◌}
-use Rattle.tcap_check.specs.World.{Item, World, empty, end_at, with_end}
-use Rattle.tcap_check.specs.Run.{Event, Sends, Receives, Replies, Loses, Expires, Closes, Quiet, Tells, IsRunOf, after, played, then_so}
+use Rattle.tcap_model.specs.World.{Item, World, empty, end_at, with_end}
+use Rattle.tcap_model.specs.Run.{Event, Sends, Receives, Replies, Loses, Expires, Closes, Quiet, Tells, IsRunOf, after, played, then_so}
 use Rattle.tcap_check.specs.Certificate.{Certificate}
-use Rattle.tcap_check.specs.Entries.{AreItems}
+use Rattle.tcap_model.specs.Entries.{AreItems}
 use Rattle.tcap_check.specs.Follows.{Follows}
 use Rattle.tcap_check.specs.Named.{AreSameEvents, IsDescribedBy, IsSameEvent}
 use Rattle.tcap_check.specs.Replayed.{replayed}

@@ -7,8 +7,8 @@ use Rattle.tcap_msg.specs.declared.message.Message.{Message}
 use Rattle.tcap_msg.specs.declared.message.Message.TheVariants.{Begin}
 use Rattle.tcap_record.specs.declared.entry.End.TheVariants.{A, B}
 use Rattle.tcap_end.specs.declared.half.HalfName.TheVariants.{Own}
-use Rattle.tcap_check.specs.World.{Sent}
-use Rattle.tcap_check.specs.Run.{Event, Sends, Receives, Replies, Loses, Expires, Closes, Quiet, Tells}
+use Rattle.tcap_model.specs.World.{Sent}
+use Rattle.tcap_model.specs.Run.{Event, Sends, Receives, Replies, Loses, Expires, Closes, Quiet, Tells}
 use Rattle.tcap_check.specs.Follows.{Follows, IsImplied}
 use Rattle.tcap_check.specs.Refused as refused
 use Rattle.tcap_check.specs.Refused.{IsNotDescribed}

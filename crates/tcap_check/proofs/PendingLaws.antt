@@ -12,17 +12,18 @@ use Rattle.tcap_record.specs.declared.entry.End.{End as Side}
 use Rattle.tcap_record.specs.declared.entry.Entry.{Entry}
 use Rattle.tcap_end.specs.Table.{Table}
 use Rattle.tcap_record.specs.Ends.{other}
-use Rattle.tcap_check.specs.World.{Item, Sent, empty}
-use Rattle.tcap_check.specs.Run.{Event, Receives, Replies, Runs, numbers_taken}
+use Rattle.tcap_model.specs.World.{Item, Sent, empty}
+use Rattle.tcap_model.specs.Run.{Event, Receives, Replies, Runs, numbers_taken}
 use Rattle.tcap_check.specs.declared.certificate.Closing.{Closing}
 use Rattle.tcap_check.specs.declared.certificate.Expiry.{Expiry}
 use Rattle.tcap_check.specs.declared.certificate.Fate.{Fate}
 use Rattle.tcap_check.specs.declared.certificate.Fate.TheVariants.{Gap, Lost, By}
 use Rattle.tcap_check.specs.Certificate.{Certificate}
-use Rattle.tcap_check.specs.Entries.{AreItems, IsItem}
+use Rattle.tcap_model.specs.Entries.{AreItems, IsItem}
 use Rattle.tcap_check.specs.Follows.{FatesFit, closing_event, deliveries, expiry_event, gap_events, sending_by, taken_by, without_losses}
 use Rattle.tcap_check.specs.Replayed.{Replay, next_entry}
-use Rattle.tcap_check.proofs.ReplaySteps.{Extends, Replays, played_on}
+use Rattle.tcap_model.proofs.RunLaws.{played_on}
+use Rattle.tcap_check.proofs.ReplaySteps.{Extends, Replays}
 use Rattle.tcap_check.proofs.ReplayLaws.{IsSentBy}
 use Rattle.tcap_check.proofs.FollowingLaws.{FollowsBehind, FollowsSo, IsUpTo, follows_gap, follows_more, plain_on}
 use Rattle.tcap_check.proofs.TakenLaws.{IsIn, in_all, in_events, in_right, in_some, in_taken, taken_before, taken_behind, taken_sent, takes_received, takes_replied}

@@ -16,24 +16,25 @@ use Rattle.tcap_end.specs.Message.{send}
 use Rattle.tcap_end.specs.Step.{needs, ◌>>◌, ◌>>=◌}
 use Rattle.tcap_end.specs.Table.{Table}
 use Rattle.tcap_check.specs.declared.fault.CheckFault.{CheckFault}
-use Rattle.tcap_check.specs.declared.fault.Reason.TheVariants as reasons
+use Rattle.tcap_model.specs.declared.reason.Reason.TheVariants as reasons
 use Rattle.tcap_check.specs.declared.certificate.Fate.{Fate}
 use Rattle.tcap_check.specs.declared.certificate.Fate.TheVariants.{Gap, Lost, By}
 use Rattle.tcap_record.specs.Ends.{other}
-use Rattle.tcap_check.specs.World.{Item, OnItsWay, Sent, World, channel_from, end_at, is_side}
-use Rattle.tcap_check.specs.Run.{Event, Sends, Receives, Replies, Loses, Expires, Closes, Quiet, Tells, after, after_quiet, then_so}
+use Rattle.tcap_model.specs.World.{Item, OnItsWay, Sent, World, channel_from, end_at, is_side}
+use Rattle.tcap_model.specs.Run.{Event, Sends, Receives, Replies, Loses, Expires, Closes, Quiet, Tells, after, after_quiet, then_so}
 use Rattle.tcap_check.specs.Certificate.{Certificate}
-use Rattle.tcap_check.specs.Entries.{AreItems, IsItem}
+use Rattle.tcap_model.specs.Entries.{AreItems, IsItem}
 use Rattle.tcap_check.specs.Follows.{FatesFit, invoking_half, sending, taken_by, without_losses}
 use Rattle.tcap_check.specs.Given.{IsAt, IsPending, IsStillOpen}
 use Rattle.tcap_check.specs.Replayed.{Replay, fault_at, gap_replayed, happens, if_lost, implied_over, is_abort, is_gap, is_later, is_nothing, is_overtaking, lost_before, lost_from_both, lost_front, message_by, message_replayed, next_entry, quiet_replayed, refused, sent_or_refused, sent_replayed, stepped, time_of, with_step}
-use Rattle.tcap_check.specs.Since.{WasSent}
-use Rattle.tcap_check.proofs.ChannelLaws.{were_sent}
+use Rattle.tcap_model.specs.Since.{WasSent}
+use Rattle.tcap_model.proofs.ChannelLaws.{were_sent}
 use Rattle.tcap_check.proofs.ReplaySteps.{both_replay}
 use Rattle.tcap_check.proofs.ReplayLaws.{gap_replays}
 use Rattle.tcap_check.proofs.FollowingLaws.{follows_all}
 use Rattle.tcap_check.proofs.PendingLaws.{IsOver, Stands, ahead, stands_behind, stands_still}
-use Rattle.tcap_check.proofs.TakenLaws.{same_side, taken_is_gone}
+use Rattle.tcap_model.proofs.RunLaws.{same_side}
+use Rattle.tcap_check.proofs.TakenLaws.{taken_is_gone}
 use Rattle.tcap_check.proofs.ReasonGaps.{Says, as_many, at_front, gap_says, needs_err, next_at, none_err, says, taken_front, then_err}
 
 -- ---- an item

@@ -13,14 +13,14 @@ use Rattle.tcap_end.specs.Step.{◌>>◌, ◌>>=◌}
 use Rattle.tcap_end.specs.Table.{Table}
 use Rattle.tcap_end.proofs.AnsweringLaws.{needs_ok, some_ok, then_ok}
 use Rattle.tcap_check.specs.declared.fault.CheckFault.{CheckFault}
-use Rattle.tcap_check.specs.declared.fault.Reason.{Reason}
-use Rattle.tcap_check.specs.declared.fault.Reason.TheVariants as reasons
+use Rattle.tcap_model.specs.declared.reason.Reason.{Reason}
+use Rattle.tcap_model.specs.declared.reason.Reason.TheVariants as reasons
 use Rattle.tcap_check.specs.declared.certificate.Fate.{Fate}
 use Rattle.tcap_check.specs.declared.certificate.Fate.TheVariants.{Gap, Lost, By}
-use Rattle.tcap_check.specs.World.{Item, Sent}
-use Rattle.tcap_check.specs.Run.{Event, Quiet}
+use Rattle.tcap_model.specs.World.{Item, Sent}
+use Rattle.tcap_model.specs.Run.{Event, Quiet}
 use Rattle.tcap_check.specs.Certificate.{Certificate}
-use Rattle.tcap_check.specs.Entries.{IsItem, item_by, item_of}
+use Rattle.tcap_model.specs.Entries.{IsItem, item_by, item_of}
 use Rattle.tcap_check.specs.Follows.{FatesFit, quiet_by, sending, sending_by, taken_by}
 use Rattle.tcap_check.specs.Given.{IsNoItem, IsReason}
 use Rattle.tcap_check.specs.Replayed.{Replay, certificate_fits, entries_replayed, entry_replayed, fates_fit, fault_at, gap_replayed, is_gap, is_nothing, is_overtaking, lost_from_both, next_entry, nothing_replayed, quiet_replayed, replayed, sent_replayed}

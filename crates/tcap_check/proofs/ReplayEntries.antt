@@ -7,16 +7,16 @@ use Rattle.tcap_msg.specs.declared.message.Message.{Message}
 use Rattle.tcap_record.specs.declared.entry.End.{End as Side}
 use Rattle.tcap_end.specs.Table.{Table}
 use Rattle.tcap_end.proofs.AnsweringLaws.{needs_ok, some_ok, then_ok}
-use Rattle.tcap_check.specs.World.{Item, Sent}
-use Rattle.tcap_check.specs.Run.{Event, Quiet, after}
+use Rattle.tcap_model.specs.World.{Item, Sent}
+use Rattle.tcap_model.specs.Run.{Event, Quiet, after}
 use Rattle.tcap_check.specs.declared.certificate.Fate.{Fate}
 use Rattle.tcap_check.specs.declared.certificate.Fate.TheVariants.{Gap, Lost, By}
 use Rattle.tcap_check.specs.Certificate.{Certificate}
 use Rattle.tcap_check.specs.Follows.{FatesFit, FollowsFrom, gap_events, quiet_by, sending, sending_by, taken_by, without_losses}
-use Rattle.tcap_check.specs.declared.fault.Reason.{Reason}
-use Rattle.tcap_check.specs.declared.fault.Reason.TheVariants.{FateCount, FateRange, NotQuiet, OutOfOrder}
+use Rattle.tcap_model.specs.declared.reason.Reason.{Reason}
+use Rattle.tcap_model.specs.declared.reason.Reason.TheVariants.{FateCount, FateRange, NotQuiet, OutOfOrder}
 use Rattle.tcap_check.specs.Replayed.{Replay, entries_replayed, entry_replayed, fault_at, gap_replayed, happens, is_gap, is_nothing, is_overtaking, item_replayed, lost_from_both, quiet_replayed, next_entry, sent_replayed, stepped}
-use Rattle.tcap_check.proofs.RunLaws.{grows, map_some}
+use Rattle.tcap_model.proofs.RunLaws.{grows, map_some}
 use Rattle.tcap_check.proofs.ReplaySteps.{Extends, Replays, both_replay, extends_then, replays_then, stepped_replays, without_both}
 use Rattle.tcap_check.proofs.ReplayLaws.{IsSentBy, gap_replays, message_replays}
 use Rattle.tcap_check.proofs.ReplayGaps.{gap_events_before}

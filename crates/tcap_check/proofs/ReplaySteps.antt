@@ -6,25 +6,16 @@ use Rattle.tcap_record.specs.declared.entry.End.{End as Side}
 use Rattle.tcap_record.specs.declared.entry.End.TheVariants as sides
 use Rattle.tcap_end.specs.Table.{Table}
 use Rattle.tcap_record.specs.Ends.{other}
-use Rattle.tcap_check.specs.World.{Item, OnItsWay, World, channel_from, with_channel}
-use Rattle.tcap_check.specs.Run.{Event, Sends, Receives, Replies, Loses, Expires, Closes, Quiet, Tells, after, played, then_so}
+use Rattle.tcap_model.specs.World.{Item, OnItsWay, World, channel_from, with_channel}
+use Rattle.tcap_model.specs.Run.{Event, Sends, Receives, Replies, Loses, Expires, Closes, Quiet, Tells, after, played, then_so}
 use Rattle.tcap_check.specs.declared.certificate.Fate.{Fate}
 use Rattle.tcap_check.specs.declared.certificate.Fate.TheVariants.{Gap, Lost, By}
 use Rattle.tcap_check.specs.Certificate.{Certificate}
 use Rattle.tcap_check.specs.Follows.{is_loss, without_losses}
-use Rattle.tcap_check.proofs.RunLaws.{map_some}
+use Rattle.tcap_model.proofs.RunLaws.{map_some, played_on}
 use Rattle.tcap_check.specs.Replayed.{Replay, lost_before, lost_from_both, lost_from_front, if_lost, lost_front, stepped}
 
 -- ---- runs, one behind the other
-
-pub played_on : (table : Table) (first rest : List Event) (w mid : World) → played table first w ≡ Some mid → played table (first ++ rest) w ≡ played table rest mid
-played_on table [] rest w mid is = let same : w ≡ mid = cc in ap (played table rest) same
-played_on table (event ∷ first) rest w mid is = by (after table event w) (λ x on. played_on table first rest x mid on) is
-  where
-    by : (o : Option World) → ((x : World) → played table first x ≡ Some mid → played table (first ++ rest) x ≡ played table rest mid)
-        → then_so o (played table first) ≡ Some mid → then_so o (played table (first ++ rest)) ≡ played table rest mid
-    by None on is = cc
-    by (Some x) on is = on x is
 
 -- These steps lead from the one to the other.
 pub record Extends (table : Table) (r : Replay) (more : List Event) (next : Replay) : Type 0 where

@@ -11,12 +11,12 @@ use Rattle.tcap_end.specs.End.{End, KeptHalf, named}
 use Rattle.tcap_end.specs.Hidden.{expire}
 use Rattle.tcap_end.specs.Sound.{IsEnd}
 use Rattle.tcap_end.specs.Table.{Table}
-use Rattle.tcap_check.specs.World.{Item, Sent, World, channel_from}
-use Rattle.tcap_check.specs.Run.{Adds, Event, Sends, Receives, Replies, Loses, Expires, Closes, Quiet, Tells, Runs, after, numbers_of, numbers_sent, numbers_taken, takes_from, then_so}
+use Rattle.tcap_model.specs.World.{Item, Sent, World, channel_from}
+use Rattle.tcap_model.specs.Run.{Adds, Event, Sends, Receives, Replies, Loses, Expires, Closes, Quiet, Tells, Runs, after, numbers_of, numbers_sent, numbers_taken, takes_from, then_so}
 use Rattle.tcap_check.specs.Given.{IsInUse}
-use Rattle.tcap_check.proofs.ChannelLaws.{are_whole}
+use Rattle.tcap_model.proofs.ChannelLaws.{are_whole}
 use Rattle.tcap_check.proofs.ExpiryLaws.{ends_in_use, not_in_use, was_in_use}
-use Rattle.tcap_check.proofs.RunLaws.{grows, runs_keep}
+use Rattle.tcap_model.proofs.RunLaws.{grows, runs_keep}
 
 -- ---- sums over lists
 

@@ -12,10 +12,11 @@ use Rattle.tcap_record.specs.declared.entry.End.{End as Side}
 use Rattle.tcap_record.specs.declared.entry.End.TheVariants as sides
 use Rattle.tcap_end.specs.Table.{Table}
 use Rattle.tcap_record.specs.Ends.{other}
-use Rattle.tcap_check.specs.World.{Item, OnItsWay, Sent, World, channel_from, is_side}
-use Rattle.tcap_check.specs.Run.{Event, Receives, Replies, Runs, numbers_of, numbers_sent, numbers_taken, takes_from}
+use Rattle.tcap_model.specs.World.{Item, OnItsWay, Sent, World, channel_from, is_side}
+use Rattle.tcap_model.specs.Run.{Event, Receives, Replies, Runs, numbers_of, numbers_sent, numbers_taken, takes_from}
 use Rattle.tcap_check.specs.Follows.{is_loss, without_losses}
-use Rattle.tcap_check.proofs.ChannelLaws.{are_whole, in_order}
+use Rattle.tcap_model.proofs.ChannelLaws.{are_whole, in_order}
+use Rattle.tcap_model.proofs.RunLaws.{same_side}
 
 -- ---- what is in a list
 
@@ -99,13 +100,6 @@ pub taken_behind : (side : Side) (n : ℕ) (events more : List Event) → IsIn n
 taken_behind side n [] more is = is
 taken_behind side n (event ∷ events) more is =
     in_right n (takes_from side event) (numbers_taken side (events ++ more)) (taken_behind side n events more is)
-
--- A test of ends that passes.
-pub same_side : (side sender : Side) → is_side side sender ≡ true → side ≡ sender
-same_side sides.A sides.A is = refl
-same_side sides.A sides.B is = cc
-same_side sides.B sides.A is = cc
-same_side sides.B sides.B is = refl
 
 -- The item of a number that an end sent is a message of this end.
 number_at : (side : Side) (n k : ℕ) (items : List Item) → IsIn n (numbers_sent side k items)

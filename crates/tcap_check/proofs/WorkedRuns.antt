@@ -5,12 +5,13 @@ use Rattle.std.proofs.lemmas.List.{append-nil}
 use Rattle.tcap_record.specs.declared.entry.End.{End as Side}
 use Rattle.tcap_record.specs.declared.entry.End.TheVariants.{A, B}
 use Rattle.tcap_end.specs.declared.half.HalfName.TheVariants.{Own, Peer}
-use Rattle.tcap_check.specs.World.{Item, World, empty}
-use Rattle.tcap_check.specs.Run.{Event, Sends, Receives, Expires, Closes, IsRunOf, KeepsRules, after}
+use Rattle.tcap_model.specs.World.{Item, World, empty}
+use Rattle.tcap_model.specs.Run.{Event, Sends, Receives, Expires, Closes, IsRunOf, KeepsRules, after}
 use Rattle.tcap_check.specs.Named.{AreSameEvents, IsSameEvent}
 use Rattle.tcap_check.specs.Follows.{FatesFit, Follows, FollowsFrom, IsImplied, gap_events, losses_from, lost_from, sending, without_losses}
 use Rattle.tcap_end.specs.Table.{Table}
-use Rattle.tcap_check.specs.Worked.{IsDescribedRun, OneSided, answer, begin, by_the_other_name, further, invoke, IsWorked, IsWorkedBy, Worked, IsWorkedFor, continues_behind_its_end, end_is_not_heard, empty_record, two_entries, three_entries, crossing, late_reject, delayed, closed_half, refused_begin, lost_begin, over_a_mark, both_again, in_a_row, end_implies, both_close, prearranged, table}
+use Rattle.tcap_model.specs.WorkedItems.{answer, begin, further, invoke, prearranged, table}
+use Rattle.tcap_check.specs.Worked.{IsDescribedRun, OneSided, by_the_other_name, IsWorked, IsWorkedBy, Worked, IsWorkedFor, continues_behind_its_end, end_is_not_heard, empty_record, two_entries, three_entries, crossing, late_reject, delayed, closed_half, refused_begin, lost_begin, over_a_mark, both_again, in_a_row, end_implies, both_close}
 
 -- From a gap on, the events are what the certificate says, with the items that are left between.
 record From (w : Worked) (n : ℕ) (left : List Item) (events : List Event) : Type 0 where

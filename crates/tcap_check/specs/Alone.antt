@@ -12,13 +12,13 @@ use Rattle.tcap_end.specs.Step.{needs, ◌>>◌, ◌>>=◌}
 use Rattle.tcap_check.specs.declared.certificate.Fate.{Fate}
 use Rattle.tcap_check.specs.declared.certificate.Fate.TheVariants.{Gap}
 use Rattle.tcap_check.specs.declared.fault.CheckFault.{CheckFault}
-use Rattle.tcap_check.specs.declared.fault.Reason.{Reason}
-use Rattle.tcap_check.specs.declared.fault.Reason.TheVariants.{BadReply, FateCount, FateRange, NotQuiet, OutOfOrder}
+use Rattle.tcap_model.specs.declared.reason.Reason.{Reason}
+use Rattle.tcap_model.specs.declared.reason.Reason.TheVariants.{BadReply, FateCount, FateRange, NotQuiet, OutOfOrder}
 use Rattle.tcap_record.specs.Ends.{other}
-use Rattle.tcap_check.specs.World.{Item, Sent, channel_from, end_at, is_side}
-use Rattle.tcap_check.specs.Run.{Event, Receives, Loses, Closes, Quiet, Tells, joined, numbers_of}
+use Rattle.tcap_model.specs.World.{Item, Sent, channel_from, end_at, is_side}
+use Rattle.tcap_model.specs.Run.{Event, Receives, Loses, Closes, Quiet, Tells, joined, numbers_of}
 use Rattle.tcap_check.specs.Certificate.{Certificate}
-use Rattle.tcap_check.specs.Entries.{item_of}
+use Rattle.tcap_model.specs.Entries.{item_of}
 use Rattle.tcap_check.specs.Follows.{sending_by, taken_by}
 use Rattle.tcap_check.specs.Replayed.{Replay, certificate_fits, closings_replayed, expiries_replayed, fault_at, is_gap, is_nothing, is_overtaking, losing, lost_from_front, message_by, next_entry, nothing_replayed, refused, stepped, with_step}
 

@@ -4,10 +4,10 @@ use Rattle.tcap_record.specs.declared.entry.End.{End as Side}
 use Rattle.tcap_record.specs.declared.entry.Entry.{Entry}
 use Rattle.tcap_end.specs.Table.{Table}
 use Rattle.tcap_record.specs.Ends.{other}
-use Rattle.tcap_check.specs.World.{Item}
-use Rattle.tcap_check.specs.Run.{Event, IsRunOf, KeepsRules}
+use Rattle.tcap_model.specs.World.{Item}
+use Rattle.tcap_model.specs.Run.{Event, IsRunOf, KeepsRules}
 use Rattle.tcap_check.specs.Certificate.{Certificate}
-use Rattle.tcap_check.specs.Entries.{AreItems, count_components}
+use Rattle.tcap_model.specs.Entries.{AreItems, count_components}
 use Rattle.tcap_check.specs.Follows.{losses_from, lost_from}
 use Rattle.tcap_check.specs.Alone.{steps_of, unheard_of}
 

@@ -7,15 +7,16 @@ use Rattle.tcap_end.specs.declared.fault.EndFault.TheVariants as faults
 use Rattle.tcap_end.specs.declared.half.HalfName.TheVariants.{Own, Peer}
 use Rattle.tcap_end.specs.Table.{Table}
 use Rattle.tcap_check.specs.declared.certificate.Fate.TheVariants.{Gap, Lost, By}
-use Rattle.tcap_check.specs.declared.fault.Reason.{Reason}
-use Rattle.tcap_check.specs.declared.fault.Reason.TheVariants.{BadReply, NotQuiet, OutOfOrder, SendRefused}
-use Rattle.tcap_check.specs.World.{Item, Sent}
-use Rattle.tcap_check.specs.Run.{Event, Sends, Receives, Replies, Loses, Closes, Quiet, Tells}
+use Rattle.tcap_model.specs.declared.reason.Reason.{Reason}
+use Rattle.tcap_model.specs.declared.reason.Reason.TheVariants.{BadReply, NotQuiet, OutOfOrder, SendRefused}
+use Rattle.tcap_model.specs.World.{Item, Sent}
+use Rattle.tcap_model.specs.Run.{Event, Sends, Receives, Replies, Loses, Closes, Quiet, Tells}
 use Rattle.tcap_check.specs.Certificate.{Certificate}
-use Rattle.tcap_check.specs.Entries.{entry_of}
+use Rattle.tcap_model.specs.Entries.{entry_of}
 use Rattle.tcap_check.specs.Replayed.{refused}
 use Rattle.tcap_check.specs.Worked as worked
-use Rattle.tcap_check.specs.Worked.{answer, begin, both_close, by_fates, continues_behind_its_end, end_is_not_heard, end_to, id, invoke}
+use Rattle.tcap_model.specs.WorkedItems.{answer, begin, end_to, id, invoke}
+use Rattle.tcap_check.specs.Worked.{both_close, by_fates, continues_behind_its_end, end_is_not_heard}
 use Rattle.tcap_check.specs.Alone.{replayed_for, steps_of, unheard_of}
 
 -- A record, a certificate, and the run that it gives for one end.

@@ -11,8 +11,9 @@ use Rattle.tcap_record.specs.declared.entry.End.{End as Side}
 use Rattle.tcap_end.specs.declared.half.HalfName.{HalfName}
 use Rattle.tcap_end.specs.declared.half.HalfName.TheVariants as names
 use Rattle.tcap_record.specs.Ends.{other}
-use Rattle.tcap_check.specs.World.{Item, Sent, is_side}
-use Rattle.tcap_check.specs.Run.{Event, Sends, Receives, Replies, Loses, Expires, Closes, Quiet, Tells, then_so, where_so}
+use Rattle.tcap_model.specs.World.{Item, Sent, has_quiet, is_side}
+use Rattle.tcap_model.specs.Since.{originating}
+use Rattle.tcap_model.specs.Run.{Event, Sends, Receives, Replies, Loses, Expires, Closes, Quiet, Tells, then_so, where_so}
 use Rattle.tcap_check.specs.declared.certificate.Closing.{Closing}
 use Rattle.tcap_check.specs.declared.certificate.Expiry.{Expiry}
 use Rattle.tcap_check.specs.declared.certificate.Fate.{Fate}
@@ -20,14 +21,6 @@ use Rattle.tcap_check.specs.declared.certificate.Fate.TheVariants.{Gap, Lost, By
 use Rattle.tcap_check.specs.Certificate.{Certificate}
 
 -- ---- what is listed
-
-abbrev pub is_quiet : Item → Bool
-is_quiet (Sent side message) = false
-is_quiet Item.Quiet = true
-
-abbrev pub has_quiet : List Item → Bool
-has_quiet [] = false
-has_quiet (item ∷ more) = cond (is_quiet item) true (has_quiet more)
 
 -- the entry that a listed event of a gap names: it stands before the gap, and no quiet mark stands between
 abbrev pub named_entry : List Item → ℕ → ℕ → Option Item
@@ -52,12 +45,6 @@ closing_event items c = then_so (named_entry items c.gap c.entry) (closing_by c)
 abbrev pub invoke_id : Component → Option ℤ
 invoke_id (Invoke id linked code parameter) = Some id
 invoke_id _ = None
-
--- the originating ID of a Begin or a Continue
-abbrev pub originating : Message → Option (List ℕ)
-originating (Begin otid dialogue components) = Some otid
-originating (Continue otid dtid dialogue components) = Some otid
-originating _ = None
 
 -- the expiry of what this entry invoked, where it is a Begin or a Continue of that end, and its component an Invoke
 abbrev pub expiry_by : Expiry → Item → Option Event

@@ -14,12 +14,12 @@ use Rattle.tcap_check.specs.declared.certificate.Closing.{Closing}
 use Rattle.tcap_check.specs.declared.certificate.Expiry.{Expiry}
 use Rattle.tcap_check.specs.declared.certificate.Fate.{Fate}
 use Rattle.tcap_check.specs.declared.certificate.Fate.TheVariants.{Gap, Lost, By}
-use Rattle.tcap_check.specs.declared.fault.Reason.{Reason}
-use Rattle.tcap_check.specs.declared.fault.Reason.TheVariants as reasons
-use Rattle.tcap_check.specs.World.{Item, Sent, World, end_at}
-use Rattle.tcap_check.specs.Run.{BothKeepRules, Event, IsRunOf, Runs, Sends, Replies, Loses, Expires, Closes, Quiet, Tells}
+use Rattle.tcap_model.specs.declared.reason.Reason.{Reason}
+use Rattle.tcap_model.specs.declared.reason.Reason.TheVariants as reasons
+use Rattle.tcap_model.specs.World.{Item, Sent, World, end_at}
+use Rattle.tcap_model.specs.Run.{BothKeepRules, Event, IsRunOf, Runs, Sends, Replies, Loses, Expires, Closes, Quiet, Tells}
 use Rattle.tcap_check.specs.Certificate.{Certificate}
-use Rattle.tcap_check.specs.Entries.{AreItems, IsItem, count_components}
+use Rattle.tcap_model.specs.Entries.{AreItems, IsItem, count_components}
 use Rattle.tcap_check.specs.Follows.{Follows, FollowsFrom, closing_event, expiry_event, without_losses}
 use Rattle.tcap_check.specs.Replayed.{fate_fits, is_later, time_of}
 

@@ -1,13 +1,8 @@
-pub mod World
-pub mod Run
 pub mod Certificate
 pub mod CertificateText
-pub mod Entries
-pub mod Fault
 pub mod Follows
 pub mod Named
 pub mod Worked
-pub mod Since
 pub mod Refused
 pub mod Replayed
 pub mod Alone

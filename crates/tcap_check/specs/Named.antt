@@ -4,8 +4,8 @@ use Rattle.tcap_record.specs.declared.entry.End.{End as Side}
 use Rattle.tcap_end.specs.declared.half.HalfName.{HalfName}
 use Rattle.tcap_end.specs.End.{named}
 use Rattle.tcap_end.specs.Table.{Table}
-use Rattle.tcap_check.specs.World.{Item, World, empty, end_at}
-use Rattle.tcap_check.specs.Run.{Event, Expires, Closes, after}
+use Rattle.tcap_model.specs.World.{Item, World, empty, end_at}
+use Rattle.tcap_model.specs.Run.{Event, Expires, Closes, after}
 use Rattle.tcap_check.specs.Certificate.{Certificate}
 use Rattle.tcap_check.specs.Follows.{Follows}
 

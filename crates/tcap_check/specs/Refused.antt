@@ -6,11 +6,12 @@ use Rattle.tcap_msg.specs.declared.message.Message.TheVariants.{Begin, Unidirect
 use Rattle.tcap_record.specs.declared.entry.End.TheVariants.{A, B}
 use Rattle.tcap_end.specs.declared.half.HalfName.TheVariants.{Own}
 use Rattle.tcap_end.specs.Table.{Table}
-use Rattle.tcap_check.specs.World.{Item, Sent, World}
-use Rattle.tcap_check.specs.Run.{Event, Sends, Receives, Replies, Loses, Expires, Closes, Quiet, IsRunOf, Runs, after}
+use Rattle.tcap_model.specs.World.{Item, Sent, World}
+use Rattle.tcap_model.specs.Run.{Event, Sends, Receives, Replies, Loses, Expires, Closes, Quiet, IsRunOf, Runs, after}
 use Rattle.tcap_check.specs.declared.certificate.Fate.TheVariants.{Gap, Lost, By}
 use Rattle.tcap_check.specs.Follows.{Follows}
-use Rattle.tcap_check.specs.Worked.{Worked, answer, begin, by_fates, end_to, id, invoke, lasting, result, table}
+use Rattle.tcap_model.specs.WorkedItems.{answer, begin, end_to, id, invoke, lasting, result, table}
+use Rattle.tcap_check.specs.Worked.{Worked, by_fates}
 
 -- ---- events that are no step
 

@@ -10,17 +10,18 @@ use Rattle.tcap_record.specs.declared.entry.End.TheVariants.{A, B}
 use Rattle.tcap_record.specs.declared.entry.Entry.{Entry}
 use Rattle.tcap_end.specs.declared.fault.EndFault.TheVariants as faults
 use Rattle.tcap_end.specs.Table.{Table}
-use Rattle.tcap_check.specs.World.{Item, Sent}
-use Rattle.tcap_check.specs.Run.{provider_abort}
+use Rattle.tcap_model.specs.World.{Item, Sent}
+use Rattle.tcap_model.specs.Run.{provider_abort}
 use Rattle.tcap_check.specs.declared.certificate.Closing.{Closing}
 use Rattle.tcap_check.specs.declared.certificate.Expiry.{Expiry}
 use Rattle.tcap_check.specs.declared.certificate.Fate.{Fate}
 use Rattle.tcap_check.specs.declared.certificate.Fate.TheVariants.{Gap, Lost, By}
 use Rattle.tcap_check.specs.Certificate.{Certificate}
-use Rattle.tcap_check.specs.Worked.{Worked, answer, begin, by_fates, crossing, end_to, further, id, invoke, lasting, late_reject, prearranged, rejects_result, result, table, two_entries}
-use Rattle.tcap_check.specs.declared.fault.Reason.{Reason}
-use Rattle.tcap_check.specs.declared.fault.Reason.TheVariants.{FateCount, FateRange, OutOfOrder, BadReply, SendRefused, HiddenRefused, NotQuiet, BadMessage, NoItem}
-use Rattle.tcap_check.specs.Entries.{entry_of}
+use Rattle.tcap_model.specs.WorkedItems.{answer, begin, end_to, further, id, invoke, lasting, prearranged, rejects_result, result, table}
+use Rattle.tcap_check.specs.Worked.{Worked, by_fates, crossing, late_reject, two_entries}
+use Rattle.tcap_model.specs.declared.reason.Reason.{Reason}
+use Rattle.tcap_model.specs.declared.reason.Reason.TheVariants.{FateCount, FateRange, OutOfOrder, BadReply, SendRefused, HiddenRefused, NotQuiet, BadMessage, NoItem}
+use Rattle.tcap_model.specs.Entries.{entry_of}
 use Rattle.tcap_check.specs.Replayed.{moves_of, refused, replayed}
 
 -- The certificate of a worked run gives that run.

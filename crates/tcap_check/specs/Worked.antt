@@ -1,81 +1,19 @@
 -- Worked runs, each with the certificate that describes it.
-use Rattle.std.specs.Prelude.{◌≡◌, ℕ, pos, Bool, true, false, List, [], ◌∷◌, length, Option, Some, None}
-use Rattle.tcap_parts.specs.declared.code.Code.TheVariants.{Local}
+use Rattle.std.specs.Prelude.{◌≡◌, ℕ, pos, List, [], ◌∷◌, length, Some, None}
 use Rattle.tcap_parts.specs.declared.problem.Problem.TheVariants as problems
-use Rattle.tcap_parts.specs.declared.component.Component.{Component}
-use Rattle.tcap_parts.specs.declared.component.Component.TheVariants.{Invoke, ReturnResult, Reject}
-use Rattle.tcap_parts.specs.declared.dialogue.Dialogue.{Dialogue}
-use Rattle.tcap_parts.specs.declared.dialogue.Dialogue.TheVariants.{Request, Response}
-use Rattle.tcap_parts.specs.declared.dialogue.Source.TheVariants.{User}
-use Rattle.tcap_msg.specs.declared.message.Message.{Message}
-use Rattle.tcap_msg.specs.declared.message.Message.TheVariants.{Unidirectional, Begin, Continue, End as EndMessage}
+use Rattle.tcap_msg.specs.declared.message.Message.TheVariants.{Unidirectional, Begin, Continue}
 use Rattle.tcap_record.specs.declared.entry.End.{End as Side}
 use Rattle.tcap_record.specs.declared.entry.End.TheVariants.{A, B}
 use Rattle.tcap_end.specs.declared.half.HalfName.TheVariants.{Own, Peer}
-use Rattle.tcap_end.specs.Table.{Table, Operation}
-use Rattle.tcap_check.specs.World.{Item, Sent}
-use Rattle.tcap_check.specs.Run.{BothKeepRules, Event, Sends, Receives, Replies, Loses, Expires, Closes, Quiet, Tells, IsLawfulFor, IsRunOf, KeepsRules, provider_abort}
+use Rattle.tcap_end.specs.Table.{Table}
+use Rattle.tcap_model.specs.World.{Item, Sent}
+use Rattle.tcap_model.specs.Run.{BothKeepRules, Event, Sends, Receives, Replies, Loses, Expires, Closes, Quiet, Tells, IsLawfulFor, IsRunOf, KeepsRules, provider_abort}
+use Rattle.tcap_model.specs.WorkedItems.{accepting, answer, begin, crossing_items, dialogue_items, end_to, further, id, invoke, over_a_mark_items, rejects_result, request, result, table}
 use Rattle.tcap_check.specs.declared.certificate.Fate.{Fate}
 use Rattle.tcap_check.specs.declared.certificate.Fate.TheVariants.{Gap, Lost, By}
 use Rattle.tcap_check.specs.Certificate.{Certificate}
 use Rattle.tcap_check.specs.Follows.{Follows}
 use Rattle.tcap_check.specs.Named.{IsDescribedBy}
-
--- ---- the table, and messages
-
-abbrev operation : ℕ → Bool → Operation
-operation class expires = record { class = class; linked = []; expires = expires }
-
--- 45 of class 1, 46 of class 2, 47 of class 3, 48 of class 4, and 50 of class 1, to which 48 may be linked; an invocation
--- of 45 may end by its timer, or not
-abbrev table_with : Bool → Table
-table_with expires = record {
-  operations = (Local (pos 45), operation 1 expires) ∷ (Local (pos 46), operation 2 true) ∷ (Local (pos 47), operation 3 true)
-      ∷ (Local (pos 48), operation 4 true)
-      ∷ (Local (pos 50), record (operation 1 true) { linked = (Local (pos 48), tt) ∷ [] }) ∷ [];
-  prearranged = false;
-}
-
-abbrev pub table : Table
-table = table_with true
-
--- the same, where an invocation of 45 outlasts the record
-abbrev pub lasting : Table
-lasting = table_with false
-
--- the same as the first, where transactions may end by prearrangement
-abbrev pub prearranged : Table
-prearranged = record table { prearranged = true }
-
-abbrev pub id : ℕ → List ℕ
-id octet = octet ∷ []
-
-abbrev pub invoke : ℕ → Component
-invoke code = Invoke (pos 1) None (Local (pos code)) None
-
-abbrev pub result : Component
-result = ReturnResult true (pos 1) None
-
-abbrev pub rejects_result : ℕ → Component
-rejects_result problem = Reject (Some (pos 1)) (problems.ReturnResult problem)
-
-abbrev context : List ℕ
-context = 4 ∷ 0 ∷ 0 ∷ 1 ∷ 0 ∷ 19 ∷ 2 ∷ []
-
--- A's Begin from 01
-abbrev pub begin : Option Dialogue → Option (List Component) → Message
-begin dialogue components = Begin (id 1) dialogue components
-
--- B's Continue from 02 to 01
-abbrev pub answer : Option Dialogue → Option (List Component) → Message
-answer dialogue components = Continue (id 2) (id 1) dialogue components
-
--- A's Continue from 01 to 02
-abbrev pub further : Component → Message
-further component = Continue (id 1) (id 2) None (Some (component ∷ []))
-
-abbrev pub end_to : ℕ → Option (List Component) → Message
-end_to octet components = EndMessage (id octet) None components
 
 -- ---- runs
 
@@ -109,16 +47,10 @@ two_entries = record {
   events = Sends A (begin None (Some (invoke 45 ∷ []))) ∷ Receives B 0 ∷ Sends B (end_to 1 (Some (result ∷ []))) ∷ Receives A 1 ∷ [];
 }
 
-abbrev request : Option Dialogue
-request = Some (Request context None)
-
-abbrev accepting : Option Dialogue
-accepting = Some (Response context 0 (User 0) None)
-
 -- a dialogue: asked for by a Begin, accepted by a Continue, ended by an End
 abbrev pub three_entries : Worked
 three_entries = record {
-  items = Sent A (begin request (Some (invoke 45 ∷ []))) ∷ Sent B (answer accepting (Some (result ∷ []))) ∷ Sent A (end_to 2 None) ∷ [];
+  items = dialogue_items;
   certificate = by_fates (Gap 1 ∷ Gap 2 ∷ Gap 3 ∷ []);
   events = Sends A (begin request (Some (invoke 45 ∷ []))) ∷ Receives B 0 ∷ Sends B (answer accepting (Some (result ∷ []))) ∷ Receives A 1
       ∷ Sends A (end_to 2 None) ∷ Receives B 2 ∷ [];
@@ -127,8 +59,7 @@ three_entries = record {
 -- A's End and B's Continue cross: A's provider answers the Continue by an Abort with cause 1.
 abbrev pub crossing : Worked
 crossing = record {
-  items = Sent A (begin None None) ∷ Sent B (answer None None) ∷ Sent A (end_to 2 None) ∷ Sent B (answer None None)
-      ∷ Sent A (provider_abort (id 2) 1) ∷ [];
+  items = crossing_items;
   certificate = by_fates (Gap 1 ∷ Gap 2 ∷ Gap 4 ∷ By 4 ∷ Gap 5 ∷ []);
   events = Sends A (begin None None) ∷ Receives B 0 ∷ Sends B (answer None None) ∷ Receives A 1 ∷ Sends A (end_to 2 None)
       ∷ Sends B (answer None None) ∷ Receives B 2 ∷ Replies A 3 ∷ Receives B 4 ∷ [];
@@ -181,8 +112,7 @@ lost_begin = record {
 -- Behind a quiet mark a transaction ID is used again, as A's own and as B's peer's.
 abbrev pub over_a_mark : Worked
 over_a_mark = record {
-  items = Sent A (begin None (Some (invoke 45 ∷ []))) ∷ Sent B (end_to 1 (Some (result ∷ []))) ∷ Item.Quiet
-      ∷ Sent A (begin None (Some (invoke 45 ∷ []))) ∷ Sent B (end_to 1 (Some (result ∷ []))) ∷ [];
+  items = over_a_mark_items;
   certificate = by_fates (Gap 1 ∷ Gap 2 ∷ Gap 3 ∷ Gap 4 ∷ Gap 5 ∷ []);
   events = Sends A (begin None (Some (invoke 45 ∷ []))) ∷ Receives B 0 ∷ Sends B (end_to 1 (Some (result ∷ []))) ∷ Receives A 1 ∷ Quiet
       ∷ Sends A (begin None (Some (invoke 45 ∷ []))) ∷ Receives B 3 ∷ Sends B (end_to 1 (Some (result ∷ []))) ∷ Receives A 4 ∷ [];

@@ -8,7 +8,7 @@ ghost use Rattle.tcap_check.specs.CertificateText.{ClosingFits, ExpiryFits, Fate
 ghost use Rattle.tcap_check.specs.Certificate.{Certificate as Meant};
 ghost use Rattle.tcap_check.specs.Replayed.{fault_at};
 ghost use Rattle.tcap_check.specs.declared.fault.CheckFault.{CheckFault};
-ghost use Rattle.tcap_check.specs.declared.fault.Reason.TheVariants as reasons;
+ghost use Rattle.tcap_model.specs.declared.reason.Reason.TheVariants as reasons;
 
 use crate::certificate_text::{certificate_value, read_certificate};
 use crate::fault::CheckFault;

@@ -15,13 +15,14 @@ ghost use Rattle.tcap_check.specs.CertificateText.{list_data, side_data};
 ghost use Rattle.tcap_check.specs.Certificate.{Certificate as Meant};
 ghost use Rattle.tcap_check.specs.Replayed.{fault_at};
 ghost use Rattle.tcap_check.specs.declared.fault.CheckFault.{CheckFault};
-ghost use Rattle.tcap_check.specs.declared.fault.Reason.TheVariants as reasons;
+ghost use Rattle.tcap_model.specs.declared.reason.Reason.TheVariants as reasons;
 
 use crate::certificate::{Certificate, Closing, Expiry, FATES_LIMIT, Fate, NUMBER_LIMIT};
 use crate::compact_reading::read_compact;
-use crate::fault::{CheckFault, Reason};
+use crate::fault::CheckFault;
 use serde_json::{Map, Value, json};
 use std::alloc::{AllocError, Global};
+use tcap_model::Reason;
 use tcap_record::End;
 
 /// What stands in a list of a certificate.

@@ -3,9 +3,9 @@
 ghost use Rattle.std.specs.Prelude.{◌≡◌, ◌≢◌, ◌++◌, ◌∷◌, ◌+◌, ◌<◌, ◌≤◌, ◌^◌, [], ℕ, List, length, slice_get, Result, Ok, Err, IfOk, IfSome, IsTrue, OnOk, is_ok, ok_or};
 ghost use Rattle.tcap_record.specs.declared.entry.End.{End as Side};
 ghost use Rattle.tcap_check.specs.declared.fault.CheckFault.{CheckFault as Refusal};
-ghost use Rattle.tcap_check.specs.declared.fault.Reason.{Reason as Why};
-ghost use Rattle.tcap_check.specs.declared.fault.Reason.TheVariants as reasons;
-ghost use Rattle.tcap_check.specs.World.{Item, Sent};
+ghost use Rattle.tcap_model.specs.declared.reason.Reason.{Reason as Why};
+ghost use Rattle.tcap_model.specs.declared.reason.Reason.TheVariants as reasons;
+ghost use Rattle.tcap_model.specs.World.{Item, Sent};
 ghost use Rattle.tcap_check.specs.Outlines.{is_named};
 ghost use Rattle.tcap_check.specs.Progress.{YieldsInMemory, gap_kept};
 ghost use Rattle.tcap_check.specs.Replayed.{certificate_fits, fault_at, is_gap, refused};
@@ -14,7 +14,7 @@ ghost use Rattle.tcap_check.specs.Plan.{IsPlan, flag_by};
 ghost use Rattle.tcap_check.specs.Ready.{IsReady, IsSameBesideEnds, IsSameBesideEntries, kept_in};
 
 use crate::certificate::{Certificate, Fate};
-use crate::fault::{CheckFault, Reason};
+use crate::fault::CheckFault;
 use crate::outline::Outline;
 use crate::plan::{Plan, check_ranges};
 use crate::progress::{OUT_OF_MEMORY, Progress};
@@ -22,6 +22,7 @@ use std::alloc::Global;
 use std::marker::Model;
 use tcap_ber::Fault;
 use tcap_end::Table;
+use tcap_model::Reason;
 use tcap_msg::{Message, MessageParts};
 use tcap_record::End;
 

@@ -3,10 +3,10 @@
 
 ghost use Rattle.std.specs.Prelude.{◌≡◌, ◌≢◌, ◌++◌, ◌∷◌, ◌+◌, ◌≤◌, ◌^◌, [], ℕ, List, length, slice_get, Result, Ok, Err, IfOk, IfSome, OnOk, ok_or};
 ghost use Rattle.tcap_check.specs.declared.fault.CheckFault.{CheckFault as Refusal};
-ghost use Rattle.tcap_check.specs.declared.fault.Reason.{Reason as Why};
-ghost use Rattle.tcap_check.specs.declared.fault.Reason.TheVariants as reasons;
+ghost use Rattle.tcap_model.specs.declared.reason.Reason.{Reason as Why};
+ghost use Rattle.tcap_model.specs.declared.reason.Reason.TheVariants as reasons;
 ghost use Rattle.tcap_record.specs.Ends.{other};
-ghost use Rattle.tcap_check.specs.World.{Item, Sent};
+ghost use Rattle.tcap_model.specs.World.{Item, Sent};
 ghost use Rattle.tcap_check.specs.Alone.{heard_by};
 ghost use Rattle.tcap_check.specs.Checking.{answer_of, map_ok, reading};
 ghost use Rattle.tcap_check.specs.EndChecking.{EndChecking, EndKept, EndTook, end_kept_ended, end_kept_next, end_reported, gap_before, tied_now};
@@ -18,7 +18,7 @@ ghost use Rattle.tcap_check.specs.Replayed.{certificate_fits, fault_at};
 
 use crate::certificate::{Certificate, Fate};
 use crate::checker::is_gap_behind;
-use crate::fault::{CheckFault, Reason};
+use crate::fault::CheckFault;
 use crate::hearing::{Hearing, told_among};
 use crate::outline::Outline;
 use crate::plan::{Plan, check_ranges};
@@ -27,6 +27,7 @@ use std::alloc::Global;
 use std::marker::Model;
 use tcap_ber::Fault;
 use tcap_end::Table;
+use tcap_model::Reason;
 use tcap_msg::{Message, MessageParts};
 use tcap_record::End;
 

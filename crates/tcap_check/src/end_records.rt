@@ -3,11 +3,11 @@
 ghost use Rattle.std.specs.Prelude.{◌≡◌, ◌≢◌, ◌++◌, ◌∷◌, [], List, Result, Ok, Err};
 ghost use Rattle.tcap_record.specs.Viewed.{entry_read};
 ghost use Rattle.tcap_check.specs.declared.fault.CheckFault.{CheckFault as Refusal};
-ghost use Rattle.tcap_check.specs.declared.fault.Reason.{Reason as Why};
-ghost use Rattle.tcap_check.specs.declared.fault.Reason.TheVariants as reasons;
-ghost use Rattle.tcap_check.specs.World.{Item};
-ghost use Rattle.tcap_check.specs.Run.{IsLawfulFor};
-ghost use Rattle.tcap_check.specs.Entries.{AreItems, item_of};
+ghost use Rattle.tcap_model.specs.declared.reason.Reason.{Reason as Why};
+ghost use Rattle.tcap_model.specs.declared.reason.Reason.TheVariants as reasons;
+ghost use Rattle.tcap_model.specs.World.{Item};
+ghost use Rattle.tcap_model.specs.Run.{IsLawfulFor};
+ghost use Rattle.tcap_model.specs.Entries.{AreItems, item_of};
 ghost use Rattle.tcap_check.specs.Alone.{replayed_for};
 ghost use Rattle.tcap_check.specs.Replayed.{fault_at};
 ghost use Rattle.tcap_check.specs.Checking.{answer_of, map_ok};

@@ -12,10 +12,10 @@ ghost use Rattle.tcap_end.specs.End.{End};
 ghost use Rattle.tcap_end.specs.Message.{send};
 ghost use Rattle.tcap_end.specs.Table.{Table};
 ghost use Rattle.tcap_check.specs.declared.fault.CheckFault.{CheckFault};
-ghost use Rattle.tcap_check.specs.World.{Item, Sent, World, end_at};
-ghost use Rattle.tcap_check.specs.Run.{BothKeepRules, Event, Expires, IsLawful, IsRunOf, Runs, played};
+ghost use Rattle.tcap_model.specs.World.{Item, Sent, World, end_at};
+ghost use Rattle.tcap_model.specs.Run.{BothKeepRules, Event, Expires, IsLawful, IsRunOf, Runs, played};
 ghost use Rattle.tcap_check.specs.Certificate.{Certificate, IsPrompt, prompt};
-ghost use Rattle.tcap_check.specs.Entries.{AreItems};
+ghost use Rattle.tcap_model.specs.Entries.{AreItems};
 ghost use Rattle.tcap_check.specs.Follows.{Follows, IsImplied, IsPlain, invoke_id, invoking_half};
 ghost use Rattle.tcap_check.specs.Named.{AreSameEvents, IsDescribedBy};
 ghost use Rattle.tcap_check.specs.Given.{DeliversAtOnce, IsGiven, IsInUse, IsReason, IsSeen};
@@ -105,4 +105,10 @@ pub fn refusals_have_reasons()
     ensures { (table : Table) (c : Certificate) (entries : List Entry) (fault : CheckFault)
         → replayed table c entries ≡ Err fault
         → IsReason table c entries fault.entry fault.reason }
+{}
+
+/// A run that follows a prompt certificate has no loss, no provider's reply and no closing.
+pub fn prompt_runs_are_plain()
+    ensures { (certificate : Certificate) (items : List Item) (events : List Event) → IsPrompt certificate
+        → Follows certificate items events → AllByRecursion IsPlain events }
 {}

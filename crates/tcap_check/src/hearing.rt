@@ -10,13 +10,14 @@ ghost use Rattle.tcap_record.specs.Ends.{other};
 
 use crate::certificate::{Certificate, Closing, Expiry, Fate};
 use crate::end_checker::EndReport;
-use crate::fault::{CheckFault, Reason};
+use crate::fault::CheckFault;
 use crate::held::Held;
 use crate::outline::Outline;
 use crate::plan::Plan;
 use crate::progress::{OUT_OF_MEMORY, Progress, receive};
 use std::alloc::{AllocError, Global};
 use tcap_end::{EndFault, Table};
+use tcap_model::Reason;
 use tcap_msg::{Message, MessageParts};
 use tcap_record::End;
 

@@ -3,8 +3,8 @@
 ghost use Rattle.std.specs.Prelude.{◌≡◌, map, slice_get, Some, None, IfOk, MatchOption};
 ghost use Rattle.tcap_parts.specs.Meaning.{components_left};
 ghost use Rattle.tcap_end.specs.declared.half.HalfName.TheVariants as names;
-ghost use Rattle.tcap_check.specs.World.{Sent};
-ghost use Rattle.tcap_check.specs.Run.{then_so, where_so};
+ghost use Rattle.tcap_model.specs.World.{Sent};
+ghost use Rattle.tcap_model.specs.Run.{then_so, where_so};
 ghost use Rattle.tcap_check.specs.Follows.{half_begun, invoke_id};
 ghost use Rattle.tcap_check.specs.Outlines.{half_closed, invocation_ended, note_of, outline_named, outline_of};
 

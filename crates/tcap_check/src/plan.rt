@@ -10,8 +10,9 @@ ghost use Rattle.tcap_check.specs.Replayed.{all_fit, certificate_fits, fate_fits
 
 use crate::buckets::Buckets;
 use crate::certificate::{Certificate, Closing, Expiry, Fate};
-use crate::fault::{CheckFault, Reason};
+use crate::fault::CheckFault;
 use std::alloc::{AllocError, Global};
+use tcap_model::Reason;
 
 /// What a certificate says: what is listed, what is delivered and what is taken, by gap and by entry; and which entries
 /// are named.

@@ -4,7 +4,7 @@ ghost use Rattle.std.specs.Prelude.{◌≡◌, ◌<◌, ◌≤◌, ◌+◌, ◌^
 ghost use Rattle.tcap_msg.specs.Parts.{otid_in};
 ghost use Rattle.tcap_end.specs.Step.{AnswersInMemory};
 ghost use Rattle.tcap_end.specs.Message.{receive};
-ghost use Rattle.tcap_check.specs.declared.fault.Reason.TheVariants.{BadReply};
+ghost use Rattle.tcap_model.specs.declared.reason.Reason.TheVariants.{BadReply};
 ghost use Rattle.tcap_record.specs.Ends.{other};
 ghost use Rattle.tcap_check.specs.Replayed.{fault_at};
 ghost use Rattle.tcap_check.specs.Plan.{IsPlan};
@@ -13,13 +13,14 @@ ghost use Rattle.tcap_check.specs.Progress.{empty_seat, end_moved, expiries_kept
 ghost use Rattle.tcap_check.specs.Progress.{nothing_kept, seat_at};
 
 use crate::certificate::{Certificate, Closing, Expiry};
-use crate::fault::{CheckFault, Reason};
+use crate::fault::CheckFault;
 use crate::held::Held;
 use crate::outline::{Outline, half_closed, invocation_ended};
 use crate::plan::Plan;
 use std::alloc::Global;
 use std::collections::LinkedList;
 use tcap_end::{EndFault, EndState, HalfName, Table};
+use tcap_model::Reason;
 use tcap_record::End;
 
 /// A message on its way that is not lost, with the number of its entry.

@@ -3,11 +3,11 @@
 ghost use Rattle.std.specs.Prelude.{◌≡◌, ◌≢◌, ◌++◌, ◌∷◌, [], List, Result, Ok, Err};
 ghost use Rattle.tcap_record.specs.Viewed.{entry_read};
 ghost use Rattle.tcap_check.specs.declared.fault.CheckFault.{CheckFault as Refusal};
-ghost use Rattle.tcap_check.specs.declared.fault.Reason.{Reason as Why};
-ghost use Rattle.tcap_check.specs.declared.fault.Reason.TheVariants as reasons;
-ghost use Rattle.tcap_check.specs.World.{Item};
-ghost use Rattle.tcap_check.specs.Run.{IsLawful};
-ghost use Rattle.tcap_check.specs.Entries.{AreItems, item_of};
+ghost use Rattle.tcap_model.specs.declared.reason.Reason.{Reason as Why};
+ghost use Rattle.tcap_model.specs.declared.reason.Reason.TheVariants as reasons;
+ghost use Rattle.tcap_model.specs.World.{Item};
+ghost use Rattle.tcap_model.specs.Run.{IsLawful};
+ghost use Rattle.tcap_model.specs.Entries.{AreItems, item_of};
 ghost use Rattle.tcap_check.specs.Replayed.{fault_at, replayed};
 ghost use Rattle.tcap_check.specs.Checking.{Took, answer_of, map_ok, reported};
 ghost use Rattle.tcap_check.specs.declared.checker.Report.{Report as Reported};

@@ -8,9 +8,9 @@ use Rattle.tcap_record.specs.declared.entry.Entry.{Entry}
 use Rattle.tcap_record.specs.declared.fault.FeedFault.{FeedFault}
 use Rattle.tcap_record.specs.Framed.{FramedFrom}
 use Rattle.tcap_end.specs.Table.{Table}
-use Rattle.tcap_check.specs.Entries.{AreItems, IsItem, item_of}
-use Rattle.tcap_check.specs.Run.{IsLawful, IsLawfulFor}
-use Rattle.tcap_check.specs.World.{Item, Sent}
+use Rattle.tcap_model.specs.Entries.{AreItems, IsItem, item_of}
+use Rattle.tcap_model.specs.Run.{IsLawful, IsLawfulFor}
+use Rattle.tcap_model.specs.World.{Item, Sent}
 use Rattle.tcap_refute.specs.declared.kind.Refutation.{Refutation}
 use Rattle.tcap_refute.specs.Blame.{blamed}
 use Rattle.tcap_refute.specs.Unsendable.{IsAtFaultOf}

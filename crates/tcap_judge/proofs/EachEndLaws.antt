@@ -8,12 +8,12 @@ use Rattle.tcap_check.specs.declared.certificate.Fate.{Fate}
 use Rattle.tcap_check.specs.declared.certificate.Fate.TheVariants.{Gap, Lost, By}
 use Rattle.tcap_check.specs.Alone.{replayed_for, unheard_of}
 use Rattle.tcap_check.specs.Certificate.{Certificate}
-use Rattle.tcap_check.specs.Entries.{AreItems, item_of}
+use Rattle.tcap_model.specs.Entries.{AreItems, item_of}
 use Rattle.tcap_check.specs.Follows.{lost_from}
 use Rattle.tcap_check.specs.Replayed.{replayed}
-use Rattle.tcap_check.specs.Run.{Event}
+use Rattle.tcap_model.specs.Run.{Event}
 use Rattle.tcap_record.specs.Ends.{other}
-use Rattle.tcap_check.specs.World.{Item, Sent, is_side}
+use Rattle.tcap_model.specs.World.{Item, Sent, is_side}
 use Rattle.tcap_check.proofs.AloneBoth.{both_give}
 use Rattle.tcap_check.proofs.AloneLeft.{unheard_are_lost}
 use Rattle.tcap_check.proofs.AloneRuns.{gives_for}

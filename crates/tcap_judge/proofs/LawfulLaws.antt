@@ -11,10 +11,10 @@ use Rattle.tcap_end.specs.Fault.{table_number_of}
 use Rattle.tcap_end.specs.Table.{Table}
 use Rattle.tcap_end.specs.TableText.{IsTableOf}
 use Rattle.tcap_check.specs.declared.fault.CheckFault.{CheckFault}
-use Rattle.tcap_check.specs.World.{Item, Sent}
-use Rattle.tcap_check.specs.Run.{Event, IsLawful}
+use Rattle.tcap_model.specs.World.{Item, Sent}
+use Rattle.tcap_model.specs.Run.{Event, IsLawful}
 use Rattle.tcap_check.specs.Certificate.{Certificate}
-use Rattle.tcap_check.specs.Entries.{AreItems}
+use Rattle.tcap_model.specs.Entries.{AreItems}
 use Rattle.tcap_check.specs.Replayed.{replayed}
 use Rattle.tcap_check.specs.Alone.{unheard_of}
 use Rattle.tcap_check.proofs.GivenRuns.{gives}

@@ -25,3 +25,4 @@ pub mod EachEndLaws
 pub mod EndCases
 pub mod JudgeEndCases
 pub mod FlagCases
+mod NeverGivenLaws

@@ -7,10 +7,10 @@ use Rattle.tcap_record.specs.declared.entry.Entry.{Entry}
 use Rattle.tcap_record.specs.declared.fault.FeedFault.{FeedFault}
 use Rattle.tcap_end.specs.Table.{Table}
 use Rattle.tcap_check.specs.declared.fault.CheckFault.{CheckFault}
-use Rattle.tcap_check.specs.declared.fault.Reason.{Reason}
-use Rattle.tcap_check.specs.Entries.{item_of}
-use Rattle.tcap_check.specs.Run.{Event}
-use Rattle.tcap_check.specs.World.{Item}
+use Rattle.tcap_model.specs.declared.reason.Reason.{Reason}
+use Rattle.tcap_model.specs.Entries.{item_of}
+use Rattle.tcap_model.specs.Run.{Event}
+use Rattle.tcap_model.specs.World.{Item}
 use Rattle.tcap_refute.specs.declared.kind.Refutation.{Refutation}
 use Rattle.tcap_refute.specs.Blame.{blamed}
 use Rattle.tcap_refute.specs.Kind.{refuted}

@@ -12,7 +12,7 @@ use Rattle.tcap_end.specs.Fault.{table_number_of}
 use Rattle.tcap_end.specs.Table.{Table}
 use Rattle.tcap_end.specs.TableText.{IsTableOf}
 use Rattle.tcap_check.specs.declared.fault.CheckFault.{CheckFault}
-use Rattle.tcap_check.specs.Run.{Event}
+use Rattle.tcap_model.specs.Run.{Event}
 use Rattle.tcap_check.specs.Certificate.{Certificate}
 use Rattle.tcap_check.specs.CertificateText.{IsCertificateText}
 use Rattle.tcap_judge.specs.declared.text_reading.TextFault.{TextFault}

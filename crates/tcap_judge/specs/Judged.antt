@@ -4,10 +4,10 @@ use Rattle.tcap_record.specs.declared.entry.End.{End as Side}
 use Rattle.tcap_record.specs.declared.entry.Entry.{Entry}
 use Rattle.tcap_end.specs.Table.{Table}
 use Rattle.tcap_check.specs.declared.fault.CheckFault.{CheckFault}
-use Rattle.tcap_check.specs.World.{Item}
-use Rattle.tcap_check.specs.Run.{Event, IsLawful, IsLawfulFor}
+use Rattle.tcap_model.specs.World.{Item}
+use Rattle.tcap_model.specs.Run.{Event, IsLawful, IsLawfulFor}
 use Rattle.tcap_check.specs.Certificate.{Certificate}
-use Rattle.tcap_check.specs.Entries.{AreItems}
+use Rattle.tcap_model.specs.Entries.{AreItems}
 use Rattle.tcap_check.specs.Replayed.{replayed}
 use Rattle.tcap_check.specs.Alone.{replayed_for, unheard_of}
 use Rattle.tcap_judge.specs.declared.outcome.Outcome.{Outcome}

@@ -7,8 +7,8 @@ use Rattle.tcap_record.specs.declared.entry.End.{End as Side}
 use Rattle.tcap_record.specs.Framed.{octet_of, quiet_octet}
 use Rattle.tcap_end.specs.Table.{Table}
 use Rattle.tcap_end.specs.TableText.{IsTableOf}
-use Rattle.tcap_check.specs.World.{Item, Sent}
-use Rattle.tcap_check.specs.Run.{IsLawful, IsLawfulFor}
+use Rattle.tcap_model.specs.World.{Item, Sent}
+use Rattle.tcap_model.specs.Run.{IsLawful, IsLawfulFor}
 use Rattle.tcap_judge.specs.declared.outcome.Outcome.TheVariants.{Lawful, LawfulFor}
 use Rattle.tcap_judge.specs.Outcome.{outcome_line}
 use Rattle.tcap_judge.specs.Checked.{Device}

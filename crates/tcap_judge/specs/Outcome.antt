@@ -5,9 +5,9 @@ use Rattle.tcap_ber.specs.Fault.{number_of}
 use Rattle.tcap_end.specs.Fault.{fault_number}
 use Rattle.tcap_record.specs.Lines.{fault_line, line_end}
 use Rattle.tcap_check.specs.declared.fault.CheckFault.{CheckFault}
-use Rattle.tcap_check.specs.declared.fault.Reason.{Reason}
-use Rattle.tcap_check.specs.declared.fault.Reason.TheVariants as reasons
-use Rattle.tcap_check.specs.Fault.{reason_number}
+use Rattle.tcap_model.specs.declared.reason.Reason.{Reason}
+use Rattle.tcap_model.specs.declared.reason.Reason.TheVariants as reasons
+use Rattle.tcap_model.specs.Reason.{reason_number}
 use Rattle.tcap_refute.specs.declared.kind.Refutation.{Refutation}
 use Rattle.tcap_refute.specs.Kind.{kind_number}
 use Rattle.tcap_judge.specs.Shown.{memory_line}

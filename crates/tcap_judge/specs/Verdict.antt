@@ -14,8 +14,8 @@ use Rattle.tcap_end.specs.TableText.{IsTableOf}
 use Rattle.tcap_check.specs.declared.fault.CheckFault.{CheckFault}
 use Rattle.tcap_check.specs.Certificate.{Certificate}
 use Rattle.tcap_check.specs.CertificateText.{certificate_data}
-use Rattle.tcap_check.specs.Entries.{item_of}
-use Rattle.tcap_check.specs.Run.{Event}
+use Rattle.tcap_model.specs.Entries.{item_of}
+use Rattle.tcap_model.specs.Run.{Event}
 use Rattle.tcap_refute.specs.declared.kind.Refutation.{Refutation}
 use Rattle.tcap_refute.specs.Blame.{blamed}
 use Rattle.tcap_refute.specs.Kind.{refuted}

@@ -1,8 +1,8 @@
 //! What is said of each end of a record, by the certificate that is proposed for it.
 
 ghost use Rattle.std.specs.Prelude.{◌≡◌, ◌≤◌, List, length, map, None, Ok, IfOk};
-ghost use Rattle.tcap_check.specs.Entries.{item_of};
-ghost use Rattle.tcap_check.specs.Run.{Event};
+ghost use Rattle.tcap_model.specs.Entries.{item_of};
+ghost use Rattle.tcap_model.specs.Run.{Event};
 ghost use Rattle.tcap_check.specs.Replayed.{replayed};
 ghost use Rattle.tcap_refute.specs.Blame.{blamed};
 ghost use Rattle.tcap_search.specs.Proposed.{proposed_for};
@@ -10,6 +10,7 @@ ghost use Rattle.tcap_judge.specs.Blamed.{IsFound, finding, items_before};
 ghost use Rattle.tcap_judge.specs.EachEnd.{lost_by, lost_of};
 
 use crate::finding::Finding;
+use crate::laws;
 use crate::outcome::Outcome;
 use crate::verdicts::replay;
 use std::alloc::{AllocError, Global};
@@ -17,7 +18,6 @@ use tcap_blame::blame;
 use tcap_check::{Certificate, Fate, Reason};
 use tcap_end::Table;
 use tcap_record::{Body, End, Entry, Record};
-use tcap_refute::laws;
 
 /// 1 where the entry is of that end and lost, else 0.
 fn lost_by(end: End, fate: Fate, side: Option<End>) -> u64

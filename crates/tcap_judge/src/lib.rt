@@ -11,6 +11,7 @@ mod fault_lines;
 mod finding;
 mod given;
 mod judging;
+pub mod laws;
 mod outcome;
 mod packing;
 mod showing;

@@ -4,7 +4,7 @@ ghost use Rattle.std.specs.Prelude.{◌≡◌, ◌≢◌, [], ◌≤◌, length,
 ghost use Rattle.std.specs.String.{string_bytes};
 ghost use Rattle.tcap_check.specs.Checking.{map_ok};
 ghost use Rattle.tcap_check.specs.Replayed.{fault_at};
-ghost use Rattle.tcap_check.specs.declared.fault.Reason.TheVariants as reasons;
+ghost use Rattle.tcap_model.specs.declared.reason.Reason.TheVariants as reasons;
 ghost use Rattle.tcap_judge.specs.Judged.{IsShown, lawful_by, replayed_by};
 ghost use Rattle.tcap_judge.specs.Verdict.{IsVerdict, line_asked, line_of_certificate, named_by, proposed_by};
 

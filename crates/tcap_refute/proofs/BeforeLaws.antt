@@ -12,11 +12,12 @@ use Rattle.tcap_record.specs.declared.entry.End.{End as Side}
 use Rattle.tcap_record.specs.declared.entry.End.TheVariants as sides
 use Rattle.tcap_end.specs.End.{is_id}
 use Rattle.tcap_record.specs.Ends.{other}
-use Rattle.tcap_check.specs.World.{Item, Sent, is_side}
-use Rattle.tcap_check.specs.Run.{where_so}
-use Rattle.tcap_check.specs.Follows.{has_quiet, originating}
-use Rattle.tcap_check.specs.Since.{SentSince}
-use Rattle.tcap_check.proofs.TakenLaws.{same_side}
+use Rattle.tcap_model.specs.World.{Item, Sent, is_side}
+use Rattle.tcap_model.specs.Run.{where_so}
+use Rattle.tcap_model.specs.World.{has_quiet}
+use Rattle.tcap_model.specs.Since.{originating}
+use Rattle.tcap_model.specs.Since.{SentSince}
+use Rattle.tcap_model.proofs.RunLaws.{same_side}
 use Rattle.tcap_refute.specs.Before.{asked, components_of, message_of, sent_by, since_quiet}
 use Rattle.tcap_refute.proofs.Members.{filter_has, filter_map_has, flat_map_has, has_first, has_later}
 

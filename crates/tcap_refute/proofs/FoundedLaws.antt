@@ -27,13 +27,13 @@ use Rattle.tcap_end.specs.Table.{Table, operation_of}
 use Rattle.tcap_end.proofs.AnsweringLaws.{needs_ok, ok_same, then_ok}
 use Rattle.tcap_end.proofs.ComponentLaws.{all_sends}
 use Rattle.tcap_end.proofs.HalfLaws.{Follows, IsListed, half_sent}
-use Rattle.tcap_check.specs.World.{World, end_at}
-use Rattle.tcap_check.specs.Run.{Event, Runs}
-use Rattle.tcap_check.specs.Since.{CameFromPeer, IsAnswer}
-use Rattle.tcap_check.proofs.ListLaws.{all_weaker}
-use Rattle.tcap_check.proofs.PeerLaws.{Knows, knows}
-use Rattle.tcap_check.proofs.RunLaws.{sound}
-use Rattle.tcap_check.proofs.TurnLaws.{taken_loses}
+use Rattle.tcap_model.specs.World.{World, end_at}
+use Rattle.tcap_model.specs.Run.{Event, Runs}
+use Rattle.tcap_model.specs.Since.{CameFromPeer, IsAnswer}
+use Rattle.tcap_model.proofs.ListLaws.{all_weaker}
+use Rattle.tcap_model.proofs.PeerLaws.{Knows, knows}
+use Rattle.tcap_model.proofs.RunLaws.{sound}
+use Rattle.tcap_model.proofs.TurnLaws.{taken_loses}
 use Rattle.tcap_refute.specs.Before.{asked, components_of, since_quiet}
 use Rattle.tcap_refute.proofs.BeforeLaws.{component_has, originating_is}
 use Rattle.tcap_refute.proofs.OverLaws.{IsOver}

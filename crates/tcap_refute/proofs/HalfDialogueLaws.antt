@@ -19,8 +19,8 @@ use Rattle.tcap_end.specs.Half.{is_closed}
 use Rattle.tcap_end.specs.Dialogue.{accepts_dialogue, first_standing, is_request, is_response, is_user_abort, may_abort, may_go_on, refuses_dialogue}
 use Rattle.tcap_end.specs.End.{End, KeptHalf, with_own}
 use Rattle.tcap_end.specs.Sound.{FitsPhase, IsEnd}
-use Rattle.tcap_check.specs.World.{Item}
-use Rattle.tcap_check.proofs.ExpiryLaws.{contains_first}
+use Rattle.tcap_model.specs.World.{Item}
+use Rattle.tcap_model.proofs.ListLaws.{contains_first}
 use Rattle.tcap_refute.specs.Before.{asked, is_a, sent_by}
 use Rattle.tcap_refute.specs.Counts.{count}
 use Rattle.tcap_refute.specs.HalfKinds.{has_gone_on, has_requested, is_request_of, is_wrong_aborting, is_wrong_dialogue, is_wrong_going_on, was_requested}

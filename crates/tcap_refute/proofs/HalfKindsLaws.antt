@@ -14,7 +14,7 @@ use Rattle.tcap_end.specs.Half.{is_closed}
 use Rattle.tcap_end.specs.End.{End, KeptHalf, is_id, with_own}
 use Rattle.tcap_end.specs.Sound.{Has, IsEnd}
 use Rattle.tcap_end.proofs.FoundLaws.{none_own}
-use Rattle.tcap_check.specs.World.{Item}
+use Rattle.tcap_model.specs.World.{Item}
 use Rattle.tcap_refute.specs.Before.{asked, is_a}
 use Rattle.tcap_refute.specs.Counts.{count}
 use Rattle.tcap_refute.specs.HalfKinds.{fits_no_half, has_no_half, is_wrong_half, was_closed}

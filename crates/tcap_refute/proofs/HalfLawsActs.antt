@@ -25,7 +25,7 @@ use Rattle.tcap_end.proofs.AnsweringLaws.{needs_ok, ok_same, some_ok, then_ok}
 use Rattle.tcap_end.proofs.ComponentLaws.{all_receives, all_sends}
 use Rattle.tcap_end.proofs.FoundLaws.{named_has, none_own, none_peer, own_has}
 use Rattle.tcap_end.proofs.StepLaws.{none_is}
-use Rattle.tcap_check.proofs.TurnLaws.{put_there}
+use Rattle.tcap_model.proofs.TurnLaws.{put_there}
 use Rattle.tcap_refute.specs.Speaker.{ends_to}
 use Rattle.tcap_refute.proofs.BeforeLaws.{is_that_id}
 use Rattle.tcap_refute.proofs.HalfLawsTurns.{Accepts, Acts, Deed, Heard, Said, Starts, Turned, Unseen, acts_nowhere, answers, closes, learns, stays, new_acts, put_acts}

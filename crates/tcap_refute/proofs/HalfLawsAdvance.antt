@@ -16,9 +16,9 @@ use Rattle.tcap_end.specs.Reply.{aborts, is_open}
 use Rattle.tcap_end.specs.Sound.{IsEnd}
 use Rattle.tcap_end.proofs.StepLaws.{none_is, receives, sends}
 use Rattle.tcap_record.specs.Ends.{other}
-use Rattle.tcap_check.specs.World.{Item, Sent}
-use Rattle.tcap_check.specs.Run.{provider_abort, reply_to}
-use Rattle.tcap_check.proofs.ExpiryLaws.{contains_first}
+use Rattle.tcap_model.specs.World.{Item, Sent}
+use Rattle.tcap_model.specs.Run.{provider_abort, reply_to}
+use Rattle.tcap_model.proofs.ListLaws.{contains_first}
 use Rattle.tcap_refute.specs.Before.{sent_by}
 use Rattle.tcap_refute.proofs.Members.{has_not}
 use Rattle.tcap_refute.proofs.HalfLawsActs.{IsActiveFor, Uses, heard_acts, said_acts, said_uses}

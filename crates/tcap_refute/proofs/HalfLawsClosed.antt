@@ -19,8 +19,8 @@ use Rattle.tcap_end.specs.Reply.{is_open}
 use Rattle.tcap_end.specs.Sound.{Has, IsEnd}
 use Rattle.tcap_end.proofs.FoundLaws.{none_own, own_has}
 use Rattle.tcap_record.specs.Ends.{other}
-use Rattle.tcap_check.specs.World.{Item, Sent}
-use Rattle.tcap_check.proofs.TurnLaws.{id_is}
+use Rattle.tcap_model.specs.World.{Item, Sent}
+use Rattle.tcap_model.proofs.TurnLaws.{id_is}
 use Rattle.tcap_refute.specs.Before.{asked, has_a, is_a, sent_by}
 use Rattle.tcap_refute.specs.HalfKinds.{all_go_on_to, shows_closed, was_closed_behind}
 use Rattle.tcap_refute.specs.Speaker.{goes_on_to}

@@ -17,7 +17,7 @@ use Rattle.tcap_end.specs.End.{End, KeptHalf, is_id}
 use Rattle.tcap_end.specs.Sound.{Has, IsEnd}
 use Rattle.tcap_end.proofs.EndLaws.{no_half}
 use Rattle.tcap_record.specs.Ends.{other}
-use Rattle.tcap_check.specs.World.{Item, Sent}
+use Rattle.tcap_model.specs.World.{Item, Sent}
 use Rattle.tcap_refute.specs.Before.{asked, is_a, sent_by}
 use Rattle.tcap_refute.specs.Blame.{is_abort_with}
 use Rattle.tcap_refute.specs.Counts.{count}

@@ -13,12 +13,12 @@ use Rattle.tcap_record.specs.declared.entry.End.{End as Side}
 use Rattle.tcap_record.specs.declared.entry.End.TheVariants as sides
 use Rattle.tcap_end.specs.End.{is_id}
 use Rattle.tcap_record.specs.Ends.{other}
-use Rattle.tcap_check.specs.World.{Item, Sent, is_side}
+use Rattle.tcap_model.specs.World.{Item, Sent, is_side}
 use Rattle.tcap_refute.specs.Before.{asked, is_a, sent_by}
 use Rattle.tcap_refute.specs.Kind.{is_begin_with_request}
 use Rattle.tcap_refute.specs.Speaker.{accepts_to, back, back_behind, begin_from, is_back, told}
 use Rattle.tcap_refute.proofs.LifeLawsItems.{sent_other, sent_own}
-use Rattle.tcap_check.proofs.ExpiryLaws.{contains_first}
+use Rattle.tcap_model.proofs.ListLaws.{contains_first}
 use Rattle.tcap_refute.proofs.Members.{any_has, filter_has, has_first, has_later, has_not}
 
 -- What a list has it has behind an item more, if there is one.

@@ -17,9 +17,9 @@ use Rattle.tcap_end.specs.End.{End, KeptHalf, is_id}
 use Rattle.tcap_end.specs.Hidden.{may_close}
 use Rattle.tcap_end.specs.Sound.{Has}
 use Rattle.tcap_record.specs.Ends.{other}
-use Rattle.tcap_check.specs.World.{Item}
-use Rattle.tcap_check.specs.Since.{ended_by}
-use Rattle.tcap_check.proofs.TurnLaws.{id_is}
+use Rattle.tcap_model.specs.World.{Item}
+use Rattle.tcap_model.specs.Since.{ended_by}
+use Rattle.tcap_model.proofs.TurnLaws.{id_is}
 use Rattle.tcap_refute.specs.Before.{is_a, sent_by}
 use Rattle.tcap_refute.specs.Speaker.{ends_to, is_surely_open}
 use Rattle.tcap_refute.proofs.BeforeLaws.{is_that_id}

@@ -19,8 +19,8 @@ use Rattle.tcap_end.proofs.EndLaws.{IsThere, put_has, put_other}
 use Rattle.tcap_end.proofs.FoundLaws.{half_at, octets_total}
 use Rattle.tcap_end.proofs.MapLaws.{keys_eq}
 use Rattle.tcap_end.proofs.PlacedLaws.{slots_eq}
-use Rattle.tcap_check.specs.Since.{ended_by}
-use Rattle.tcap_check.proofs.TurnLaws.{put_there}
+use Rattle.tcap_model.specs.Since.{ended_by}
+use Rattle.tcap_model.proofs.TurnLaws.{put_there}
 use Rattle.tcap_refute.specs.Speaker.{ends_to}
 
 -- ---- one half

@@ -6,10 +6,10 @@ use Rattle.tcap_msg.specs.declared.message.Message.{Message}
 use Rattle.tcap_record.specs.declared.entry.End.{End as Side}
 use Rattle.tcap_record.specs.declared.entry.Entry.{Entry}
 use Rattle.tcap_end.specs.Table.{Table}
-use Rattle.tcap_check.specs.World.{Item, Sent, is_side}
-use Rattle.tcap_check.specs.Entries.{item_of}
-use Rattle.tcap_check.specs.Follows.{has_quiet, is_quiet}
-use Rattle.tcap_check.specs.Run.{where_so}
+use Rattle.tcap_model.specs.World.{Item, Sent, is_side}
+use Rattle.tcap_model.specs.Entries.{item_of}
+use Rattle.tcap_model.specs.World.{has_quiet, is_quiet}
+use Rattle.tcap_model.specs.Run.{where_so}
 use Rattle.tcap_refute.specs.declared.judging.Judged.TheVariants.{Passed}
 use Rattle.tcap_refute.specs.declared.kind.Kind.{Kind}
 use Rattle.tcap_refute.specs.declared.notes.Notes.{Notes}

@@ -7,8 +7,8 @@ use Rattle.tcap_msg.specs.declared.message.Message.TheVariants.{Unidirectional, 
 use Rattle.tcap_record.specs.declared.entry.End.{End as Side}
 use Rattle.tcap_end.specs.Table.{Table}
 use Rattle.tcap_end.specs.End.{End}
-use Rattle.tcap_check.specs.World.{Item, Sent, World, end_at}
-use Rattle.tcap_check.specs.Run.{Event, KeepsRules, Runs, provider_abort, reply_to}
+use Rattle.tcap_model.specs.World.{Item, Sent, World, end_at}
+use Rattle.tcap_model.specs.Run.{Event, KeepsRules, Runs, provider_abort, reply_to}
 use Rattle.tcap_refute.specs.declared.kind.Kind.{Kind}
 use Rattle.tcap_refute.specs.declared.kind.Kind.TheVariants as kinds
 use Rattle.tcap_refute.specs.Before.{since_quiet}

@@ -64,4 +64,3 @@ pub mod EndLaws
 pub mod AskLaws
 pub mod ItemLaws
 pub mod BlamedLaws
-mod GivenLaws

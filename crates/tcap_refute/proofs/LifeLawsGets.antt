@@ -21,7 +21,7 @@ use Rattle.tcap_end.specs.Message.{active_half, receive_components, send_compone
 use Rattle.tcap_end.specs.Sound.{IsKept}
 use Rattle.tcap_end.proofs.ComponentLaws.{Receives, all_receives, all_sends}
 use Rattle.tcap_end.proofs.HalfLaws.{Follows}
-use Rattle.tcap_check.specs.World.{Item, Sent}
+use Rattle.tcap_model.specs.World.{Item, Sent}
 use Rattle.tcap_refute.specs.Counts.{count}
 use Rattle.tcap_refute.specs.Kind.{is_begin_with_request}
 use Rattle.tcap_refute.specs.Speaker.{accepts_to, begin_from, told}

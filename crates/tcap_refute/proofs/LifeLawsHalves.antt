@@ -22,7 +22,7 @@ use Rattle.tcap_end.specs.Component.{own_invocation, receive_component, send_com
 use Rattle.tcap_end.specs.Hidden.{may_expire, without_invocation}
 use Rattle.tcap_end.specs.Message.{receive_components, send_components}
 use Rattle.tcap_end.proofs.AnsweringLaws.{then_ok}
-use Rattle.tcap_check.specs.World.{Item}
+use Rattle.tcap_model.specs.World.{Item}
 use Rattle.tcap_refute.specs.Before.{is_a}
 use Rattle.tcap_refute.specs.Counts.{count}
 use Rattle.tcap_refute.specs.Kind.{is_begin_with_request}

@@ -13,7 +13,7 @@ use Rattle.tcap_msg.specs.Parts.{components_in, otid_in}
 use Rattle.tcap_record.specs.declared.entry.End.{End as Side}
 use Rattle.tcap_end.specs.declared.half.Slot.TheVariants.{Begun, Accepted}
 use Rattle.tcap_end.specs.End.{is_id}
-use Rattle.tcap_check.specs.World.{Item}
+use Rattle.tcap_model.specs.World.{Item}
 use Rattle.tcap_refute.specs.Before.{is_a}
 use Rattle.tcap_refute.specs.Counts.{count}
 use Rattle.tcap_refute.specs.Kind.{is_begin_with_request}

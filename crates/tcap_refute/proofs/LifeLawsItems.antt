@@ -11,8 +11,8 @@ use Rattle.tcap_msg.specs.Parts.{cause_in, dtid_in, otid_in}
 use Rattle.tcap_record.specs.declared.entry.End.{End as Side}
 use Rattle.tcap_end.specs.End.{is_id}
 use Rattle.tcap_record.specs.Ends.{other}
-use Rattle.tcap_check.specs.World.{Item, Sent, is_side}
-use Rattle.tcap_check.specs.Follows.{has_quiet}
+use Rattle.tcap_model.specs.World.{Item, Sent, is_side}
+use Rattle.tcap_model.specs.World.{has_quiet}
 use Rattle.tcap_refute.specs.Before.{is_a, sent_by, since_quiet}
 use Rattle.tcap_refute.specs.Speaker.{begin_from, told}
 use Rattle.tcap_refute.proofs.BeforeLaws.{is_itself}

@@ -26,8 +26,8 @@ use Rattle.tcap_end.proofs.AnsweringLaws.{needs_ok, ok_same, some_ok, then_ok}
 use Rattle.tcap_end.proofs.EndLaws.{IsThere, put_has}
 use Rattle.tcap_end.proofs.FoundLaws.{named_has, own_has}
 use Rattle.tcap_end.proofs.StepLaws.{none_is}
-use Rattle.tcap_check.specs.World.{Item}
-use Rattle.tcap_check.proofs.TurnLaws.{id_is}
+use Rattle.tcap_model.specs.World.{Item}
+use Rattle.tcap_model.proofs.TurnLaws.{id_is}
 use Rattle.tcap_refute.specs.Speaker.{told}
 use Rattle.tcap_refute.proofs.LifeLawsGets.{story_answered, story_goes_on, story_received}
 use Rattle.tcap_refute.proofs.LifeLawsHalves.{Story, story_ends, story_still}

@@ -27,8 +27,8 @@ use Rattle.tcap_end.proofs.EndLaws.{IsThere, put_has}
 use Rattle.tcap_end.proofs.FoundLaws.{own_has, peer_has}
 use Rattle.tcap_end.proofs.HalfLaws.{Follows, active_is, received_is}
 use Rattle.tcap_end.proofs.StepLaws.{none_is}
-use Rattle.tcap_check.specs.World.{Item, Sent}
-use Rattle.tcap_check.proofs.TurnLaws.{id_is, put_there}
+use Rattle.tcap_model.specs.World.{Item, Sent}
+use Rattle.tcap_model.proofs.TurnLaws.{id_is, put_there}
 use Rattle.tcap_refute.specs.Speaker.{begin_from}
 use Rattle.tcap_refute.proofs.BeforeLaws.{is_that_id}
 use Rattle.tcap_refute.proofs.LifeLawsCome.{KeepsBegins}

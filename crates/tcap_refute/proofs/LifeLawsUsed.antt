@@ -14,13 +14,13 @@ use Rattle.tcap_end.specs.End.{KeptHalf, is_id}
 use Rattle.tcap_end.specs.Sound.{Has, IsEnd}
 use Rattle.tcap_end.proofs.FoundLaws.{none_own, none_peer}
 use Rattle.tcap_end.proofs.StepLaws.{none_is}
-use Rattle.tcap_check.specs.World.{Item, World, end_at}
-use Rattle.tcap_check.specs.Run.{Event, KeepsRules, Runs}
-use Rattle.tcap_check.specs.Since.{HasUsed, SentSince}
-use Rattle.tcap_check.proofs.RunLaws.{sound}
-use Rattle.tcap_check.proofs.TurnLaws.{id_is}
-use Rattle.tcap_check.proofs.UsedLaws.{ids_used}
-use Rattle.tcap_check.proofs.WorldMoves.{Advances, HasEnded, worlds_keep}
+use Rattle.tcap_model.specs.World.{Item, World, end_at}
+use Rattle.tcap_model.specs.Run.{Event, KeepsRules, Runs}
+use Rattle.tcap_model.specs.Since.{HasUsed, SentSince}
+use Rattle.tcap_model.proofs.RunLaws.{sound}
+use Rattle.tcap_model.proofs.TurnLaws.{id_is}
+use Rattle.tcap_model.proofs.UsedLaws.{ids_used}
+use Rattle.tcap_model.proofs.WorldMoves.{Advances, HasEnded, worlds_keep}
 use Rattle.tcap_refute.specs.Before.{is_a, sent_by, since_quiet}
 use Rattle.tcap_refute.proofs.BeforeLaws.{Found, found_since}
 use Rattle.tcap_refute.proofs.LifeLawsItems.{begins_from, tells_to}

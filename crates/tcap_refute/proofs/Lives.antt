@@ -10,7 +10,7 @@ use Rattle.tcap_end.specs.Half.{Half}
 use Rattle.tcap_end.specs.Component.{own_invocation, receive_component, send_component}
 use Rattle.tcap_end.specs.End.{KeptHalf}
 use Rattle.tcap_end.specs.Hidden.{may_expire, without_invocation}
-use Rattle.tcap_check.specs.World.{Item}
+use Rattle.tcap_model.specs.World.{Item}
 use Rattle.tcap_refute.specs.Before.{asked, components_of}
 use Rattle.tcap_refute.specs.Counts.{count}
 use Rattle.tcap_refute.specs.Speaker.{Speaker, back, begin_from, goes_on_to, heard_begin, told}

@@ -19,9 +19,9 @@ use Rattle.tcap_end.specs.Table.{Table, octets_cmp}
 use Rattle.tcap_end.specs.Half.{Half, is_closed}
 use Rattle.tcap_end.specs.End.{End, KeptHalf, all_closed, nothing}
 use Rattle.tcap_end.specs.Sound.{Has}
-use Rattle.tcap_check.specs.World.{Item, OnItsWay, Sent, World, end_at}
-use Rattle.tcap_check.specs.Run.{Adds, Event, Sends, Receives, Replies, Loses, Expires, Closes, Quiet, Tells, KeepsRules, Runs, after, after_quiet, then_so}
-use Rattle.tcap_check.proofs.RunLaws.{grows, runs_keep}
+use Rattle.tcap_model.specs.World.{Item, OnItsWay, Sent, World, end_at}
+use Rattle.tcap_model.specs.Run.{Adds, Event, Sends, Receives, Replies, Loses, Expires, Closes, Quiet, Tells, KeepsRules, Runs, after, after_quiet, then_so}
+use Rattle.tcap_model.proofs.RunLaws.{grows, runs_keep}
 use Rattle.tcap_refute.specs.Before.{is_a, sent_by, since_quiet}
 use Rattle.tcap_refute.specs.Blame.{is_open_at_mark}
 use Rattle.tcap_refute.specs.Speaker.{is_surely_open}

@@ -4,7 +4,7 @@ use Rattle.std.specs.Prelude.{Contains, filter, filter_map}
 use Rattle.std.specs.List.{cons_option, flat_map, list_any}
 use Rattle.std.proofs.lemmas.List.Elements.{Contains-append_left, Contains-append_right}
 use Rattle.std.proofs.lemmas.List.Folds.{list_any_at}
-use Rattle.tcap_check.proofs.ExpiryLaws.{contains_first}
+use Rattle.tcap_model.proofs.ListLaws.{contains_first}
 
 -- ---- what a list has
 

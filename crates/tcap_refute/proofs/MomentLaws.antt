@@ -10,9 +10,9 @@ use Rattle.tcap_end.specs.Table.{Table}
 use Rattle.tcap_end.specs.End.{End}
 use Rattle.tcap_end.specs.Message.{send}
 use Rattle.tcap_record.specs.Ends.{other}
-use Rattle.tcap_check.specs.World.{Item, OnItsWay, Sent, World, channel_from, end_at, with_channel}
-use Rattle.tcap_check.specs.Run.{Adds, Event, Sends, Receives, Replies, Loses, Expires, Closes, Quiet, Tells, KeepsRules, Runs, after, is_told_by, joined, reply_to, tells}
-use Rattle.tcap_check.proofs.RunLaws.{IsReply, grows, reply, runs_keep, sending}
+use Rattle.tcap_model.specs.World.{Item, OnItsWay, Sent, World, channel_from, end_at, with_channel}
+use Rattle.tcap_model.specs.Run.{Adds, Event, Sends, Receives, Replies, Loses, Expires, Closes, Quiet, Tells, KeepsRules, Runs, after, is_told_by, joined, reply_to, tells}
+use Rattle.tcap_model.proofs.RunLaws.{IsReply, grows, reply, runs_keep, sending}
 use Rattle.tcap_refute.proofs.BeforeLaws.{is_itself}
 
 -- The end sends it.

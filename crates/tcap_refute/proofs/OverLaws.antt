@@ -25,7 +25,7 @@ use Rattle.tcap_end.proofs.ComponentLaws.{all_sends}
 use Rattle.tcap_end.proofs.FoundLaws.{own_has, peer_has}
 use Rattle.tcap_end.proofs.HalfLaws.{Follows, active_is, received_is}
 use Rattle.tcap_end.proofs.StepLaws.{none_is}
-use Rattle.tcap_check.proofs.TurnLaws.{id_is}
+use Rattle.tcap_model.proofs.TurnLaws.{id_is}
 use Rattle.tcap_refute.proofs.HalfLawsTurns.{Answers, Deed, Said, Turned, answers, closes, stays}
 
 -- whether a half may carry the dialogue portion of a message with a destination ID

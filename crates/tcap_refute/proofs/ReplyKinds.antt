@@ -18,8 +18,8 @@ use Rattle.tcap_end.specs.Sound.{Has, IsEnd}
 use Rattle.tcap_end.proofs.FoundLaws.{none_own, none_peer, own_has}
 use Rattle.tcap_end.proofs.StepLaws.{none_is}
 use Rattle.tcap_record.specs.Ends.{other}
-use Rattle.tcap_check.specs.World.{Item}
-use Rattle.tcap_check.proofs.TurnLaws.{id_is}
+use Rattle.tcap_model.specs.World.{Item}
+use Rattle.tcap_model.proofs.TurnLaws.{id_is}
 use Rattle.tcap_refute.specs.Before.{asked, has_a, is_a, sent_by}
 use Rattle.tcap_refute.specs.Blame.{all_go_to_open, count_received, is_abort_with, is_wrong_reply}
 use Rattle.tcap_refute.specs.Counts.{count}

@@ -7,11 +7,11 @@ use Rattle.tcap_end.specs.Table.{Table}
 use Rattle.tcap_end.specs.End.{End}
 use Rattle.tcap_end.specs.Message.{send}
 use Rattle.tcap_record.specs.Ends.{other}
-use Rattle.tcap_check.specs.World.{World, end_at}
-use Rattle.tcap_check.specs.Run.{Event, KeepsRules, Runs}
-use Rattle.tcap_check.specs.Since.{SentSince}
-use Rattle.tcap_check.proofs.PeerLaws.{knows}
-use Rattle.tcap_check.proofs.RunLaws.{sound}
+use Rattle.tcap_model.specs.World.{World, end_at}
+use Rattle.tcap_model.specs.Run.{Event, KeepsRules, Runs}
+use Rattle.tcap_model.specs.Since.{SentSince}
+use Rattle.tcap_model.proofs.PeerLaws.{knows}
+use Rattle.tcap_model.proofs.RunLaws.{sound}
 use Rattle.tcap_refute.proofs.BeforeLaws.{originating_is}
 use Rattle.tcap_refute.proofs.OverLaws.{IsOver, over}
 

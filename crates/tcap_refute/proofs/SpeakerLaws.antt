@@ -16,7 +16,7 @@ use Rattle.tcap_end.specs.Table.{Table}
 use Rattle.tcap_end.specs.Half.{is_closed}
 use Rattle.tcap_end.specs.End.{End, KeptHalf, is_id, with_own}
 use Rattle.tcap_end.specs.Sound.{FitsPhase, Has, IsEnd}
-use Rattle.tcap_check.specs.World.{Item}
+use Rattle.tcap_model.specs.World.{Item}
 use Rattle.tcap_refute.specs.Before.{asked, has_a, is_a}
 use Rattle.tcap_refute.specs.Counts.{count}
 use Rattle.tcap_refute.specs.Speaker.{back, began, begin_from, goes_on_to, goes_to, heard_begin, heard_by, heard_later, is_accepted, is_begun, known_own, own_begin, own_id, speaker, told}

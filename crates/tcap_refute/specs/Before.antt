@@ -13,9 +13,9 @@ use Rattle.tcap_msg.specs.Parts.{components_in, kind_in, otid_in}
 use Rattle.tcap_record.specs.declared.entry.End.{End as Side}
 use Rattle.tcap_end.specs.End.{is_id}
 use Rattle.tcap_record.specs.Ends.{other}
-use Rattle.tcap_check.specs.World.{Item, Sent, is_side}
-use Rattle.tcap_check.specs.Run.{where_so}
-use Rattle.tcap_check.specs.Follows.{has_quiet}
+use Rattle.tcap_model.specs.World.{Item, Sent, is_side}
+use Rattle.tcap_model.specs.Run.{where_so}
+use Rattle.tcap_model.specs.World.{has_quiet}
 
 -- what stands behind the last quiet mark
 abbrev pub since_quiet : List Item → List Item

@@ -7,7 +7,7 @@ use Rattle.tcap_parts.specs.declared.dialogue.Dialogue.TheVariants as dialogues
 use Rattle.tcap_msg.specs.declared.message.AbortReason.TheVariants as aborts
 use Rattle.tcap_msg.specs.declared.message.Message.TheVariants.{Unidirectional, Begin, Continue, End as EndMessage, Abort}
 use Rattle.tcap_record.specs.declared.entry.End.TheVariants.{A, B}
-use Rattle.tcap_check.specs.World.{Sent}
+use Rattle.tcap_model.specs.World.{Sent}
 use Rattle.tcap_refute.specs.WorkedBlame.{Blamed, IsBlamed, Unblamed, some_last, table}
 
 -- the abnormal dialogue procedure is left out: no kind

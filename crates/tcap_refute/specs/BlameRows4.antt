@@ -5,7 +5,7 @@ use Rattle.tcap_parts.specs.declared.problem.Problem.TheVariants as problems
 use Rattle.tcap_parts.specs.declared.component.Component.TheVariants.{Invoke, ReturnResult, ReturnError, Reject}
 use Rattle.tcap_msg.specs.declared.message.Message.TheVariants.{Unidirectional, Begin, Continue, End as EndMessage}
 use Rattle.tcap_record.specs.declared.entry.End.TheVariants.{A, B}
-use Rattle.tcap_check.specs.World.{Sent}
+use Rattle.tcap_model.specs.World.{Sent}
 use Rattle.tcap_refute.specs.WorkedBlame.{Blamed, IsBlamed, Unblamed, all_last, some_last, table}
 
 -- an ID of class 2 again behind a Return Result

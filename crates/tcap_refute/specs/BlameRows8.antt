@@ -6,7 +6,7 @@ use Rattle.tcap_parts.specs.declared.component.Component.TheVariants.{Invoke, Re
 use Rattle.tcap_msg.specs.declared.message.AbortReason.TheVariants as aborts
 use Rattle.tcap_msg.specs.declared.message.Message.TheVariants.{Begin, Continue, End as EndMessage, Abort}
 use Rattle.tcap_record.specs.declared.entry.End.TheVariants.{A, B}
-use Rattle.tcap_check.specs.World.{Sent}
+use Rattle.tcap_model.specs.World.{Sent}
 use Rattle.tcap_refute.specs.WorkedBlame.{Blamed, IsBlamed, Unblamed, all_last, some_last, table}
 
 -- a linked fault told in the End of what the peer began

@@ -8,7 +8,7 @@ use Rattle.tcap_parts.specs.declared.dialogue.Source.TheVariants.{User}
 use Rattle.tcap_msg.specs.declared.message.AbortReason.TheVariants as aborts
 use Rattle.tcap_msg.specs.declared.message.Message.TheVariants.{Begin, Continue, End as EndMessage, Abort}
 use Rattle.tcap_record.specs.declared.entry.End.TheVariants.{A, B}
-use Rattle.tcap_check.specs.World.{Sent}
+use Rattle.tcap_model.specs.World.{Sent}
 use Rattle.tcap_refute.specs.WorkedBlame.{Blamed, IsBlamed, Unblamed, table}
 
 -- an error of nothing called mistyped

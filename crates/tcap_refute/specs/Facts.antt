@@ -12,8 +12,8 @@ use Rattle.tcap_record.specs.declared.entry.End.{End as Side}
 use Rattle.tcap_end.specs.Dialogue.{is_request}
 use Rattle.tcap_end.specs.End.{is_id}
 use Rattle.tcap_end.specs.Table.{Table}
-use Rattle.tcap_check.specs.World.{Item}
-use Rattle.tcap_check.specs.Since.{ended_by}
+use Rattle.tcap_model.specs.World.{Item}
+use Rattle.tcap_model.specs.Since.{ended_by}
 use Rattle.tcap_refute.specs.Before.{answers, invokes, is_a, sent_by, since_quiet}
 use Rattle.tcap_refute.specs.Kind.{may_be_answered}
 

@@ -10,7 +10,7 @@ use Rattle.tcap_msg.specs.Parts.{cause_in, dialogue_in, dtid_in, otid_in}
 use Rattle.tcap_record.specs.declared.entry.End.{End as Side}
 use Rattle.tcap_end.specs.Dialogue.{is_response, is_user_abort}
 use Rattle.tcap_end.specs.End.{is_id}
-use Rattle.tcap_check.specs.World.{Item, Sent, is_side}
+use Rattle.tcap_model.specs.World.{Item, Sent, is_side}
 use Rattle.tcap_refute.specs.Before.{asked, has_a, is_a, sent_by}
 use Rattle.tcap_refute.specs.Kind.{is_begin_with_request}
 use Rattle.tcap_refute.specs.Speaker.{Speaker, back, began, begin_from, goes_on_to, is_cause, is_nothing, may_stand, told}

@@ -2,8 +2,8 @@
 use Rattle.std.specs.Prelude.{◌≡◌, List, [], ◌∷◌, ◌++◌, Option, Some, None, Result, Ok, Err, cond}
 use Rattle.tcap_ber.specs.declared.fault.Reason.{Reason as ReadingReason}
 use Rattle.tcap_end.specs.Table.{Table}
-use Rattle.tcap_check.specs.World.{Item}
-use Rattle.tcap_check.specs.declared.fault.Reason.{Reason}
+use Rattle.tcap_model.specs.World.{Item}
+use Rattle.tcap_model.specs.declared.reason.Reason.{Reason}
 use Rattle.tcap_refute.specs.declared.judging.Judged.{Judged}
 use Rattle.tcap_refute.specs.declared.judging.Judged.TheVariants.{Passed, Refuted, Ended}
 use Rattle.tcap_refute.specs.declared.kind.Kind.{Kind}

@@ -11,7 +11,7 @@ use Rattle.tcap_record.specs.declared.entry.End.{End as Side}
 use Rattle.tcap_record.specs.declared.entry.End.TheVariants as sides
 use Rattle.tcap_end.specs.Component.{is_code}
 use Rattle.tcap_end.specs.Table.{Table, octets_cmp}
-use Rattle.tcap_check.specs.World.{Item}
+use Rattle.tcap_model.specs.World.{Item}
 use Rattle.tcap_refute.specs.declared.codes.CodeSets.{CodeSets}
 use Rattle.tcap_refute.specs.declared.codes.Codes.{Codes}
 use Rattle.tcap_refute.specs.declared.by_id.ById.{ById}

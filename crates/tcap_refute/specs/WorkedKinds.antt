@@ -13,11 +13,11 @@ use Rattle.tcap_msg.specs.declared.message.AbortReason.TheVariants as aborts
 use Rattle.tcap_msg.specs.declared.message.Message.{Message}
 use Rattle.tcap_msg.specs.declared.message.Message.TheVariants.{Unidirectional, Begin, Continue, Abort}
 use Rattle.tcap_record.specs.declared.entry.End.TheVariants.{A, B}
-use Rattle.tcap_check.specs.World.{Item, Sent}
-use Rattle.tcap_check.specs.Run.{provider_abort}
-use Rattle.tcap_check.specs.declared.fault.Reason.{Reason}
-use Rattle.tcap_check.specs.declared.fault.Reason.TheVariants.{BadMessage}
-use Rattle.tcap_check.specs.Worked.{answer, begin, crossing, end_to, further, id, invoke, result, table, three_entries, over_a_mark}
+use Rattle.tcap_model.specs.World.{Item, Sent}
+use Rattle.tcap_model.specs.Run.{provider_abort}
+use Rattle.tcap_model.specs.declared.reason.Reason.{Reason}
+use Rattle.tcap_model.specs.declared.reason.Reason.TheVariants.{BadMessage}
+use Rattle.tcap_model.specs.WorkedItems.{answer, begin, crossing_items, dialogue_items, end_to, further, id, invoke, over_a_mark_items, result, table}
 use Rattle.tcap_refute.specs.declared.kind.Kind.{Kind}
 use Rattle.tcap_refute.specs.declared.kind.Kind.TheVariants as kinds
 use Rattle.tcap_refute.specs.Kind.{refuted}
@@ -74,7 +74,7 @@ aborts_of_providers =
     Refutes (from_a lone_begin ∷ from_b (provider_abort (id 1) 1) ∷ []) 1 kinds.UnknownTransaction
     × Refutes (from_a lone_begin ∷ from_b (provider_abort (id 1) 2) ∷ []) 1 kinds.UnknownTransaction
     × RefutesNone (from_a lone_begin ∷ from_b (provider_abort (id 1) 4) ∷ [])
-    × RefutesNone (map (λ item. Ok item) crossing.items)
+    × RefutesNone (map (λ item. Ok item) crossing_items)
 
 abbrev pub used_ids : Type 0
 used_ids =
@@ -105,18 +105,18 @@ accepted = dialogues.Response (4 ∷ 0 ∷ []) 0 (User 0) None
 abbrev pub dialogue_portions : Type 0
 dialogue_portions =
     Refutes (from_a (begin_with 45) ∷ from_b (answer (Some accepted) with_result) ∷ []) 1 kinds.MisplacedDialogue
-    × RefutesNone (map (λ item. Ok item) three_entries.items)
+    × RefutesNone (map (λ item. Ok item) dialogue_items)
 
 -- A Reject in a Unidirectional, and an ABRT of the provider, are left open.
 abbrev pub left_open : Type 0
 left_open =
     RefutesNone (from_a (Unidirectional None (Reject (Some (pos 1)) (problems.Invoke 1) ∷ [])) ∷ [])
-    × RefutesNone (map (λ item. Ok item) (take 2 three_entries.items)
+    × RefutesNone (map (λ item. Ok item) (take 2 dialogue_items)
     ++ from_a (Abort (id 2) (Some (aborts.Dialogue (dialogues.Abort 1 None)))) ∷ [])
 
 -- What stands before a quiet mark is not looked at.
 abbrev pub over_marks : Type 0
 over_marks =
-    RefutesNone (map (λ item. Ok item) over_a_mark.items)
+    RefutesNone (map (λ item. Ok item) over_a_mark_items)
     × Refutes (from_a (begin_with 45) ∷ from_b (end_to 1 with_result) ∷ from_a (begin_with 45) ∷ []) 2 kinds.ReusedId
     × Refutes (from_a (begin_with 45) ∷ Ok Item.Quiet ∷ from_b (end_to 1 with_result) ∷ []) 2 kinds.UnknownTransaction

@@ -2,8 +2,8 @@
 
 ghost use Rattle.std.specs.Prelude.{◌≡◌, Ok, List, IfOk};
 ghost use Rattle.tcap_end.specs.Table.{Table};
-ghost use Rattle.tcap_check.specs.World.{Item, Sent};
-ghost use Rattle.tcap_check.specs.Entries.{item_of};
+ghost use Rattle.tcap_model.specs.World.{Item, Sent};
+ghost use Rattle.tcap_model.specs.Entries.{item_of};
 ghost use Rattle.tcap_refute.specs.Kind.{is_limit};
 ghost use Rattle.tcap_refute.specs.Kept.{AreNotesOf};
 ghost use Rattle.tcap_refute.specs.Judging.{Judges, judged_fault};

@@ -5,14 +5,12 @@ ghost use Rattle.std.specs.Prelude.{◌≡◌, ℕ, List, ◌∷◌, ◌++◌, m
 ghost use Rattle.tcap_msg.specs.declared.message.Message.{Message};
 ghost use Rattle.tcap_record.specs.declared.entry.End.{End as Side};
 ghost use Rattle.tcap_end.specs.Table.{Table};
-ghost use Rattle.tcap_check.specs.World.{Item, Sent, World};
-ghost use Rattle.tcap_check.specs.Run.{Event, KeepsRules, Runs};
+ghost use Rattle.tcap_model.specs.World.{Item, Sent, World};
+ghost use Rattle.tcap_model.specs.Run.{Event, KeepsRules, Runs};
 ghost use Rattle.tcap_record.specs.declared.entry.Entry.{Entry};
-ghost use Rattle.tcap_check.specs.declared.fault.Reason.{Reason};
-ghost use Rattle.tcap_check.specs.Entries.{AreItems, item_of};
-ghost use Rattle.tcap_check.specs.Run.{IsLawful};
-ghost use Rattle.tcap_check.specs.Certificate.{Certificate};
-ghost use Rattle.tcap_check.specs.Alone.{replayed_for};
+ghost use Rattle.tcap_model.specs.declared.reason.Reason.{Reason};
+ghost use Rattle.tcap_model.specs.Entries.{AreItems, item_of};
+ghost use Rattle.tcap_model.specs.Run.{IsLawful};
 ghost use Rattle.tcap_refute.specs.declared.kind.Kind.{Kind};
 ghost use Rattle.tcap_refute.specs.declared.kind.Refutation.{Refutation};
 ghost use Rattle.tcap_refute.specs.Before.{since_quiet};
@@ -63,10 +61,4 @@ pub fn refuted_is_never_lawful()
 pub fn blamed_is_at_fault()
     ensures { (table : Table) (side : Side) (entries : List Entry) (r : Refutation)
         → blamed table side entries ≡ Some r → IsAtFaultOf table side (map item_of entries) r }
-{}
-
-/// No certificate gives a run for an end on which an entry is blamed, whoever made it: no end is both lawful alone and at fault.
-pub fn blamed_is_never_given()
-    ensures { (table : Table) (side : Side) (c : Certificate) (entries : List Entry) (r : Refutation) (events : List Event)
-        → blamed table side entries ≡ Some r → replayed_for side table c entries ≡ Ok events → ⊥ }
 {}

@@ -9,8 +9,8 @@ ghost use Rattle.tcap_record.specs.declared.entry.End.{End as Side};
 ghost use Rattle.tcap_end.specs.End.{is_id};
 ghost use Rattle.tcap_end.specs.Table.{octets_cmp};
 ghost use Rattle.tcap_record.specs.Ends.{other};
-ghost use Rattle.tcap_check.specs.World.{is_side};
-ghost use Rattle.tcap_check.specs.Since.{ended_by};
+ghost use Rattle.tcap_model.specs.World.{is_side};
+ghost use Rattle.tcap_model.specs.Since.{ended_by};
 ghost use Rattle.tcap_refute.specs.Facts.{EndFact, Ended, From, FromFact, shows_end, shows_from};
 ghost use Rattle.tcap_refute.specs.Kept.{holds, notes_at, tells_end, tells_from, told_by_notes};
 

@@ -2,7 +2,7 @@
 
 ghost use Rattle.std.specs.Prelude.{◌≡◌, [], ◌∷◌, ◌++◌, List, Some, None, OnOk, cond};
 ghost use Rattle.tcap_end.specs.Table.{Table};
-ghost use Rattle.tcap_check.specs.World.{Item, Sent};
+ghost use Rattle.tcap_model.specs.World.{Item, Sent};
 ghost use Rattle.tcap_refute.specs.declared.kind.Kind.TheVariants.{BadMessage};
 ghost use Rattle.tcap_refute.specs.Kind.{is_limit, lowest_kind};
 ghost use Rattle.tcap_refute.specs.Kept.{AreNotesOf};

@@ -1,7 +1,7 @@
 //! The search for the first entry of a record that no end sends which keeps the rules.
 
 ghost use Rattle.std.specs.Prelude.{◌≡◌, map, IfOk};
-ghost use Rattle.tcap_check.specs.Entries.{item_of};
+ghost use Rattle.tcap_model.specs.Entries.{item_of};
 ghost use Rattle.tcap_refute.specs.Kind.{refuted};
 
 use crate::judging::Judged;

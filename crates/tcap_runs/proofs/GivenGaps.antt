@@ -13,20 +13,22 @@ use Rattle.tcap_end.specs.declared.half.HalfName.TheVariants as names
 use Rattle.tcap_end.specs.Table.{Table}
 use Rattle.tcap_end.specs.Step.{◌>>=◌}
 use Rattle.tcap_record.specs.Ends.{other}
-use Rattle.tcap_check.specs.World.{Item, Sent}
-use Rattle.tcap_check.specs.Run.{Event, Closes, Expires, Receives, then_so, where_so}
+use Rattle.tcap_model.specs.World.{Item, Sent}
+use Rattle.tcap_model.specs.Run.{Event, Closes, Expires, Receives, then_so, where_so}
 use Rattle.tcap_check.specs.declared.certificate.Closing.{Closing}
 use Rattle.tcap_check.specs.declared.certificate.Expiry.{Expiry}
 use Rattle.tcap_check.specs.declared.certificate.Fate.{Fate}
 use Rattle.tcap_check.specs.declared.certificate.Fate.TheVariants.{Gap, Lost, By}
-use Rattle.tcap_check.specs.declared.fault.Reason.{Reason}
-use Rattle.tcap_check.specs.declared.fault.Reason.TheVariants.{BadReply, FateRange, HiddenRefused}
+use Rattle.tcap_model.specs.declared.reason.Reason.{Reason}
+use Rattle.tcap_model.specs.declared.reason.Reason.TheVariants.{BadReply, FateRange, HiddenRefused}
 use Rattle.tcap_check.specs.Certificate.{Certificate}
-use Rattle.tcap_check.specs.Entries.{item_of}
-use Rattle.tcap_check.specs.Follows.{closing_by, closing_event, expiry_by, expiry_event, has_quiet, invoke_id, originating}
+use Rattle.tcap_model.specs.Entries.{item_of}
+use Rattle.tcap_model.specs.World.{has_quiet}
+use Rattle.tcap_model.specs.Since.{originating}
+use Rattle.tcap_check.specs.Follows.{closing_by, closing_event, expiry_by, expiry_event, invoke_id}
 use Rattle.tcap_check.specs.Progress.{due_in}
 use Rattle.tcap_check.specs.Replayed.{Replay, closings_replayed, deliveries_replayed, expiries_replayed, fault_at, gap_replayed, happens, lost_from_front, next_entry, stepped}
-use Rattle.tcap_check.proofs.RunLaws.{some_is, then_some}
+use Rattle.tcap_model.proofs.RunLaws.{some_is, then_some}
 use Rattle.tcap_check.proofs.ReplayLaws.{closings_replay, expiries_replay, gap_event}
 use Rattle.tcap_runs.specs.Running.{next_gap}
 use Rattle.tcap_runs.specs.Ordered.{closings_reach, expiries_reach, is_from, listed_reach}

@@ -18,21 +18,22 @@ use Rattle.tcap_end.specs.End.{End, with_own, with_peer}
 use Rattle.tcap_end.specs.Reply.{aborts, is_open}
 use Rattle.tcap_end.specs.Step.{needs, ◌>>◌, ◌>>=◌}
 use Rattle.tcap_record.specs.Ends.{other}
-use Rattle.tcap_check.specs.World.{Item, OnItsWay, Sent, World, channel_from, end_at, with_channel}
-use Rattle.tcap_check.specs.Run.{Event, Replies, head_taken, joined, may_refuse, provider_abort, reply_to, then_so, where_so}
+use Rattle.tcap_model.specs.World.{Item, OnItsWay, Sent, World, channel_from, end_at, with_channel}
+use Rattle.tcap_model.specs.Run.{Event, Replies, head_taken, joined, may_refuse, provider_abort, reply_to, then_so, where_so}
 use Rattle.tcap_check.specs.declared.certificate.Fate.{Fate}
 use Rattle.tcap_check.specs.declared.certificate.Fate.TheVariants.{Gap, Lost, By}
 use Rattle.tcap_check.specs.declared.fault.CheckFault.{CheckFault}
-use Rattle.tcap_check.specs.declared.fault.Reason.{Reason}
-use Rattle.tcap_check.specs.declared.fault.Reason.TheVariants.{BadReply, FateCount, FateRange, NotQuiet, OutOfOrder}
+use Rattle.tcap_model.specs.declared.reason.Reason.{Reason}
+use Rattle.tcap_model.specs.declared.reason.Reason.TheVariants.{BadReply, FateCount, FateRange, NotQuiet, OutOfOrder}
 use Rattle.tcap_check.specs.Checking.{latest_of}
 use Rattle.tcap_check.specs.Certificate.{Certificate}
-use Rattle.tcap_check.specs.Entries.{item_of}
-use Rattle.tcap_check.specs.Follows.{has_quiet, invoking_half, sending_by, taken_by}
+use Rattle.tcap_model.specs.Entries.{item_of}
+use Rattle.tcap_model.specs.World.{has_quiet}
+use Rattle.tcap_check.specs.Follows.{invoking_half, sending_by, taken_by}
 use Rattle.tcap_check.specs.declared.progress.Progress.{Progress}
 use Rattle.tcap_check.specs.Replayed.{Replay, certificate_fits, entries_replayed, fault_at, gap_replayed, happens, implied_over, is_abort, is_gap, is_nothing, is_overtaking, item_replayed, lost_from_both, lost_from_front, message_by, next_entry, nothing_replayed, quiet_replayed, reply_replayed, replayed, send_replayed, sent_replayed, stepped, with_step}
-use Rattle.tcap_check.proofs.RunLaws.{map_some, some_is, then_some, where_some}
-use Rattle.tcap_check.proofs.ChannelLaws.{get_new}
+use Rattle.tcap_model.proofs.RunLaws.{map_some, some_is, then_some, where_some}
+use Rattle.tcap_model.proofs.ChannelLaws.{get_new}
 use Rattle.tcap_check.proofs.KeptSends.{joined_is, overtakes_is}
 use Rattle.tcap_check.proofs.KeptEntries.{latest_with_mark}
 use Rattle.tcap_check.proofs.ReplaySteps.{losing_replays}

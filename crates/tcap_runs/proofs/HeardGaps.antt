@@ -8,13 +8,13 @@ use Rattle.tcap_end.specs.Table.{Table}
 use Rattle.tcap_end.specs.Step.{◌>>=◌}
 use Rattle.tcap_end.proofs.AnsweringLaws.{some_ok, then_ok}
 use Rattle.tcap_record.specs.Ends.{other}
-use Rattle.tcap_check.specs.World.{Item, Sent, is_side}
-use Rattle.tcap_check.specs.Run.{Adds, Event, Loses, Receives, then_so}
+use Rattle.tcap_model.specs.World.{Item, Sent, is_side}
+use Rattle.tcap_model.specs.Run.{Adds, Event, Loses, Receives, then_so}
 use Rattle.tcap_check.specs.declared.certificate.Closing.{Closing}
 use Rattle.tcap_check.specs.declared.certificate.Expiry.{Expiry}
 use Rattle.tcap_check.specs.declared.certificate.Fate.{Fate}
 use Rattle.tcap_check.specs.declared.certificate.Fate.TheVariants.{Gap, Lost, By}
-use Rattle.tcap_check.specs.declared.fault.Reason.TheVariants.{BadReply}
+use Rattle.tcap_model.specs.declared.reason.Reason.TheVariants.{BadReply}
 use Rattle.tcap_check.specs.Certificate.{Certificate}
 use Rattle.tcap_check.specs.Progress.{due_in}
 use Rattle.tcap_check.specs.Replayed.{Replay, closings_replayed, expiries_replayed, fault_at, lost_from_front, next_entry, stepped}

@@ -11,21 +11,21 @@ use Rattle.tcap_end.specs.Table.{Table}
 use Rattle.tcap_end.specs.Hidden.{open_halves}
 use Rattle.tcap_end.proofs.AnsweringLaws.{needs_ok, ok_same, some_ok, then_ok}
 use Rattle.tcap_record.specs.Ends.{other}
-use Rattle.tcap_check.specs.World.{Item, Sent, end_at}
-use Rattle.tcap_check.specs.Run.{Event, Closes, Tells, joined, then_so, where_so}
+use Rattle.tcap_model.specs.World.{Item, Sent, end_at}
+use Rattle.tcap_model.specs.Run.{Event, Closes, Tells, joined, then_so, where_so}
 use Rattle.tcap_check.specs.declared.certificate.Fate.{Fate}
 use Rattle.tcap_check.specs.declared.fault.CheckFault.{CheckFault}
-use Rattle.tcap_check.specs.declared.fault.Reason.{Reason}
-use Rattle.tcap_check.specs.declared.fault.Reason.TheVariants.{BadReply, FateCount, FateRange, NotQuiet, OutOfOrder}
+use Rattle.tcap_model.specs.declared.reason.Reason.{Reason}
+use Rattle.tcap_model.specs.declared.reason.Reason.TheVariants.{BadReply, FateCount, FateRange, NotQuiet, OutOfOrder}
 use Rattle.tcap_check.specs.declared.end_checker.EndReport.{EndReport}
 use Rattle.tcap_check.specs.Checking.{map_ok}
 use Rattle.tcap_check.specs.EndChecking.{end_reported}
 use Rattle.tcap_check.specs.Certificate.{Certificate}
-use Rattle.tcap_check.specs.Entries.{item_of}
+use Rattle.tcap_model.specs.Entries.{item_of}
 use Rattle.tcap_check.specs.Follows.{sending_by, taken_by}
 use Rattle.tcap_check.specs.Replayed.{Replay, certificate_fits, fault_at, is_gap, is_nothing, is_overtaking, lost_from_front, message_by, next_entry, nothing_replayed, stepped, with_step}
 use Rattle.tcap_check.specs.Alone.{all_lost_from, closed_at_mark, entries_heard, entry_heard, gap_heard, is_sent_by, item_heard, mark_replayed, own_replayed, replayed_for, tied_to_next, told_replayed}
-use Rattle.tcap_check.proofs.RunLaws.{some_is}
+use Rattle.tcap_model.proofs.RunLaws.{some_is}
 use Rattle.tcap_check.proofs.AloneReplays.{gap_leads}
 use Rattle.tcap_runs.specs.Gaps.{plays}
 use Rattle.tcap_runs.specs.Playing.{close_played, quiet_played}

@@ -8,12 +8,13 @@ use Rattle.std.proofs.lemmas.Option.{slice_get-map, slice_get_within}
 use Rattle.tcap_msg.specs.declared.message.Message.{Message}
 use Rattle.tcap_record.specs.declared.entry.End.{End as Side}
 use Rattle.tcap_record.specs.declared.entry.Entry.{Entry}
-use Rattle.tcap_check.specs.declared.fault.Reason.{Reason}
-use Rattle.tcap_check.specs.World.{Item, Sent}
-use Rattle.tcap_check.specs.Run.{where_so}
-use Rattle.tcap_check.specs.Entries.{item_of}
-use Rattle.tcap_check.specs.Follows.{has_quiet, is_quiet, named_entry}
-use Rattle.tcap_check.proofs.SinceLaws.{no_quiet}
+use Rattle.tcap_model.specs.declared.reason.Reason.{Reason}
+use Rattle.tcap_model.specs.World.{Item, Sent}
+use Rattle.tcap_model.specs.Run.{where_so}
+use Rattle.tcap_model.specs.Entries.{item_of}
+use Rattle.tcap_model.specs.World.{has_quiet, is_quiet}
+use Rattle.tcap_check.specs.Follows.{named_entry}
+use Rattle.tcap_model.proofs.SinceLaws.{no_quiet}
 
 -- ---- quiet marks
 

@@ -6,8 +6,8 @@ use Rattle.tcap_record.specs.declared.entry.End.{End as Side}
 use Rattle.tcap_record.specs.declared.entry.End.TheVariants as sides
 use Rattle.tcap_check.specs.declared.certificate.Fate.{Fate}
 use Rattle.tcap_check.specs.declared.certificate.Fate.TheVariants.{Gap, Lost, By}
-use Rattle.tcap_check.specs.World.{OnItsWay, World, channel_from, with_channel}
-use Rattle.tcap_check.specs.Run.{Event, Loses, numbers_of}
+use Rattle.tcap_model.specs.World.{OnItsWay, World, channel_from, with_channel}
+use Rattle.tcap_model.specs.Run.{Event, Loses, numbers_of}
 use Rattle.tcap_check.specs.Alone.{all_lost_from}
 use Rattle.tcap_check.specs.Certificate.{Certificate}
 use Rattle.tcap_check.specs.Replayed.{Replay, if_lost, losing, lost_from_front, lost_front}

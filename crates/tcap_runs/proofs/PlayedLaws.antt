@@ -14,20 +14,20 @@ use Rattle.tcap_end.specs.Table.{Table}
 use Rattle.tcap_end.specs.Step.{◌>>◌}
 use Rattle.tcap_end.proofs.AnsweringLaws.{needs_ok, ok_same, some_ok, then_ok}
 use Rattle.tcap_record.specs.Ends.{other}
-use Rattle.tcap_check.specs.World.{Item, OnItsWay, Sent, World, channel_from, end_at, with_channel}
-use Rattle.tcap_check.specs.Run.{Event, Replies, abort_for, after, joined, may_refuse, then_so, where_so}
+use Rattle.tcap_model.specs.World.{Item, OnItsWay, Sent, World, channel_from, end_at, with_channel}
+use Rattle.tcap_model.specs.Run.{Event, Replies, abort_for, after, joined, may_refuse, then_so, where_so}
 use Rattle.tcap_check.specs.declared.certificate.Fate.{Fate}
 use Rattle.tcap_check.specs.declared.fault.CheckFault.{CheckFault}
-use Rattle.tcap_check.specs.declared.fault.Reason.{Reason}
-use Rattle.tcap_check.specs.declared.fault.Reason.TheVariants.{BadReply, FateCount, FateRange, NotQuiet, OutOfOrder}
+use Rattle.tcap_model.specs.declared.reason.Reason.{Reason}
+use Rattle.tcap_model.specs.declared.reason.Reason.TheVariants.{BadReply, FateCount, FateRange, NotQuiet, OutOfOrder}
 use Rattle.tcap_check.specs.declared.checker.Report.{Report}
 use Rattle.tcap_check.specs.Checking.{map_ok, reported}
 use Rattle.tcap_check.specs.Certificate.{Certificate}
-use Rattle.tcap_check.specs.Entries.{item_of}
+use Rattle.tcap_model.specs.Entries.{item_of}
 use Rattle.tcap_check.specs.Follows.{invoking_half, sending_by, taken_by}
 use Rattle.tcap_check.specs.Replayed.{Replay, certificate_fits, entries_replayed, entry_replayed, fault_at, gap_replayed, happens, implied_over, is_abort, is_gap, is_nothing, is_overtaking, item_replayed, lost_from_both, lost_from_front, message_by, next_entry, nothing_replayed, reply_replayed, replayed, send_replayed, sent_replayed, stepped, with_step}
-use Rattle.tcap_check.proofs.RunLaws.{map_some, reply, some_is, then_some, where_some}
-use Rattle.tcap_check.proofs.ChannelLaws.{get_new}
+use Rattle.tcap_model.proofs.RunLaws.{map_some, reply, some_is, then_some, where_some}
+use Rattle.tcap_model.proofs.ChannelLaws.{get_new}
 use Rattle.tcap_check.proofs.ReplaySteps.{losing_replays}
 use Rattle.tcap_check.proofs.ReplayLaws.{abort_of, gap_replays}
 use Rattle.tcap_runs.specs.Gaps.{plays}

@@ -7,13 +7,14 @@ use Rattle.tcap_end.specs.declared.half.HalfName.{HalfName}
 use Rattle.tcap_end.specs.declared.half.HalfName.TheVariants as names
 use Rattle.tcap_end.specs.Table.{Table}
 use Rattle.tcap_record.specs.Ends.{other}
-use Rattle.tcap_check.specs.World.{Item, Sent, is_side}
-use Rattle.tcap_check.specs.Run.{Closes, Expires, Receives, then_so}
+use Rattle.tcap_model.specs.World.{Item, Sent, is_side}
+use Rattle.tcap_model.specs.Run.{Closes, Expires, Receives, then_so}
 use Rattle.tcap_check.specs.declared.certificate.Closing.{Closing}
 use Rattle.tcap_check.specs.declared.certificate.Expiry.{Expiry}
 use Rattle.tcap_check.specs.Certificate.{Certificate}
 use Rattle.tcap_check.specs.Replayed.{Replay, lost_from_front, stepped}
-use Rattle.tcap_check.specs.Follows.{half_begun, invoke_id, originating}
+use Rattle.tcap_model.specs.Since.{originating}
+use Rattle.tcap_check.specs.Follows.{half_begun, invoke_id}
 use Rattle.tcap_runs.specs.Playing.{received_or_lost}
 
 -- ---- who keeps the rules

@@ -7,10 +7,10 @@ use Rattle.tcap_msg.specs.Parts.{cause_in}
 use Rattle.tcap_record.specs.declared.entry.End.{End as Side}
 use Rattle.tcap_end.specs.Table.{Table}
 use Rattle.tcap_end.specs.Hidden.{open_halves}
-use Rattle.tcap_check.specs.declared.fault.Reason.{Reason}
+use Rattle.tcap_model.specs.declared.reason.Reason.{Reason}
 use Rattle.tcap_record.specs.Ends.{other}
-use Rattle.tcap_check.specs.World.{Item, Sent, end_at, is_side}
-use Rattle.tcap_check.specs.Run.{Event, then_so, where_so}
+use Rattle.tcap_model.specs.World.{Item, Sent, end_at, is_side}
+use Rattle.tcap_model.specs.Run.{Event, then_so, where_so}
 use Rattle.tcap_check.specs.Certificate.{Certificate}
 use Rattle.tcap_check.specs.Follows.{invoking_half, taken_by}
 use Rattle.tcap_check.specs.Progress.{due_in}

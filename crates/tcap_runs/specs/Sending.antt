@@ -6,8 +6,8 @@ use Rattle.tcap_end.specs.declared.half.HalfName.{HalfName}
 use Rattle.tcap_end.specs.Table.{Table}
 use Rattle.tcap_end.specs.End.{End}
 use Rattle.tcap_record.specs.Ends.{other}
-use Rattle.tcap_check.specs.World.{OnItsWay, channel_from, end_at, with_channel}
-use Rattle.tcap_check.specs.Run.{Expires, Replies, Tells, joined, may_refuse, where_so}
+use Rattle.tcap_model.specs.World.{OnItsWay, channel_from, end_at, with_channel}
+use Rattle.tcap_model.specs.Run.{Expires, Replies, Tells, joined, may_refuse, where_so}
 use Rattle.tcap_check.specs.Certificate.{Certificate}
 use Rattle.tcap_check.specs.Replayed.{Replay, lost_from_front, or_same, stepped, with_step}
 

@@ -5,8 +5,8 @@ use Rattle.tcap_runs.specs.declared.step.Step.TheVariants as steps
 use Rattle.tcap_runs.specs.declared.channel.OnWay.{OnWay}
 use Rattle.tcap_runs.specs.declared.items.Kept.{Kept}
 use Rattle.tcap_runs.specs.declared.items.Kept.TheVariants as kept
-use Rattle.tcap_check.specs.World.{Item, OnItsWay, Sent}
-use Rattle.tcap_check.specs.Run.{Event, Sends, Receives, Replies, Loses, Expires, Closes, Tells}
+use Rattle.tcap_model.specs.World.{Item, OnItsWay, Sent}
+use Rattle.tcap_model.specs.Run.{Event, Sends, Receives, Replies, Loses, Expires, Closes, Tells}
 
 abbrev pub event_of : Step → Event
 event_of (steps.Sends side message) = Sends side message

@@ -20,7 +20,7 @@ pub(crate) struct Channel<'r> {
 
 impl<'r> Model for Channel<'r> {
     ghost use Rattle.std.specs.Prelude.{List, map};
-    ghost use Rattle.tcap_check.specs.World.{OnItsWay};
+    ghost use Rattle.tcap_model.specs.World.{OnItsWay};
     ghost use Rattle.tcap_runs.specs.Steps.{on_its_way};
 
     ghost Value = { List OnItsWay };

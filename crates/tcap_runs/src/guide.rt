@@ -3,7 +3,7 @@
 ghost use Rattle.std.specs.Prelude.{◌≡◌, IfOk, OnOk, slice_get};
 ghost use Rattle.tcap_msg.specs.Parts.{cause_in};
 ghost use Rattle.tcap_check.specs.Plan.{IsPlan};
-ghost use Rattle.tcap_check.specs.Entries.{item_of};
+ghost use Rattle.tcap_model.specs.Entries.{item_of};
 ghost use Rattle.tcap_runs.specs.Playing.{Takes, replay_of};
 ghost use Rattle.tcap_runs.specs.Running.{asked_among, closed_before_mark, entry_played, is_asked, lost_last, mark_by, mark_played, message_by};
 ghost use Rattle.tcap_runs.specs.Running.{message_played, next_gap, sent_by, tied_to_entry, told_by};

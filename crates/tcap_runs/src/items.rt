@@ -20,7 +20,7 @@ pub(crate) struct Items<'r> {
 
 impl<'r> Model for Items<'r> {
     ghost use Rattle.std.specs.Prelude.{List, map};
-    ghost use Rattle.tcap_check.specs.World.{Item};
+    ghost use Rattle.tcap_model.specs.World.{Item};
     ghost use Rattle.tcap_runs.specs.Steps.{item_of};
 
     ghost Value = { List Item };

@@ -1,7 +1,7 @@
 //! The steps of a run: losses, what is delivered, what happens unseen, and quiet marks (Q.774 3.2 and 3.3).
 
 ghost use Rattle.std.specs.Prelude.{◌≡◌, [], ◌∷◌, IfOk, OnOk, Some, is_ok};
-ghost use Rattle.tcap_check.specs.Run.{Closes, Expires, Receives};
+ghost use Rattle.tcap_model.specs.Run.{Closes, Expires, Receives};
 ghost use Rattle.tcap_record.specs.Ends.{other};
 ghost use Rattle.tcap_check.specs.Alone.{all_lost_from};
 ghost use Rattle.tcap_check.specs.Replayed.{losing, lost_from_both, lost_from_front, or_same, stepped};

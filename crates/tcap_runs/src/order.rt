@@ -2,7 +2,7 @@
 //! order, and no quiet mark between what is listed and the entry that it names.
 
 ghost use Rattle.std.specs.Prelude.{◌≡◌, ◌+◌, ◌<◌, ◌≤◌, ◌^◌, Ok, Some, length, map, option_map, slice_get, true};
-ghost use Rattle.tcap_check.specs.Entries.{item_of};
+ghost use Rattle.tcap_model.specs.Entries.{item_of};
 ghost use Rattle.tcap_check.specs.Progress.{time_or_zero};
 ghost use Rattle.tcap_check.specs.Replayed.{all_fit, certificate_fits, fate_fits, fates_fit, is_gap};
 ghost use Rattle.tcap_runs.specs.Ordered.{closings_reach, comes_before, expiries_reach, is_from, is_ordered, listed_reach, may_come};

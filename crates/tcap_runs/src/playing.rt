@@ -1,7 +1,7 @@
 //! A run under way: both ends, what is on its way, what was sent, and the steps so far.
 
 ghost use Rattle.std.specs.Prelude.{◌≡◌, drop};
-ghost use Rattle.tcap_check.specs.World.{with_channel};
+ghost use Rattle.tcap_model.specs.World.{with_channel};
 ghost use Rattle.tcap_check.specs.Replayed.{nothing_replayed};
 ghost use Rattle.tcap_runs.specs.Playing.{channel_at, end_of, first_lost, is_lost, replay_of, world_of};
 

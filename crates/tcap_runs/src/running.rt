@@ -1,11 +1,11 @@
 //! The run that a certificate gives for a record.
 
 ghost use Rattle.std.specs.Prelude.{◌≡◌, ◌≢◌, map, Some, None, Ok, Err, IfOk, IfSome};
-ghost use Rattle.tcap_check.specs.declared.fault.Reason.TheVariants as reasons;
+ghost use Rattle.tcap_model.specs.declared.reason.Reason.TheVariants as reasons;
 ghost use Rattle.tcap_check.specs.Given.{IsGiven};
 ghost use Rattle.tcap_check.specs.AloneGiven.{IsGivenFor};
 ghost use Rattle.tcap_check.specs.Alone.{replayed_for};
-ghost use Rattle.tcap_check.specs.Entries.{item_of};
+ghost use Rattle.tcap_model.specs.Entries.{item_of};
 ghost use Rattle.tcap_check.specs.Checking.{map_ok};
 ghost use Rattle.tcap_check.specs.Replayed.{fault_at, replayed};
 ghost use Rattle.tcap_runs.specs.Steps.{events_of};

@@ -4,7 +4,7 @@ ghost use Rattle.std.specs.Prelude.{◌≡◌, OnOk, Ok, filter_map};
 ghost use Rattle.tcap_parts.specs.Meaning.{component_of};
 ghost use Rattle.tcap_msg.specs.Parts.{components_in};
 ghost use Rattle.tcap_record.specs.Ends.{other};
-ghost use Rattle.tcap_check.specs.Run.{joined, may_refuse};
+ghost use Rattle.tcap_model.specs.Run.{joined, may_refuse};
 ghost use Rattle.tcap_check.specs.Follows.{invoke_id, invoking_half};
 ghost use Rattle.tcap_check.specs.Replayed.{implied, implied_over, send_replayed};
 ghost use Rattle.tcap_runs.specs.Playing.{Takes, channel_at, end_of, replay_of, world_of};

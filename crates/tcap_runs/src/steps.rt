@@ -12,7 +12,7 @@ pub(crate) struct Steps {
 
 impl Model for Steps {
     ghost use Rattle.std.specs.Prelude.{List, map};
-    ghost use Rattle.tcap_check.specs.Run.{Event};
+    ghost use Rattle.tcap_model.specs.Run.{Event};
     ghost use Rattle.tcap_runs.specs.Steps.{event_of};
 
     ghost Value = { List Event };

@@ -2,7 +2,7 @@
 use Rattle.std.proofs.Common.{◌≡◌, ℕ, zero, suc, ◌+◌, ◌≤◌, Bool, true, false, List, [], ◌∷◌, ◌++◌, take, Option, Some, None, refl, sym, ap, ◌∙◌, arith}
 use Rattle.std.specs.Prelude.{◌&&◌, is_some, nat_lt}
 use Rattle.std.proofs.lemmas.Bool.{false≢true, le-ltb, lt-ltb}
-use Rattle.tcap_check.specs.Run.{then_so, where_so}
+use Rattle.tcap_model.specs.Run.{then_so, where_so}
 use Rattle.tcap_search.specs.Lines.{Line, last, or_else}
 use Rattle.tcap_search.specs.Sweep.{last_given}
 use Rattle.tcap_search.proofs.LastLaws.{last_passes, or_none, or_or}

@@ -2,7 +2,7 @@
 use Rattle.std.proofs.Common.{◌≡◌, Bool, true, false, List, [], ◌∷◌, Option, Some, None, refl, ap, subst, ◌∙◌}
 use Rattle.std.specs.List.{AllByRecursion}
 use Rattle.std.proofs.lemmas.Option.{none-some, same_Some}
-use Rattle.tcap_check.specs.Run.{where_so}
+use Rattle.tcap_model.specs.Run.{where_so}
 use Rattle.tcap_search.specs.Lines.{last, or_else}
 
 -- None stands for nothing behind another,

@@ -11,8 +11,8 @@ use Rattle.tcap_record.specs.declared.entry.End.TheVariants as sides
 use Rattle.tcap_record.specs.declared.entry.Entry.{Entry}
 use Rattle.tcap_end.specs.Table.{octets_cmp}
 use Rattle.tcap_record.specs.Ends.{other}
-use Rattle.tcap_check.specs.World.{is_side}
-use Rattle.tcap_check.specs.Run.{then_so}
+use Rattle.tcap_model.specs.World.{is_side}
+use Rattle.tcap_model.specs.Run.{then_so}
 use Rattle.tcap_search.specs.declared.lines.Latest.{Latest}
 use Rattle.tcap_search.specs.Latest.{belongs, belongs_by, latest_asked, latest_at, latest_of}
 use Rattle.tcap_search.specs.Lines.{Line, is_end, is_from, last, line_behind, lines_of, message_of, transaction_by, transaction_from}

@@ -7,7 +7,7 @@ use Rattle.tcap_msg.specs.declared.message.AbortReason.TheVariants.{Cause, Dialo
 use Rattle.tcap_msg.specs.declared.message.Message.{Message}
 use Rattle.tcap_msg.specs.declared.message.Message.TheVariants.{Unidirectional, Begin, Continue, End, Abort}
 use Rattle.tcap_record.specs.declared.entry.Entry.{Entry}
-use Rattle.tcap_check.proofs.ListLaws.{all_more}
+use Rattle.tcap_model.proofs.ListLaws.{all_more}
 use Rattle.tcap_search.specs.declared.tie.Tie.{Tie}
 use Rattle.tcap_search.specs.Lines.{Line, last, lines_of, message_of}
 use Rattle.tcap_search.specs.Proposed.{answered_line, gap_behind_reply, reply_of, ties_from, with_tie_by}

@@ -11,8 +11,8 @@ use Rattle.tcap_record.specs.declared.entry.End.{End as Side}
 use Rattle.tcap_record.specs.declared.entry.End.TheVariants as sides
 use Rattle.tcap_record.specs.declared.entry.Entry.{Entry}
 use Rattle.tcap_record.specs.Ends.{other}
-use Rattle.tcap_check.specs.World.{is_side}
-use Rattle.tcap_check.specs.Run.{where_so}
+use Rattle.tcap_model.specs.World.{is_side}
+use Rattle.tcap_model.specs.Run.{where_so}
 use Rattle.tcap_check.specs.declared.certificate.Fate.{Fate}
 use Rattle.tcap_check.specs.declared.certificate.Fate.TheVariants.{Gap, Lost, By}
 use Rattle.tcap_search.specs.Due.{due_in}

@@ -5,8 +5,8 @@ use Rattle.std.proofs.lemmas.List.{at_drop_more, drop_all}
 use Rattle.tcap_parts.specs.declared.component.Component.{Component}
 use Rattle.tcap_record.specs.declared.entry.End.{End as Side}
 use Rattle.tcap_record.specs.declared.entry.Entry.{Entry}
-use Rattle.tcap_check.specs.World.{is_side}
-use Rattle.tcap_check.specs.Run.{where_so}
+use Rattle.tcap_model.specs.World.{is_side}
+use Rattle.tcap_model.specs.Run.{where_so}
 use Rattle.tcap_search.specs.Lines.{message_of, or_else}
 use Rattle.tcap_search.specs.Proposed.{is_invoke_of, last_invoke, may_invoke, number_limit}
 use Rattle.tcap_search.specs.Fates.{is_of}

@@ -15,7 +15,7 @@ use Rattle.tcap_record.specs.declared.entry.End.TheVariants as sides
 use Rattle.tcap_record.specs.declared.entry.Entry.{Entry}
 use Rattle.tcap_end.specs.End.{is_id}
 use Rattle.tcap_record.specs.Ends.{other}
-use Rattle.tcap_check.specs.World.{is_side}
+use Rattle.tcap_model.specs.World.{is_side}
 use Rattle.tcap_search.specs.declared.candidates.Candidates.{Candidates}
 use Rattle.tcap_search.specs.declared.tie.Tie.{Tie}
 use Rattle.tcap_search.specs.Candidates.{AreUntied, answered_by, answered_of, asks, asks_by, candidates_at, is_candidate, newest_of, top, under_top, untied, without}

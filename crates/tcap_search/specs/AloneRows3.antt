@@ -7,9 +7,9 @@ use Rattle.tcap_parts.specs.declared.dialogue.Source.TheVariants.{User}
 use Rattle.tcap_msg.specs.declared.message.AbortReason.TheVariants as aborts
 use Rattle.tcap_msg.specs.declared.message.Message.TheVariants.{Begin, Continue, End as EndMessage, Abort}
 use Rattle.tcap_record.specs.declared.entry.End.TheVariants.{A, B}
-use Rattle.tcap_check.specs.World.{Sent}
+use Rattle.tcap_model.specs.World.{Sent}
 use Rattle.tcap_end.specs.declared.fault.EndFault.TheVariants as faults
-use Rattle.tcap_check.specs.declared.fault.Reason.TheVariants.{BadReply, HiddenRefused, NotQuiet, OutOfOrder, SendRefused}
+use Rattle.tcap_model.specs.declared.reason.Reason.TheVariants.{BadReply, HiddenRefused, NotQuiet, OutOfOrder, SendRefused}
 use Rattle.tcap_refute.specs.WorkedBlame.{table}
 use Rattle.tcap_search.specs.WorkedAlone.{AtFault, Heard, Unheard, IsAlone}
 

@@ -10,7 +10,7 @@ use Rattle.tcap_record.specs.declared.entry.End.TheVariants as sides
 use Rattle.tcap_record.specs.declared.entry.Entry.{Entry}
 use Rattle.tcap_end.specs.Table.{octets_cmp}
 use Rattle.tcap_record.specs.Ends.{other}
-use Rattle.tcap_check.specs.Run.{then_so}
+use Rattle.tcap_model.specs.Run.{then_so}
 use Rattle.tcap_search.specs.declared.lines.Latest.{Latest}
 use Rattle.tcap_search.specs.Lines.{message_of}
 

@@ -2,7 +2,7 @@
 use Rattle.std.specs.Prelude.{◌≡◌, ℕ, Bool, false, length, slice_get, Option, Some, None, ◌==◌, nat_lt, nat_le, min}
 use Rattle.tcap_record.specs.declared.entry.End.{End as Side}
 use Rattle.tcap_record.specs.declared.entry.End.TheVariants as sides
-use Rattle.tcap_check.specs.Run.{then_so}
+use Rattle.tcap_model.specs.Run.{then_so}
 use Rattle.tcap_search.specs.declared.leasts.Leasts.{Leasts}
 
 -- where one was noted

@@ -8,7 +8,7 @@ use Rattle.tcap_msg.specs.Parts.{components_in}
 use Rattle.tcap_record.specs.declared.entry.End.{End as Side}
 use Rattle.tcap_record.specs.declared.entry.Entry.{Entry}
 use Rattle.tcap_record.specs.Ends.{other}
-use Rattle.tcap_check.specs.Run.{where_so}
+use Rattle.tcap_model.specs.Run.{where_so}
 use Rattle.tcap_search.specs.declared.sweep.Answer.{Answer}
 use Rattle.tcap_search.specs.declared.sweep.Sweep.{Sweep}
 use Rattle.tcap_search.specs.Lines.{Line, message_of, or_else}

@@ -4,9 +4,9 @@ use Rattle.tcap_record.specs.declared.entry.End.{End as Side}
 use Rattle.tcap_record.specs.declared.entry.End.TheVariants.{A, B}
 use Rattle.tcap_record.specs.declared.entry.Entry.{Entry}
 use Rattle.tcap_end.specs.Table.{Table}
-use Rattle.tcap_check.specs.declared.fault.Reason.{Reason}
-use Rattle.tcap_check.specs.World.{Item}
-use Rattle.tcap_check.specs.Entries.{entry_of}
+use Rattle.tcap_model.specs.declared.reason.Reason.{Reason}
+use Rattle.tcap_model.specs.World.{Item}
+use Rattle.tcap_model.specs.Entries.{entry_of}
 use Rattle.tcap_check.specs.Checking.{map_ok}
 use Rattle.tcap_check.specs.Replayed.{refused}
 use Rattle.tcap_check.specs.Alone.{replayed_for, unheard_of}

@@ -29,7 +29,7 @@ impl<T: Copy> ByInvocation<T> {
     ghost use Rattle.std.specs.Ordering.{int_cmp};
     ghost use Rattle.std.specs.BTreeMap.{is_at};
     ghost use Rattle.tcap_record.specs.declared.entry.End.{End as Side};
-    ghost use Rattle.tcap_check.specs.World.{is_side};
+    ghost use Rattle.tcap_model.specs.World.{is_side};
     ghost use Rattle.tcap_search.specs.ByInvocation.{kept_at};
 
     /// No values.

@@ -2,7 +2,7 @@
 
 ghost use Rattle.std.specs.Prelude.{◌≡◌, ◌<◌, ◌&&◌, ◌==◌, ℕ, None, cond, length, slice_get, IfOk};
 ghost use Rattle.tcap_record.specs.declared.entry.End.{End as Side};
-ghost use Rattle.tcap_check.specs.Run.{then_so};
+ghost use Rattle.tcap_model.specs.Run.{then_so};
 ghost use Rattle.tcap_search.specs.Leasts.{HasRoom, is_below, is_transaction, is_within, least_at, lesser};
 ghost use Rattle.tcap_search.specs.Lines.{is_end};
 

@@ -3,7 +3,7 @@
 ghost use Rattle.std.specs.Prelude.{◌≡◌, ◌≤◌, ◌&&◌, ℕ, List, None, cond, length, IfOk, OnOk};
 ghost use Rattle.std.specs.Str.{bytes_eq};
 ghost use Rattle.tcap_record.specs.declared.entry.End.{End as Side};
-ghost use Rattle.tcap_check.specs.World.{is_side};
+ghost use Rattle.tcap_model.specs.World.{is_side};
 ghost use Rattle.tcap_search.specs.Latest.{belongs, latest_at};
 ghost use Rattle.tcap_search.specs.Lines.{is_end, is_from};
 ghost use Rattle.tcap_search.specs.Traced.{AreTransactions};

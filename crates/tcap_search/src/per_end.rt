@@ -12,7 +12,7 @@ pub(crate) struct PerEnd<T> {
 impl<T: Copy> PerEnd<T> {
     ghost use Rattle.std.specs.Prelude.{◌≡◌, cond};
     ghost use Rattle.tcap_record.specs.declared.entry.End.{End as Side};
-    ghost use Rattle.tcap_check.specs.World.{is_side};
+    ghost use Rattle.tcap_model.specs.World.{is_side};
     ghost use Rattle.tcap_search.specs.PerEnd.{at_end};
 
     /// That value for both ends.

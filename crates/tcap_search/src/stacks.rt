@@ -3,7 +3,7 @@
 ghost use Rattle.std.specs.Prelude.{◌≡◌, ◌∷◌, ◌&&◌, [], ℕ, List, cond, reverse, OnOk};
 ghost use Rattle.std.specs.Str.{bytes_eq};
 ghost use Rattle.tcap_record.specs.declared.entry.End.{End as Side};
-ghost use Rattle.tcap_check.specs.World.{is_side};
+ghost use Rattle.tcap_model.specs.World.{is_side};
 ghost use Rattle.tcap_search.specs.Candidates.{is_top, stack_at, stack_in, top, under_top, without};
 
 use std::alloc::{AllocError, Global};

@@ -4,8 +4,8 @@ ghost use Rattle.std.specs.Prelude.{◌≡◌, ◌==◌, ◌&&◌, ℕ, ℤ, Boo
 ghost use Rattle.std.specs.List.{list_any};
 ghost use Rattle.tcap_record.specs.declared.entry.End.{End as Side};
 ghost use Rattle.tcap_msg.specs.Parts.{items_of};
-ghost use Rattle.tcap_check.specs.World.{is_side};
-ghost use Rattle.tcap_check.specs.Run.{where_so};
+ghost use Rattle.tcap_model.specs.World.{is_side};
+ghost use Rattle.tcap_model.specs.Run.{where_so};
 ghost use Rattle.tcap_search.specs.Lines.{message_of, or_else};
 ghost use Rattle.tcap_search.specs.Proposed.{is_answer_of, is_invoke_of, last_invoke, may_invoke, number_limit, unrecognized};
 ghost use Rattle.tcap_search.specs.ByInvocation.{kept_at};

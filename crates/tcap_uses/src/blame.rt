@@ -1,5 +1,5 @@
 ghost use Rattle.std.specs.Prelude.{map, IfOk, IfSome};
-ghost use Rattle.tcap_check.specs.Entries.{item_of};
+ghost use Rattle.tcap_model.specs.Entries.{item_of};
 ghost use Rattle.tcap_refute.specs.Unsendable.{IsAtFaultOf};
 
 use std::alloc::Global;

@@ -1,8 +1,8 @@
 ghost use Rattle.std.specs.Prelude.{◌≡◌, [], List};
 ghost use Rattle.tcap_record.specs.declared.entry.End.{End as Side};
 ghost use Rattle.tcap_end.specs.Table.{Table};
-ghost use Rattle.tcap_check.specs.World.{World, channel_from};
-ghost use Rattle.tcap_check.specs.Run.{Event, Runs, numbers_sent, numbers_taken};
+ghost use Rattle.tcap_model.specs.World.{World, channel_from};
+ghost use Rattle.tcap_model.specs.Run.{Event, Runs, numbers_sent, numbers_taken};
 
 use tcap_check::laws;
 

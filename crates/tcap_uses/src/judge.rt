@@ -4,8 +4,8 @@ ghost use Rattle.tcap_record.specs.declared.fault.FeedFault.{FeedFault};
 ghost use Rattle.tcap_record.specs.Reading.{IsReadAs};
 ghost use Rattle.tcap_end.specs.Table.{Table};
 ghost use Rattle.tcap_end.specs.TableText.{IsTableOf};
-ghost use Rattle.tcap_check.specs.World.{Item};
-ghost use Rattle.tcap_check.specs.Run.{IsLawful};
+ghost use Rattle.tcap_model.specs.World.{Item};
+ghost use Rattle.tcap_model.specs.Run.{IsLawful};
 ghost use Rattle.tcap_judge.specs.Shown.{Prints};
 ghost use Rattle.tcap_judge.specs.LawfulRecord.{SpellsRecord};
 

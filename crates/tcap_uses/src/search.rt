@@ -1,7 +1,7 @@
 ghost use Rattle.std.specs.Prelude.{◌≡◌, ◌≤◌, ℕ, List, length, true};
-ghost use Rattle.tcap_check.specs.World.{Item};
-ghost use Rattle.tcap_check.specs.Run.{IsLawful};
-ghost use Rattle.tcap_check.specs.Entries.{AreItems};
+ghost use Rattle.tcap_model.specs.World.{Item};
+ghost use Rattle.tcap_model.specs.Run.{IsLawful};
+ghost use Rattle.tcap_model.specs.Entries.{AreItems};
 
 use std::alloc::Global;
 use tcap_check::check;

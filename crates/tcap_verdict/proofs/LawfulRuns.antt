@@ -4,7 +4,7 @@ use Rattle.std.specs.Prelude.{IfOk, Option, Some, None, Result, Ok, Err}
 use Rattle.tcap_record.specs.declared.entry.End.{End as Side}
 use Rattle.tcap_record.specs.declared.entry.Entry.{Entry}
 use Rattle.tcap_end.specs.Table.{Table}
-use Rattle.tcap_check.specs.Run.{Event}
+use Rattle.tcap_model.specs.Run.{Event}
 use Rattle.tcap_check.specs.Certificate.{Certificate}
 use Rattle.tcap_check.specs.Given.{IsGiven}
 use Rattle.tcap_check.specs.AloneGiven.{IsGivenFor}

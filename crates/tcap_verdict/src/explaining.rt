@@ -6,7 +6,7 @@ ghost use Rattle.tcap_ber.specs.Device.{one_more};
 ghost use Rattle.tcap_check.specs.Alone.{unheard_of};
 ghost use Rattle.tcap_check.specs.Checking.{map_ok};
 ghost use Rattle.tcap_check.specs.Replayed.{fault_at};
-ghost use Rattle.tcap_check.specs.declared.fault.Reason.TheVariants as reasons;
+ghost use Rattle.tcap_model.specs.declared.reason.Reason.TheVariants as reasons;
 ghost use Rattle.tcap_judge.specs.declared.outcome.Outcome.TheVariants.{Refuted};
 ghost use Rattle.tcap_judge.specs.Checked.{out_of_memory, replay_says};
 ghost use Rattle.tcap_judge.specs.Judged.{AreLawful, IsShown, lawful_by, replayed_by};

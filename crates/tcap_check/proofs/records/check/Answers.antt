@@ -1,11 +1,11 @@
 use Rattle.std.proofs.Common.{◌≡◌, List, [], ◌∷◌, Result, sym, ap, ap₂, subst, ◌∙◌, map, take, drop, ◌++◌, ◌+◌}
 use Rattle.tcap_record.specs.declared.entry.Entry.{Entry}
 use Rattle.tcap_end.specs.Table.{Table}
-use Rattle.tcap_check.specs.declared.fault.Reason.{Reason}
-use Rattle.tcap_check.specs.declared.fault.Reason.TheVariants.{Memory}
-use Rattle.tcap_check.specs.World.{Item}
+use Rattle.tcap_model.specs.declared.reason.Reason.{Reason}
+use Rattle.tcap_model.specs.declared.reason.Reason.TheVariants.{Memory}
+use Rattle.tcap_model.specs.World.{Item}
 use Rattle.tcap_check.specs.Certificate.{Certificate}
-use Rattle.tcap_check.specs.Entries.{item_of}
+use Rattle.tcap_model.specs.Entries.{item_of}
 use Rattle.tcap_check.specs.Replayed.{fault_at}
 use Rattle.tcap_check.specs.Checking.{Took, map_ok, reported, run_of}
 use Rattle.tcap_check.proofs.RecordLaws.{all_taken, answered_err, is_report, lawful_is, refused_short, same_fault, taken_at, whole_is}

@@ -1,6 +1,6 @@
 -- The checker took the entries so far.
 use Rattle.std.proofs.Common.{◌≡◌, map, take}
-use Rattle.tcap_check.specs.Entries.{item_of}
+use Rattle.tcap_model.specs.Entries.{item_of}
 use Rattle.tcap_check.specs.Checking.{Took}
 use Rattle.tcap_check.proofs.records.check.Given as goal
 

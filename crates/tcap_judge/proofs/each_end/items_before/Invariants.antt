@@ -1,6 +1,6 @@
 -- So many entries were items, and what is left decides.
 use Rattle.std.proofs.Common.{◌≡◌, ◌+◌, map, drop}
-use Rattle.tcap_check.specs.Entries.{item_of}
+use Rattle.tcap_model.specs.Entries.{item_of}
 use Rattle.tcap_judge.specs.Blamed.{items_before}
 use Rattle.tcap_judge.proofs.each_end.items_before.Given as goal
 

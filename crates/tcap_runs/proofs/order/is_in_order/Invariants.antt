@@ -1,6 +1,6 @@
 -- what is left decides
 use Rattle.std.proofs.Common.{◌≡◌, map, drop}
-use Rattle.tcap_check.specs.Entries.{item_of}
+use Rattle.tcap_model.specs.Entries.{item_of}
 use Rattle.tcap_runs.specs.Ordered.{is_ordered, ordered_from}
 use Rattle.tcap_runs.proofs.order.is_in_order.Given as goal
 

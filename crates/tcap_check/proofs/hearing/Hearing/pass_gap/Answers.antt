@@ -3,7 +3,7 @@ use Rattle.std.specs.Prelude.{filter}
 use Rattle.tcap_check.specs.declared.certificate.Closing.{Closing}
 use Rattle.tcap_check.specs.declared.certificate.Expiry.{Expiry}
 use Rattle.tcap_check.specs.Progress.{due_in}
-use Rattle.tcap_check.specs.World.{is_side}
+use Rattle.tcap_model.specs.World.{is_side}
 use Rattle.tcap_check.proofs.HearingLaws.{all_grown, on_ok}
 use Rattle.tcap_check.proofs.KeptGrowth.{closings_grow, expiries_grow, some_due, some_listed}
 use Rattle.tcap_check.proofs.hearing.Hearing.pass_gap.Goals as goal

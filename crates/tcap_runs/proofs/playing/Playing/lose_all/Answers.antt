@@ -1,5 +1,5 @@
 use Rattle.std.proofs.Common.{◌+◌, ap, sym, refl, ◌∙◌, arith, length, List}
-use Rattle.tcap_check.specs.World.{OnItsWay, channel_from}
+use Rattle.tcap_model.specs.World.{OnItsWay, channel_from}
 use Rattle.tcap_check.specs.Alone.{all_lost_from}
 use Rattle.tcap_check.specs.Replayed.{Replay}
 use Rattle.tcap_runs.specs.Playing.{first_number, replay_of}

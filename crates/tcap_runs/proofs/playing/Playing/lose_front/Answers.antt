@@ -1,5 +1,5 @@
 use Rattle.std.proofs.Common.{◌+◌, ap, sym, refl, ◌∙◌, arith, length, List}
-use Rattle.tcap_check.specs.World.{OnItsWay, channel_from}
+use Rattle.tcap_model.specs.World.{OnItsWay, channel_from}
 use Rattle.tcap_check.specs.Replayed.{Replay, lost_from_front}
 use Rattle.tcap_runs.specs.Playing.{replay_of}
 use Rattle.tcap_runs.proofs.LossLaws.{none_left, none_lost, one_left, one_lost}

@@ -1,6 +1,6 @@
 -- The entries that are left lead from what is now to what all lead to from what was first.
 use Rattle.std.proofs.Common.{◌≡◌, map, drop}
-use Rattle.tcap_check.specs.Entries.{item_of}
+use Rattle.tcap_model.specs.Entries.{item_of}
 use Rattle.tcap_runs.specs.Gaps.{plays}
 use Rattle.tcap_runs.specs.Running.{entry_played}
 use Rattle.tcap_runs.specs.Playing.{replay_of}

@@ -1,6 +1,6 @@
 -- One component more.
 use Rattle.std.proofs.Common.{◌==◌, ◌&&◌, ◌+◌, drop, ap, ◌∙◌}
-use Rattle.tcap_check.specs.World.{is_side}
+use Rattle.tcap_model.specs.World.{is_side}
 use Rattle.tcap_search.specs.Proposed.{last_invoke}
 use Rattle.tcap_search.specs.ByInvocation.{kept_at}
 use Rattle.tcap_search.proofs.SweepSteps.{invoke_end, invoke_step, kept_behind}

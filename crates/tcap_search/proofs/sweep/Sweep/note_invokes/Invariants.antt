@@ -2,8 +2,8 @@
 use Rattle.std.proofs.Common.{◌≡◌, ◌==◌, ◌&&◌, ℕ, ℤ, drop}
 use Rattle.std.specs.Prelude.{option_map}
 use Rattle.tcap_record.specs.declared.entry.End.{End as Side}
-use Rattle.tcap_check.specs.World.{is_side}
-use Rattle.tcap_check.specs.Run.{where_so}
+use Rattle.tcap_model.specs.World.{is_side}
+use Rattle.tcap_model.specs.Run.{where_so}
 use Rattle.tcap_search.specs.Lines.{or_else}
 use Rattle.tcap_search.specs.Proposed.{last_invoke}
 use Rattle.tcap_search.specs.ByInvocation.{kept_at}

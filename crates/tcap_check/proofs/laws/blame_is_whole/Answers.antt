@@ -1,5 +1,0 @@
-use Rattle.tcap_check.proofs.WholeLaws.{lawful_together}
-use Rattle.tcap_check.proofs.laws.blame_is_whole.Goals as goal
-
-pub returns : goal.returns
-returns c = lawful_together

@@ -1,5 +1,0 @@
-use Rattle.tcap_check.proofs.ChannelLaws.{in_order}
-use Rattle.tcap_check.proofs.laws.channels_are_in_order.Goals as goal
-
-pub returns : goal.returns
-returns c = λ table events w side is. in_order table events w is side

@@ -1,5 +1,0 @@
-use Rattle.tcap_check.proofs.ChannelLaws.{are_whole}
-use Rattle.tcap_check.proofs.laws.channels_are_whole.Goals as goal
-
-pub returns : goal.returns
-returns c = λ table events w side is. are_whole table events w is side

@@ -1,5 +1,0 @@
-use Rattle.tcap_check.proofs.ChannelLaws.{were_sent}
-use Rattle.tcap_check.proofs.laws.messages_were_sent.Goals as goal
-
-pub returns : goal.returns
-returns c = λ table events w side is. were_sent table events w is side

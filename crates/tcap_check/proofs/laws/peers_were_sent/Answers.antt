@@ -1,5 +1,0 @@
-use Rattle.tcap_check.proofs.PeerLaws.{knows}
-use Rattle.tcap_check.proofs.laws.peers_were_sent.Goals as goal
-
-pub returns : goal.returns
-returns c table events w side f runs had = (knows table events w side f runs had).peer

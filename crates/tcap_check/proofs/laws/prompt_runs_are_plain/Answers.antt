@@ -1,5 +1,0 @@
-use Rattle.tcap_check.proofs.PromptLaws.{prompt_plain}
-use Rattle.tcap_check.proofs.laws.prompt_runs_are_plain.Goals as goal
-
-pub returns : goal.returns
-returns c = prompt_plain

@@ -1,0 +1,14 @@
+pub mod ListLaws
+pub mod RunLaws
+pub mod SinceLaws
+pub mod ChannelLaws
+pub mod Moves
+pub mod TurnLaws
+pub mod SentMoves
+pub mod ReceivedMoves
+pub mod WorldMoves
+pub mod PeerLaws
+pub mod UsedLaws
+pub mod WholeTurns
+pub mod WholeViews
+pub mod WholeLaws

@@ -1,0 +1,55 @@
+-- What a step of one end makes of its halves.
+use Rattle.std.proofs.Common.{◌≡◌, ◌⊎◌, ℤ, ℕ, true, List, Option, Some, None}
+use Rattle.std.specs.Prelude.{Contains}
+use Rattle.std.specs.List.{AllByRecursion}
+use Rattle.tcap_parts.specs.declared.component.Component.{Component}
+use Rattle.tcap_parts.specs.declared.component.Component.TheVariants.{Invoke}
+use Rattle.tcap_msg.specs.declared.message.Message.{Message}
+use Rattle.tcap_msg.specs.Parts.{components_in}
+use Rattle.tcap_end.specs.declared.half.Phase.TheVariants as phases
+use Rattle.tcap_end.specs.declared.half.Standing.TheVariants as standings
+use Rattle.tcap_end.specs.Half.{Answer, Half, Invocation, fresh, listed}
+use Rattle.tcap_end.specs.End.{End, KeptHalf}
+use Rattle.tcap_end.specs.Sound.{Has}
+use Rattle.tcap_model.specs.Since.{originating}
+use Rattle.tcap_model.specs.Since.{IsAnswer, asks}
+
+-- a half that is not there yet
+abbrev pub blank : Half
+blank = fresh phases.Sent None None standings.Without
+
+-- What was received, if anything was, came from that transaction ID.
+abbrev pub IsFrom : Option Message → Option (List ℕ) → Type 0
+IsFrom None peer = ⊥
+IsFrom (Some m) peer = originating m ≡ peer
+
+-- It was a Begin that asks for a dialogue.
+abbrev pub IsAsked : Option Message → Type 0
+IsAsked None = ⊥
+IsAsked (Some m) = asks m ≡ true
+
+-- It had that component.
+abbrev pub HasCome : Option Message → Component → Type 0
+HasCome None component = ⊥
+HasCome (Some m) component = Contains (components_in m) component
+
+-- What a half is, where it was h before, or is new, and where a message was received or not.
+pub record Turns (came : Option Message) (h g : Half) : Type 1 where
+  pub own : (id : List ℕ) → h.own ≡ Some id → g.own ≡ Some id
+  pub peer : (id : List ℕ) → h.peer ≡ Some id → g.peer ≡ Some id
+  pub learned : (id : List ℕ) → g.peer ≡ Some id → (h.peer ≡ Some id) ⊎ IsFrom came g.peer
+  pub asked : g.phase ≡ phases.Received → g.standing ≡ standings.Asked
+      → ((h.phase ≡ phases.Received) × (h.standing ≡ standings.Asked)) ⊎ (IsAsked came × IsFrom came g.peer)
+  pub closed : h.phase ≡ phases.Closed → g.phase ≡ phases.Closed
+  pub inn : (id : ℤ) (P : Invocation → Type 0) → AllByRecursion P (listed id h.inn)
+      → ((item : Invocation) (linked : Option ℤ) (parameter : Option (List ℕ)) → HasCome came (Invoke id linked item.code parameter)
+      → IsFrom came g.peer → P item)
+      → AllByRecursion P (listed id g.inn)
+  pub grants : (id : ℤ) (P : Answer → Type 0) → AllByRecursion P (listed id h.grants)
+      → ((answer : Answer) (component : Component) → IsAnswer answer id component → HasCome came component → IsFrom came g.peer → P answer)
+      → AllByRecursion P (listed id g.grants)
+
+-- What is there behind a step comes from what was there, or is new; and what was there is there still, as the step leaves it.
+pub record Moves (came : Option Message) (e next : End) : Type 1 where
+  pub back : (g : KeptHalf) → Has next g → (h : Half) × (Has e (record g { half = h }) ⊎ (h ≡ blank)) × Turns came h g.half
+  pub forth : (f : KeptHalf) → Has e f → (g : Half) × Has next (record f { half = g }) × Turns came f.half g

@@ -1,0 +1,173 @@
+-- What a half knows of its peer, the peer sent since.
+use Rattle.std.proofs.Common.{◌≡◌, ◌⊎◌, true, inl, inr, ℕ, ℤ, List, [], Option, Some, None, IsSome, refl, sym, ◌∙◌}
+use Rattle.std.specs.List.{AllByRecursion}
+use Rattle.tcap_parts.specs.declared.component.Component.{Component}
+use Rattle.tcap_parts.specs.declared.component.Component.TheVariants.{Invoke}
+use Rattle.tcap_msg.specs.declared.message.Message.{Message}
+use Rattle.tcap_record.specs.declared.entry.End.{End as Side}
+use Rattle.tcap_end.specs.declared.half.Phase.{Phase}
+use Rattle.tcap_end.specs.declared.half.Phase.TheVariants as phases
+use Rattle.tcap_end.specs.declared.half.Standing.TheVariants as standings
+use Rattle.tcap_end.specs.Table.{Table}
+use Rattle.tcap_end.specs.Half.{Answer, Half, Invocation, listed}
+use Rattle.tcap_end.specs.End.{KeptHalf}
+use Rattle.tcap_end.specs.Sound.{FitsPhase, Has, IsEnd, IsHalf}
+use Rattle.tcap_record.specs.Ends.{other}
+use Rattle.tcap_model.specs.World.{World, end_at}
+use Rattle.tcap_model.specs.Run.{Event, Runs}
+use Rattle.tcap_model.specs.Since.{originating}
+use Rattle.tcap_model.specs.Since.{AnswersWereSent, CameFromPeer, InvokesWereSent, IsAnswer, PeerWasSent, RequestWasSent, SentSince, asks}
+use Rattle.tcap_model.proofs.ListLaws.{all_weaker}
+use Rattle.tcap_model.proofs.Moves.{HasCome, IsAsked, IsFrom, Turns, blank}
+use Rattle.tcap_model.proofs.WorldMoves.{Advances, CameSince, EndMoves, SentMore, worlds_keep}
+
+-- All four, of one half.
+pub record Knows (w : World) (side : Side) (f : KeptHalf) : Type 0 where
+  pub peer : PeerWasSent w side f
+  pub request : RequestWasSent w side f
+  pub invokes : InvokesWereSent w side f
+  pub answers : AnswersWereSent w side f
+
+-- ---- halves without a peer's ID
+
+-- A half in which nothing came.
+abbrev IsBare : Half → Type 0
+IsBare h = (h.phase ≡ phases.Received → ⊥) × (h.inn ≡ []) × (h.grants ≡ [])
+
+-- A half that knows its peer's ID.
+abbrev HasPeer : Half → Type 0
+HasPeer h = (id : List ℕ) × (h.peer ≡ Some id)
+
+-- What is there is a value.
+some_is : {A : Type 0} (o : Option A) → IsSome o → (x : A) × (o ≡ Some x)
+some_is None is = cc
+some_is (Some x) is = (x, refl)
+
+-- A half knows its peer's ID, or nothing came in it.
+peer_or_bare : (h : Half) → IsHalf h → HasPeer h ⊎ IsBare h
+peer_or_bare h half = by h.phase refl half.phase
+  where
+    by : (p : Phase) → h.phase ≡ p → FitsPhase p h → HasPeer h ⊎ IsBare h
+    by phases.Sent at fits = inr (λ received. cc, fits.3, fits.4)
+    by phases.Received at fits = inl (some_is h.peer fits.1)
+    by phases.Active at fits = inl (some_is h.peer fits.1)
+    by phases.Closed at fits = inr (λ received. cc, fits.2, fits.3)
+
+-- ---- one half
+
+-- What came from the peer did so still, where the half keeps its peer's ID.
+still_came : {event : Event} → (w next : World) (side : Side) (f g : KeptHalf) (component : Component) → SentMore event w next → f.half.peer ≡ g.half.peer
+    → CameFromPeer w side f component → CameFromPeer next side g component
+still_came w next side f g component sent same (m, since, from, has) = (m, sent.keeps (other side) m since, from ∙ same, has)
+
+-- What comes now comes from the peer.
+now_came : {event : Event} → (w next : World) (side : Side) (g : KeptHalf) (came : Option Message) (component : Component) → SentMore event w next
+    → CameSince w side came → HasCome came component → IsFrom came g.half.peer → CameFromPeer next side g component
+now_came w next side g None component sent since has from = absurd has
+now_came w next side g (Some m) component sent since has from = (m, sent.keeps (other side) m since, from, has)
+
+-- an invocation that the peer sent, and an answer
+abbrev IsInvoked : World → Side → ℤ → KeptHalf → Invocation → Type 0
+IsInvoked w side id f item =
+    (linked : Option ℤ) × (parameter : Option (List ℕ)) × CameFromPeer w side f (Invoke id linked item.code parameter)
+
+abbrev IsAnswered : World → Side → ℤ → KeptHalf → Answer → Type 0
+IsAnswered w side id f answer = (component : Component) × IsAnswer answer id component × CameFromPeer w side f component
+
+-- A half that was there, or is new, and what a step makes of it.
+module _ {event : Event} (w next : World) (side : Side) (g : KeptHalf) (h : Half) (came : Option Message) (since : CameSince w side came)
+    (sent : SentMore event w next) (turns : Turns came h g.half) (known : HasPeer h ⊎ IsBare h) where
+  abbrev was : KeptHalf
+  was = record g { half = h }
+
+  same_peer : HasPeer h → h.peer ≡ g.half.peer
+  same_peer (id, is) = is ∙ sym (turns.peer id is)
+
+  peer_kept : PeerWasSent w side was → PeerWasSent next side g
+  peer_kept old id is = by came since (turns.learned id is)
+    where
+      by : (came : Option Message) → CameSince w side came → (h.peer ≡ Some id) ⊎ IsFrom came g.half.peer
+          → (m : Message) × SentSince (other side) m next.sent × (originating m ≡ Some id)
+      by came since (inl had) = let (m, there, from) = old id had in (m, sent.keeps (other side) m there, from)
+      by None since (inr from) = absurd from
+      by (Some m) since (inr from) = (m, sent.keeps (other side) m since, from ∙ is)
+
+  request_kept : RequestWasSent w side was → RequestWasSent next side g
+  request_kept old received is_asked = by came since known (turns.asked received is_asked)
+    where
+      by : (came : Option Message) → CameSince w side came → HasPeer h ⊎ IsBare h
+          → ((h.phase ≡ phases.Received) × (h.standing ≡ standings.Asked)) ⊎ (IsAsked came × IsFrom came g.half.peer)
+          → (m : Message) × SentSince (other side) m next.sent × (asks m ≡ true) × (originating m ≡ g.half.peer)
+      by came since (inl peer) (inl had) =
+          let (m, there, so, from) = old had.0 had.1 in
+          (m, sent.keeps (other side) m there, so, from ∙ same_peer peer)
+      by came since (inr bare) (inl had) = absurd (bare.0 had.0)
+      by None since known (inr new) = absurd new.0
+      by (Some m) since known (inr new) = (m, sent.keeps (other side) m since, new.0, new.1)
+
+  invokes_kept : InvokesWereSent w side was → InvokesWereSent next side g
+  invokes_kept old id = turns.inn id (IsInvoked next side id g) (by known)
+      (λ item linked parameter has from. (linked, parameter, now_came w next side g came _ sent since has from))
+    where
+      by : HasPeer h ⊎ IsBare h → AllByRecursion (IsInvoked next side id g) (listed id h.inn)
+      by (inl peer) = all_weaker (IsInvoked w side id was) (IsInvoked next side id g) (listed id h.inn)
+          (λ item (linked, parameter, from). (linked, parameter, still_came w next side was g _ sent (same_peer peer) from)) (old id)
+      by (inr bare) = rw (bare.1) tt
+
+  answers_kept : AnswersWereSent w side was → AnswersWereSent next side g
+  answers_kept old id = turns.grants id (IsAnswered next side id g) (by known)
+      (λ answer component is has from. (component, is, now_came w next side g came component sent since has from))
+    where
+      by : HasPeer h ⊎ IsBare h → AllByRecursion (IsAnswered next side id g) (listed id h.grants)
+      by (inl peer) = all_weaker (IsAnswered w side id was) (IsAnswered next side id g) (listed id h.grants)
+          (λ answer (component, is, from). (component, is, still_came w next side was g component sent (same_peer peer) from)) (old id)
+      by (inr bare) = rw (bare.2) tt
+
+  knows_kept : Knows w side was → Knows next side g
+  knows_kept old = record {
+    peer = peer_kept old.peer;
+    request = request_kept old.request;
+    invokes = invokes_kept old.invokes;
+    answers = answers_kept old.answers;
+  }
+
+-- ---- worlds
+
+-- A half that is new knows nothing.
+knows_blank : (w : World) (side : Side) (g : KeptHalf) → Knows w side (record g { half = blank })
+knows_blank w side g = record {
+  peer = λ id is. cc;
+  request = λ received asked. cc;
+  invokes = λ id. tt;
+  answers = λ id. tt;
+}
+
+-- each half of each end
+abbrev AllKnow : World → Type 0
+AllKnow w = (side : Side) (f : KeptHalf) → Has (end_at side w) f → Knows w side f
+
+-- A step keeps it,
+keeps_known : (event : Event) (w next : World) → ((side : Side) → IsEnd (end_at side w)) → Advances event w next → AllKnow w → AllKnow next
+keeps_known event w next sound advances held side g had = by (moves.moves.back g had)
+  where
+    moves : EndMoves side w next
+    moves = advances.ends side
+
+    from : (h : Half) → HasPeer h ⊎ IsBare h → Turns moves.came h g.half → Knows w side (record g { half = h }) → Knows next side g
+    from h known turns = knows_kept w next side g h moves.came moves.since advances.sent turns known
+
+    by : (h : Half) × (Has (end_at side w) (record g { half = h }) ⊎ (h ≡ blank)) × Turns moves.came h g.half → Knows next side g
+    by (h, inl there, turns) =
+        let f : KeptHalf = record g { half = h } in
+        from h (peer_or_bare h ((sound side).halves f there)) turns (held side f there)
+    by (h, inr new, turns) = from h (rw new (inr (λ received. cc, refl, refl))) turns (rw new (knows_blank w side g))
+
+-- so it holds behind each run.
+all_know : (table : Table) (events : List Event) (w : World) → Runs table events w → AllKnow w
+all_know table = worlds_keep table (λ events w. AllKnow w) (λ events w none side f had. absurd (none.halves side f had))
+    (λ before. keeps_known)
+
+-- What a half knows of its peer, in each run.
+pub knows : (table : Table) (events : List Event) (w : World) (side : Side) (f : KeptHalf) → Runs table events w → Has (end_at side w) f
+    → Knows w side f
+knows table events w side f runs had = all_know table events w runs side f had

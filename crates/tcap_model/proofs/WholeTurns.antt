@@ -1,0 +1,171 @@
+-- What an end that keeps the rules makes of each item of a run: what happens to it unseen before the item, and then the
+-- item. Nothing but the end itself and what is on its way to it matters, so the events are the same in each world.
+use Rattle.std.proofs.Common.{◌≡◌, ◌⊎◌, inl, inr, ℕ, ℤ, Bool, true, false, List, [], ◌∷◌, ◌++◌, length, Some, Ok, refl, sym, ap, ◌∙◌, append_assoc, append-nil}
+use Rattle.std.proofs.lemmas.Bool.{eq-eqb, or_from, or_parts}
+use Rattle.std.specs.Prelude.{◌||◌}
+use Rattle.tcap_msg.specs.declared.message.Message.{Message}
+use Rattle.tcap_record.specs.declared.entry.End.{End as Side}
+use Rattle.tcap_record.specs.declared.entry.End.TheVariants as sides
+use Rattle.tcap_end.specs.declared.half.HalfName.{HalfName}
+use Rattle.tcap_end.specs.Table.{Table}
+use Rattle.tcap_end.specs.End.{End, nothing, quiet}
+use Rattle.tcap_end.specs.Hidden.{close, expire}
+use Rattle.tcap_end.specs.Message.{receive, send}
+use Rattle.tcap_record.specs.Ends.{other}
+use Rattle.tcap_model.specs.World.{Item, OnItsWay, Sent, World, is_side, with_channel, with_end}
+use Rattle.tcap_model.specs.Run.{Event, Sends, Receives, Replies, Loses, Expires, Closes, BothKeepRules, KeepsRules, after, joined, played, reply_to, tells}
+use Rattle.tcap_model.proofs.RunLaws.{played_on}
+
+-- The world with this end, and with this on its way to it.
+abbrev pub seen_with : Side → End → List OnItsWay → World → World
+seen_with side e coming w = with_end side e (with_channel (other side) coming w)
+
+-- An end is made into another, and what is on its way to it is less, unseen, whatever else there is.
+pub record Drifts (table : Table) (side : Side) (e : End) (coming : List OnItsWay) (made : End) (left : List OnItsWay) : Type 0 where
+  pub events : List Event
+  pub plays : (w : World) → played table events (seen_with side e coming w) ≡ Some (seen_with side made left w)
+  pub keep : BothKeepRules events
+
+-- It says the message, or its provider does, whatever else there is.
+pub record Says (table : Table) (side : Side) (m : Message) (e : End) (coming : List OnItsWay) (made : End) (left : List OnItsWay) : Type 0 where
+  pub event : Event
+  pub plays : (w : World)
+      → after table event (seen_with side e coming w) ≡ Some (joined side m (seen_with side made left w))
+  pub keep : BothKeepRules (event ∷ [])
+
+-- A message joins what is on its way to an end, behind these items.
+abbrev pub with_newest : List Item → Message → List OnItsWay → List OnItsWay
+with_newest sent m coming = coming ++ newest ∷ []
+  where
+    newest : OnItsWay
+    newest = record { number = length sent; message = m }
+
+-- What an end makes of a message: it is its own, or the other end's.
+abbrev pub Meets : Table → Side → Bool → Message → List Item → End → List OnItsWay → End → List OnItsWay → Type 0
+Meets table side true m sent e coming made left = Says table side m e coming made left
+Meets table side false m sent e coming made left = (made ≡ e) × (left ≡ with_newest sent m coming)
+
+-- What it makes of an item, behind these.
+abbrev pub Takes : Table → Side → Item → List Item → End → List OnItsWay → End → List OnItsWay → Type 0
+Takes table side (Sent sender m) sent e coming made left =
+    Meets table side (is_side side sender) m sent e coming made left
+Takes table side Item.Quiet sent e coming made left =
+    (coming ≡ []) × (quiet e ≡ Ok nothing) × (made ≡ nothing) × (left ≡ [])
+
+-- What happens unseen before an item, and what the end makes of that.
+pub record Turn (table : Table) (side : Side) (item : Item) (sent : List Item) (e : End) (coming : List OnItsWay) : Type 0 where
+  pub drifted : End
+  pub waiting : List OnItsWay
+  pub drifts : Drifts table side e coming drifted waiting
+  pub made : End
+  pub left : List OnItsWay
+  pub takes : Takes table side item sent drifted waiting made left
+
+-- It does so with each of the items, one after the other.
+abbrev pub Goes : Table → Side → List Item → List Item → End → List OnItsWay → Type 0
+Goes table side [] sent e coming = Unit {0}
+Goes table side (item ∷ items) sent e coming =
+    (t : Turn table side item sent e coming) × Goes table side items (sent ++ item ∷ []) t.made t.left
+
+-- ---- rules that are kept
+
+keeps_both : (side : Side) (xs ys : List Event) → KeepsRules side xs → KeepsRules side ys → KeepsRules side (xs ++ ys)
+keeps_both side [] ys here there = there
+keeps_both side (x ∷ xs) ys here there =
+    let (now, later) = or_parts _ (tells side xs) here in or_from _ _ now (keeps_both side xs ys later there)
+
+pub both_keep : (xs ys : List Event) → BothKeepRules xs → BothKeepRules ys → BothKeepRules (xs ++ ys)
+both_keep xs ys here there = (keeps_both sides.A xs ys here.0 there.0, keeps_both sides.B xs ys here.1 there.1)
+
+-- ---- what happens unseen
+
+-- Nothing does,
+pub no_drift : {table : Table} {side : Side} {e : End} {coming : List OnItsWay} → Drifts table side e coming e coming
+no_drift = record { events = []; plays = λ w. refl; keep = (refl, refl) }
+
+-- or one thing behind the other,
+drifts_then : {table : Table} {side : Side} {e mid made : End} {coming waiting left : List OnItsWay}
+    → Drifts table side e coming mid waiting → Drifts table side mid waiting made left → Drifts table side e coming made left
+drifts_then {table} {side} {e} {mid} {made} {coming} {waiting} {left} a b = record {
+  events = a.events ++ b.events;
+  plays = λ w. played_on table a.events b.events (seen_with side e coming w) (seen_with side mid waiting w) (a.plays w)
+      ∙ b.plays w;
+  keep = both_keep a.events b.events a.keep b.keep;
+}
+
+-- before the first item.
+pub drifts_first : {table : Table} {side : Side} {e made : End} {coming left : List OnItsWay} (items sent : List Item)
+    → Drifts table side e coming made left → Goes table side items sent made left → Goes table side items sent e coming
+drifts_first [] sent drift goes = tt
+drifts_first (item ∷ items) sent drift goes = (
+  record {
+    drifted = goes.0.drifted;
+    waiting = goes.0.waiting;
+    drifts = drifts_then drift goes.0.drifts;
+    made = goes.0.made;
+    left = goes.0.left;
+    takes = goes.0.takes;
+  },
+  goes.1,
+)
+
+module _ (table : Table) (e made : End) where
+  -- It receives a message,
+  pub hears : (side : Side) (head : OnItsWay) (left : List OnItsWay) → receive table e head.message ≡ Ok made
+      → Drifts table side e (head ∷ left) made left
+  hears side head left step = record { events = Receives side head.number ∷ []; plays = by side; keep = (refl, refl) }
+    where
+      by : (side : Side) (w : World)
+          → played table (Receives side head.number ∷ []) (seen_with side e (head ∷ left) w) ≡ Some (seen_with side made left w)
+      by sides.A w = rw (eq-eqb head.number head.number refl, step) refl
+      by sides.B w = rw (eq-eqb head.number head.number refl, step) refl
+
+  -- an invocation ends,
+  pub expires : (side : Side) (name : HalfName) (id : ℤ) (coming : List OnItsWay) → expire table e name id ≡ Ok made
+      → Drifts table side e coming made coming
+  expires side name id coming step = record { events = Expires side name id ∷ []; plays = by side; keep = (refl, refl) }
+    where
+      by : (side : Side) (w : World)
+          → played table (Expires side name id ∷ []) (seen_with side e coming w) ≡ Some (seen_with side made coming w)
+      by sides.A w = rw step refl
+      by sides.B w = rw step refl
+
+  -- or a half closes.
+  pub closes : (side : Side) (name : HalfName) (coming : List OnItsWay) → close table e name ≡ Ok made
+      → Drifts table side e coming made coming
+  closes side name coming step = record { events = Closes side name ∷ []; plays = by side; keep = (refl, refl) }
+    where
+      by : (side : Side) (w : World)
+          → played table (Closes side name ∷ []) (seen_with side e coming w) ≡ Some (seen_with side made coming w)
+      by sides.A w = rw step refl
+      by sides.B w = rw step refl
+
+  -- It sends a message.
+  pub sends : (side : Side) (m : Message) (coming : List OnItsWay) → send table e m ≡ Ok made
+      → Says table side m e coming made coming
+  sends side m coming step = record { event = Sends side m; plays = by side; keep = (refl, refl) }
+    where
+      by : (side : Side) (w : World) → after table (Sends side m) (seen_with side e coming w)
+          ≡ Some (joined side m (seen_with side made coming w))
+      by sides.A w = rw step refl
+      by sides.B w = rw step refl
+
+module _ (table : Table) (e : End) where
+  -- A message to it is lost.
+  pub misses : (side : Side) (head : OnItsWay) (left : List OnItsWay) → Drifts table side e (head ∷ left) e left
+  misses side head left = record { events = Loses (other side) head.number ∷ []; plays = by side; keep = (refl, refl) }
+    where
+      by : (side : Side) (w : World) → played table (Loses (other side) head.number ∷ []) (seen_with side e (head ∷ left) w)
+          ≡ Some (seen_with side e left w)
+      by sides.A w = rw (eq-eqb head.number head.number refl) refl
+      by sides.B w = rw (eq-eqb head.number head.number refl) refl
+
+  -- Its provider answers one.
+  pub replies : (side : Side) (head : OnItsWay) (left : List OnItsWay) (abort : Message)
+      → reply_to e head.message ≡ Some abort → Says table side abort e (head ∷ left) e left
+  replies side head left abort step = record { event = Replies side head.number; plays = by side; keep = (refl, refl) }
+    where
+      by : (side : Side) (w : World) → after table (Replies side head.number) (seen_with side e (head ∷ left) w)
+          ≡ Some (joined side abort (seen_with side e left w))
+      by sides.A w = rw (eq-eqb head.number head.number refl, step) refl
+      by sides.B w = rw (eq-eqb head.number head.number refl, step) refl

@@ -1,0 +1,5 @@
+use Rattle.tcap_model.proofs.PeerLaws.{knows}
+use Rattle.tcap_model.proofs.laws.answers_were_sent.Goals as goal
+
+pub returns : goal.returns
+returns c table events w side f runs had = (knows table events w side f runs had).answers

@@ -1,0 +1,60 @@
+-- Two ends of TCAP dialogues, and the two channels between them, which keep order and may lose messages (Q.774 3.3).
+use Rattle.std.specs.Prelude.{ℕ, Bool, true, false, List, [], ◌∷◌, cond}
+use Rattle.tcap_msg.specs.declared.message.Message.{Message}
+use Rattle.tcap_record.specs.declared.entry.End.{End as Side}
+use Rattle.tcap_record.specs.declared.entry.End.TheVariants as sides
+use Rattle.tcap_end.specs.End.{End, nothing}
+
+-- What a record lists: a message that an end sent, or a quiet mark.
+pub data Item : Type 0 where
+  Sent : Side → Message → Item
+  Quiet : Item
+
+abbrev pub is_quiet : Item → Bool
+is_quiet (Sent side message) = false
+is_quiet Item.Quiet = true
+
+abbrev pub has_quiet : List Item → Bool
+has_quiet [] = false
+has_quiet (item ∷ more) = cond (is_quiet item) true (has_quiet more)
+
+-- A message on its way, with its number in the sent list, counted from 0.
+pub record OnItsWay : Type 0 where
+  pub number : ℕ
+  pub message : Message
+
+-- Both ends; what is on its way from each to the other, from the oldest on; and what was sent so far, with the quiet
+-- marks.
+pub record World : Type 0 where
+  pub a : End
+  pub b : End
+  pub from_a : List OnItsWay
+  pub from_b : List OnItsWay
+  pub sent : List Item
+
+-- the world in which nothing happened yet
+abbrev pub empty : World
+empty = record { a = nothing; b = nothing; from_a = []; from_b = []; sent = [] }
+
+abbrev pub is_side : Side → Side → Bool
+is_side sides.A sides.A = true
+is_side sides.B sides.B = true
+is_side _ _ = false
+
+-- what an end is
+abbrev pub end_at : Side → World → End
+end_at sides.A w = w.a
+end_at sides.B w = w.b
+
+-- what is on its way from it
+abbrev pub channel_from : Side → World → List OnItsWay
+channel_from sides.A w = w.from_a
+channel_from sides.B w = w.from_b
+
+abbrev pub with_end : Side → End → World → World
+with_end sides.A e w = record w { a = e }
+with_end sides.B e w = record w { b = e }
+
+abbrev pub with_channel : Side → List OnItsWay → World → World
+with_channel sides.A messages w = record w { from_a = messages }
+with_channel sides.B messages w = record w { from_b = messages }
