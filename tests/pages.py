@@ -5,7 +5,7 @@ the blocks of docs/LIBRARY.md, one behind the other."""
 import re
 import sys
 
-LIBRARIES = ["ber", "parts", "msg", "record", "end", "check", "refute", "blame", "search", "judge", "explain", "verdict"]
+LIBRARIES = ["ber", "parts", "msg", "record", "end", "model", "check", "refute", "blame", "search", "judge", "explain", "verdict"]
 PAGES = {f"crates/tcap_{name}/README.md": [name] for name in LIBRARIES}
 PAGES["docs/LIBRARY.md"] = ["record", "msg", "end", "judge"]
 BLOCK = re.compile(r"^```rust\n(.*?)^```$", re.DOTALL | re.MULTILINE)

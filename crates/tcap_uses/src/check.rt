@@ -1,15 +1,23 @@
-ghost use Rattle.std.specs.Prelude.{◌≡◌, [], List};
-ghost use Rattle.tcap_record.specs.declared.entry.End.{End as Side};
-ghost use Rattle.tcap_end.specs.Table.{Table};
-ghost use Rattle.tcap_model.specs.World.{World, channel_from};
-ghost use Rattle.tcap_model.specs.Run.{Event, Runs, numbers_sent, numbers_taken};
+ghost use Rattle.std.specs.Prelude.{List, IfOk};
+ghost use Rattle.tcap_model.specs.World.{Item};
+ghost use Rattle.tcap_model.specs.Run.{IsLawful};
+ghost use Rattle.tcap_model.specs.Entries.{AreItems};
 
-use tcap_check::laws;
+use std::alloc::Global;
+use tcap_check::{Certificate, CheckFault, check};
+use tcap_end::Table;
+use tcap_record::Record;
 
-/// Where nothing is on its way from an end any more, what was taken from its channel is all that it sent, in order.
-pub fn all_taken()
-    ensures { (table : Table) (events : List Event) (w : World) (side : Side) → Runs table events w
-        → channel_from side w ≡ [] → numbers_taken side events ≡ numbers_sent side 0 w.sent }
+/// How many steps a run of two lawful ends has that sends a record, where a certificate gives one; else the first reason why it
+/// gives none.
+pub fn count_steps(
+    alloc: Global,
+    record: &Record,
+    table: &Table,
+    certificate: &Certificate,
+) -> Result<u128, CheckFault>
+    ensures { IfOk result (λ steps. (items : List Item) × AreItems «record».now.entries.items items
+        × IsLawful items table.now steps) }
 {
-    laws::channels_are_whole();
+    Ok(check(alloc, record, table, certificate)?.moves)
 }

@@ -1,0 +1,15 @@
+ghost use Rattle.std.specs.Prelude.{◌≡◌, [], List};
+ghost use Rattle.tcap_record.specs.declared.entry.End.{End as Side};
+ghost use Rattle.tcap_end.specs.Table.{Table};
+ghost use Rattle.tcap_model.specs.World.{World, channel_from};
+ghost use Rattle.tcap_model.specs.Run.{Event, Runs, numbers_sent, numbers_taken};
+
+use tcap_model::laws;
+
+/// Where nothing is on its way from an end any more, what was taken from its channel is all that it sent, in order.
+pub fn all_taken()
+    ensures { (table : Table) (events : List Event) (w : World) (side : Side) → Runs table events w
+        → channel_from side w ≡ [] → numbers_taken side events ≡ numbers_sent side 0 w.sent }
+{
+    laws::channels_are_whole();
+}
