@@ -6,11 +6,10 @@ ghost use Rattle.std.specs.Option.{option_to_list};
 ghost use Rattle.std.specs.Mem.{FitsInMemory};
 
 use std::alloc::{AllocError, Global};
-use std::fmt;
 use std::marker::Model;
 
 /// Where the items are.
-#[derive(Drop)]
+#[derive(Debug, Drop)]
 pub(crate) enum Room<T> {
     /// One at most, in place.
     Inside(Option<T>),
@@ -18,7 +17,7 @@ pub(crate) enum Room<T> {
 }
 
 /// Items, one after the other.
-#[derive(Drop)]
+#[derive(Debug, Drop)]
 pub(crate) struct InPlace<T> {
     room: Room<T>,
 }
@@ -32,16 +31,6 @@ impl<T> Model for InPlace<T> {
     ghost coded = { items_code T.code };
 
     ghost view = { λ a. items_in a.room };
-}
-
-// The items are printed, wherever they are.
-impl<T: fmt::Debug> fmt::Debug for InPlace<T> {
-    fn fmt<W: fmt::Write>(&self, f: &mut fmt::Formatter<W>) -> fmt::Result {
-        match &self.room {
-            Room::Inside(item) => f.debug_list().entries(item).finish(),
-            Room::Outside(items) => items.fmt(f),
-        }
-    }
 }
 
 /// A list of no items, with room for two.

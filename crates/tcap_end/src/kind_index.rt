@@ -12,16 +12,16 @@ use std::marker::Model;
 use tcap_parts::CodeView;
 
 /// Kinds by their codes, and places by their kinds.
-#[derive(Drop)]
+#[derive(Debug, Drop)]
 pub(crate) struct IndexParts {
     /// By operation codes, where kinds have one: it makes no difference to what is kept.
-    pub(crate) numbers: KindNumbers,
+    numbers: KindNumbers,
     /// The places of each kind.
-    pub(crate) chains: Chains,
+    chains: Chains,
 }
 
 /// The same, made where kinds are many; before, it takes no memory.
-#[derive(Drop)]
+#[derive(Debug, Drop)]
 pub(crate) struct KindIndex {
     parts: Option<Box<IndexParts>>,
 }
@@ -64,27 +64,12 @@ fn follow(places: &[Option<usize>], chains: &mut Chains, kind: usize) -> Result<
     follow_one(places, chains, kind)
 }
 
-impl IndexParts {
-    /// Of no kinds and no places.
-    pub(crate) fn new(alloc: Global) -> IndexParts {
-        IndexParts {
-            numbers: KindNumbers::new(alloc),
-            chains: Chains::new(alloc),
-        }
-    }
-}
-
 impl KindIndex {
     /// Nothing.
     pub(crate) fn new() -> KindIndex
         ensures { result ≡ [] }
     {
         KindIndex { parts: None }
-    }
-
-    /// Its parts, where it was made.
-    pub(crate) fn parts(&self) -> Option<&IndexParts> {
-        self.parts.as_deref()
     }
 
     /// A guess of the number of the kind of this sort that has this operation code.
@@ -111,7 +96,10 @@ impl KindIndex {
         match &mut self.parts {
             Some(parts) => parts.numbers.put(alloc, code, sort, number),
             None => {
-                let mut parts = IndexParts::new(alloc);
+                let mut parts = IndexParts {
+                    numbers: KindNumbers::new(alloc),
+                    chains: Chains::new(alloc),
+                };
                 parts.numbers.put(alloc, code, sort, number)?;
                 self.parts = Some(Box::new(alloc, parts)?);
                 Ok(())

@@ -10,7 +10,6 @@ ghost use Rattle.std.specs.List.Sorted.{IsStrictlySortedBy, IsStrictlySortedBy-p
 use crate::half::InvocationState;
 use std::alloc::{AllocError, Global};
 use std::cmp::Ordering;
-use std::fmt;
 use std::mem;
 use tcap_parts::Code;
 
@@ -23,36 +22,12 @@ pub(crate) struct OwnInvocation {
 
 /// Own invocations by their invoke IDs. Once there is a place for an ID, what stands there can be changed without
 /// memory.
-#[derive(Drop)]
+#[derive(Debug, Drop)]
 pub(crate) struct Outs {
     // In the order of the IDs: at most 256.
     places: Vec<(i8, Option<OwnInvocation>)>,
     ghost ordered: { IsStrictlySortedBy int_cmp (keys_of places.items) } by { IsStrictlySortedBy-prop int_cmp
         (keys_of places.items) },
-}
-
-/// Places, as they are printed: a map by their IDs.
-struct ById<'a> {
-    places: &'a [(i8, Option<OwnInvocation>)],
-}
-
-impl fmt::Debug for ById<'_> {
-    fn fmt<W: fmt::Write>(&self, f: &mut fmt::Formatter<W>) -> fmt::Result {
-        let mut map = f.debug_map();
-        for (id, invocation) in self.places {
-            map.entry(id, invocation);
-        }
-        map.finish()
-    }
-}
-
-impl fmt::Debug for Outs {
-    fn fmt<W: fmt::Write>(&self, f: &mut fmt::Formatter<W>) -> fmt::Result {
-        let places = ById {
-            places: self.places.as_slice(),
-        };
-        f.debug_struct("Outs").field("places", &places).finish()
-    }
 }
 
 /// Puts one more place between the others. The first one takes memory for itself alone: many halves have no other.

@@ -7,12 +7,11 @@ ghost use Rattle.tcap_end.specs.Row.{AreNumbered, AreOldest, IsOldest, is_wanted
 
 use crate::chains::Chains;
 use crate::in_place::InPlace;
-use crate::kind_index::{IndexParts, KindIndex};
+use crate::kind_index::KindIndex;
 use crate::kind_numbers::SORTS;
 use crate::wanted::{is_wanted, oldest_before, oldest_behind, stood};
 use smallvec::SmallVec;
 use std::alloc::{AllocError, Global};
-use std::fmt;
 use tcap_parts::CodeView;
 
 /// How many kinds are looked through one by one; where there are more they have numbers by their codes, and places of one
@@ -26,7 +25,7 @@ const SPENT_FROM: usize = 16;
 /// taken; neither taking it nor putting it back can fail. One item, or two of one kind, take no memory besides the row's.
 /// Where the oldest item of a kind stands is known; where it is taken, the next one is looked for behind it: place by place
 /// where kinds are few, or else over places of that kind alone.
-#[derive(Drop)]
+#[derive(Debug, Drop)]
 pub(crate) struct Row<K> {
     kinds: InPlace<K>,
     /// The kind of the item in each place, by its number.
@@ -42,22 +41,6 @@ pub(crate) struct Row<K> {
     ghost for_each: { length kinds.items ≤ small_vec_len oldest },
     ghost oldest_of_each: { AreOldest places.items oldest.items },
     ghost oldest_of_all: { IsOldest None places.items first },
-}
-
-// Where there is no index of the kinds, an empty one is printed.
-impl<K: fmt::Debug> fmt::Debug for Row<K> {
-    fn fmt<W: fmt::Write>(&self, f: &mut fmt::Formatter<W>) -> fmt::Result {
-        let none = IndexParts::new(*self.places.allocator());
-        let index = self.index.parts().unwrap_or(&none);
-        f.debug_struct("Row")
-            .field("kinds", &self.kinds)
-            .field("numbers", &index.numbers)
-            .field("places", &self.places)
-            .field("oldest", &self.oldest)
-            .field("first", &self.first)
-            .field("chains", &index.chains)
-            .finish()
-    }
 }
 
 /// A place that all items of a kind stand before.
