@@ -8,6 +8,8 @@ mod calls;
 mod ends;
 mod lists;
 #[cfg(test)]
+mod printed;
+#[cfg(test)]
 mod tables;
 
 use crate::calls::made;
