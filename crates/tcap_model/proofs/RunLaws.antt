@@ -20,7 +20,7 @@ use Rattle.tcap_end.specs.Sound.{IsEnd}
 use Rattle.tcap_end.proofs.EndLaws.{nothing_sound}
 use Rattle.tcap_end.proofs.StepLaws.{closes, expires, receives, sends}
 use Rattle.tcap_record.specs.Ends.{other}
-use Rattle.tcap_model.specs.World.{Item, OnItsWay, Sent, World, channel_from, empty, end_at, with_channel, with_end}
+use Rattle.tcap_model.specs.World.{Item, OnItsWay, Sent, World, channel_from, empty, end_at, is_side, with_channel, with_end}
 use Rattle.tcap_model.specs.Run.{Adds, Event, Sends, Receives, Replies, Loses, Expires, Closes, Quiet, Tells, Runs, abort_for, after, after_quiet, head_taken, joined, may_refuse, played, reply_to, then_so, where_so}
 
 -- ---- tests, and steps that are there
