@@ -1,8 +1,9 @@
 """The gate, which `make test` runs: `rt ci`, then tests/program.py, tests/words.py, tests/explain.py and tests/facts.py on the
-program that `rt ci` built, then tests/borrows.py, tests/pages.py, tests/captures.py on that program, tools/clib.py over the libraries that `rt ci`
-built, and bench/memory.py, which lets each allocation of a run of that program fail in turn. What they print is passed on. Then it prints how many seconds each crate's proof, its tests' proof and its must-fail
-edits took, with their processor time, and closes with the line `N passed, M failed`, in which all are counted. The exit
-status is 0 where none failed.
+program that `rt ci` built, then tests/borrows.py, tests/pages.py and tests/captures.py on that program, tools/clib.py over the
+libraries that `rt ci` built, and bench/memory.py, which lets each allocation of a run of that program fail in turn. What they
+print is passed on. Then it prints how many seconds each crate's proof, its tests' proof and its must-fail edits took, with
+their processor time, and closes with the line `N passed, M failed`, in which all are counted. The exit status is 0 where none
+failed.
 
 `rt ci` does not say when a part begins and ends. So twice a second this looks in /proc for the runs of `rattle` that
 `rt ci` started, which a word in their environment marks, and takes a part to last from the first to the last time that
@@ -154,7 +155,7 @@ def main():
     lent = counts_of([sys.executable, "tests/borrows.py"])
     print(f"feeding while an entry is lent: {'refused' if lent[0] else 'NOT refused'}")
     pages = counts_of([sys.executable, "tests/pages.py"])
-    print(f"{pages[0] + pages[1]} pages with an example, {pages[1]} that differ from what is proved")
+    print(f"{pages[0] + pages[1]} examples and commands of pages, {pages[1]} that differ from what is proved or printed")
     captures = counts_of([sys.executable, "tests/captures.py"])
     print(f"{captures[0] + captures[1]} tests of captures, {captures[1]} wrong")
     clib = counts_of([sys.executable, "tools/clib.py", "--over-ci"])
