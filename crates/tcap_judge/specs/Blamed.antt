@@ -7,6 +7,7 @@ use Rattle.tcap_record.specs.declared.entry.End.{End as Side}
 use Rattle.tcap_record.specs.declared.entry.End.TheVariants as sides
 use Rattle.tcap_record.specs.declared.entry.Entry.{Entry}
 use Rattle.tcap_record.specs.declared.fault.FeedFault.{FeedFault}
+use Rattle.tcap_record.specs.Ends.{letter}
 use Rattle.tcap_record.specs.Lines.{line_end}
 use Rattle.tcap_end.specs.Table.{Table}
 use Rattle.tcap_model.specs.World.{Item}
@@ -59,11 +60,6 @@ abbrev pub ends_of : Table → List Entry → Ends
 ends_of table entries = record { a = finding table entries sides.A; b = finding table entries sides.B }
 
 -- ---- lines
-
--- the letter of an end
-abbrev pub letter : Side → List ℕ
-letter sides.A = codes "A"
-letter sides.B = codes "B"
 
 -- an entry is blamed on it, or it may have sent its part of so many, or of so many none is blamed
 abbrev pub finding_line : Side → Finding → List ℕ

@@ -1,5 +1,3 @@
-pub mod CommandLine
-pub mod Words
 pub mod Shown
 pub mod Showing
 pub mod Packed

@@ -2,7 +2,8 @@
 
 ghost use Rattle.std.specs.Prelude.{◌≡◌, ◌++◌, Some, OnOk};
 ghost use Rattle.std.specs.String.{string_bytes};
-ghost use Rattle.tcap_judge.specs.Blamed.{blame_status, ends_lines, finding_by, finding_line, is_blamed, is_lawful, letter, stands_behind};
+ghost use Rattle.tcap_record.specs.Ends.{letter};
+ghost use Rattle.tcap_judge.specs.Blamed.{blame_status, ends_lines, finding_by, finding_line, is_blamed, is_lawful, stands_behind};
 
 use crate::outcome::Outcome;
 use crate::status::Status;

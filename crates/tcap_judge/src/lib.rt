@@ -1,10 +1,8 @@
-//! What `tcapjudge` does: the words of its command line, and its runs over readers and writers.
+//! What `tcapjudge` does: its runs over readers and writers, and what they say as values.
 #![tactic(auto)]
 
-mod asked;
 mod blaming;
 mod checking;
-mod command_line;
 mod each_end;
 mod end_checking;
 mod fault_lines;
@@ -18,9 +16,7 @@ mod showing;
 mod status;
 mod text_reading;
 mod verdicts;
-mod words;
 
-pub use asked::Request;
 pub use blaming::{Blame, blame_outcome, find_both, run_blame};
 pub use checking::{check_outcome, run_check, run_check_end};
 pub use fault_lines::MEMORY_LINE;
@@ -32,4 +28,3 @@ pub use packing::run_pack;
 pub use showing::run_show;
 pub use status::{Status, WriteFailed};
 pub use verdicts::{Said, judge_record, named, propose, replay};
-pub use words::{WordsFault, request};

@@ -1,4 +1,5 @@
 -- The two ends of a record.
+use Rattle.std.specs.Prelude.{ℕ, List, codes}
 use Rattle.tcap_record.specs.declared.entry.End.{End}
 use Rattle.tcap_record.specs.declared.entry.End.TheVariants as ends
 
@@ -6,3 +7,8 @@ use Rattle.tcap_record.specs.declared.entry.End.TheVariants as ends
 abbrev pub other : End → End
 other ends.A = ends.B
 other ends.B = ends.A
+
+-- the letter of an end
+abbrev pub letter : End → List ℕ
+letter ends.A = codes "A"
+letter ends.B = codes "B"

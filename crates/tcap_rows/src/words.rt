@@ -2,9 +2,9 @@
 
 use std::alloc::Global;
 use std::test::Fail;
-use tcap_judge::{Request, request};
 use tcap_msg_rows::{Row, each_row};
 use tcap_record::End;
+use tcap_words::{Request, request};
 
 /// The columns: what the words ask for, or `wrong` or `printed`; the file that is named, or the files with blanks
 /// between them, an equals sign in front, a dash for none, or what the text has to contain; and the words, each behind

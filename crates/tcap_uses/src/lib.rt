@@ -15,6 +15,7 @@ mod record;
 mod refute;
 mod search;
 mod verdict;
+mod words;
 
 pub use ber::integer_content;
 pub use blame::fault_of;
@@ -29,3 +30,4 @@ pub use record::{entries_of, ids_of};
 pub use refute::no_certificate_helps;
 pub use search::is_shown_lawful;
 pub use verdict::told_why;
+pub use words::status_of_words;

@@ -15,7 +15,7 @@ use Rattle.tcap_record.specs.Ends.{other}
 use Rattle.tcap_model.specs.World.{is_side}
 use Rattle.tcap_runs.specs.declared.step.Step.{Step}
 use Rattle.tcap_runs.specs.declared.step.Step.TheVariants as steps
-use Rattle.tcap_judge.specs.Blamed.{letter}
+use Rattle.tcap_record.specs.Ends.{letter}
 
 unfoldable pub own_label : List ℕ
 own_label = codes "the half with otid="

@@ -12,11 +12,12 @@ use std::{env, fs, io};
 use tcap_ber::{Counted, Read, Unopened, Write};
 use tcap_explain::{Kept, Noted, Told, run_lines, run_table, run_why, write_hint, write_rule};
 use tcap_judge::{
-    MEMORY_LINE, Request, Status, WordsFault, WriteFailed, request, run_blame, run_check,
-    run_check_end, run_judge, run_judge_end, run_pack, run_show,
+    MEMORY_LINE, Status, WriteFailed, run_blame, run_check, run_check_end, run_judge,
+    run_judge_end, run_pack, run_show,
 };
 use tcap_record::End;
 use tcap_verdict::Asked;
+use tcap_words::{Request, WordsFault, request};
 
 /// The exit status where a word of the command is not text, so that it is not for `clap` to say.
 const NO_TEXT: u8 = 4;

@@ -1,0 +1,111 @@
+-- The command line of `tcapjudge`, which a parse by clap reads.
+use Rattle.std.specs.Prelude.{[], ◌∷◌, Some, codes, map, option_map, true}
+use Rattle.std.specs.Borrow.{Bor}
+use Rattle.clap.specs.Words.{App, Rule, Shape, Text, new_app, new_rule, with_subcommand}
+use Rattle.clap.specs.Simple.{new_shape, on_top}
+use Rattle.clap.specs.declared.builder.action.ArgAction.TheVariants.{Set, SetTrue}
+use Rattle.clap.specs.declared.builder.value_parser.ValueParser.{ValueParser}
+use Rattle.clap.specs.declared.builder.value_parser.ValueParser.TheVariants as vp
+use Rattle.tcap_record.specs.declared.entry.End.TheVariants as sides
+use Rattle.tcap_record.specs.Ends.{letter}
+
+-- what stands at the first place
+abbrev pub at_first : {X : Type 0} → X → Bor X
+at_first x = record { ref_ptr = (0, 0); now = x }
+
+-- the program, which has a version, and of which a subcommand is required
+abbrev pub bare_tool : App
+bare_tool = on_top (λ s. record s { has_version = true; subcommand_required = true }) (new_app (codes "tcapjudge"))
+
+-- a positional argument that may be left out
+abbrev pub left_out_rule : Text → Rule
+left_out_rule id = record (new_rule id) { action = Some Set }
+
+-- a subcommand with one positional argument, which may be left out
+abbrev pub with_path : Text → Text → Shape
+with_path name id = record (new_shape name) { rules = left_out_rule id ∷ [] }
+
+-- a positional argument that may not be left out
+abbrev pub needed_rule : Text → Rule
+needed_rule id = record (new_rule id) { action = Some Set; required = true }
+
+-- a flag of this name
+abbrev pub flag_rule : Text → Rule
+flag_rule name = record (new_rule name) { long = Some name; action = Some SetTrue }
+
+-- the letters of the ends are the values that an option may have
+abbrev pub ends_parser : ValueParser
+ends_parser = vp.Names (at_first (at_first (letter sides.A) ∷ at_first (letter sides.B) ∷ []))
+
+-- an option whose value is the letter of an end
+abbrev pub end_rule : Rule
+end_rule = record (new_rule (codes "end")) {
+  long = Some (codes "end");
+  action = Some Set;
+  value_names = 1;
+  parser = Some ends_parser;
+}
+
+-- the subcommand of three paths and an end
+abbrev pub check_shape : Shape
+check_shape = record (new_shape (codes "check")) {
+  rules = needed_rule (codes "RECORD") ∷ needed_rule (codes "TABLE") ∷ needed_rule (codes "CERT") ∷ end_rule ∷ [];
+}
+
+-- the subcommand of two paths, a flag and an end
+abbrev pub judge_shape : Shape
+judge_shape = record (new_shape (codes "judge")) {
+  rules = needed_rule (codes "RECORD") ∷ needed_rule (codes "TABLE") ∷ flag_rule (codes "cert") ∷ end_rule ∷ [];
+}
+
+-- an option whose value is the path of a file
+abbrev pub chart_rule : Rule
+chart_rule = record (new_rule (codes "chart")) { long = Some (codes "chart"); action = Some Set; value_names = 1 }
+
+-- the subcommand of two paths and one that may be left out, an end and a chart
+abbrev pub explain_shape : Shape
+explain_shape = record (new_shape (codes "explain")) {
+  rules = needed_rule (codes "RECORD") ∷ needed_rule (codes "TABLE") ∷ left_out_rule (codes "CERT") ∷ end_rule ∷ chart_rule ∷ [];
+}
+
+-- the subcommand of two paths
+abbrev pub blame_shape : Shape
+blame_shape = record (new_shape (codes "blame")) {
+  rules = needed_rule (codes "RECORD") ∷ needed_rule (codes "TABLE") ∷ [];
+}
+
+-- the subcommand of one path, which may be left out, and two flags
+abbrev pub show_shape : Shape
+show_shape = record (new_shape (codes "show")) {
+  rules = left_out_rule (codes "RECORD") ∷ flag_rule (codes "why") ∷ flag_rule (codes "lines") ∷ [];
+}
+
+-- the subcommand of one path
+abbrev pub table_shape : Shape
+table_shape = record (new_shape (codes "table")) { rules = needed_rule (codes "TABLE") ∷ [] }
+
+-- the program with its subcommands
+unfoldable pub tool : App
+tool = with_subcommand (with_subcommand (with_subcommand (with_subcommand (with_subcommand (with_subcommand
+    (with_subcommand bare_tool show_shape) (with_path (codes "pack") (codes "LINES")))
+    check_shape)
+    judge_shape)
+    explain_shape)
+    blame_shape)
+    table_shape
+
+-- ---- the same command line, wherever the values of its options stand
+
+abbrev pub placeless_parser : ValueParser → ValueParser
+placeless_parser (vp.Names names) = vp.Names (at_first (map (λ name. at_first name.now) names.now))
+placeless_parser parser = parser
+
+abbrev pub placeless_rule : Rule → Rule
+placeless_rule a = record a { parser = option_map placeless_parser a.parser }
+
+abbrev pub placeless_shape : Shape → Shape
+placeless_shape s = record s { rules = map placeless_rule s.rules }
+
+-- a command line with each value of its options at the first place
+abbrev pub placeless : App → App
+placeless a = record { top = placeless_shape a.top; subs = map placeless_shape a.subs }

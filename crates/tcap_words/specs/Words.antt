@@ -1,0 +1,201 @@
+-- What the words of the command line of `tcapjudge` ask for.
+use Rattle.std.specs.Prelude.{◌≡◌, ◌≢◌, ◌==◌, Bool, true, false, List, [], ◌∷◌, ℕ, Option, Some, None, codes, option_and_then, option_map, if◌then◌else◌}
+use Rattle.std.specs.Borrow.{Bor}
+use Rattle.std.specs.List.{list_any}
+use Rattle.std.specs.Str.{bytes_eq}
+use Rattle.clap.specs.Words.{Kinds, IsAmong, Row, Text, first_of, kind_of, subcommand_of}
+use Rattle.clap.specs.declared.error.kind.ErrorKind.{ErrorKind}
+use Rattle.clap.specs.declared.error.kind.ErrorKind.TheVariants as kind
+use Rattle.clap.specs.declared.error.Error.{Error}
+use Rattle.tcap_record.specs.declared.entry.End.{End as Side}
+use Rattle.tcap_record.specs.declared.entry.End.TheVariants as sides
+use Rattle.tcap_record.specs.Ends.{letter}
+use Rattle.tcap_words.specs.CommandLine.{tool}
+use Rattle.tcap_words.specs.declared.asked.Request.{Request}
+use Rattle.tcap_words.specs.declared.asked.Request.TheVariants.{Show, Pack, Check, CheckEnd, Judge, JudgeEnd, Explain, Blame, Table}
+use Rattle.tcap_words.specs.declared.words.WordsFault.{WordsFault}
+use Rattle.tcap_words.specs.declared.words.WordsFault.TheVariants.{Words, Memory}
+
+-- the subcommand that the words name, and the first value of its argument `id`
+abbrev pub named_with : Text → List Text → Option (Text × Option Text)
+named_with id words = option_map (λ p. (p.0, first_of id p.1)) (subcommand_of tool words)
+
+-- the first values of the arguments of `check`
+abbrev pub checked_paths : List Row → Option Text × Option Text × Option Text
+checked_paths rows = (first_of (codes "RECORD") rows, first_of (codes "TABLE") rows, first_of (codes "CERT") rows)
+
+-- the subcommand that the words name, and the first values of the arguments of `check`
+abbrev pub named_with_paths : List Text → Option (Text × (Option Text × Option Text × Option Text))
+named_with_paths words = option_map (λ p. (p.0, checked_paths p.1)) (subcommand_of tool words)
+
+-- whether a flag is set: its value is the word `true`
+abbrev pub is_set : Option Text → Bool
+is_set None = false
+is_set (Some value) = bytes_eq value (codes "true")
+
+-- the first values of the arguments of `judge`, and whether its flag is set
+abbrev pub judged_paths : List Row → Option Text × Option Text × Bool
+judged_paths rows =
+    (first_of (codes "RECORD") rows, first_of (codes "TABLE") rows, is_set (first_of (codes "cert") rows))
+
+-- the subcommand that the words name, and these
+abbrev pub named_with_flag : List Text → Option (Text × (Option Text × Option Text × Bool))
+named_with_flag words = option_map (λ p. (p.0, judged_paths p.1)) (subcommand_of tool words)
+
+-- the first values of the arguments of `explain`, but for that of `--end`
+abbrev pub explained_paths : List Row → Option Text × Option Text × Option Text × Option Text
+explained_paths rows = (
+  first_of (codes "RECORD") rows,
+  first_of (codes "TABLE") rows,
+  first_of (codes "CERT") rows,
+  first_of (codes "chart") rows,
+)
+
+-- the subcommand that the words name, and these
+abbrev pub named_with_chart : List Text → Option (Text × (Option Text × Option Text × Option Text × Option Text))
+named_with_chart words = option_map (λ p. (p.0, explained_paths p.1)) (subcommand_of tool words)
+
+-- the first values of the arguments of `blame`
+abbrev pub blamed_paths : List Row → Option Text × Option Text
+blamed_paths rows = (first_of (codes "RECORD") rows, first_of (codes "TABLE") rows)
+
+-- the subcommand that the words name, and these
+abbrev pub named_with_two : List Text → Option (Text × (Option Text × Option Text))
+named_with_two words = option_map (λ p. (p.0, blamed_paths p.1)) (subcommand_of tool words)
+
+-- the value of the option `--end` behind the subcommand that the words name
+abbrev pub end_value : List Text → Option Text
+end_value words = option_and_then (λ p. first_of (codes "end") p.1) (subcommand_of tool words)
+
+-- the first value of the argument of `show`, and whether its flags are set
+abbrev pub shown_path : List Row → Option Text × Bool × Bool
+shown_path rows =
+    (first_of (codes "RECORD") rows, is_set (first_of (codes "why") rows), is_set (first_of (codes "lines") rows))
+
+-- the subcommand that the words name, and these
+abbrev pub named_with_flags : List Text → Option (Text × (Option Text × Bool × Bool))
+named_with_flags words = option_map (λ p. (p.0, shown_path p.1)) (subcommand_of tool words)
+
+-- the text of a path
+abbrev pub path_text : Option (Bor Text) → Option Text
+path_text = option_map (λ s. s.now)
+
+-- the words ask for this
+abbrev pub Asks : List Text → Request → Type 0
+Asks words (Show path with_reasons of_lines) =
+    named_with_flags words ≡ Some (codes "show", (path_text path, with_reasons, of_lines))
+Asks words (Pack path) =
+    named_with (codes "LINES") words ≡ Some (codes "pack", path_text path)
+Asks words (Check taken table cert) =
+    (named_with_paths words ≡ Some (codes "check", (Some taken.now, Some table.now, Some cert.now)))
+    × (end_value words ≡ None)
+Asks words (CheckEnd side taken table cert) =
+    (named_with_paths words ≡ Some (codes "check", (Some taken.now, Some table.now, Some cert.now)))
+    × (end_value words ≡ Some (letter side))
+Asks words (Judge taken table with_certificate) =
+    (named_with_flag words ≡ Some (codes "judge", (Some taken.now, Some table.now, with_certificate)))
+    × (end_value words ≡ None)
+Asks words (JudgeEnd side taken table with_certificate) =
+    (named_with_flag words ≡ Some (codes "judge", (Some taken.now, Some table.now, with_certificate)))
+    × (end_value words ≡ Some (letter side))
+Asks words (Explain taken table cert side chart) =
+    (named_with_chart words ≡ Some (codes "explain", (Some taken.now, Some table.now, path_text cert, path_text chart)))
+    × (end_value words ≡ option_map letter side)
+Asks words (Blame taken table) = named_with_two words ≡ Some (codes "blame", (Some taken.now, Some table.now))
+Asks words (Table table) = named_with (codes "TABLE") words ≡ Some (codes "table", Some table.now)
+
+-- to show what this path names, with these flags
+abbrev pub IsShow : Option Text → Bool → Bool → Request → Type 0
+IsShow text b d (Show path with_reasons of_lines) = (path_text path ≡ text) × (with_reasons ≡ b) × (of_lines ≡ d)
+IsShow text b d _ = ⊥
+
+-- to pack what this path names
+abbrev pub IsPack : Option Text → Request → Type 0
+IsPack text (Pack path) = path_text path ≡ text
+IsPack text _ = ⊥
+
+-- to replay a certificate: the record, the table and the certificate that these paths name
+abbrev pub IsCheck : Text → Text → Text → Request → Type 0
+IsCheck x y z (Check taken table cert) = (taken.now ≡ x) × (table.now ≡ y) × (cert.now ≡ z)
+IsCheck x y z _ = ⊥
+
+-- to replay a certificate for the messages of this end alone
+abbrev pub IsCheckEnd : Side → Text → Text → Text → Request → Type 0
+IsCheckEnd side x y z (CheckEnd judged taken table cert) =
+    (judged ≡ side) × (taken.now ≡ x) × (table.now ≡ y) × (cert.now ≡ z)
+IsCheckEnd side x y z _ = ⊥
+
+-- to judge: the record and the table that these paths name, with the certificate or without
+abbrev pub IsJudge : Text → Text → Bool → Request → Type 0
+IsJudge x y b (Judge taken table with_certificate) = (taken.now ≡ x) × (table.now ≡ y) × (with_certificate ≡ b)
+IsJudge x y b _ = ⊥
+
+-- to judge this end alone
+abbrev pub IsJudgeEnd : Side → Text → Text → Bool → Request → Type 0
+IsJudgeEnd side x y b (JudgeEnd judged taken table with_certificate) =
+    (judged ≡ side) × (taken.now ≡ x) × (table.now ≡ y) × (with_certificate ≡ b)
+IsJudgeEnd side x y b _ = ⊥
+
+-- to explain, with the values that the arguments have
+abbrev pub Explains : (Text → Option Text) → Request → Type 0
+Explains value (Explain taken table cert side chart) =
+    (Some taken.now ≡ value (codes "RECORD")) × (Some table.now ≡ value (codes "TABLE"))
+    × (path_text cert ≡ value (codes "CERT")) × (option_map letter side ≡ value (codes "end"))
+    × (path_text chart ≡ value (codes "chart"))
+Explains value _ = ⊥
+
+-- to explain: the record and the table that these paths name, with this certificate, this end and this file for a chart,
+-- where there are some
+abbrev pub IsExplain : Text → Text → Option Text → Option Side → Option Text → Request → Type 0
+IsExplain x y z side file (Explain taken table cert judged chart) =
+    (taken.now ≡ x) × (table.now ≡ y) × (path_text cert ≡ z) × (judged ≡ side) × (path_text chart ≡ file)
+IsExplain x y z side file _ = ⊥
+
+-- to say which end is at fault: the record and the table that these paths name
+abbrev pub IsBlame : Text → Text → Request → Type 0
+IsBlame x y (Blame taken table) = (taken.now ≡ x) × (table.now ≡ y)
+IsBlame x y _ = ⊥
+
+-- to print the rows of the table that this path names
+abbrev pub IsTable : Text → Request → Type 0
+IsTable x (Table path) = path.now ≡ x
+IsTable x _ = ⊥
+
+-- the word begins with a hyphen (45), so that it may be no path
+abbrev pub begins_with_hyphen : Text → Bool
+begins_with_hyphen [] = false
+begins_with_hyphen (x ∷ xs) = x == 45
+
+-- the word is the letter of an end
+abbrev pub is_letter : Text → Bool
+is_letter word = list_any (λ side. bytes_eq (letter side) word) (sides.A ∷ sides.B ∷ [])
+
+-- memory ran out
+abbrev pub IsMemory : WordsFault → Type 0
+IsMemory Memory = Unit {0}
+IsMemory (Words e) = ⊥
+
+-- memory ran out, or the words are wrong in one of these ways
+abbrev pub IsFaultOf : Kinds → WordsFault → Type 0
+IsFaultOf kinds Memory = Unit {0}
+IsFaultOf kinds (Words e) = IsAmong (kind_of e) kinds
+
+abbrev pub is_printed_kind : ErrorKind → Bool
+is_printed_kind kind.DisplayHelp = true
+is_printed_kind kind.DisplayVersion = true
+is_printed_kind _ = false
+
+-- the words ask for help or the version
+abbrev pub is_printed : WordsFault → Bool
+is_printed Memory = false
+is_printed (Words e) = is_printed_kind (kind_of e)
+
+-- the exit status: 0 for help and the version, 4 for wrong words, 3 where memory ran out
+abbrev pub words_status : WordsFault → ℕ
+words_status Memory = 3
+words_status (Words e) = if is_printed_kind (kind_of e) then 0 else 4
+
+-- what an error of clap is as a fault
+abbrev pub Becomes : Error → WordsFault → Type 0
+Becomes e Memory = kind_of e ≡ kind.OutOfMemory
+Becomes e (Words x) = (x ≡ e) × (kind_of e ≢ kind.OutOfMemory)

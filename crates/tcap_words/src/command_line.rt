@@ -1,0 +1,218 @@
+//! The command line of the program: its subcommands, and the arguments of each.
+
+ghost use Rattle.std.specs.Prelude.{◌≡◌, IfOk, codes, false};
+ghost use Rattle.clap.specs.Words.{app_of, rule_of, shape_of};
+ghost use Rattle.clap.specs.declared.builder.command.Command.TheViews.{out-Command};
+ghost use Rattle.tcap_words.specs.CommandLine.{blame_shape, chart_rule, check_shape, end_rule, explain_shape, flag_rule};
+ghost use Rattle.tcap_words.specs.CommandLine.{judge_shape, left_out_rule, needed_rule, show_shape, table_shape, with_path};
+ghost use Rattle.tcap_words.specs.CommandLine.{placeless, placeless_rule, placeless_shape, tool};
+
+use clap::{Arg, ArgAction, Command};
+use std::alloc::{AllocError, Global};
+
+/// What the exit statuses mean.
+static STATUSES: &str = "Exit statuses:
+  0  nothing is wrong: LAWFUL, or all was printed or packed
+  1  REFUTED, or what `blame` says is BLAMED
+  2  NOT SHOWN, or UNDECIDED
+  3  a line of fault was printed, or the output could not be written
+  4  the words of the command are wrong";
+
+/// A positional argument that may not be left out.
+fn needed_arg<'a>(alloc: Global, id: &'a str, text: &'a str) -> Arg<'a>
+    ensures rule { rule_of result ≡ needed_rule id.entry.now }
+    ensures local { result.global ≡ false }
+{
+    Arg::new(alloc, id)
+        .required(true)
+        .action(ArgAction::Set)
+        .help(text)
+}
+
+/// A positional argument that may be left out.
+fn left_out_arg<'a>(alloc: Global, id: &'a str, text: &'a str) -> Arg<'a>
+    ensures rule { rule_of result ≡ left_out_rule id.entry.now }
+    ensures local { result.global ≡ false }
+{
+    Arg::new(alloc, id).action(ArgAction::Set).help(text)
+}
+
+/// A flag of this name.
+fn flag_arg<'a>(alloc: Global, name: &'a str, text: &'a str) -> Arg<'a>
+    ensures rule { rule_of result ≡ flag_rule name.entry.now }
+    ensures local { result.global ≡ false }
+{
+    Arg::new(alloc, name)
+        .long(name)
+        .action(ArgAction::SetTrue)
+        .help(text)
+}
+
+/// The letters of the ends, as the words have them.
+static LETTERS: [&str; 2] = ["A", "B"];
+
+/// The option `--end`, whose value is the letter of an end.
+fn end_arg<'a>(alloc: Global) -> Arg<'a>
+    ensures rule { placeless_rule (rule_of result) ≡ end_rule }
+    ensures local { result.global ≡ false }
+{
+    Arg::new(alloc, "end")
+        .long("end")
+        .action(ArgAction::Set)
+        .value_name("END")
+        .value_parser(LETTERS.as_slice())
+        .help("Judges that end alone, whatever its peer sends")
+}
+
+/// The option `--chart`, whose value is the path of a file.
+fn chart_arg<'a>(alloc: Global) -> Arg<'a>
+    ensures rule { rule_of result ≡ chart_rule }
+    ensures local { result.global ≡ false }
+{
+    Arg::new(alloc, "chart")
+        .long("chart")
+        .action(ArgAction::Set)
+        .value_name("FILE")
+        .help("Writes a chart of the run, an SVG, to that file")
+}
+
+/// The subcommand `check`.
+fn check_command<'a>(alloc: Global) -> Result<Command<'a>, AllocError>
+    ensures { IfOk result (λ c. (placeless_shape (shape_of c) ≡ check_shape) × ((out-Command c).has_globals ≡ false)) }
+{
+    let record = needed_arg(alloc, "RECORD", "The file of the record");
+    let table = needed_arg(alloc, "TABLE", "The file of the operation table");
+    let cert = needed_arg(alloc, "CERT", "The file of the certificate");
+    Command::new(alloc, "check")
+        .about("Replays a certificate for a record")
+        .after_help("Example: tcapjudge check record table.json cert.json")
+        .arg(record)?
+        .arg(table)?
+        .arg(cert)?
+        .arg(end_arg(alloc))
+}
+
+/// The subcommand `judge`.
+fn judge_command<'a>(alloc: Global) -> Result<Command<'a>, AllocError>
+    ensures { IfOk result (λ c. (placeless_shape (shape_of c) ≡ judge_shape) × ((out-Command c).has_globals ≡ false)) }
+{
+    let record = needed_arg(alloc, "RECORD", "The file of the record");
+    let table = needed_arg(alloc, "TABLE", "The file of the operation table");
+    let cert = flag_arg(alloc, "cert", "Prints the certificate behind LAWFUL");
+    Command::new(alloc, "judge")
+        .about("Judges a record")
+        .after_help("Example: tcapjudge judge record table.json --cert")
+        .arg(record)?
+        .arg(table)?
+        .arg(cert)?
+        .arg(end_arg(alloc))
+}
+
+/// The subcommand `explain`.
+fn explain_command<'a>(alloc: Global) -> Result<Command<'a>, AllocError>
+    ensures { IfOk result (λ c. (placeless_shape (shape_of c) ≡ explain_shape) × ((out-Command c).has_globals ≡ false)) }
+{
+    let record = needed_arg(alloc, "RECORD", "The file of the record");
+    let table = needed_arg(alloc, "TABLE", "The file of the operation table");
+    let cert = left_out_arg(
+        alloc,
+        "CERT",
+        "The file of a certificate to replay; one is searched for where it is left out",
+    );
+    Command::new(alloc, "explain")
+        .about("Says in words why a record is lawful, refuted or undecided")
+        .after_help("Example: tcapjudge explain record table.json --chart run.svg")
+        .arg(record)?
+        .arg(table)?
+        .arg(cert)?
+        .arg(end_arg(alloc))?
+        .arg(chart_arg(alloc))
+}
+
+/// The subcommand `blame`.
+fn blame_command<'a>(alloc: Global) -> Result<Command<'a>, AllocError>
+    ensures { IfOk result (λ c. (shape_of c ≡ blame_shape) × ((out-Command c).has_globals ≡ false)) }
+{
+    let record = needed_arg(alloc, "RECORD", "The file of the record");
+    let table = needed_arg(alloc, "TABLE", "The file of the operation table");
+    Command::new(alloc, "blame")
+        .about("Says which end is at fault")
+        .after_help("Example: tcapjudge blame record table.json")
+        .arg(record)?
+        .arg(table)
+}
+
+/// The subcommand `show`.
+fn show_command<'a>(alloc: Global) -> Result<Command<'a>, AllocError>
+    ensures { IfOk result (λ c. (shape_of c ≡ show_shape) × ((out-Command c).has_globals ≡ false)) }
+{
+    let record = left_out_arg(
+        alloc,
+        "RECORD",
+        "The file of the record; the standard input where it is left out",
+    );
+    let why = flag_arg(
+        alloc,
+        "why",
+        "Says in words why an entry or the record is refused",
+    );
+    let lines = flag_arg(alloc, "lines", "Takes lines of hex digits, as `pack` does");
+    Command::new(alloc, "show")
+        .about("Prints the entries of a record")
+        .after_help("Example: tcapjudge show --why record")
+        .arg(record)?
+        .arg(why)?
+        .arg(lines)
+}
+
+/// The subcommand `pack`.
+fn pack_command<'a>(alloc: Global) -> Result<Command<'a>, AllocError>
+    ensures { IfOk result (λ c. (shape_of c ≡ with_path (codes "pack") (codes "LINES"))
+        × ((out-Command c).has_globals ≡ false)) }
+{
+    let lines = left_out_arg(
+        alloc,
+        "LINES",
+        "The file of the lines; the standard input where it is left out",
+    );
+    Command::new(alloc, "pack")
+        .about("Makes a record of lines of hex digits")
+        .after_help("Example: tcapjudge pack dialogue.hex > record")
+        .arg(lines)
+}
+
+/// The subcommand `table`.
+fn table_command<'a>(alloc: Global) -> Result<Command<'a>, AllocError>
+    ensures { IfOk result (λ c. (shape_of c ≡ table_shape) × ((out-Command c).has_globals ≡ false)) }
+{
+    let table = needed_arg(alloc, "TABLE", "The file of the operation table");
+    Command::new(alloc, "table")
+        .about("Prints the rows of an operation table")
+        .after_help("Example: tcapjudge table table.json")
+        .arg(table)
+}
+
+/// The command line that the program takes.
+pub(crate) fn command<'a>(alloc: Global) -> Result<Command<'a>, AllocError>
+    ensures { IfOk result (λ c. placeless (app_of c) ≡ tool) }
+{
+    let show = show_command(alloc)?;
+    let pack = pack_command(alloc)?;
+    let check = check_command(alloc)?;
+    let judge = judge_command(alloc)?;
+    let explain = explain_command(alloc)?;
+    let blame = blame_command(alloc)?;
+    let table = table_command(alloc)?;
+    Command::new(alloc, "tcapjudge")
+        .about("Judges records of TCAP messages")
+        .version("0.1.0")
+        .subcommand_required(true)
+        .after_help(STATUSES)
+        .subcommand(show)?
+        .subcommand(pack)?
+        .subcommand(check)?
+        .subcommand(judge)?
+        .subcommand(explain)?
+        .subcommand(blame)?
+        .subcommand(table)
+}
