@@ -2,9 +2,9 @@
 
 ghost use Rattle.std.specs.Prelude.{◌≤◌, length};
 
-use crate::facts::push_fact;
 use std::alloc::{AllocError, Global};
 use tcap_end::Table;
+use tcap_facts::push_fact;
 use tcap_judge::{Finding, find_both, push_finding, stands_behind};
 use tcap_record::{End, Record};
 use tcap_refute::Refutation;

@@ -1,16 +1,16 @@
 //! What an entry that is refuted or blamed breaks, in words (Q.771, Q.773, Q.774).
 
-use crate::facts_again::push_again;
-use crate::facts_answers::push_answers_nothing;
-use crate::facts_dialogue::{push_misplaced, push_wrong_dialogue};
-use crate::facts_early::{push_after_end, push_bad, push_reused, push_unknown};
-use crate::facts_fits::push_wrong_half;
-use crate::facts_invokes::{push_bad_link, push_busy};
-use crate::facts_marks::{push_open_at_mark, push_wrong_reply};
-use crate::facts_operations::push_wrong_operation;
-use crate::facts_rejects::push_reject_wrong;
-use crate::facts_stretch::{Sent, Stretch};
-use crate::facts_words::letter;
+use crate::again::push_again;
+use crate::answers::push_answers_nothing;
+use crate::dialogue::{push_misplaced, push_wrong_dialogue};
+use crate::early::{push_after_end, push_bad, push_reused, push_unknown};
+use crate::fits::push_wrong_half;
+use crate::invokes::{push_bad_link, push_busy};
+use crate::marks::{push_open_at_mark, push_wrong_reply};
+use crate::operations::push_wrong_operation;
+use crate::rejects::push_reject_wrong;
+use crate::stretch::{Sent, Stretch};
+use crate::words::letter;
 use std::alloc::{AllocError, Global};
 use tcap_end::Table;
 use tcap_record::{Body, End, Record};
@@ -88,7 +88,7 @@ fn push_of_entry(
 /// two blanks before it, that name the entries which the fact rests on. The refutation is one of that record, that
 /// table and that end, as [`refute`](tcap_refute::refute) or [`blame`](tcap_blame::blame) give it. `AllocError`
 /// where memory ran out.
-pub(crate) fn push_fact(
+pub fn push_fact(
     alloc: Global,
     text: &mut String,
     record: &Record,

@@ -1,13 +1,13 @@
 //! What an entry breaks by a Reject whose problem nothing has that was heard: F13 (Q.774 3.2; Q.773 4.2.2).
 
-use crate::facts_answers::push_part;
-use crate::facts_counts::{Counts, Tally};
-use crate::facts_half::Half;
-use crate::facts_links::push_link_fine;
-use crate::facts_operations::push_invocations;
-use crate::facts_sorts::{Parts, Sort};
-use crate::facts_stretch::{Sent, Stretch};
-use crate::facts_words::{letter, push_all, push_count, push_invoke_id, push_ordinal};
+use crate::answers::push_part;
+use crate::counts::{Counts, Tally};
+use crate::half::Half;
+use crate::links::push_link_fine;
+use crate::operations::push_invocations;
+use crate::sorts::{Parts, Sort};
+use crate::stretch::{Sent, Stretch};
+use crate::words::{letter, push_all, push_count, push_invoke_id, push_ordinal};
 use std::alloc::AllocError;
 use tcap_msg::MessageParts;
 use tcap_parts::{ComponentView, ProblemView};

@@ -1,8 +1,8 @@
 //! How many components of an invoke ID there are (Q.773 4.2.2).
 
-use crate::facts_sorts::invoke_id;
-use crate::facts_stretch::Sent;
-use crate::facts_words::push_times;
+use crate::sorts::invoke_id;
+use crate::stretch::Sent;
+use crate::words::push_times;
 use std::alloc::{AllocError, Global};
 use std::collections::BTreeMap;
 use tcap_end::Table;

@@ -1,13 +1,13 @@
 //! What an entry breaks by a Reject of a link, where its own invocations say otherwise: F13 (Q.774 3.2; Q.771, linked
 //! operations).
 
-use crate::facts_answers::push_part;
-use crate::facts_codes::Codes;
-use crate::facts_counts::Tally;
-use crate::facts_half::Half;
-use crate::facts_operations::{invoked_in, push_invocations};
-use crate::facts_stretch::{Sent, Stretch};
-use crate::facts_words::{letter, push_all, push_entry, push_invoke_id};
+use crate::answers::push_part;
+use crate::codes::Codes;
+use crate::counts::Tally;
+use crate::half::Half;
+use crate::operations::{invoked_in, push_invocations};
+use crate::stretch::{Sent, Stretch};
+use crate::words::{letter, push_all, push_entry, push_invoke_id};
 use std::alloc::AllocError;
 use std::collections::BTreeSet;
 use tcap_end::Table;

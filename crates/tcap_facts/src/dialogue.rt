@@ -1,8 +1,8 @@
 //! What an entry breaks by its dialogue portion: F7 and F9 (Q.774 3.2, dialogues; Q.773 4.2.3).
 
-use crate::facts_half::Half;
-use crate::facts_stretch::{Sent, Stretch, listed_of};
-use crate::facts_words::{
+use crate::half::Half;
+use crate::stretch::{Sent, Stretch, listed_of};
+use crate::words::{
     form_of, letter, name_of_pdu, push_all, push_entry, push_id, push_pdu, push_start,
 };
 use std::alloc::AllocError;

@@ -1,9 +1,9 @@
 //! Sorts of components of an invoke ID, and the entries in which they stand (Q.773 4.2.2).
 
-use crate::facts_codes::is_code;
-use crate::facts_listed::Listed;
-use crate::facts_stretch::Sent;
-use crate::facts_words::push_times;
+use crate::codes::is_code;
+use crate::listed::Listed;
+use crate::stretch::Sent;
+use crate::words::push_times;
 use std::alloc::{AllocError, Global};
 use tcap_end::Table;
 use tcap_msg::MessageParts;

@@ -1,6 +1,6 @@
 //! Words of facts: ends, entries, messages, components, IDs and counts.
 
-use crate::facts_stretch::Sent;
+use crate::stretch::Sent;
 use std::alloc::AllocError;
 use tcap_msg::{Kind as Form, MessageParts};
 use tcap_parts::{CodeView, ComponentView, DialogueView, ProblemView, SourceView};

@@ -1,9 +1,9 @@
 //! What an entry breaks that invokes or answers an operation as the table does not allow: F6 (Q.771 3.1.2).
 
-use crate::facts_answers::push_part;
-use crate::facts_codes::{Codes, Operated, is_code};
-use crate::facts_stretch::{Sent, Stretch};
-use crate::facts_words::{
+use crate::answers::push_part;
+use crate::codes::{Codes, Operated, is_code};
+use crate::stretch::{Sent, Stretch};
+use crate::words::{
     letter, push_all, push_code, push_count, push_id, push_invoke_id, push_number,
 };
 use std::alloc::AllocError;

@@ -1,7 +1,7 @@
 //! What an entry breaks that answers or rejects what was never sent: F5 (Q.774 3.2).
 
-use crate::facts_stretch::{Sent, Stretch};
-use crate::facts_words::{
+use crate::stretch::{Sent, Stretch};
+use crate::words::{
     form_of, letter, push_all, push_component, push_count, push_id, push_invoke_id,
     push_number, push_start,
 };

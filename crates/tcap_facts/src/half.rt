@@ -1,9 +1,9 @@
 //! The half over which an end sends a message to a transaction ID, as far as what stands before tells (Q.774 3.3).
 
-use crate::facts_listed::Listed;
-use crate::facts_sorts::{Parts, Sort};
-use crate::facts_stretch::{Sent, Stretch};
-use crate::facts_words::{letter, push_all, push_id, push_invoke_id};
+use crate::listed::Listed;
+use crate::sorts::{Parts, Sort};
+use crate::stretch::{Sent, Stretch};
+use crate::words::{letter, push_all, push_id, push_invoke_id};
 use std::alloc::AllocError;
 use std::collections::{BTreeMap, BTreeSet};
 use tcap_msg::TransactionId;

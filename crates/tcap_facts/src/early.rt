@@ -1,8 +1,8 @@
 //! What an entry breaks whose octets, transaction IDs or cause are wrong: F1 to F4 (Q.773, Q.774 3.3).
 
-use crate::facts_listed::Listed;
-use crate::facts_stretch::{Sent, Stretch, listed_of};
-use crate::facts_words::{
+use crate::listed::Listed;
+use crate::stretch::{Sent, Stretch, listed_of};
+use crate::words::{
     form_of, letter, push_all, push_count, push_entry, push_id, push_number, push_start,
 };
 use std::alloc::AllocError;

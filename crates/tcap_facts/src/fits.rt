@@ -1,9 +1,9 @@
 //! What an entry breaks that no half may send: F8 (Q.774 3.3).
 
-use crate::facts_half::Half;
-use crate::facts_listed::Listed;
-use crate::facts_stretch::{Sent, Stretch, listed_of};
-use crate::facts_words::{
+use crate::half::Half;
+use crate::listed::Listed;
+use crate::stretch::{Sent, Stretch, listed_of};
+use crate::words::{
     form_of, letter, push_all, push_entry, push_id, push_number, push_start,
 };
 use std::alloc::AllocError;

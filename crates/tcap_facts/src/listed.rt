@@ -1,6 +1,6 @@
 //! Entries that a fact rests on.
 
-use crate::facts_words::{push_count, push_number, push_times};
+use crate::words::{push_count, push_number, push_times};
 use std::alloc::{AllocError, Global};
 
 /// So many entries are named at most.

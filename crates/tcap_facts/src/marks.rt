@@ -1,9 +1,9 @@
 //! What an Abort of a provider breaks that answers nothing which is left, F14, and a quiet mark at which a half is
 //! open, F15 (Q.774 3.3).
 
-use crate::facts_listed::Listed;
-use crate::facts_stretch::{Sent, Stretch, listed_of};
-use crate::facts_words::{
+use crate::listed::Listed;
+use crate::stretch::{Sent, Stretch, listed_of};
+use crate::words::{
     form_of, letter, push_all, push_count, push_entry, push_id, push_number, push_start,
     push_times,
 };

@@ -1,13 +1,13 @@
 //! What an entry breaks by an Invoke: of an ID that is in use, F10, or linked to what is not there, F11 (Q.774 3.2).
 
-use crate::facts_answers::push_part;
-use crate::facts_codes::Codes;
-use crate::facts_counts::{ByClass, Counts, Tally};
-use crate::facts_half::{Half, push_not_invoked};
-use crate::facts_operations::{invoked_in, push_invocations};
-use crate::facts_sorts::{Parts, Sort};
-use crate::facts_stretch::{Sent, Stretch};
-use crate::facts_words::{
+use crate::answers::push_part;
+use crate::codes::Codes;
+use crate::counts::{ByClass, Counts, Tally};
+use crate::half::{Half, push_not_invoked};
+use crate::operations::{invoked_in, push_invocations};
+use crate::sorts::{Parts, Sort};
+use crate::stretch::{Sent, Stretch};
+use crate::words::{
     form_of, letter, push_all, push_code, push_count, push_invoke_id, push_number,
     push_times,
 };

@@ -1,13 +1,13 @@
 //! What an entry breaks that answers an invocation again: F12 (Q.774 3.2; Q.771, classes).
 
-use crate::facts_answers::push_part;
-use crate::facts_codes::Codes;
-use crate::facts_counts::{ByClass, Counts, Tally};
-use crate::facts_half::{Half, push_not_invoked};
-use crate::facts_operations::invoked_in;
-use crate::facts_sorts::{Parts, Sort, invoke_id, operation_in};
-use crate::facts_stretch::{Sent, Stretch};
-use crate::facts_words::{
+use crate::answers::push_part;
+use crate::codes::Codes;
+use crate::counts::{ByClass, Counts, Tally};
+use crate::half::{Half, push_not_invoked};
+use crate::operations::invoked_in;
+use crate::sorts::{Parts, Sort, invoke_id, operation_in};
+use crate::stretch::{Sent, Stretch};
+use crate::words::{
     letter, push_all, push_id, push_invoke_id, push_ordinal, push_times,
 };
 use std::alloc::AllocError;

@@ -1,7 +1,7 @@
 //! What stands before an entry, since the last quiet mark: what its end sent, and what its peer sent (Q.774 3.3).
 
-use crate::facts_listed::Listed;
-use crate::facts_words::push_number;
+use crate::listed::Listed;
+use crate::words::push_number;
 use std::alloc::{AllocError, Global};
 use std::collections::BTreeMap;
 use tcap_end::Table;
