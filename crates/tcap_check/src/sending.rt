@@ -345,4 +345,3 @@ impl<'r> Progress<'r> {
         Ok(())
     }
 }
-

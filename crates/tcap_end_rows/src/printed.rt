@@ -12,11 +12,13 @@ use tcap_msg_rows::octets_of;
 const BEGIN: &str = "620d4801016c08a10602010102012d";
 
 /// What is printed of it.
-const BEGIN_PRINTED: &str = "Begin { otid: TransactionIdView { octets: [1] }, dialogue: None, components: \
+const BEGIN_PRINTED: &str =
+    "Begin { otid: TransactionIdView { octets: [1] }, dialogue: None, components: \
 Some(Octets(OctetPortion { content: Window { octets: [161, 6, 2, 1, 1, 2, 1, 45], place: 7 } })) }";
 
 /// What is printed of an end that answered it by a Continue from 02 with an Invoke.
-const END_PRINTED: &str = "EndState { alloc: Global, halves: Halves { slab: Slab { len: 1, cap: 4 }, begun: {}, \
+const END_PRINTED: &str =
+    "EndState { alloc: Global, halves: Halves { slab: Slab { len: 1, cap: 4 }, begun: {}, \
 accepted: {TransactionId { octets: [1, 0, 0, 0], len: 1, key: 4294967297 }: Open(0)}, \
 by_own: {TransactionId { octets: [2, 0, 0, 0], len: 1, key: 8589934593 }: \
 TransactionId { octets: [1, 0, 0, 0], len: 1, key: 4294967297 }}, by_peer: {} } }";
@@ -43,6 +45,9 @@ fn texts_for_debugging(rt: HostRuntime) -> Result<(), Fail> {
     assert_eq!(rt; text, wanted);
     let id = TransactionId::new(&[1, 2]).ok_or("an ID")?;
     let text = format!(in rt.alloc(); "{id:?}")?;
-    assert_eq!(rt; text.as_str(), "TransactionId { octets: [1, 2, 0, 0], len: 2, key: 4328521730 }");
+    assert_eq!(rt;
+        text.as_str(),
+        "TransactionId { octets: [1, 2, 0, 0], len: 2, key: 4328521730 }"
+    );
     Ok(())
 }

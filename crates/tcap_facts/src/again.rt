@@ -7,9 +7,7 @@ use crate::half::{Half, push_not_invoked};
 use crate::operations::invoked_in;
 use crate::sorts::{Parts, Sort, invoke_id, operation_in};
 use crate::stretch::{Sent, Stretch};
-use crate::words::{
-    letter, push_all, push_id, push_invoke_id, push_ordinal, push_times,
-};
+use crate::words::{letter, push_all, push_id, push_invoke_id, push_ordinal, push_times};
 use std::alloc::AllocError;
 use tcap_msg::MessageParts;
 use tcap_parts::{CodeView, ComponentView, ProblemView};

@@ -2,8 +2,8 @@
 
 use crate::stretch::{Sent, Stretch};
 use crate::words::{
-    form_of, letter, push_all, push_component, push_count, push_id, push_invoke_id,
-    push_number, push_start,
+    form_of, letter, push_all, push_component, push_count, push_id, push_invoke_id, push_number,
+    push_start,
 };
 use std::alloc::{AllocError, Global};
 use std::collections::BTreeSet;

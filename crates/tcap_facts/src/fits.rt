@@ -3,9 +3,7 @@
 use crate::half::Half;
 use crate::listed::Listed;
 use crate::stretch::{Sent, Stretch, listed_of};
-use crate::words::{
-    form_of, letter, push_all, push_entry, push_id, push_number, push_start,
-};
+use crate::words::{form_of, letter, push_all, push_entry, push_id, push_number, push_start};
 use std::alloc::AllocError;
 use std::collections::BTreeMap;
 use tcap_msg::TransactionId;

@@ -8,8 +8,7 @@ use crate::operations::{invoked_in, push_invocations};
 use crate::sorts::{Parts, Sort};
 use crate::stretch::{Sent, Stretch};
 use crate::words::{
-    form_of, letter, push_all, push_code, push_count, push_invoke_id, push_number,
-    push_times,
+    form_of, letter, push_all, push_code, push_count, push_invoke_id, push_number, push_times,
 };
 use std::alloc::AllocError;
 use std::collections::BTreeMap;

@@ -4,8 +4,7 @@
 use crate::listed::Listed;
 use crate::stretch::{Sent, Stretch, listed_of};
 use crate::words::{
-    form_of, letter, push_all, push_count, push_entry, push_id, push_number, push_start,
-    push_times,
+    form_of, letter, push_all, push_count, push_entry, push_id, push_number, push_start, push_times,
 };
 use std::alloc::AllocError;
 use std::collections::{BTreeMap, BTreeSet};

@@ -3,9 +3,7 @@
 use crate::answers::push_part;
 use crate::codes::{Codes, Operated, is_code};
 use crate::stretch::{Sent, Stretch};
-use crate::words::{
-    letter, push_all, push_code, push_count, push_id, push_invoke_id, push_number,
-};
+use crate::words::{letter, push_all, push_code, push_count, push_id, push_invoke_id, push_number};
 use std::alloc::AllocError;
 use tcap_end::Table;
 use tcap_msg::{Kind as Form, MessageParts};
