@@ -8,7 +8,8 @@ use Rattle.tcap_end.specs.declared.half.HalfName.TheVariants.{Own, Peer}
 use Rattle.tcap_end.specs.Table.{Table}
 use Rattle.tcap_model.specs.World.{Item, Sent}
 use Rattle.tcap_model.specs.Run.{BothKeepRules, Event, Sends, Receives, Replies, Loses, Expires, Closes, Quiet, Tells, IsLawfulFor, IsRunOf, KeepsRules, provider_abort}
-use Rattle.tcap_model.specs.WorkedItems.{accepting, answer, begin, crossing_items, dialogue_items, end_to, further, id, invoke, over_a_mark_items, rejects_result, request, result, table}
+use Rattle.tcap_model.specs.WorkedItems.{accepting, answer, begin, crossing_items, dialogue_items, end_to, further, id, invoke, over_a_mark_items, rejects_result, request, result}
+pub use Rattle.tcap_model.specs.WorkedItems.{prearranged, table}
 use Rattle.tcap_check.specs.declared.certificate.Fate.{Fate}
 use Rattle.tcap_check.specs.declared.certificate.Fate.TheVariants.{Gap, Lost, By}
 use Rattle.tcap_check.specs.Certificate.{Certificate}
