@@ -68,7 +68,7 @@ pub fn find_both(alloc: Global, read: &Record, table: &Table) -> Result<Ends, Al
     ensures { IfOk result (λ ends. (ends ≡ ends_of table.now read.now.entries.items)
         × AreFound table.now read.now.entries.items ends) }
 {
-    tcap_check::laws::blame_is_whole();
+    tcap_model::laws::blame_is_whole();
     Ok(Ends {
         a: find_end(alloc, read, table, End::A)?,
         b: find_end(alloc, read, table, End::B)?,
@@ -130,7 +130,7 @@ fn find_lawful_ends(
     ensures { IfOk result (λ ends. (ends ≡ ends_of table.now read.now.entries.items)
         × AreFound table.now read.now.entries.items ends) }
 {
-    tcap_check::laws::blame_is_whole();
+    tcap_model::laws::blame_is_whole();
     let Proposals { both, a, b } = proposals;
     Ok(Ends {
         a: find_lawful_end(alloc, read, table, both, a, End::A)?,
@@ -150,7 +150,7 @@ fn find_other_ends(
     ensures { IfOk result (λ ends. (ends ≡ ends_of table.now read.now.entries.items)
         × AreFound table.now read.now.entries.items ends) }
 {
-    tcap_check::laws::blame_is_whole();
+    tcap_model::laws::blame_is_whole();
     let Proposals { both, a, b } = proposals;
     Ok(Ends {
         a: find_other_end(alloc, read, table, both, a, End::A)?,
