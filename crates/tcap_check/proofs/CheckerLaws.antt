@@ -51,7 +51,7 @@ ends_so table c entries o is = by (certificate_fits c) is
     by (Ok fits) e = ap (λ (z : Result Replay CheckFault). z >>= λ r. (let a : Result (List Event) CheckFault = Ok (lost_from_both c r).events in a)) e
     by (Err fault) e = ap (λ (z : Result Replay CheckFault). z >>= λ r. (let a : Result (List Event) CheckFault = Ok (lost_from_both c r).events in a)) e
 
-finished_ok : (table : Table) (c : Certificate) (k : Kept) (left : Progress)
+pub finished_ok : (table : Table) (c : Certificate) (k : Kept) (left : Progress)
     → kept_ended table c k ≡ Ok left → (entries : List (Result Item Reason)) → Took (checking table c None k) entries
     → (let report : Result Report CheckFault = Ok (record { moves = left.moves }) in report) ≡ map_ok reported (run_of table c entries)
 finished_ok table c k left is entries took =
@@ -67,7 +67,7 @@ finished_ok table c k left is entries took =
         ap (λ (n : ℕ). let report : Result Report CheckFault = Ok (record { moves = n }) in report) moves
         ∙ sym (ap (map_ok reported) (ends_so table c entries (Ok r) e))
 
-finished_err : (table : Table) (c : Certificate) (k : Kept) (fault : CheckFault)
+pub finished_err : (table : Table) (c : Certificate) (k : Kept) (fault : CheckFault)
     → kept_ended table c k ≡ Err fault → (entries : List (Result Item Reason)) → Took (checking table c None k) entries
     → (let report : Result Report CheckFault = Err fault in report) ≡ map_ok reported (run_of table c entries)
 finished_err table c k fault is entries took =
@@ -150,19 +150,13 @@ finishes_still s fault is entries took =
         ap (λ (f : CheckFault). let report : Result Report CheckFault = Err f in report) is
         ∙ sym (ap (map_ok reported) (ends_so s.table s.certificate entries (Err other) e))
 
--- or what the last gap gives.
-pub finishes_ok : (s : Checking) (table : Table) (c : Certificate) (o : Option CheckFault) (k : Kept) (left : Progress)
-    → s ≡ checking table c o k → o ≡ None → kept_ended table c k ≡ Ok left → (entries : List (Result Item Reason)) → Took s entries
-    → (let report : Result Report CheckFault = Ok (record { moves = left.moves }) in report) ≡ map_ok reported (run_of s.table s.certificate entries)
-finishes_ok s table c o k left is none ends entries took =
-    finished_ok table c k left ends entries (turned s table c o None k is none entries took)
-    ∙ ap (λ (x : Checking). map_ok reported (run_of x.table x.certificate entries)) (sym is)
-
-pub finishes_err : (s : Checking) (table : Table) (c : Certificate) (o : Option CheckFault) (k : Kept) (fault : CheckFault)
-    → s ≡ checking table c o k → o ≡ None → kept_ended table c k ≡ Err fault → (entries : List (Result Item Reason)) → Took s entries
-    → (let report : Result Report CheckFault = Err fault in report) ≡ map_ok reported (run_of s.table s.certificate entries)
-finishes_err s table c o k fault is none ends entries took =
-    finished_err table c k fault ends entries (turned s table c o None k is none entries took)
+-- or what its replay does.
+pub finishes_so : (s : Checking) (table : Table) (c : Certificate) (o : Option CheckFault) (k : Kept) (report : Result Report CheckFault)
+    → s ≡ checking table c o k → o ≡ None → (entries : List (Result Item Reason))
+    → (Took (checking table c None k) entries → report ≡ map_ok reported (run_of table c entries)) → Took s entries
+    → report ≡ map_ok reported (run_of s.table s.certificate entries)
+finishes_so s table c o k report is none entries so took =
+    so (turned s table c o None k is none entries took)
     ∙ ap (λ (x : Checking). map_ok reported (run_of x.table x.certificate entries)) (sym is)
 
 -- A refusal that it stands for is the one that it keeps.

@@ -113,7 +113,7 @@ report_ok h = Ok (end_report_of h)
 abbrev report_err : CheckFault → Result EndReport CheckFault
 report_err fault = Err fault
 
-finished_ok : (side : Side) (table : Table) (c : Certificate) (k : EndKept) (left : Hearing)
+pub finished_ok : (side : Side) (table : Table) (c : Certificate) (k : EndKept) (left : Hearing)
     → end_kept_ended side table c k ≡ Ok left → (entries : List (Result Item Reason)) → EndTook (checking side table c None k) entries
     → report_ok left ≡ map_ok (end_reported side) (heard_by side table c entries)
 finished_ok side table c k left is entries took =
@@ -130,11 +130,11 @@ finished_ok side table c k left is entries took =
         ∙ ap (λ (x : EndReport). let a : Result EndReport CheckFault = Ok x in a) (report_is side table c entries r e)
         ∙ sym (ap (map_ok (end_reported side)) (ends_so side table c entries (Ok r) e))
 
-finished_err : (side : Side) (table : Table) (c : Certificate) (entries : List (Result Item Reason)) (fault : CheckFault)
+refused_at_end : (side : Side) (table : Table) (c : Certificate) (entries : List (Result Item Reason)) (fault : CheckFault)
     → (let a : Result Hearing CheckFault = Err fault in a)
     ≡ map_ok (hearing_of side c) (certificate_fits c >> entries_heard table c side entries nothing_replayed)
     → report_err fault ≡ map_ok (end_reported side) (heard_by side table c entries)
-finished_err side table c entries fault same =
+refused_at_end side table c entries fault same =
     by (certificate_fits c >> entries_heard table c side entries nothing_replayed) refl same
   where
     by : (o : Result Replay CheckFault) → (certificate_fits c >> entries_heard table c side entries nothing_replayed) ≡ o
@@ -144,6 +144,12 @@ finished_err side table c entries fault same =
     by (Err other) e same =
         let is : fault ≡ other = cc in
         ap report_err is ∙ sym (ap (map_ok (end_reported side)) (ends_so side table c entries (Err other) e))
+
+pub finished_err : (side : Side) (table : Table) (c : Certificate) (k : EndKept) (fault : CheckFault)
+    → end_kept_ended side table c k ≡ Err fault → (entries : List (Result Item Reason)) → EndTook (checking side table c None k) entries
+    → report_err fault ≡ map_ok (end_reported side) (heard_by side table c entries)
+finished_err side table c k fault is entries took =
+    refused_at_end side table c entries fault (sym is ∙ took_end (checking side table c None k) entries took)
 
 -- ---- a checker as it is kept
 
@@ -196,29 +202,19 @@ took_nothing sides.B table c k fits is =
 pub finishes_still : (s : EndChecking) (fault : CheckFault) → s.so_far ≡ Err fault → (entries : List (Result Item Reason)) → EndTook s entries
     → report_err fault ≡ map_ok (end_reported s.side) (heard_by s.side s.table s.certificate entries)
 finishes_still s fault is entries took =
-    finished_err s.side s.table s.certificate entries fault
+    refused_at_end s.side s.table s.certificate entries fault
     (sym (ap (λ (o : Result EndKept CheckFault). o >>= end_kept_ended s.side s.table s.certificate) is) ∙ took_end s entries took)
 
 abbrev run_for : EndChecking → List (Result Item Reason) → Result EndReport CheckFault
 run_for s entries = map_ok (end_reported s.side) (heard_by s.side s.table s.certificate entries)
 
--- or what the last gap gives.
-pub finishes_ok : (s : EndChecking) (side : Side) (table : Table) (c : Certificate) (o : Option CheckFault) (k : EndKept) (left : Hearing)
-    → s ≡ checking side table c o k → o ≡ None → end_kept_ended side table c k ≡ Ok left
-    → (entries : List (Result Item Reason)) → EndTook s entries
-    → report_ok left ≡ map_ok (end_reported s.side) (heard_by s.side s.table s.certificate entries)
-finishes_ok s side table c o k left is none ends entries took =
-    finished_ok side table c k left ends entries (turned s side table c o None k is none entries took)
-    ∙ ap (λ (x : EndChecking). run_for x entries) (sym is)
-
-pub finishes_err : (s : EndChecking) (side : Side) (table : Table) (c : Certificate) (o : Option CheckFault) (k : EndKept) (fault : CheckFault)
-    → s ≡ checking side table c o k → o ≡ None → end_kept_ended side table c k ≡ Err fault
-    → (entries : List (Result Item Reason)) → EndTook s entries
-    → report_err fault ≡ map_ok (end_reported s.side) (heard_by s.side s.table s.certificate entries)
-finishes_err s side table c o k fault is none ends entries took =
-    finished_err side table c entries fault
-    (sym ends ∙ took_end (checking side table c None k) entries (turned s side table c o None k is none entries took))
-    ∙ ap (λ (x : EndChecking). run_for x entries) (sym is)
+-- or what its replay does.
+pub finishes_so : (s : EndChecking) (side : Side) (table : Table) (c : Certificate) (o : Option CheckFault) (k : EndKept)
+    (report : Result EndReport CheckFault) → s ≡ checking side table c o k → o ≡ None → (entries : List (Result Item Reason))
+    → (EndTook (checking side table c None k) entries → report ≡ map_ok (end_reported side) (heard_by side table c entries))
+    → EndTook s entries → report ≡ map_ok (end_reported s.side) (heard_by s.side s.table s.certificate entries)
+finishes_so s side table c o k report is none entries so took =
+    so (turned s side table c o None k is none entries took) ∙ ap (λ (x : EndChecking). run_for x entries) (sym is)
 
 -- A refusal that it stands for is the one that it keeps.
 pub kept_fault : (s : EndChecking) (side : Side) (table : Table) (c : Certificate) (o : Option CheckFault) (k : EndKept) (fault : CheckFault)

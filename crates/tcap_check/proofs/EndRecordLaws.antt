@@ -1,9 +1,10 @@
 -- A record that is checked for one end, entry by entry.
-use Rattle.std.proofs.Common.{◌≡◌, List, [], ◌∷◌, ◌++◌, Result, Ok, Err, refl, sym, ap, subst, ◌∙◌, append_assoc, append-nil}
+use Rattle.std.proofs.Common.{◌≡◌, List, [], ◌∷◌, ◌++◌, Some, None, Result, Ok, Err, refl, sym, ap, subst, ◌∙◌, append_assoc, append-nil}
 use Rattle.tcap_record.specs.declared.entry.End.{End as Side}
 use Rattle.tcap_record.specs.declared.entry.Entry.{Entry}
 use Rattle.tcap_end.specs.Table.{Table}
 use Rattle.tcap_end.specs.Step.{◌>>=◌}
+use Rattle.tcap_check.specs.declared.end_checker.EndReplaying.{EndReplaying}
 use Rattle.tcap_check.specs.declared.end_checker.EndReport.{EndReport}
 use Rattle.tcap_check.specs.declared.fault.CheckFault.{CheckFault}
 use Rattle.tcap_model.specs.declared.reason.Reason.{Reason}
@@ -13,10 +14,11 @@ use Rattle.tcap_check.specs.Certificate.{Certificate}
 use Rattle.tcap_model.specs.Entries.{AreItems}
 use Rattle.tcap_check.specs.Alone.{heard_by, replayed_for}
 use Rattle.tcap_check.specs.Replayed.{Replay}
-use Rattle.tcap_check.specs.Checking.{answer_of, map_ok}
-use Rattle.tcap_check.specs.EndChecking.{EndChecking, EndKept, EndTook, end_kept_of, end_reported, heard_ended, heard_next, heard_of}
+use Rattle.tcap_check.specs.Checking.{map_ok}
+use Rattle.tcap_check.specs.EndChecking.{EndChecking, EndKept, EndTook, end_kept_next, end_kept_of, end_reported, heard_ended, heard_next, heard_of}
+use Rattle.tcap_check.specs.EndReady.{end_checking_of, end_kept_in}
 use Rattle.tcap_check.proofs.AloneRuns.{gives_for}
-use Rattle.tcap_check.proofs.EndCheckerLaws.{ends_so}
+use Rattle.tcap_check.proofs.EndCheckerLaws.{checking, ends_so, took_err, took_ok}
 use Rattle.tcap_check.proofs.HeardEntries.{heard_more, replayed_is}
 
 -- ---- a refusal before the end
@@ -41,7 +43,7 @@ refused_is s entries fault took is = by (heard_of s.side s.table s.certificate e
     by (Ok r) same = cc
     by (Err other) same = let is : fault ≡ other = cc in ap (λ (f : CheckFault). let a : Result Replay CheckFault = Err f in a) (sym is)
 
-pub refused_short : (s : EndChecking) (entries more all : List (Result Item Reason)) (fault : CheckFault) → EndTook s entries
+refused_short : (s : EndChecking) (entries more all : List (Result Item Reason)) (fault : CheckFault) → EndTook s entries
     → s.so_far ≡ Err fault → entries ++ more ≡ all
     → (let report : Result EndReport CheckFault = Err fault in report)
     ≡ map_ok (end_reported s.side) (heard_by s.side s.table s.certificate all)
@@ -51,6 +53,23 @@ refused_short s entries more all fault took is whole =
     let behind = replayed_is s.side s.table s.certificate all
     ∙ ap (λ (o : Result Replay CheckFault). o >>= heard_ended s.side s.table s.certificate) at in
     sym (ap (map_ok (end_reported s.side)) (ends_so s.side s.table s.certificate all (Err fault) behind))
+
+-- A replay that took these entries takes one more.
+pub took_more : (x y : EndReplaying) (entry : Result Item Reason) → y.side ≡ x.side → y.table ≡ x.table → y.certificate ≡ x.certificate
+    → end_kept_next x.side x.table.now x.certificate.now entry (end_kept_in x) ≡ Ok (end_kept_in y)
+    → (before : List (Result Item Reason)) → EndTook (end_checking_of x) before → EndTook (end_checking_of y) (before ++ entry ∷ [])
+took_more x y entry side table certificate is before took =
+    rw (side, table, certificate)
+    (took_ok x.side x.table.now x.certificate.now (end_kept_in x) (end_kept_in y) entry is before took)
+
+-- An entry that a replay refuses is the reason for all of them.
+pub refused_at : (side : Side) (table : Table) (c : Certificate) (k : EndKept) (entry : Result Item Reason) (fault : CheckFault)
+    → end_kept_next side table c entry k ≡ Err fault → (before more all : List (Result Item Reason))
+    → EndTook (checking side table c None k) before → (before ++ entry ∷ []) ++ more ≡ all
+    → (let report : Result EndReport CheckFault = Err fault in report) ≡ map_ok (end_reported side) (heard_by side table c all)
+refused_at side table c k entry fault is before more all took whole =
+    refused_short (checking side table c (Some fault) k) (before ++ entry ∷ []) more all fault
+    (took_err side table c k k entry fault is before took) refl whole
 
 -- ---- a run
 
@@ -67,16 +86,6 @@ lawful_is side table c entries report is = by (replayed_for side table c entries
         let given = gives_for side table c entries events at in (given.items, given.are, (events, given.run, given.keeps))
 
 -- ---- answers
-
-pub same_fault : (fault other : CheckFault) → (let a : Result (Unit {0}) CheckFault = Err fault in a) ≡ Err other
-    → (let b : Result EndReport CheckFault = Err fault in b) ≡ Err other
-same_fault fault other is =
-    let same : fault ≡ other = cc in ap (λ (f : CheckFault). let b : Result EndReport CheckFault = Err f in b) same
-
-pub answered_err : (o : Result EndKept CheckFault) (fault : CheckFault) → answer_of o ≡ Err fault → o ≡ Err fault
-answered_err (Ok k) fault is = cc
-answered_err (Err other) fault is =
-    let same : other ≡ fault = cc in ap (λ (f : CheckFault). let b : Result EndKept CheckFault = Err f in b) same
 
 pub is_report : (result : Result EndReport CheckFault) (report : EndReport) (fault : CheckFault) → result ≡ Ok report → result ≡ Err fault → ⊥
 is_report result report fault is other = cc

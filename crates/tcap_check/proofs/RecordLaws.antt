@@ -1,11 +1,12 @@
 -- A record that is checked, entry by entry.
-use Rattle.std.proofs.Common.{◌≡◌, ◌<◌, ◌≤◌, get_or, ℕ, ◌+◌, suc, zero, List, [], ◌∷◌, ◌++◌, map, take, drop, length, Some, Result, Ok, Err, refl, sym, ap, subst, ◌∙◌, append_assoc, append-nil, arith}
+use Rattle.std.proofs.Common.{◌≡◌, ◌<◌, ◌≤◌, get_or, ℕ, ◌+◌, suc, zero, List, [], ◌∷◌, ◌++◌, map, take, drop, length, Some, None, Result, Ok, Err, refl, sym, ap, subst, ◌∙◌, append_assoc, append-nil, arith}
 use Rattle.std.specs.Prelude.{slice_get}
 use Rattle.std.proofs.lemmas.List.{map-append, take-append-drop, take_all}
 use Rattle.std.proofs.lemmas.Option.{slice_get-get_or}
 use Rattle.tcap_record.specs.declared.entry.Entry.{Entry}
 use Rattle.tcap_end.specs.Table.{Table}
 use Rattle.tcap_end.specs.Step.{◌>>=◌}
+use Rattle.tcap_check.specs.declared.checker.Replaying.{Replaying}
 use Rattle.tcap_check.specs.declared.checker.Report.{Report}
 use Rattle.tcap_check.specs.declared.fault.CheckFault.{CheckFault}
 use Rattle.tcap_model.specs.declared.reason.Reason.{Reason}
@@ -14,9 +15,10 @@ use Rattle.tcap_model.specs.Run.{Event, IsLawful}
 use Rattle.tcap_check.specs.Certificate.{Certificate}
 use Rattle.tcap_model.specs.Entries.{AreItems, item_of}
 use Rattle.tcap_check.specs.Replayed.{Replay, replayed}
-use Rattle.tcap_check.specs.Checking.{Checking, Kept, Took, answer_of, ended, kept_of, map_ok, reported, run_of, taken, taken_next}
+use Rattle.tcap_check.specs.Checking.{Checking, Kept, Took, ended, kept_next, kept_of, map_ok, reported, run_of, taken, taken_next}
+use Rattle.tcap_check.specs.Ready.{checking_of, kept_in}
 use Rattle.tcap_check.proofs.KeptEntries.{replayed_is, taken_more}
-use Rattle.tcap_check.proofs.CheckerLaws.{ends_so}
+use Rattle.tcap_check.proofs.CheckerLaws.{checking, ends_so, took_err, took_ok}
 use Rattle.tcap_check.proofs.GivenRuns.{gives}
 
 -- ---- a refusal before the end
@@ -39,7 +41,7 @@ refused_is s entries fault took is = by (taken s.table s.certificate entries) (s
     by (Ok r) same = cc
     by (Err other) same = let is : fault ≡ other = cc in ap (λ (f : CheckFault). let a : Result Replay CheckFault = Err f in a) (sym is)
 
-pub refused_short : (s : Checking) (entries more all : List (Result Item Reason)) (fault : CheckFault) → Took s entries
+refused_short : (s : Checking) (entries more all : List (Result Item Reason)) (fault : CheckFault) → Took s entries
     → s.so_far ≡ Err fault → entries ++ more ≡ all
     → (let report : Result Report CheckFault = Err fault in report) ≡ map_ok reported (run_of s.table s.certificate all)
 refused_short s entries more all fault took is whole =
@@ -47,6 +49,20 @@ refused_short s entries more all fault took is whole =
     let at : taken s.table s.certificate all ≡ Err fault = ap (taken s.table s.certificate) (sym whole) ∙ short in
     let behind = replayed_is s.table s.certificate all ∙ ap (λ (o : Result Replay CheckFault). o >>= ended s.table s.certificate) at in
     sym (ap (map_ok reported) (ends_so s.table s.certificate all (Err fault) behind))
+
+-- A replay that took these entries takes one more.
+pub took_more : (x y : Replaying) (entry : Result Item Reason) → y.table ≡ x.table → y.certificate ≡ x.certificate
+    → kept_next x.table.now x.certificate.now entry (kept_in x) ≡ Ok (kept_in y) → (before : List (Result Item Reason))
+    → Took (checking_of x) before → Took (checking_of y) (before ++ entry ∷ [])
+took_more x y entry table certificate is before took =
+    rw (table, certificate) (took_ok x.table.now x.certificate.now (kept_in x) (kept_in y) entry is before took)
+
+-- An entry that a replay refuses is the reason for all of them.
+pub refused_at : (table : Table) (c : Certificate) (k : Kept) (entry : Result Item Reason) (fault : CheckFault)
+    → kept_next table c entry k ≡ Err fault → (before more all : List (Result Item Reason)) → Took (checking table c None k) before
+    → (before ++ entry ∷ []) ++ more ≡ all → (let report : Result Report CheckFault = Err fault in report) ≡ map_ok reported (run_of table c all)
+refused_at table c k entry fault is before more all took whole =
+    refused_short (checking table c (Some fault) k) (before ++ entry ∷ []) more all fault (took_err table c k k entry fault is before took) refl whole
 
 -- ---- a run
 
@@ -93,16 +109,6 @@ taken_at entries lent place entry same less is =
     (ap (λ (x : List Entry). slice_get x place) (sym same) ∙ slice_get-get_or lent place entry less ∙ ap (λ (x : Entry). Some x) (sym is))
 
 -- ---- answers
-
-pub same_fault : (fault other : CheckFault) → (let a : Result (Unit {0}) CheckFault = Err fault in a) ≡ Err other
-    → (let b : Result Report CheckFault = Err fault in b) ≡ Err other
-same_fault fault other is =
-    let same : fault ≡ other = cc in ap (λ (f : CheckFault). let b : Result Report CheckFault = Err f in b) same
-
-pub answered_err : (o : Result Kept CheckFault) (fault : CheckFault) → answer_of o ≡ Err fault → o ≡ Err fault
-answered_err (Ok k) fault is = cc
-answered_err (Err other) fault is =
-    let same : other ≡ fault = cc in ap (λ (f : CheckFault). let b : Result Kept CheckFault = Err f in b) same
 
 pub is_report : (result : Result Report CheckFault) (report : Report) (fault : CheckFault) → result ≡ Ok report → result ≡ Err fault → ⊥
 is_report result report fault is other = cc

@@ -1,11 +1,20 @@
 -- What holds of a checker of one end between entries.
-use Rattle.std.specs.Prelude.{◌≡◌, ◌≤◌, ◌*◌, ◌^◌, length}
+use Rattle.std.specs.Prelude.{◌≡◌, ◌≤◌, ◌*◌, ◌^◌, length, Ok}
 use Rattle.tcap_check.specs.declared.end_checker.EndReplaying.{EndReplaying}
-use Rattle.tcap_check.specs.EndChecking.{EndKept}
+use Rattle.tcap_check.specs.EndChecking.{EndChecking, EndKept}
 use Rattle.tcap_check.specs.Plan.{IsPlan}
 
 abbrev pub end_kept_in : EndReplaying → EndKept
 end_kept_in x = record { hearing = x.hearing; entries = x.entries.items; since = x.since }
+
+-- what a replay under way stands for
+abbrev pub end_checking_of : EndReplaying → EndChecking
+end_checking_of x = record {
+  side = x.side;
+  table = x.table.now;
+  certificate = x.certificate.now;
+  so_far = Ok (end_kept_in x);
+}
 
 -- It goes by the certificate's plan; there is a fate for each entry so far; and there are at most so many steps, and
 -- messages, for each.

@@ -1,11 +1,15 @@
 -- What holds of a checker between entries.
-use Rattle.std.specs.Prelude.{◌≡◌, ◌≤◌, ◌*◌, ◌^◌, length}
+use Rattle.std.specs.Prelude.{◌≡◌, ◌≤◌, ◌*◌, ◌^◌, length, Ok}
 use Rattle.tcap_check.specs.declared.checker.Replaying.{Replaying}
-use Rattle.tcap_check.specs.Checking.{Kept}
+use Rattle.tcap_check.specs.Checking.{Checking, Kept}
 use Rattle.tcap_check.specs.Plan.{IsPlan}
 
 abbrev pub kept_in : Replaying → Kept
 kept_in x = record { progress = x.progress; entries = x.entries.items; since = x.since }
+
+-- what a replay under way stands for
+abbrev pub checking_of : Replaying → Checking
+checking_of x = record { table = x.table.now; certificate = x.certificate.now; so_far = Ok (kept_in x) }
 
 -- It goes by the certificate's plan; there is a fate for each entry so far; and there are at most so many steps for each.
 pub record IsReady (x : Replaying) : Type 0 where

@@ -11,7 +11,7 @@ ghost use Rattle.tcap_check.specs.Progress.{YieldsInMemory, gap_kept};
 ghost use Rattle.tcap_check.specs.Replayed.{certificate_fits, fault_at, is_gap, refused};
 ghost use Rattle.tcap_check.specs.Checking.{Checking, Took, answer_of, count_ahead, kept_ended, kept_next, map_ok, reading, reported, run_of};
 ghost use Rattle.tcap_check.specs.Plan.{IsPlan, flag_by};
-ghost use Rattle.tcap_check.specs.Ready.{IsReady, IsSameBesideEnds, IsSameBesideEntries, kept_in};
+ghost use Rattle.tcap_check.specs.Ready.{IsReady, IsSameBesideEnds, IsSameBesideEntries, checking_of, kept_in};
 
 use crate::certificate::{Certificate, Fate};
 use crate::fault::CheckFault;
@@ -34,20 +34,52 @@ pub struct Report {
     pub moves: u128,
 }
 
-/// A replay under way. Of the entries so far it keeps the messages that wait, lent where they outlive it, who sent each, and
-/// the IDs of those that a listed event names.
+/// A replay under way. Of the entries so far it keeps the messages that wait, lent where they outlive it (`'r`), who sent
+/// each, and the IDs of those that a listed event names.
 #[derive(Debug, Drop)]
-pub(crate) struct Replaying<'a> {
+pub(crate) struct Replaying<'a, 'r> {
     alloc: Global,
     table: &'a Table,
     certificate: &'a Certificate,
     plan: Plan,
-    progress: Progress<'a>,
+    progress: Progress<'r>,
     entries: Vec<Outline>,
     since: usize,
 }
 
-impl<'a> Replaying<'a> {
+impl<'a, 'r> Replaying<'a, 'r> {
+    /// A replay of that certificate, over which no entry went yet. `FateRange` where a number of the certificate lies out of
+    /// its range, at the entry of it; or `Memory`.
+    pub(crate) fn new(
+        alloc: Global,
+        table: &'a Table,
+        certificate: &'a Certificate,
+    ) -> Result<Replaying<'a, 'r>, CheckFault>
+        ensures ready { IfOk result (λ replaying. IsReady replaying) }
+        ensures took { IfOk result (λ replaying. Took (checking_of replaying) []
+            × (replaying.table.now ≡ table.entry.now) × (replaying.certificate.now ≡ certificate.entry.now)) }
+        ensures fits { OnOk result (certificate_fits certificate.entry.now ≡ Ok tt) }
+        ensures refused { (f : Refusal) → result ≡ Err f → f ≢ fault_at reasons.Memory 0
+            → certificate_fits certificate.entry.now ≡ Err f }
+    {
+        check_ranges(certificate)?;
+        let Ok(plan) = Plan::new(alloc, certificate) else {
+            return Err(OUT_OF_MEMORY);
+        };
+        let Ok(entries) = Vec::with_capacity(alloc, certificate.fates().len()) else {
+            return Err(OUT_OF_MEMORY);
+        };
+        Ok(Replaying {
+            alloc,
+            table,
+            certificate,
+            plan,
+            progress: Progress::new(alloc),
+            entries,
+            since: 0,
+        })
+    }
+
     /// A refusal of the next entry.
     fn refusal(&self, reason: Reason) -> CheckFault
         ensures { result ≡ fault_at reason (length self.now.entries.items) }
@@ -110,7 +142,7 @@ impl<'a> Replaying<'a> {
         &mut self,
         side: End,
         message: &M,
-        lent: Option<&'a Message>,
+        lent: Option<&'r Message>,
     ) -> Result<(), CheckFault>
         requires ready { IsReady self.old }
         requires same { IfSome lent (λ lent. lent.now ≡ M.meaning message.now) }
@@ -143,7 +175,7 @@ impl<'a> Replaying<'a> {
     }
 
     /// The next entry is a message that an end sent, and that outlives the replay.
-    fn take_lent(&mut self, side: End, message: &'a Message) -> Result<(), CheckFault>
+    pub(crate) fn take_lent(&mut self, side: End, message: &'r Message) -> Result<(), CheckFault>
         requires ready { IsReady self.old }
         ensures taken { YieldsInMemory (kept_next self.old.table.now self.old.certificate.now
             (Ok (Sent side message.now)) (kept_in self.old)) result (kept_in self.new) }
@@ -155,7 +187,7 @@ impl<'a> Replaying<'a> {
     }
 
     /// The next entry is a quiet mark.
-    fn take_mark(&mut self) -> Result<(), CheckFault>
+    pub(crate) fn take_mark(&mut self) -> Result<(), CheckFault>
         requires ready { IsReady self.old }
         ensures taken { YieldsInMemory (kept_next self.old.table.now self.old.certificate.now
             (Ok Item.Quiet) (kept_in self.old)) result (kept_in self.new) }
@@ -176,7 +208,7 @@ impl<'a> Replaying<'a> {
     }
 
     /// The next entry is none that a run sends.
-    fn refuse(&self, reason: Reason) -> CheckFault
+    pub(crate) fn refuse(&self, reason: Reason) -> CheckFault
         ensures { kept_next self.now.table.now self.now.certificate.now (Err reason) (kept_in self.now) ≡ Err result }
     {
         match self.fate() {
@@ -215,6 +247,22 @@ impl<'a> Replaying<'a> {
         }
         self.pass_gap()
     }
+
+    /// No entry is left: the last gap, and what is said of the run.
+    pub(crate) fn finish(self) -> Result<Report, CheckFault>
+        requires ready { IsReady self }
+        ensures { (entries : List (Result Item Why)) → Took (checking_of self.entry) entries
+            → result ≢ Err (fault_at reasons.Memory 0)
+            → result ≡ map_ok reported (run_of self.entry.table.now self.entry.certificate.now entries) }
+    {
+        let mut replaying = self;
+        match replaying.end() {
+            Ok(()) => Ok(Report {
+                moves: replaying.progress.moves,
+            }),
+            Err(fault) => Err(fault),
+        }
+    }
 }
 
 /// Whether a fate is the gap behind that entry.
@@ -229,10 +277,11 @@ pub(crate) fn is_gap_behind(fate: Fate, entry: usize) -> bool
 }
 
 /// A certificate that is replayed over entries as they come. A refusal is answered for ever. Unless memory ran out, what it
-/// stands for is the replay of the entries that it took (`Took`).
+/// stands for is the replay of the entries that it took (`Took`). It keeps copies of the messages that wait.
 #[derive(Debug, Drop)]
 pub struct Checker<'a> {
-    replaying: Replaying<'a>,
+    // No message is lent to it, so that it may be dropped behind its table and its certificate.
+    replaying: Replaying<'a, 'static>,
     // Why there is no run, or that memory ran out.
     fault: Option<CheckFault>,
 }
@@ -267,23 +316,9 @@ impl<'a> Checker<'a> {
         ensures refused { (f : Refusal) → result ≡ Err f → f ≢ fault_at reasons.Memory 0
             → certificate_fits certificate.entry.now ≡ Err f }
     {
-        check_ranges(certificate)?;
-        let Ok(plan) = Plan::new(alloc, certificate) else {
-            return Err(OUT_OF_MEMORY);
-        };
-        let Ok(entries) = Vec::with_capacity(alloc, certificate.fates().len()) else {
-            return Err(OUT_OF_MEMORY);
-        };
+        let replaying = Replaying::new(alloc, table, certificate)?;
         Ok(Checker {
-            replaying: Replaying {
-                alloc,
-                table,
-                certificate,
-                plan,
-                progress: Progress::new(alloc),
-                entries,
-                since: 0,
-            },
+            replaying,
             fault: None,
         })
     }
@@ -308,25 +343,6 @@ impl<'a> Checker<'a> {
             return Err(fault);
         }
         let answer = self.replaying.take_body(side, body);
-        if let Err(fault) = answer {
-            self.fault = Some(fault);
-        }
-        answer
-    }
-
-    /// As `step` of a message that outlives the checker, and is lent while it waits.
-    pub(crate) fn step_lent(&mut self, side: End, message: &'a Message) -> Result<(), CheckFault>
-        ensures took { (entries : List (Result Item Why)) → Took self.old entries → result ≢ Err (fault_at reasons.Memory 0)
-            → Took self.new (entries ++ Ok (Sent side message.now) ∷ []) }
-        ensures answers { result ≡ answer_of self.new.so_far }
-        ensures table { self.new.table ≡ self.old.table }
-        ensures certificate { self.new.certificate ≡ self.old.certificate }
-        ensures for_ever { (f : Refusal) → self.old.so_far ≡ Err f → self.new ≡ self.old }
-    {
-        if let Some(fault) = self.fault {
-            return Err(fault);
-        }
-        let answer = self.replaying.take_lent(side, message);
         if let Err(fault) = answer {
             self.fault = Some(fault);
         }
@@ -389,15 +405,9 @@ impl<'a> Checker<'a> {
         ensures finished { (entries : List (Result Item Why)) → Took self.entry entries
             → result ≢ Err (fault_at reasons.Memory 0) → result ≡ map_ok reported (run_of self.entry.table self.entry.certificate entries) }
     {
-        if let Some(fault) = self.fault {
-            return Err(fault);
-        }
-        let mut replaying = self.replaying;
-        match replaying.end() {
-            Ok(()) => Ok(Report {
-                moves: replaying.progress.moves,
-            }),
-            Err(fault) => Err(fault),
+        match self.fault {
+            Some(fault) => Err(fault),
+            None => self.replaying.finish(),
         }
     }
 }

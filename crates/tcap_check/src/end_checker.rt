@@ -10,7 +10,7 @@ ghost use Rattle.tcap_model.specs.World.{Item, Sent};
 ghost use Rattle.tcap_check.specs.Alone.{heard_by};
 ghost use Rattle.tcap_check.specs.Checking.{answer_of, map_ok, reading};
 ghost use Rattle.tcap_check.specs.EndChecking.{EndChecking, EndKept, EndTook, end_kept_ended, end_kept_next, end_reported, gap_before, tied_now};
-ghost use Rattle.tcap_check.specs.EndReady.{IsEndReady, IsSameBesideHearing, IsSameBesideOutlines, end_kept_in};
+ghost use Rattle.tcap_check.specs.EndReady.{IsEndReady, IsSameBesideHearing, IsSameBesideOutlines, end_checking_of, end_kept_in};
 ghost use Rattle.tcap_check.specs.Outlines.{outline_of};
 ghost use Rattle.tcap_check.specs.Plan.{flag_by};
 ghost use Rattle.tcap_check.specs.Progress.{YieldsInMemory, seat_at};
@@ -41,21 +41,55 @@ pub struct EndReport {
     pub unheard: u64,
 }
 
-/// A replay for one end under way. Of the entries so far it keeps the peer's messages that wait, lent where they outlive it,
-/// who sent each, and the IDs of those that a listed event names.
+/// A replay for one end under way. Of the entries so far it keeps the peer's messages that wait, lent where they outlive it
+/// (`'r`), who sent each, and the IDs of those that a listed event names.
 #[derive(Debug, Drop)]
-pub(crate) struct EndReplaying<'a> {
+pub(crate) struct EndReplaying<'a, 'r> {
     alloc: Global,
     side: End,
     table: &'a Table,
     certificate: &'a Certificate,
     plan: Plan,
-    hearing: Hearing<'a>,
+    hearing: Hearing<'r>,
     entries: Vec<Outline>,
     since: usize,
 }
 
-impl<'a> EndReplaying<'a> {
+impl<'a, 'r> EndReplaying<'a, 'r> {
+    /// A replay of that certificate for that end, over which no entry went yet. `FateRange` where a number of the certificate
+    /// lies out of its range, at the entry of it; or `Memory`.
+    pub(crate) fn new(
+        alloc: Global,
+        table: &'a Table,
+        certificate: &'a Certificate,
+        end: End,
+    ) -> Result<EndReplaying<'a, 'r>, CheckFault>
+        ensures ready { IfOk result (λ replaying. IsEndReady replaying) }
+        ensures took { IfOk result (λ replaying. EndTook (end_checking_of replaying) [] × (replaying.side ≡ «end»)
+            × (replaying.table.now ≡ table.entry.now) × (replaying.certificate.now ≡ certificate.entry.now)) }
+        ensures fits { OnOk result (certificate_fits certificate.entry.now ≡ Ok tt) }
+        ensures refused { (f : Refusal) → result ≡ Err f → f ≢ fault_at reasons.Memory 0
+            → certificate_fits certificate.entry.now ≡ Err f }
+    {
+        check_ranges(certificate)?;
+        let Ok(plan) = Plan::new(alloc, certificate) else {
+            return Err(OUT_OF_MEMORY);
+        };
+        let Ok(entries) = Vec::with_capacity(alloc, certificate.fates().len()) else {
+            return Err(OUT_OF_MEMORY);
+        };
+        Ok(EndReplaying {
+            alloc,
+            side: end,
+            table,
+            certificate,
+            plan,
+            hearing: Hearing::new(alloc),
+            entries,
+            since: 0,
+        })
+    }
+
     /// A refusal of the next entry.
     fn refusal(&self, reason: Reason) -> CheckFault
         ensures { result ≡ fault_at reason (length self.now.entries.items) }
@@ -171,7 +205,7 @@ impl<'a> EndReplaying<'a> {
     fn take_told<M: MessageParts>(
         &mut self,
         message: &M,
-        lent: Option<&'a Message>,
+        lent: Option<&'r Message>,
     ) -> Result<(), CheckFault>
         requires ready { IsEndReady self.old }
         requires same { IfSome lent (λ lent. lent.now ≡ M.meaning message.now) }
@@ -202,7 +236,7 @@ impl<'a> EndReplaying<'a> {
     }
 
     /// The next entry is a message that an end sent, and that outlives the replay.
-    fn take_lent(&mut self, sender: End, message: &'a Message) -> Result<(), CheckFault>
+    pub(crate) fn take_lent(&mut self, sender: End, message: &'r Message) -> Result<(), CheckFault>
         requires ready { IsEndReady self.old }
         ensures taken { YieldsInMemory (end_kept_next self.old.side self.old.table.now self.old.certificate.now
             (Ok (Sent sender message.now)) (end_kept_in self.old)) result (end_kept_in self.new) }
@@ -215,7 +249,7 @@ impl<'a> EndReplaying<'a> {
     }
 
     /// The next entry is a quiet mark.
-    fn take_mark(&mut self) -> Result<(), CheckFault>
+    pub(crate) fn take_mark(&mut self) -> Result<(), CheckFault>
         requires ready { IsEndReady self.old }
         ensures taken { YieldsInMemory (end_kept_next self.old.side self.old.table.now self.old.certificate.now
             (Ok Item.Quiet) (end_kept_in self.old)) result (end_kept_in self.new) }
@@ -238,7 +272,7 @@ impl<'a> EndReplaying<'a> {
     }
 
     /// The next entry is none that a run sends.
-    fn refuse(&self, reason: Reason) -> CheckFault
+    pub(crate) fn refuse(&self, reason: Reason) -> CheckFault
         ensures { end_kept_next self.now.side self.now.table.now self.now.certificate.now (Err reason)
             (end_kept_in self.now) ≡ Err result }
     {
@@ -253,7 +287,7 @@ impl<'a> EndReplaying<'a> {
         &mut self,
         sender: End,
         message: &M,
-        lent: Option<&'a Message>,
+        lent: Option<&'r Message>,
     ) -> Result<(), CheckFault>
         requires ready { IsEndReady self.old }
         requires same { IfSome lent (λ lent. lent.now ≡ M.meaning message.now) }
@@ -302,13 +336,30 @@ impl<'a> EndReplaying<'a> {
         }
         self.pass_gap()
     }
+
+    /// No entry is left: the last gap, and what is said of the run.
+    pub(crate) fn finish(self) -> Result<EndReport, CheckFault>
+        requires ready { IsEndReady self }
+        ensures { (entries : List (Result Item Why)) → EndTook (end_checking_of self.entry) entries
+            → result ≢ Err (fault_at reasons.Memory 0)
+            → result ≡ map_ok (end_reported self.entry.side)
+            (heard_by self.entry.side self.entry.table.now self.entry.certificate.now entries) }
+    {
+        let mut replaying = self;
+        match replaying.end() {
+            Ok(()) => Ok(replaying.hearing.report()),
+            Err(fault) => Err(fault),
+        }
+    }
 }
 
 /// A certificate that is replayed for one end over entries as they come. A refusal is answered for ever. Unless memory ran
-/// out, what it stands for is the replay of the entries that it took, for that end (`EndTook`).
+/// out, what it stands for is the replay of the entries that it took, for that end (`EndTook`). It keeps copies of the peer's
+/// messages that wait.
 #[derive(Debug, Drop)]
 pub struct EndChecker<'a> {
-    replaying: EndReplaying<'a>,
+    // No message is lent to it, so that it may be dropped behind its table and its certificate.
+    replaying: EndReplaying<'a, 'static>,
     // Why there is no run, or that memory ran out.
     fault: Option<CheckFault>,
 }
@@ -345,24 +396,9 @@ impl<'a> EndChecker<'a> {
         ensures refused { (f : Refusal) → result ≡ Err f → f ≢ fault_at reasons.Memory 0
             → certificate_fits certificate.entry.now ≡ Err f }
     {
-        check_ranges(certificate)?;
-        let Ok(plan) = Plan::new(alloc, certificate) else {
-            return Err(OUT_OF_MEMORY);
-        };
-        let Ok(entries) = Vec::with_capacity(alloc, certificate.fates().len()) else {
-            return Err(OUT_OF_MEMORY);
-        };
+        let replaying = EndReplaying::new(alloc, table, certificate, end)?;
         Ok(EndChecker {
-            replaying: EndReplaying {
-                alloc,
-                side: end,
-                table,
-                certificate,
-                plan,
-                hearing: Hearing::new(alloc),
-                entries,
-                since: 0,
-            },
+            replaying,
             fault: None,
         })
     }
@@ -388,26 +424,6 @@ impl<'a> EndChecker<'a> {
             return Err(fault);
         }
         let answer = self.replaying.take_body(side, body);
-        if let Err(fault) = answer {
-            self.fault = Some(fault);
-        }
-        answer
-    }
-
-    /// As `step` of a message that outlives the checker, and is lent while it waits.
-    pub(crate) fn step_lent(&mut self, side: End, message: &'a Message) -> Result<(), CheckFault>
-        ensures took { (entries : List (Result Item Why)) → EndTook self.old entries → result ≢ Err (fault_at reasons.Memory 0)
-            → EndTook self.new (entries ++ Ok (Sent side message.now) ∷ []) }
-        ensures answers { result ≡ answer_of self.new.so_far }
-        ensures side { self.new.side ≡ self.old.side }
-        ensures table { self.new.table ≡ self.old.table }
-        ensures certificate { self.new.certificate ≡ self.old.certificate }
-        ensures for_ever { (f : Refusal) → self.old.so_far ≡ Err f → self.new ≡ self.old }
-    {
-        if let Some(fault) = self.fault {
-            return Err(fault);
-        }
-        let answer = self.replaying.take_lent(side, message);
         if let Err(fault) = answer {
             self.fault = Some(fault);
         }
@@ -478,13 +494,9 @@ impl<'a> EndChecker<'a> {
             → result ≢ Err (fault_at reasons.Memory 0)
             → result ≡ map_ok (end_reported self.entry.side) (heard_by self.entry.side self.entry.table self.entry.certificate entries) }
     {
-        if let Some(fault) = self.fault {
-            return Err(fault);
-        }
-        let mut replaying = self.replaying;
-        match replaying.end() {
-            Ok(()) => Ok(replaying.hearing.report()),
-            Err(fault) => Err(fault),
+        match self.fault {
+            Some(fault) => Err(fault),
+            None => self.replaying.finish(),
         }
     }
 }

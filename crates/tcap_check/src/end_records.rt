@@ -1,6 +1,6 @@
 //! A certificate, replayed for one end over a record.
 
-ghost use Rattle.std.specs.Prelude.{◌≡◌, ◌≢◌, ◌++◌, ◌∷◌, [], List, Result, Ok, Err};
+ghost use Rattle.std.specs.Prelude.{◌≡◌, ◌≢◌, ◌++◌, ◌∷◌, [], List, Result, Ok, Err, OnOk};
 ghost use Rattle.tcap_record.specs.Viewed.{entry_read};
 ghost use Rattle.tcap_check.specs.declared.fault.CheckFault.{CheckFault as Refusal};
 ghost use Rattle.tcap_model.specs.declared.reason.Reason.{Reason as Why};
@@ -11,14 +11,17 @@ ghost use Rattle.tcap_model.specs.Entries.{AreItems, item_of};
 ghost use Rattle.tcap_check.specs.Alone.{replayed_for};
 ghost use Rattle.tcap_check.specs.Replayed.{fault_at};
 ghost use Rattle.tcap_check.specs.Checking.{answer_of, map_ok};
-ghost use Rattle.tcap_check.specs.EndChecking.{EndTook, end_reported};
+ghost use Rattle.tcap_check.specs.EndChecking.{EndTook, end_kept_next, end_reported};
+ghost use Rattle.tcap_check.specs.EndReady.{IsEndReady, end_kept_in};
+ghost use Rattle.tcap_check.specs.Progress.{YieldsInMemory};
 ghost use Rattle.tcap_check.specs.declared.end_checker.EndReport.{EndReport as EndReported};
 
 use crate::certificate::Certificate;
-use crate::end_checker::{EndChecker, EndReport};
+use crate::end_checker::{EndChecker, EndReplaying, EndReport};
 use crate::fault::CheckFault;
 use std::alloc::Global;
 use tcap_end::Table;
+use tcap_model::Reason;
 use tcap_msg::MessageView;
 use tcap_record::{Body, BodyView, End, Entry, EntryView, Record};
 
@@ -41,20 +44,24 @@ impl<'a> EndChecker<'a> {
             _ => self.no_item(),
         }
     }
+}
 
-    /// The same of an entry that outlives the checker; its message is lent while it waits.
-    fn take_lent(&mut self, entry: &'a Entry) -> Result<(), CheckFault>
-        ensures took { (entries : List (Result Item Why)) → EndTook self.old entries → result ≢ Err (fault_at reasons.Memory 0)
-            → EndTook self.new (entries ++ item_of entry.now ∷ []) }
-        ensures answers { result ≡ answer_of self.new.so_far }
+impl<'r> EndReplaying<'_, 'r> {
+    /// Takes the next entry of a record that outlives the replay; its message is lent while it waits.
+    fn take_entry(&mut self, entry: &'r Entry) -> Result<(), CheckFault>
+        requires ready { IsEndReady self.old }
+        ensures taken { YieldsInMemory (end_kept_next self.old.side self.old.table.now self.old.certificate.now (item_of entry.now)
+            (end_kept_in self.old)) result (end_kept_in self.new) }
+        ensures ready { OnOk result (IsEndReady self.new) }
         ensures side { self.new.side ≡ self.old.side }
         ensures table { self.new.table ≡ self.old.table }
         ensures certificate { self.new.certificate ≡ self.old.certificate }
-        ensures for_ever { (f : Refusal) → self.old.so_far ≡ Err f → self.new ≡ self.old }
     {
         match (entry.side, &entry.body) {
-            (Some(side), Body::Good(message)) => self.step_lent(side, message),
-            _ => self.take(&entry.view()),
+            (Some(side), Body::Good(message)) => self.take_lent(side, message),
+            (_, Body::Bad(fault)) => Err(self.refuse(Reason::BadMessage(*fault))),
+            (None, Body::Quiet) => self.take_mark(),
+            _ => Err(self.refuse(Reason::NoItem)),
         }
     }
 }
@@ -77,11 +84,9 @@ pub fn check_end(
     ensures exact { result ≢ Err (fault_at reasons.Memory 0)
         → result ≡ map_ok (end_reported «end») (replayed_for «end» table.now certificate.now «record».now.entries.items) }
 {
-    let mut checker = EndChecker::new(alloc, table, certificate, end)?;
+    let mut replaying = EndReplaying::new(alloc, table, certificate, end)?;
     for entry in &record.entries {
-        if let Err(fault) = checker.take_lent(entry) {
-            return Err(fault);
-        }
+        replaying.take_entry(entry)?;
     }
-    checker.finish()
+    replaying.finish()
 }

@@ -1,6 +1,6 @@
 //! A certificate, replayed over a record.
 
-ghost use Rattle.std.specs.Prelude.{◌≡◌, ◌≢◌, ◌++◌, ◌∷◌, [], List, Result, Ok, Err};
+ghost use Rattle.std.specs.Prelude.{◌≡◌, ◌≢◌, ◌++◌, ◌∷◌, [], List, Result, Ok, Err, OnOk};
 ghost use Rattle.tcap_record.specs.Viewed.{entry_read};
 ghost use Rattle.tcap_check.specs.declared.fault.CheckFault.{CheckFault as Refusal};
 ghost use Rattle.tcap_model.specs.declared.reason.Reason.{Reason as Why};
@@ -9,14 +9,17 @@ ghost use Rattle.tcap_model.specs.World.{Item};
 ghost use Rattle.tcap_model.specs.Run.{IsLawful};
 ghost use Rattle.tcap_model.specs.Entries.{AreItems, item_of};
 ghost use Rattle.tcap_check.specs.Replayed.{fault_at, replayed};
-ghost use Rattle.tcap_check.specs.Checking.{Took, answer_of, map_ok, reported};
+ghost use Rattle.tcap_check.specs.Checking.{Took, answer_of, kept_next, map_ok, reported};
+ghost use Rattle.tcap_check.specs.Progress.{YieldsInMemory};
+ghost use Rattle.tcap_check.specs.Ready.{IsReady, kept_in};
 ghost use Rattle.tcap_check.specs.declared.checker.Report.{Report as Reported};
 
 use crate::certificate::Certificate;
-use crate::checker::{Checker, Report};
+use crate::checker::{Checker, Replaying, Report};
 use crate::fault::CheckFault;
 use std::alloc::Global;
 use tcap_end::Table;
+use tcap_model::Reason;
 use tcap_msg::MessageView;
 use tcap_record::{Body, BodyView, End, Entry, EntryView, Record};
 
@@ -38,19 +41,23 @@ impl<'a> Checker<'a> {
             _ => self.no_item(),
         }
     }
+}
 
-    /// The same of an entry that outlives the checker; its message is lent while it waits.
-    fn take_lent(&mut self, entry: &'a Entry) -> Result<(), CheckFault>
-        ensures took { (entries : List (Result Item Why)) → Took self.old entries → result ≢ Err (fault_at reasons.Memory 0)
-            → Took self.new (entries ++ item_of entry.now ∷ []) }
-        ensures answers { result ≡ answer_of self.new.so_far }
+impl<'r> Replaying<'_, 'r> {
+    /// Takes the next entry of a record that outlives the replay; its message is lent while it waits.
+    fn take_entry(&mut self, entry: &'r Entry) -> Result<(), CheckFault>
+        requires ready { IsReady self.old }
+        ensures taken { YieldsInMemory (kept_next self.old.table.now self.old.certificate.now (item_of entry.now)
+            (kept_in self.old)) result (kept_in self.new) }
+        ensures ready { OnOk result (IsReady self.new) }
         ensures table { self.new.table ≡ self.old.table }
         ensures certificate { self.new.certificate ≡ self.old.certificate }
-        ensures for_ever { (f : Refusal) → self.old.so_far ≡ Err f → self.new ≡ self.old }
     {
         match (entry.side, &entry.body) {
-            (Some(side), Body::Good(message)) => self.step_lent(side, message),
-            _ => self.take(&entry.view()),
+            (Some(side), Body::Good(message)) => self.take_lent(side, message),
+            (_, Body::Bad(fault)) => Err(self.refuse(Reason::BadMessage(*fault))),
+            (None, Body::Quiet) => self.take_mark(),
+            _ => Err(self.refuse(Reason::NoItem)),
         }
     }
 }
@@ -71,11 +78,9 @@ pub fn check(
     ensures exact { result ≢ Err (fault_at reasons.Memory 0)
         → result ≡ map_ok reported (replayed table.now certificate.now «record».now.entries.items) }
 {
-    let mut checker = Checker::new(alloc, table, certificate)?;
+    let mut replaying = Replaying::new(alloc, table, certificate)?;
     for entry in &record.entries {
-        if let Err(fault) = checker.take_lent(entry) {
-            return Err(fault);
-        }
+        replaying.take_entry(entry)?;
     }
-    checker.finish()
+    replaying.finish()
 }

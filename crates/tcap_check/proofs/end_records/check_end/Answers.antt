@@ -1,70 +1,80 @@
-use Rattle.std.proofs.Common.{◌≡◌, List, [], ◌∷◌, Result, sym, ap, ap₂, subst, ◌∙◌, map, take, drop, ◌++◌, ◌+◌}
+use Rattle.std.proofs.Common.{◌≡◌, List, Result, Err, sym, ap, ap₂, subst, ◌∙◌, map, take, drop, ◌++◌, ◌+◌}
+use Rattle.std.specs.Prelude.{◌≢◌}
+use Rattle.std.proofs.lemmas.Result.{err_from_is_err_and}
 use Rattle.tcap_record.specs.declared.entry.End.{End as Side}
 use Rattle.tcap_record.specs.declared.entry.Entry.{Entry}
 use Rattle.tcap_end.specs.Table.{Table}
 use Rattle.tcap_model.specs.declared.reason.Reason.{Reason}
 use Rattle.tcap_model.specs.declared.reason.Reason.TheVariants.{Memory}
 use Rattle.tcap_model.specs.World.{Item}
+use Rattle.tcap_check.specs.declared.end_checker.EndReport.{EndReport}
+use Rattle.tcap_check.specs.declared.fault.CheckFault.{CheckFault}
 use Rattle.tcap_check.specs.Certificate.{Certificate}
 use Rattle.tcap_model.specs.Entries.{item_of}
 use Rattle.tcap_check.specs.Replayed.{fault_at}
 use Rattle.tcap_check.specs.Alone.{heard_by}
 use Rattle.tcap_check.specs.Checking.{map_ok}
 use Rattle.tcap_check.specs.EndChecking.{EndTook, end_reported}
-use Rattle.tcap_check.proofs.EndRecordLaws.{answered_err, is_report, lawful_is, refused_short, same_fault}
+use Rattle.tcap_check.specs.EndReady.{end_checking_of, end_kept_in}
+use Rattle.tcap_check.proofs.EndRecordLaws.{is_report, lawful_is, refused_at, took_more}
 use Rattle.tcap_check.proofs.RecordLaws.{all_taken, taken_at, whole_is}
 use Rattle.tcap_check.proofs.end_records.check_end.Goals as goal
 
-pub returns-in-Err : goal.returns-in-Err
-returns-in-Err c =
+abbrev refusal : CheckFault → Result EndReport CheckFault
+refusal fault = Err fault
+
+-- what is given of all entries
+abbrev given : List Entry → Side → Table → Certificate → Result EndReport CheckFault
+given all side table c = map_ok (end_reported side) (heard_by side table c (map item_of all))
+
+pub returns-in_err-take_entry-clause-exact : goal.returns-in_err-take_entry-clause-exact
+returns-in_err-take_entry-clause-exact c =
     let all = c.args.record.now.entries.items in
     let i = c.loop-entry.entry-index in
+    let r = c.loop-entry.replaying in
     let before = map item_of (take i all) in
     let so_far = taken_at all c.deref-entry-items.result.now i c.entry-item.result c.deref-entry-items.ensures.value
     c.loop-entry-test.true c.entry-item.is in
-    let same = ap₂ (λ (t : Table) (x : Certificate). map_ok (end_reported c.take_lent.new.self.side) (heard_by c.take_lent.new.self.side t x (map item_of all)))
-    (c.take_lent.ensures.table ∙ c.loop-entry.invariant.table) (c.take_lent.ensures.certificate ∙ c.loop-entry.invariant.certificate)
-    ∙ ap (λ (s : Side). map_ok (end_reported s) (heard_by s c.args.table.now c.args.certificate.now (map item_of all)))
-    (c.take_lent.ensures.side ∙ c.loop-entry.invariant.side) in
-    record {
-      lawful = λ report e. cc;
-      exact = λ other.
-          refused_short c.take_lent.new.self (before ++ item_of c.entry-item.result ∷ []) (map item_of (drop (i + 1) all)) (map item_of all)
-          c.in-Err.fault
-          (c.take_lent.ensures.took before c.loop-entry.invariant.took
-          (λ e. other (same_fault c.in-Err.fault (fault_at Memory 0) (sym c.in-Err.is ∙ e))))
-          (answered_err c.take_lent.new.self.so_far c.in-Err.fault (sym c.take_lent.ensures.answers ∙ c.in-Err.is))
-          (ap (λ (x : List (Result Item Reason)). x ++ map item_of (drop (i + 1) all)) (sym so_far) ∙ whole_is all (i + 1))
-          ∙ same;
-    }
+    let p = err_from_is_err_and c.from_residual-in_err-take_entry.result c.from_residual-in_err-take_entry.ensures.1 in
+    rw p.1 (λ other. ap refusal p.2
+    ∙ refused_at r.side r.table.now r.certificate.now (end_kept_in r) (item_of c.entry-item.result) c.in_err-take_entry.field-0.0
+    (c.in_err-take_entry.ensures.taken (λ is. other (ap refusal (p.2 ∙ is)))) before (map item_of (drop (i + 1) all)) (map item_of all)
+    c.loop-entry.invariant.took
+    (ap (λ (x : List (Result Item Reason)). x ++ map item_of (drop (i + 1) all)) (sym so_far) ∙ whole_is all (i + 1))
+    ∙ ap₂ (given all r.side) c.loop-entry.invariant.table c.loop-entry.invariant.certificate
+    ∙ ap (λ (s : Side). given all s c.args.table.now c.args.certificate.now) c.loop-entry.invariant.side)
 
 pub loop-entry-preserved : goal.loop-entry-preserved
 loop-entry-preserved c =
     let all = c.args.record.now.entries.items in
     let i = c.loop-entry.entry-index in
-    let before = map item_of (take i all) in
     let so_far = taken_at all c.deref-entry-items.result.now i c.entry-item.result c.deref-entry-items.ensures.value
     c.loop-entry-test.true c.entry-item.is in
     record {
-      took = subst (λ (x : List (Result Item Reason)). EndTook c.take_lent.new.self x) (sym so_far)
-          (c.take_lent.ensures.took before c.loop-entry.invariant.took (c.in_default.not-Err (fault_at Memory 0)));
-      side = c.take_lent.ensures.side ∙ c.loop-entry.invariant.side;
-      table = c.take_lent.ensures.table ∙ c.loop-entry.invariant.table;
-      certificate = c.take_lent.ensures.certificate ∙ c.loop-entry.invariant.certificate;
+      ready = c.in_ok-take_entry.ensures.ready;
+      took = subst (λ (x : List (Result Item Reason)). EndTook (end_checking_of c.take_entry.new.self) x) (sym so_far)
+          (took_more c.loop-entry.replaying c.take_entry.new.self (item_of c.entry-item.result) c.take_entry.ensures.side
+          c.take_entry.ensures.table c.take_entry.ensures.certificate c.in_ok-take_entry.ensures.taken (map item_of (take i all))
+          c.loop-entry.invariant.took);
+      side = c.take_entry.ensures.side ∙ c.loop-entry.invariant.side;
+      table = ap (λ x. x.now) c.take_entry.ensures.table ∙ c.loop-entry.invariant.table;
+      certificate = ap (λ x. x.now) c.take_entry.ensures.certificate ∙ c.loop-entry.invariant.certificate;
     }
 
-pub returns-clause-lawful : goal.returns-clause-lawful
-returns-clause-lawful c = λ report e.
+pub returns : goal.returns
+returns c =
     let all = c.args.record.now.entries.items in
     let i = c.loop-entry.entry-index in
+    let r = c.loop-entry.replaying in
     let whole = all_taken all c.deref-entry-items.result.now i c.deref-entry-items.ensures.value c.loop-entry-test.false in
-    let same = ap₂ (λ (t : Table) (x : Certificate). map_ok (end_reported c.loop-entry.checker.side)
-    (heard_by c.loop-entry.checker.side t x (map item_of all)))
-    c.loop-entry.invariant.table c.loop-entry.invariant.certificate
-    ∙ ap (λ (s : Side). map_ok (end_reported s) (heard_by s c.args.table.now c.args.certificate.now (map item_of all)))
-    c.loop-entry.invariant.side in
-    let exact = c.finish.ensures.finished (map item_of (take i all)) c.loop-entry.invariant.took (is_report c.finish.result report (fault_at Memory 0) e)
-    ∙ ap (λ (x : List Entry). map_ok (end_reported c.loop-entry.checker.side)
-    (heard_by c.loop-entry.checker.side c.loop-entry.checker.table c.loop-entry.checker.certificate (map item_of x))) whole
-    ∙ same in
-    lawful_is c.args.end c.args.table.now c.args.certificate.now all report (sym exact ∙ e)
+    let exact : c.finish.result ≢ refusal (fault_at Memory 0)
+    → c.finish.result ≡ given all c.args.end c.args.table.now c.args.certificate.now
+    = λ other. c.finish.ensures (map item_of (take i all)) c.loop-entry.invariant.took other
+    ∙ ap (λ (x : List Entry). given x r.side r.table.now r.certificate.now) whole
+    ∙ ap₂ (given all r.side) c.loop-entry.invariant.table c.loop-entry.invariant.certificate
+    ∙ ap (λ (s : Side). given all s c.args.table.now c.args.certificate.now) c.loop-entry.invariant.side in
+    record {
+      lawful = λ report e. lawful_is c.args.end c.args.table.now c.args.certificate.now all report
+          (sym (exact (is_report c.finish.result report (fault_at Memory 0) e)) ∙ e);
+      exact = exact;
+    }

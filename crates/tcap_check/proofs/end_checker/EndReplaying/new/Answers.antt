@@ -1,6 +1,6 @@
 use Rattle.std.proofs.Common.{refl, sym, ◌∙◌}
 use Rattle.tcap_check.proofs.EndCheckerLaws.{took_nothing}
-use Rattle.tcap_check.proofs.end_checker.EndChecker.new.Goals as goal
+use Rattle.tcap_check.proofs.end_checker.EndReplaying.new.Goals as goal
 
 pub returns-clause-took : goal.returns-clause-took
 returns-clause-took c = (

@@ -1,6 +1,6 @@
 use Rattle.std.proofs.Common.{refl, sym, ◌∙◌}
 use Rattle.tcap_check.proofs.CheckerLaws.{took_nothing}
-use Rattle.tcap_check.proofs.checker.Checker.new.Goals as goal
+use Rattle.tcap_check.proofs.checker.Replaying.new.Goals as goal
 
 pub returns-clause-took : goal.returns-clause-took
 returns-clause-took c = (
