@@ -2,7 +2,7 @@ use Rattle.std.proofs.Common.{List, ◌∙◌, ◌++◌, ap, sym}
 use Rattle.std.proofs.lemmas.List.{append-nil}
 use Rattle.tcap_model.specs.World.{OnItsWay}
 use Rattle.tcap_model.specs.Run.{numbers_of, numbers_taken}
-use Rattle.tcap_uses.proofs.check.all_taken.Goals as goal
+use Rattle.tcap_uses.proofs.model.all_taken.Goals as goal
 
 pub returns : goal.returns
 returns c table events w side runs none =
