@@ -5,6 +5,7 @@
 mod ber;
 mod blame;
 mod check;
+mod checker_lives;
 mod end;
 mod explain;
 mod facts;
@@ -21,6 +22,7 @@ mod words;
 pub use ber::integer_content;
 pub use blame::fault_of;
 pub use check::count_steps;
+pub use checker_lives::{end_waits_behind_mark, given_of_mark, heard_of_mark, waits_behind_mark};
 pub use end::{answered, first_sent};
 pub use explain::explained;
 pub use facts::told_fact;

@@ -1,0 +1,93 @@
+ghost use Rattle.std.specs.Prelude.{◌≡◌, ◌≢◌, ◌∷◌, [], Ok, Err, IfOk};
+ghost use Rattle.tcap_model.specs.declared.reason.Reason.TheVariants as reasons;
+ghost use Rattle.tcap_model.specs.World.{Item};
+ghost use Rattle.tcap_check.specs.Alone.{heard_by};
+ghost use Rattle.tcap_check.specs.Checking.{map_ok, reported, run_of};
+ghost use Rattle.tcap_check.specs.EndChecking.{end_reported};
+ghost use Rattle.tcap_check.specs.Replayed.{fault_at};
+
+use std::alloc::Global;
+use tcap_check::{Certificate, CheckFault, Checker, EndChecker, EndReport, Report};
+use tcap_end::Table;
+use tcap_record::End;
+
+/// How many messages wait behind a quiet mark, none, and the certificate. It guards callers that move a certificate before all
+/// is dropped that had a checker over it: here, what `match` looks at is dropped behind the move.
+pub fn waits_behind_mark(
+    alloc: Global,
+    table: &Table,
+    certificate: Certificate,
+) -> Result<(usize, Certificate), CheckFault>
+    ensures { IfOk result (λ answer. (answer.0 ≡ 0) × (answer.1 ≡ certificate)) }
+{
+    match Checker::new(alloc, table, &certificate) {
+        Ok(mut checker) => {
+            let marked = checker.mark();
+            let waiting = checker.pending();
+            drop(checker);
+            match marked {
+                Ok(()) => Ok((waiting, certificate)),
+                Err(fault) => Err(fault),
+            }
+        }
+        Err(fault) => Err(fault),
+    }
+}
+
+/// The same of a checker of one end.
+pub fn end_waits_behind_mark(
+    alloc: Global,
+    table: &Table,
+    certificate: Certificate,
+    end: End,
+) -> Result<(usize, Certificate), CheckFault>
+    ensures { IfOk result (λ answer. answer.1 ≡ certificate) }
+{
+    match EndChecker::new(alloc, table, &certificate, end) {
+        Ok(mut checker) => {
+            let marked = checker.mark();
+            let waiting = checker.pending();
+            drop(checker);
+            match marked {
+                Ok(()) => Ok((waiting, certificate)),
+                Err(fault) => Err(fault),
+            }
+        }
+        Err(fault) => Err(fault),
+    }
+}
+
+/// What a certificate gives, by a table, for a record of nothing but a quiet mark. It guards callers that declare a checker
+/// before what it is made over.
+pub fn given_of_mark(alloc: Global, given: (Table, Certificate)) -> Result<Report, CheckFault>
+    ensures { result ≢ Err (fault_at reasons.Memory 0)
+        → result ≡ map_ok reported (run_of given.0 given.1 (Ok Item.Quiet ∷ [])) }
+{
+    let mut checker;
+    let (table, certificate) = given;
+    checker = match Checker::new(alloc, &table, &certificate) {
+        Ok(checker) => checker,
+        Err(fault) => return Err(fault),
+    };
+    let _ = checker.mark();
+    checker.finish()
+}
+
+/// What it gives for one end alone: the same of a checker of that end.
+pub fn heard_of_mark(
+    alloc: Global,
+    given: (Table, Certificate),
+    end: End,
+) -> Result<EndReport, CheckFault>
+    ensures { result ≢ Err (fault_at reasons.Memory 0)
+        → result ≡ map_ok (end_reported «end») (heard_by «end» given.0 given.1 (Ok Item.Quiet ∷ [])) }
+{
+    let mut checker;
+    let (table, certificate) = given;
+    checker = match EndChecker::new(alloc, &table, &certificate, end) {
+        Ok(checker) => checker,
+        Err(fault) => return Err(fault),
+    };
+    let _ = checker.mark();
+    checker.finish()
+}
