@@ -3,6 +3,7 @@
 use crate::awkward::{all_under_way, crossing, expiring, one_invoke_id, unheard};
 use crate::calls::Answers;
 use crate::dice::Dice;
+use crate::faults::Faults;
 use crate::record::Made;
 use crate::traffic::make_traffic;
 use std::alloc::{AllocError, Global};
@@ -23,16 +24,19 @@ pub(crate) enum Job {
     Archive,
     /// Records that are awkward.
     Awkward,
+    /// It is asked who is at fault, and why, in records in which one message in some hundreds is.
+    Faulted,
 }
 
 /// All of them.
-pub(crate) const JOBS: [Job; 6] = [
+pub(crate) const JOBS: [Job; 7] = [
     Job::Load,
     Job::Blame,
     Job::Explain,
     Job::Nightly,
     Job::Archive,
     Job::Awkward,
+    Job::Faulted,
 ];
 
 impl Job {
@@ -45,6 +49,7 @@ impl Job {
             Job::Nightly => "nightly",
             Job::Archive => "archive",
             Job::Awkward => "awkward",
+            Job::Faulted => "faulted",
         }
     }
 
@@ -57,13 +62,14 @@ impl Job {
             Job::Nightly => 240_000,
             Job::Archive => 150_000,
             Job::Awkward => 240_000,
+            Job::Faulted => 100_000,
         }
     }
 }
 
 /// The record of a load test: a fiftieth as many dialogues at once.
 fn load(alloc: Global, seed: u32, entries: u32) -> Result<Made, AllocError> {
-    make_traffic(alloc, entries as usize, entries / 50, 0, seed)
+    make_traffic(alloc, entries as usize, entries / 50, Faults::None, seed)
 }
 
 /// Judges the records of a nightly suite: six in ten as they ought to be, and of the others one message in a hundred is at
@@ -79,7 +85,11 @@ fn nightly(
         let len = dice.between(10, 1_000);
         let dialogues = dice.between(1, 40);
         let kind = dice.below(10);
-        let faults = if kind < 6 { 0 } else { 100 };
+        let faults = if kind < 6 {
+            Faults::None
+        } else {
+            Faults::Unknown(100)
+        };
         let made = make_traffic(alloc, len as usize, dialogues, faults, dice.word())?;
         match kind {
             0..=5 => answers.judge(alloc, &made.octets),
@@ -130,6 +140,30 @@ fn awkward(
     Ok(())
 }
 
+/// Says who is at fault, and then why, in records of 200 to 3,800 entries: in half of them one transaction ID, Invoke or answer
+/// in 600 speaks of what was never sent, in half one Invoke or answer in 600 comes twice.
+fn faulted(
+    alloc: Global,
+    answers: &mut Answers,
+    seed: u32,
+    entries: u32,
+) -> Result<(), AllocError> {
+    let mut dice = Dice::new(seed);
+    for _ in 0..entries.div_ceil(2_000) {
+        let len = dice.between(200, 3_800);
+        let dialogues = dice.between(5, 100);
+        let faults = if dice.one_in(2) {
+            Faults::Unknown(600)
+        } else {
+            Faults::Twice(600)
+        };
+        let made = make_traffic(alloc, len as usize, dialogues, faults, dice.word())?;
+        answers.blame(alloc, &made.octets);
+        answers.explain(alloc, &made.octets);
+    }
+    Ok(())
+}
+
 /// What the calls of a job answer, over records of that seed and of about so many entries in all.
 pub(crate) fn answers_of(
     alloc: Global,
@@ -145,6 +179,7 @@ pub(crate) fn answers_of(
         Job::Nightly => nightly(alloc, &mut answers, seed, entries)?,
         Job::Archive => archive(alloc, &mut answers, seed, entries)?,
         Job::Awkward => awkward(alloc, &mut answers, seed, entries)?,
+        Job::Faulted => faulted(alloc, &mut answers, seed, entries)?,
     }
     Ok(answers)
 }

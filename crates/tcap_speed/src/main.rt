@@ -6,6 +6,7 @@
 mod awkward;
 mod calls;
 mod dice;
+mod faults;
 mod jobs;
 mod octets;
 mod parts;

@@ -2,6 +2,7 @@
 //! and messages that cross, come late or are lost. Each is made by a run, so it is lawful, unless faults are asked for.
 
 use crate::dice::Dice;
+use crate::faults::Faults;
 use crate::octets::{ABORT, push_element, push_id, push_request, push_response};
 use crate::parts::{Asked, Parts};
 use crate::record::{Fate, Made, Side};
@@ -107,13 +108,17 @@ pub(crate) struct Traffic {
     /// Until which gap nothing of an end is delivered.
     a_waits: usize,
     b_waits: usize,
-    /// One message of how many is at fault; none where it is 0.
-    faults: u32,
+    faults: Faults,
 }
 
 impl Traffic {
     /// Traffic of so many dialogues at once, by this seed.
-    fn new(alloc: Global, dialogues: u32, faults: u32, seed: u32) -> Result<Traffic, AllocError> {
+    fn new(
+        alloc: Global,
+        dialogues: u32,
+        faults: Faults,
+        seed: u32,
+    ) -> Result<Traffic, AllocError> {
         let mut dice = Dice::new(seed);
         let key = dice.word();
         let parts = Parts::new(alloc, &mut dice)?;
@@ -188,8 +193,11 @@ impl Traffic {
             let half = dialogue.half(side);
             let id = half.next_id;
             half.next_id = id.wrapping_add(1) & 0x7F;
-            let is_unknown = self.dice.one_in(self.faults);
+            let is_unknown = self.dice.one_in(self.faults.unknown());
             let asked = self.parts.push_invoke(&mut self.dice, id, is_unknown)?;
+            if self.dice.one_in(self.faults.twice()) {
+                self.parts.push_invoke(&mut self.dice, id, false)?;
+            }
             if asked.class < 4 {
                 dialogue.half(side.other()).asked.push(asked)?;
             }
@@ -200,8 +208,11 @@ impl Traffic {
     /// Appends what that end answers.
     fn push_answers(&mut self, dialogue: &mut Dialogue, side: Side) -> Result<(), AllocError> {
         for asked in &dialogue.half(side).asked {
-            let is_wrong = self.dice.one_in(self.faults);
+            let is_wrong = self.dice.one_in(self.faults.unknown());
             self.parts.push_answer(&mut self.dice, *asked, is_wrong)?;
+            if self.dice.one_in(self.faults.twice()) {
+                self.parts.push_answer(&mut self.dice, *asked, false)?;
+            }
         }
         dialogue.half(side).asked.clear();
         Ok(())
@@ -269,7 +280,7 @@ impl Traffic {
 
     /// Appends the destination ID of what that end sends.
     fn push_peer(&mut self, dialogue: &mut Dialogue, side: Side) -> Result<(), AllocError> {
-        let is_wrong = self.dice.one_in(self.faults);
+        let is_wrong = self.dice.one_in(self.faults.unknown());
         let peer = match dialogue.half(side.other()).own {
             Some(peer) if !is_wrong => peer,
             _ => self.dice.word(),
@@ -395,13 +406,12 @@ impl Traffic {
     }
 }
 
-/// A record of so many entries, or one more, of so many dialogues at once, by that seed. One message of `faults` is at fault,
-/// none where it is 0.
+/// A record of so many entries, or one more, of so many dialogues at once, with those faults, by that seed.
 pub(crate) fn make_traffic(
     alloc: Global,
     entries: usize,
     dialogues: u32,
-    faults: u32,
+    faults: Faults,
     seed: u32,
 ) -> Result<Made, AllocError> {
     let mut traffic = Traffic::new(alloc, dialogues, faults, seed)?;
