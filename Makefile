@@ -1,9 +1,13 @@
-# make demo      shows the records of examples/ by the program, run unproved
+# make demo      shows what the program says of the records of examples/: compiled unproved, which takes two minutes on four
+#                processors, once for the same sources (tools/unproved.py)
+# make quick     runs all tests that need the program and no proof, side by side, over the same unproved program: five minutes
+#                from a fresh clone. At its end it says what that does not show
 # make program   proves and builds the program, and prints where it lies
 # make clib      proves and builds the library for programs in C, clib/out/libtcapjudge.a and .so, and compares what it and
 #                its examples say with what the program prints
 # make test      the gate: all proofs, the must-fail edits, the tests and runs of the program, with the seconds of each
-#                part and its processor time
+#                part and its processor time. So many checks go side by side as there are processors, and 5 GB of free memory
+#                for each; with RT_JOBS=N, N of them
 # make edits     tries all edits of all crates, or of CRATES="NAME ..", over what is proved in a kept copy of the
 #                repository; RT_JOBS=N has N go side by side
 # make changed   proves and tests in that copy what changed since the commit BASE, by default origin/main, else HEAD~1
@@ -15,13 +19,16 @@
 # make fuzz      runs the program over random and changed records, tables and certificates, for SECONDS, by default 60;
 #                SEED, and CASE of it, give the same ones again
 # make octets    runs it over messages that are cut, and over two with each octet set to each value: some minutes
-.PHONY: demo program clib test edits changed bench memory attack fuzz octets measured needs
+.PHONY: demo quick program clib test edits changed bench memory attack fuzz octets measured needs
 
 PROGRAM = crates/tcapjudge/out/tcapjudge
 SECONDS = 60
 
 demo: needs
 	@python3 tools/demo.py
+
+quick: needs
+	@python3 tools/quick.py
 
 program: needs
 	@echo "Proves what is not yet proved: minutes on a fresh clone"

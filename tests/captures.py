@@ -13,6 +13,7 @@ import sys
 import tempfile
 
 import made_captures as made
+from tested import PROGRAM
 
 sys.path.insert(0, "tools")
 
@@ -21,7 +22,6 @@ import capture_rows
 import signalling
 import wireshark
 
-PROGRAM = "crates/tcapjudge/out/tcapjudge"
 TOOL = "tools/lines_of_capture.py"
 VECTORS = "crates/tcap_msg_rows/src/vectors.rt"
 DAMAGED = 3000
@@ -182,10 +182,6 @@ def main():
         print("tshark is not installed, so the tests of captures were skipped")
         print("0 passed, 0 failed")
         return 0
-    if not os.path.exists(PROGRAM):
-        print("there is no program to run: make program")
-        print("0 passed, 1 failed")
-        return 1
     with tempfile.TemporaryDirectory() as folder:
         # Most of the time goes into the start of tshark.
         with concurrent.futures.ThreadPoolExecutor(os.cpu_count()) as lanes:

@@ -14,11 +14,12 @@ import alone
 import blamed
 import judged
 import program
+from tested import PROGRAM
 
 sys.path.insert(0, "clib")
 import example  # noqa: E402
 
-PROGRAM, EXAMPLE, ARCHIVE = "crates/tcapjudge/out/tcapjudge", "clib/out/example", "clib/out/libtcapjudge.a"
+EXAMPLE, ARCHIVE = "clib/out/example", "clib/out/libtcapjudge.a"
 NAMES = "LAWFUL", "REFUTED", "UNDECIDED", "FAULT", "NOT SHOWN", "BLAMED", "NOT BLAMED", None
 NO_CERT = b'{"close":[],"expire":[],"fates":[],"version":1}'
 ENDS = "", "A", "B"

@@ -16,8 +16,8 @@ import alone
 import blamed
 import explained
 import judged
+from tested import PROGRAM
 
-PROGRAM = "crates/tcapjudge/out/tcapjudge"
 SVG = "{http://www.w3.org/2000/svg}"
 SENT = re.compile(r"^  (?:[AB] (?:sends|tells) (\d+) |[AB]'s provider answers \d+ by (\d+)$|(all is quiet)$)")
 

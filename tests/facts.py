@@ -11,8 +11,8 @@ import sys
 import tempfile
 
 import blamed
+from tested import PROGRAM
 
-PROGRAM = "crates/tcapjudge/out/tcapjudge"
 FACTS = "tests/facts.json"
 # So many lines of words stand behind a line at most.
 LINES = 6

@@ -33,8 +33,8 @@ from collections import Counter
 import random_messages
 import runs
 from ends import Table
+from tested import PROGRAM
 
-PROGRAM = "crates/tcapjudge/out/tcapjudge"
 # The processor seconds that a run may take, and the seconds behind which it is stopped.
 MOST, HANGS = 1, 30
 REASON = r"(0|[1-9]\d*)(/[1-9]\d*)?"

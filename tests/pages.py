@@ -9,7 +9,7 @@ Each command in README.md and docs/*.md prints what the page says. A block betwe
 next one. A line `..` stands for lines that are left out there, one or more; a last line `[status N]` is not printed: it is the
 exit status, which is 0 where there is no such line. Nothing may go to standard error; what goes there is put elsewhere by the
 command. The commands of a page run one after the other, by bash with pipefail, in a folder of their own that has what is in
-COPIED. `tcapjudge` is the program at the path TCAPJUDGE, by default the one that `make program` builds."""
+COPIED. `tcapjudge` is the program that is tested (tests/tested.py)."""
 
 import glob
 import itertools
@@ -20,12 +20,13 @@ import subprocess
 import sys
 import tempfile
 
+from tested import PROGRAM
+
 LIBRARIES = ["ber", "parts", "msg", "record", "end", "model", "check", "refute", "facts", "blame", "search", "judge", "explain", "verdict", "words"]
 PAGES = {f"crates/tcap_{name}/README.md": [name] for name in LIBRARIES}
 PAGES["docs/LIBRARY.md"] = ["record", "msg", "end", "judge"]
 RUST = re.compile(r"^```rust\n(.*?)^```$", re.DOTALL | re.MULTILINE)
 
-PROGRAM = os.path.abspath(os.environ.get("TCAPJUDGE", "crates/tcapjudge/out/tcapjudge"))
 COPIED = ["examples", "tools"]
 # What a page may take for a command, in seconds.
 LIMIT = 60
@@ -105,14 +106,10 @@ def runs_of(page, program):
 
 def main():
     held = [is_proved(page, names) for page, names in PAGES.items()]
-    if os.path.exists(PROGRAM):
-        with tempfile.TemporaryDirectory() as folder:
-            os.symlink(PROGRAM, f"{folder}/tcapjudge")
-            for page in ["README.md", *sorted(glob.glob("docs/*.md"))]:
-                held += runs_of(page, folder)
-    else:
-        print(f"there is no program to run, {PROGRAM}: make program", file=sys.stderr)
-        held.append(False)
+    with tempfile.TemporaryDirectory() as folder:
+        os.symlink(os.path.abspath(PROGRAM), f"{folder}/tcapjudge")
+        for page in ["README.md", *sorted(glob.glob("docs/*.md"))]:
+            held += runs_of(page, folder)
     print(f"{sum(held)} passed, {len(held) - sum(held)} failed")
     return int(not all(held))
 

@@ -9,8 +9,8 @@ import tempfile
 import alone
 import blamed
 import judged
+from tested import PROGRAM
 
-PROGRAM = "crates/tcapjudge/out/tcapjudge"
 BEGIN = bytes.fromhex("416203480101")
 LINE = b"0 A Begin otid=01\n"
 LINES = b"# A Begin.\nA 6203480101\n"

@@ -3,6 +3,7 @@ column of `pack`, `show --lines`, `table`, the hints of wrong input, and help. W
 the standard. Then it changes messages at random: `show --why` prints the lines of `show`, and marks the octet at the
 place of each fault."""
 
+import concurrent.futures
 import os
 import random
 import re
@@ -10,7 +11,8 @@ import subprocess
 import sys
 import tempfile
 
-PROGRAM = "crates/tcapjudge/out/tcapjudge"
+from tested import PROGRAM
+
 # So many octets are shown on each side of a place.
 SIDE = 8
 
@@ -558,7 +560,9 @@ def bad_records(rows):
 
 
 def bad_lines(rows):
-    """Each bad line, to `pack` and to `show --lines`, with a newline behind it and without."""
+    """Each bad line, to `pack` and to `show --lines`, with a newline behind it and without. They run side by side: behind a
+    million lines the unproved program takes its time."""
+    asked = []
     for lines, number, rule, column in LINES:
         good = lines.startswith(GOOD)
         said = f"FAULT 24 {number}\n  why: {rule}; column {column}\n"
@@ -568,8 +572,12 @@ def bad_lines(rows):
             packed, shown = packed + "Q", shown + "1 Q\n"
         for end in "", "\n", "\nA 6203480101\n":
             given = (lines + end).encode()
-            rows.row(f"pack {lines[:40]!r}", run(["pack"], given), (packed, said, 3))
-            rows.row(f"show --lines {lines[:40]!r}", run(["show", "--lines"], given), (shown + said, "", 3))
+            asked.append((["pack"], given, (packed, said, 3)))
+            asked.append((["show", "--lines"], given, (shown + said, "", 3)))
+    with concurrent.futures.ThreadPoolExecutor(os.cpu_count()) as lanes:
+        found = lanes.map(lambda row: run(row[0], row[1]), asked)
+        for (command, given, wanted), printed in zip(asked, found):
+            rows.row(f"{command} {given[:40]!r}", printed, wanted)
 
 
 def good_lines(rows, folder):

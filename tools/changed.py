@@ -12,6 +12,7 @@ import sys
 import time
 
 import edits
+import gate
 import kept
 
 SKIPPED = """Left to `make test`: proofs from nothing, the proofs of tests, edits of crates and files that did not
@@ -73,11 +74,7 @@ def main(names):
             what = f"tests of {crate.name}, run without a proof"
             passed.append(copy.step(what, ["rt", "try", "--test"], f"crates/{crate.name}"))
     if is_proved and copy.step("the program is built", ["make", "--silent", "program"]):
-        passed.append(copy.step("runs of the program", [sys.executable, "tests/program.py"]))
-        passed.append(copy.step("faults in words", [sys.executable, "tests/words.py"]))
-        passed.append(copy.step("verdicts in words", [sys.executable, "tests/explain.py"]))
-        passed.append(copy.step("facts in words", [sys.executable, "tests/facts.py"]))
-        passed.append(copy.step("tests of captures", [sys.executable, "tests/captures.py"]))
+        passed += [copy.step(what, [sys.executable, f"tests/{name}.py"]) for name, what in gate.TESTS.items()]
         if shutil.which("cc") and shutil.which("ar"):
             passed.append(copy.step("the library for C", [sys.executable, "tools/clib.py"]))
         else:

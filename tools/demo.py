@@ -1,15 +1,14 @@
 """What `make demo` runs: makes records of the lines of examples/ by `pack`, shows them by `show`, checks those that have an
 operation table and a certificate by `check`, judges those of JUDGED and TABLES by `judge`, and one end alone of those of ALONE,
-and says of those of BLAMED by `blame` which end is at fault. It is the program as `rt try` runs it, compiled but not proved."""
+and says of those of BLAMED by `blame` which end is at fault. The program is compiled but not proved (tools/unproved.py)."""
 
-import concurrent.futures
 import glob
 import os
-import re
-import shutil
 import subprocess
 import sys
 import tempfile
+
+import unproved
 
 # The examples that are judged, by the table of examples/operations.json; one_in_three has its operations too.
 JUDGED = [
@@ -24,6 +23,8 @@ JUDGED = [
     "misplaced_dialogue",
     "one_in_three",
 ]
+# Those that are judged by another table.
+TABLES = {"ussd": "examples/tables/ussd.json"}
 # Those of which it is said which end is at fault, by the same table.
 BLAMED = [
     "wrong_half",
@@ -38,62 +39,44 @@ BLAMED = [
 ]
 # Those of which one end alone is judged, and which: the stack under test, whose tester breaks rules.
 ALONE = [("negative_test", "A"), ("negative_test_failed", "A")]
-# Those that are judged by another table.
-TABLES = {"ussd": "examples/tables/ussd.json"}
 
 
-def run(flags, words, statuses):
-    """What the program prints with these words. Stops where it ends with another status than one of these."""
-    command = ["rt", "try", *flags, "--", *words]
-    run = subprocess.run(command, cwd="crates/tcapjudge", capture_output=True, check=False)
-    if run.returncode not in statuses:
-        sys.stderr.buffer.write(run.stderr)
-        os._exit(run.returncode or 1)
+def said(*words):
+    """What the program prints with these words. Stops where it ends with a status that no verdict has."""
+    run = subprocess.run([unproved.PROGRAM, *words], stdin=subprocess.DEVNULL, stdout=subprocess.PIPE, check=False)
+    if run.returncode not in range(4):
+        sys.exit(f"{' '.join(words)} ended with {run.returncode}")
     return run.stdout
 
 
-def run_each(word, folder):
-    """What the program prints with that word over each file of the folder, one after the other. `rt try` puts a line with a
-    file's name before what is printed of it, and a newline behind that."""
-    return run(["--cases", folder], [word], [0])
+def show(title, *words):
+    """Prints what the program prints with these words, under a title."""
+    sys.stdout.buffer.write(f"== {title}\n".encode() + said(*words))
+    sys.stdout.flush()
 
 
-def checked(name, record):
-    """What `check` prints of the record of that example, which stands in that file."""
-    files = {"record": record, "table": f"examples/{name}.table.json", "certificate": f"examples/{name}.cert.json"}
-    flags = [word for file, path in files.items() for word in ("--data", f"{file}={os.path.abspath(path)}")]
-    return f"== check {name}\n".encode() + run(flags, ["check", *files], [0, 2, 3])
-
-
-def judged(words, name, record):
-    """What the program prints with these words of the record of that example, which stands in that file."""
-    files = {"record": record, "table": TABLES.get(name, "examples/operations.json")}
-    flags = [word for file, path in files.items() for word in ("--data", f"{file}={os.path.abspath(path)}")]
-    return f"== {' '.join(words)} {name}\n".encode() + run(flags, [*words, *files], [0, 1, 2])
+def names_of(ending):
+    """The names of the examples that have a file whose name ends so."""
+    return sorted(os.path.basename(path).removesuffix(ending) for path in glob.glob(f"examples/*{ending}"))
 
 
 def main():
-    print("This run proves nothing and takes some minutes; `make program` proves and builds the program.", flush=True)
-    with tempfile.TemporaryDirectory() as folder, concurrent.futures.ThreadPoolExecutor(os.cpu_count()) as lanes:
-        lines, records = f"{folder}/lines", f"{folder}/records"
-        os.mkdir(lines)
-        os.mkdir(records)
-        for path in glob.glob("examples/*.hex"):
-            shutil.copy(path, lines)
-        packed = run_each("pack", lines).removesuffix(b"\n")
-        parts = re.split(rb"(?:^|\n)== (\w+)\.hex\n", packed)
-        for name, octets in zip(parts[1::2], parts[2::2]):
-            with open(f"{records}/{name.decode()}", "wb") as file:
-                file.write(octets)
-        shown = lanes.submit(run_each, "show", records)
-        names = sorted(os.path.basename(path).removesuffix(".cert.json") for path in glob.glob("examples/*.cert.json"))
-        checks = [lanes.submit(checked, name, f"{records}/{name}") for name in names]
+    unproved.end_in_order()
+    print("This run proves nothing; `make program` proves and builds the program.", flush=True)
+    unproved.program()
+    with tempfile.TemporaryDirectory() as folder:
+        for name in names_of(".hex"):
+            with open(f"{folder}/{name}", "wb") as record:
+                record.write(said("pack", f"examples/{name}.hex"))
+            show(name, "show", f"{folder}/{name}")
+        for name in names_of(".cert.json"):
+            files = f"{folder}/{name}", f"examples/{name}.table.json", f"examples/{name}.cert.json"
+            show(f"check {name}", "check", *files)
         asked = [(["judge"], name) for name in [*JUDGED, *TABLES]] + [(["blame"], name) for name in BLAMED]
         asked += [(["judge", "--end", end], name) for name, end in ALONE]
-        verdicts = [lanes.submit(judged, words, name, f"{records}/{name}") for words, name in asked]
-        for said in [shown, *checks, *verdicts]:
-            sys.stdout.buffer.write(said.result())
-            sys.stdout.buffer.flush()
+        for words, name in asked:
+            table = TABLES.get(name, "examples/operations.json")
+            show(f"{' '.join(words)} {name}", *words, f"{folder}/{name}", table)
 
 
 if __name__ == "__main__":

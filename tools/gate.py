@@ -1,9 +1,8 @@
-"""The gate, which `make test` runs: `rt ci`, then tests/program.py, tests/words.py, tests/explain.py and tests/facts.py on the
-program that `rt ci` built, then tests/borrows.py, tests/pages.py and tests/captures.py on that program, tools/clib.py over the
-libraries that `rt ci` built, and bench/memory.py, which lets each allocation of a run of that program fail in turn. What they
-print is passed on. Then it prints how many seconds each crate's proof, its tests' proof and its must-fail edits took, with
-their processor time, and closes with the line `N passed, M failed`, in which all are counted. The exit status is 0 where none
-failed.
+"""The gate, which `make test` runs: `rt ci`, as many tasks side by side as RT_JOBS says or as this machine has room for, then the
+tests of TESTS on the program that `rt ci` built, tests/borrows.py, tools/clib.py over the libraries that `rt ci` built, and
+bench/memory.py, which lets each allocation of a run of that program fail in turn. What they print is passed on. Then it prints
+how many seconds each crate's proof, its tests' proof and its must-fail edits took, with their processor time, and closes with
+the line `N passed, M failed`, in which all are counted. The exit status is 0 where none failed.
 
 `rt ci` does not say when a part begins and ends. So twice a second this looks in /proc for the runs of `rattle` that
 `rt ci` started, which a word in their environment marks, and takes a part to last from the first to the last time that
@@ -12,6 +11,7 @@ processor time of a part is what its runs had when they were last seen, so it la
 `rt ci` is whole: it is what the system counts of the processes that have ended."""
 
 import collections
+import contextlib
 import glob
 import os
 import re
@@ -23,7 +23,20 @@ import sys
 import threading
 import time
 
+import machine
+
 PROGRAM = "crates/tcapjudge/out/tcapjudge"
+# The tests of tests/ that run the program, with what each counts.
+TESTS = {
+    "program": "runs of the program",
+    "words": "faults in words",
+    "explain": "verdicts in words",
+    "facts": "facts in words",
+    "pages": "examples and commands of pages",
+    "captures": "tests of captures",
+}
+# The memory that the largest check takes, in GB.
+LARGEST = 5
 MARK = "GATE_RUN"
 COUNTS = re.compile(rb"(\d+) passed, (\d+) failed\n?")
 TICKS = os.sysconf("SC_CLK_TCK")
@@ -86,6 +99,9 @@ def counts_of(command):
                     sys.stdout.buffer.write(line)
                     sys.stdout.buffer.flush()
         except BaseException:
+            # At Ctrl-C a test ends by itself, and removes what it made.
+            with contextlib.suppress(subprocess.TimeoutExpired):
+                run.wait(3)
             run.terminate()
             raise
     return passed, max(failed, int(run.returncode != 0))
@@ -122,6 +138,11 @@ def show_parts(parts, seconds, used):
         print(f"{own:15.0f} s of processor time  {kind} of all crates")
 
 
+def jobs():
+    """How many tasks of `rt ci` go side by side: one for each processor, as far as each has memory for the largest check."""
+    return max(1, min(machine.cores(), int(machine.free_memory() // LARGEST)))
+
+
 def refused_memory():
     """Whether the program says what it has to where each allocation of a run fails in turn: as counts."""
     if not (shutil.which("cc") or shutil.which("gcc")):
@@ -136,33 +157,24 @@ def main():
     os.environ[MARK] = str(os.getpid())
     # Stopped by make, it stops what it runs.
     signal.signal(signal.SIGTERM, lambda *_: sys.exit(1))
+    os.environ["RT_JOBS"] = os.environ.get("RT_JOBS") or str(jobs())
+    print(f"RT_JOBS={os.environ['RT_JOBS']}: so many checks go side by side under rt ci", flush=True)
+    machine.say_if_short(LARGEST, "the largest check")
     # What is run then is what this `rt ci` built, also where it stops early.
+    os.environ.pop("TCAPJUDGE", None)
     if os.path.exists(PROGRAM):
         os.remove(PROGRAM)
     (passed, failed), parts, seconds, used = watched(["rt", "ci"])
-    if os.path.exists(PROGRAM):
-        runs = counts_of([sys.executable, "tests/program.py"])
-        print(f"{runs[0] + runs[1]} runs of the program, {runs[1]} wrong")
-        words = counts_of([sys.executable, "tests/words.py"])
-        print(f"{words[0] + words[1]} faults in words, {words[1]} wrong")
-        whys = counts_of([sys.executable, "tests/explain.py"])
-        print(f"{whys[0] + whys[1]} verdicts in words, {whys[1]} wrong")
-        facts = counts_of([sys.executable, "tests/facts.py"])
-        print(f"{facts[0] + facts[1]} facts in words, {facts[1]} wrong")
-    else:
-        runs, words, whys, facts = (0, 1), (0, 1), (0, 1), (0, 1)
-        print("rt ci built no program, so it was not run")
+    others = []
+    for name, what in TESTS.items():
+        others.append(counts_of([sys.executable, f"tests/{name}.py"]))
+        print(f"{sum(others[-1])} {what}, {others[-1][1]} wrong")
     lent = counts_of([sys.executable, "tests/borrows.py"])
     print(f"feeding while an entry is lent: {'refused' if lent[0] else 'NOT refused'}")
-    pages = counts_of([sys.executable, "tests/pages.py"])
-    print(f"{pages[0] + pages[1]} examples and commands of pages, {pages[1]} that differ from what is proved or printed")
-    captures = counts_of([sys.executable, "tests/captures.py"])
-    print(f"{captures[0] + captures[1]} tests of captures, {captures[1]} wrong")
     clib = counts_of([sys.executable, "tools/clib.py", "--over-ci"])
     print(f"{clib[0] + clib[1]} comparisons of the library for C with the program, {clib[1]} that differ")
     show_parts(parts, seconds, used)
-    memory = refused_memory()
-    others = [runs, words, whys, facts, lent, pages, captures, clib, memory]
+    others += [lent, clib, refused_memory()]
     both = [passed + sum(one[0] for one in others), failed + sum(one[1] for one in others)]
     print(f"{both[0]} passed, {both[1]} failed", flush=True)
     return int(both[1] != 0)

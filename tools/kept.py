@@ -98,8 +98,9 @@ class Kept:
         """Runs a command in a folder of the copy. Says how many seconds it took and, where it failed, what it printed
         last. Returns whether it passed."""
         start, place = time.monotonic(), f"{self.tree}/{folder}"
-        # A `make` that this runs is none of the one that may have started it.
-        environment = {name: value for name, value in os.environ.items() if not name.startswith(("MAKE", "MFLAGS"))}
+        # A `make` that this runs is none of the one that may have started it, and its program the one that is built there.
+        others = "MAKE", "MFLAGS", "TCAPJUDGE"
+        environment = {name: value for name, value in os.environ.items() if not name.startswith(others)}
         how = {"stdin": subprocess.DEVNULL, "stdout": subprocess.PIPE, "stderr": subprocess.STDOUT}
         run = subprocess.run(command, cwd=place, env=environment, errors="replace", check=False, **how)
         with open(self.log, "a", encoding="utf-8") as log:
