@@ -9,7 +9,10 @@ Each command in README.md and docs/*.md prints what the page says. A block betwe
 next one. A line `..` stands for lines that are left out there, one or more; a last line `[status N]` is not printed: it is the
 exit status, which is 0 where there is no such line. Nothing may go to standard error; what goes there is put elsewhere by the
 command. The commands of a page run one after the other, by bash with pipefail, in a folder of their own that has what is in
-COPIED. `tcapjudge` is the program that is tested (tests/tested.py)."""
+COPIED. `tcapjudge` is the program that is tested (tests/tested.py).
+
+Each link of a page leads to a file that is there, and to a heading of it; each `make WORD` names a target; and the table of
+docs/PROOFS.md has the edits that stand in crates/*/must-fail, and how many stand in crates/*/edits."""
 
 import glob
 import itertools
@@ -33,6 +36,9 @@ LIMIT = 60
 BLOCK = re.compile(r"^```\w*\n(.*?)^```$", re.DOTALL | re.MULTILINE)
 PROMPT = re.compile(r"^\$ ", re.MULTILINE)
 STATUS = re.compile(r"\[status (\d+)\]")
+FENCE = re.compile(r"^[ \t]*(```|~~~).*$", re.MULTILINE)
+LINK = re.compile(r"\]\(([^)#\s]*)#?([^)\s]*)\)")
+TARGET = re.compile(r"`make ([a-z]+)|^make ([a-z]+)", re.MULTILINE)
 
 
 def text_of(path):
@@ -58,6 +64,47 @@ def is_proved(page, names):
         return True
     print(f"{page} does not show {' '.join(files)}", file=sys.stderr)
     return False
+
+
+def headings_of(path):
+    """The headings of a page, as links name them."""
+    titles = re.findall(r"^#+ (.*)$", text_of(path), re.MULTILINE)
+    return {re.sub(r"[^\w\- ]", "", title.lower()).replace(" ", "-") for title in titles}
+
+
+def is_there(page, path, heading):
+    """Whether a link of a page leads somewhere."""
+    if path.startswith("http"):
+        return True
+    to = os.path.join(os.path.dirname(page), path) if path else page
+    return os.path.exists(to) and (not heading or heading in headings_of(to))
+
+
+def is_sound(page):
+    """Whether the links of a page lead somewhere, the targets that it names are there, and each of its prompts is run."""
+    text = text_of(page)
+    wrong = ["#".join(link) for link in LINK.findall(text) if not is_there(page, *link)]
+    targets = {word for pair in TARGET.findall(text) for word in pair if word}
+    wrong += [f"make {word}" for word in targets if not re.search(rf"^{word}:", text_of("Makefile"), re.MULTILINE)]
+    wrong += [fence[0] for fence in FENCE.finditer(text) if not re.fullmatch(r"```\w*", fence[0])]
+    prompts = sum(len(PROMPT.findall(block)) for block in BLOCK.findall(text))
+    if prompts != len(PROMPT.findall(text)):
+        wrong.append("a prompt that stands in no block")
+    if wrong:
+        print(f"{page}: {', '.join(wrong)}", file=sys.stderr)
+    return not wrong
+
+
+def has_edits():
+    """Whether docs/PROOFS.md has the edits of each crate."""
+    rows = re.findall(r"^\| `(tcap_\w+)` \| (.*) \| (\d+) \|$", text_of("docs/PROOFS.md"), re.MULTILINE)
+    said = {name: (sorted(re.findall(r"`(\w+)`", tried)), int(count)) for name, tried, count in rows}
+    names = lambda folder: sorted(os.path.basename(path)[:-5] for path in glob.glob(f"{folder}/*.edit"))
+    found = {os.path.basename(it): (names(f"{it}/must-fail"), len(names(f"{it}/edits"))) for it in glob.glob("crates/*")}
+    wrong = [name for name, both in found.items() if both != said.get(name, ([], 0))]
+    if wrong:
+        print(f"docs/PROOFS.md has other edits of {' '.join(wrong)}", file=sys.stderr)
+    return not wrong
 
 
 def command_of(part):
@@ -106,6 +153,8 @@ def runs_of(page, program):
 
 def main():
     held = [is_proved(page, names) for page, names in PAGES.items()]
+    held += map(is_sound, ["README.md", *sorted(glob.glob("docs/*.md") + glob.glob("crates/*/README.md"))])
+    held.append(has_edits())
     with tempfile.TemporaryDirectory() as folder:
         os.symlink(os.path.abspath(PROGRAM), f"{folder}/tcapjudge")
         for page in ["README.md", *sorted(glob.glob("docs/*.md"))]:

@@ -16,7 +16,7 @@ import gate
 import kept
 
 SKIPPED = """Left to `make test`: proofs from nothing, the proofs of tests, edits of crates and files that did not
-change, the layout, the stored runs, the second compiler, and feeding while an entry is lent."""
+change, the layout, the stored runs, the second compiler, feeding while an entry is lent, and allocations that fail in turn."""
 
 
 def base_of(names):

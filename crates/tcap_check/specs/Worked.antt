@@ -1,6 +1,5 @@
 -- Worked runs, each with the certificate that describes it.
 use Rattle.std.specs.Prelude.{◌≡◌, ℕ, pos, List, [], ◌∷◌, length, Some, None}
-use Rattle.tcap_parts.specs.declared.problem.Problem.TheVariants as problems
 use Rattle.tcap_msg.specs.declared.message.Message.TheVariants.{Unidirectional, Begin, Continue}
 use Rattle.tcap_record.specs.declared.entry.End.{End as Side}
 use Rattle.tcap_record.specs.declared.entry.End.TheVariants.{A, B}

@@ -324,8 +324,7 @@ impl<'a> Checker<'a> {
     }
 
     /// Takes the next entry: the message that an end sent, or the fault of the octets that are none, whatever end sent
-    /// them. On Ok it is sent in
-    /// the run that is built; else the certificate gives no run of these entries: `FateCount`, `FateRange`, `OutOfOrder`,
+    /// them. On Ok it is sent in the run that is built; else the certificate gives no run of these entries: `FateCount`, `FateRange`, `OutOfOrder`,
     /// `BadReply`, `SendRefused`, `HiddenRefused` or `BadMessage`; or `Memory` ran out. It is answered for ever.
     pub fn step<M: MessageParts>(
         &mut self,

@@ -1,5 +1,5 @@
-//! Two ends of TCAP dialogues over two channels: which lists of messages two lawful ends may have sent (Q.771, Q.774),
-//! with laws over all runs and worked runs; and certificates, which are read from a text, written, and replayed over a record.
+//! Certificates, which say what became of each message of a record: read from a text, written, and replayed over a record, for both
+//! ends or for one; with what holds of all that they give, and worked runs (Q.774 3.2 and 3.3).
 #![tactic(auto)]
 
 pub mod alone_laws;

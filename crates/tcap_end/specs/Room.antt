@@ -1,5 +1,4 @@
 -- Where the items of a list are whose first item is kept in place.
-use Rattle.std.specs.Prelude.{Option}
 use Rattle.std.specs.Option.{option_to_list}
 use Rattle.tcap_end.specs.InPlace.{Items}
 use Rattle.tcap_end.specs.declared.in_place.Room.{Room}

@@ -178,7 +178,7 @@ impl EndState {
     }
 
     /// A quiet mark: where all halves are closed, no half and no used ID is left. `StillOpen` where one is open: the
-    /// end is as it was then. It takes no memory.
+    /// end is as it was then. It takes no memory, and gives back all that the end has.
     pub fn quiet(&mut self) -> Result<(), EndFault>
         ensures step { Answers (quiet self.old) result self.new }
         ensures kept { OnErr result (self.new ≡ self.old) }

@@ -14,7 +14,7 @@ use tcap_parts::CodeView;
 /// Kinds by their codes, and places by their kinds.
 #[derive(Debug, Drop)]
 pub(crate) struct IndexParts {
-    /// By operation codes, where kinds have one: it makes no difference to what is kept.
+    /// By operation codes, where kinds have one: guesses, on which no answer rests.
     numbers: KindNumbers,
     /// The places of each kind.
     chains: Chains,
@@ -128,7 +128,7 @@ impl KindIndex {
         }
     }
 
-    /// Nothing is known of the last place, where it is not among so many.
+    /// Forgets the last place, where more are known than there are places.
     pub(crate) fn pop(&mut self, places: usize)
         ensures { (at kind : ℕ) → slice_get self.new at ≡ Some kind → slice_get self.old at ≡ Some kind }
     {

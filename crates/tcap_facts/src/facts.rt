@@ -86,8 +86,8 @@ fn push_of_entry(
 
 /// Appends in words what the entry of a refutation breaks, or the quiet mark of one, for that end: lines, each with
 /// two blanks before it, that name the entries which the fact rests on. The refutation is one of that record, that
-/// table and that end, as [`refute`](tcap_refute::refute) or [`blame`](tcap_blame::blame) give it. `AllocError`
-/// where memory ran out.
+/// table and that end, as `refute` or `blame` give it; of another one the words mean nothing. `AllocError` where memory ran
+/// out: a part of the lines may have been appended.
 pub fn push_fact(
     alloc: Global,
     text: &mut String,

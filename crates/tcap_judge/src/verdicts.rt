@@ -39,8 +39,9 @@ impl Said {
     }
 }
 
-/// The entry that is named: the first that no end sends which keeps the rules, or the first that is blamed on that end.
-/// `AllocError` where memory ran out.
+/// The entry that is named: where both ends are judged, the lowest that has one of the seven kinds of `refute`; where one is, the lowest
+/// that has one of the fifteen kinds of `blame` for that end (Q.771, Q.773, Q.774); with its lowest kind. `None` where none has one,
+/// up to the first that is no message. `AllocError` where memory ran out.
 pub fn named(
     alloc: Global,
     read: &Record,

@@ -1,5 +1,5 @@
 -- What holds of each of a list, by recursion on it, and what is in a list.
-use Rattle.std.proofs.Common.{arith, ◌≡◌, ◌<◌, get_or, zero, ◌⊎◌, inl, inr, ℕ, suc, List, [], ◌∷◌, ◌++◌, refl}
+use Rattle.std.proofs.Common.{arith, ◌≡◌, ◌<◌, get_or, zero, ◌⊎◌, inl, inr, ℕ, suc, List, [], ◌∷◌, ◌++◌}
 use Rattle.std.specs.List.{AllByRecursion, Contains}
 use Rattle.std.proofs.lemmas.List.Elements.{Contains-append_cases}
 

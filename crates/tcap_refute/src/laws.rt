@@ -1,7 +1,7 @@
 //! What refutations say of all runs. Each function says by its contract alone what holds of every run in which an end keeps
 //! the rules, whatever the other end does.
 
-ghost use Rattle.std.specs.Prelude.{◌≡◌, ℕ, List, ◌∷◌, ◌++◌, map, true, false, Some, Ok, Result};
+ghost use Rattle.std.specs.Prelude.{◌≡◌, ℕ, List, ◌∷◌, ◌++◌, map, true, false, Some, Result};
 ghost use Rattle.tcap_msg.specs.declared.message.Message.{Message};
 ghost use Rattle.tcap_record.specs.declared.entry.End.{End as Side};
 ghost use Rattle.tcap_end.specs.Table.{Table};
