@@ -18,10 +18,9 @@ import unproved
 
 # Random cases, for so many seconds: the first ones of this seed.
 FUZZ = ["60", "1"]
-NOT_SHOWN = """It does not show more: nothing was proved, and no wrong body was given to the prover. The tests within the crates did not run, nor
-the stored runs, on either compiler; nothing was compared with the library for C, and no allocation failed. The unproved program
-checks each index, sum and access as it runs, and is not optimised, so it is slower than the proved one: speed was not measured.
-The gate is `make test`."""
+NOT_SHOWN = """Left to `make test`: proofs, must-fail edits, the tests within the crates, the stored runs, the second compiler,
+the library for C, allocations that fail, and feeding while an entry is lent. What ran is not the proved program: it is not
+optimised, and checks each index, sum and access as it runs, so it is slower, and nothing is said of speed."""
 
 
 def begin(stack, name, words, env):
