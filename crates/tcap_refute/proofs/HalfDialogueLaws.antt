@@ -41,7 +41,7 @@ use Rattle.tcap_refute.proofs.SpeakerLaws.{accepted_so, begun_so, kept_own, own_
 -- ---- tests
 
 -- Where fewer than two pass, what passes is one.
-only_one : {A : Type 0} (p : A → Bool) (xs : List A) (x y : A) → count p xs < 2 → Contains xs x → Contains xs y
+pub only_one : {A : Type 0} (p : A → Bool) (xs : List A) (x y : A) → count p xs < 2 → Contains xs x → Contains xs y
     → p x ≡ true → p y ≡ true → x ≡ y
 only_one p [] x y few has_x has_y px py = has_not x has_x
 only_one {A} p (z ∷ zs) x y few has_x has_y px py =
@@ -72,7 +72,7 @@ only_one {A} p (z ∷ zs) x y few has_x has_y px py =
     by (inr here) (inr there) rest = rest fewer here there
 
 -- An AARE that takes a dialogue is a response.
-accepts_responds : (d : Option Dialogue) → accepts_dialogue d ≡ true → is_response d ≡ true
+pub accepts_responds : (d : Option Dialogue) → accepts_dialogue d ≡ true → is_response d ≡ true
 accepts_responds None is = cc
 accepts_responds (Some (dialogues.Request context info)) is = cc
 accepts_responds (Some (dialogues.Response context result diagnostic info)) is = refl
@@ -80,7 +80,7 @@ accepts_responds (Some (dialogues.Abort source info)) is = cc
 accepts_responds (Some (dialogues.Uni context info)) is = cc
 
 -- A response is none of these.
-no_response : (d : Option Dialogue) → (is_none d || is_user_abort d) ≡ true → is_response d ≡ true → ⊥
+pub no_response : (d : Option Dialogue) → (is_none d || is_user_abort d) ≡ true → is_response d ≡ true → ⊥
 no_response None so is = cc
 no_response (Some (dialogues.Request context info)) so is = cc
 no_response (Some (dialogues.Response context result diagnostic info)) so is = cc
@@ -88,12 +88,12 @@ no_response (Some (dialogues.Abort source info)) so is = cc
 no_response (Some (dialogues.Uni context info)) so is = cc
 
 -- What is there is something.
-not_both : {A : Type 0} (o : Option A) → is_none o ≡ true → is_some o ≡ true → ⊥
+pub not_both : {A : Type 0} (o : Option A) → is_none o ≡ true → is_some o ≡ true → ⊥
 not_both None none some = cc
 not_both (Some x) none some = cc
 
 -- An ABRT of the user wants a dialogue.
-user_wants : (phase : Phase) (standing : Standing) (d : Option Dialogue) → may_abort phase standing d ≡ true
+pub user_wants : (phase : Phase) (standing : Standing) (d : Option Dialogue) → may_abort phase standing d ≡ true
     → is_user_abort d ≡ true → standing ≡ standings.Without → ⊥
 user_wants phase standing None may user without = cc
 user_wants phases.Sent standings.Without (Some d) may user without = cc
@@ -104,7 +104,7 @@ user_wants phase standings.Asked (Some d) may user without = cc
 user_wants phase standings.Confirmed (Some d) may user without = cc
 
 -- There is none where none was asked for.
-never_asked : (phase : Phase) (d : Option Dialogue) → is_request d ≡ false → standing_of phase d ≡ standings.Without
+pub never_asked : (phase : Phase) (d : Option Dialogue) → is_request d ≡ false → standing_of phase d ≡ standings.Without
 never_asked phases.Sent d none = rw none refl
 never_asked phases.Received d none = rw none refl
 never_asked phases.Active d none = rw none refl
@@ -125,7 +125,7 @@ module _ {table : Table} {side : Side} {e : End} {coming : List Message} {items 
   is_end = view_sound view
 
   -- A half that waits to answer told no Continue,
-  not_gone_on : f.half.phase ≡ phases.Received → has_gone_on side id items ≡ true → ⊥
+  pub not_gone_on : f.half.phase ≡ phases.Received → has_gone_on side id items ≡ true → ⊥
   not_gone_on received gone =
       let (n, has, goes) = any_is (is_a forms.Continue) (told side id items) gone in
       let (o, from) = goes_from n goes in
@@ -146,7 +146,7 @@ module _ {table : Table} {side : Side} {e : End} {coming : List Message} {items 
       by (inr begun) = not_sent received begun
 
   -- One that began by receiving, and told no Continue, waits to answer.
-  waits : f.slot ≡ Accepted → has_gone_on side id items ≡ false → f.half.phase ≡ phases.Received
+  pub waits : f.slot ≡ Accepted → has_gone_on side id items ≡ false → f.half.phase ≡ phases.Received
   waits slot none = by f.half.phase refl half.is_open
     where
       by : (p : Phase) → f.half.phase ≡ p → is_closed p ≡ false → f.half.phase ≡ phases.Received
@@ -164,7 +164,7 @@ module _ {table : Table} {side : Side} {e : End} {coming : List Message} {items 
       by phases.Closed at still = cc
 
   -- Its dialogue stands as the only Begin says that was asked.
-  stands_asked : (slot : f.slot ≡ Accepted) → (begin : Message) × Contains (asked side id items) begin
+  pub stands_asked : (slot : f.slot ≡ Accepted) → (begin : Message) × Contains (asked side id items) begin
       × (is_a forms.Begin begin ≡ true) × (f.half.standing ≡ standing_of f.half.phase (dialogue_in begin))
   stands_asked slot =
       let it = all_asked view f half.had slot in
@@ -228,7 +228,7 @@ module _ {table : Table} {side : Side} {e : End} {coming : List Message} {items 
   -- ---- an Abort
 
   -- An ABRT of the user wants a dialogue that the half's Begin asked for:
-  wants_request : (d : Option Dialogue) → may_abort f.half.phase f.half.standing d ≡ true → is_user_abort d ≡ true
+  pub wants_request : (d : Option Dialogue) → may_abort f.half.phase f.half.standing d ≡ true → is_user_abort d ≡ true
       → (first : Option Dialogue) → f.half.standing ≡ standing_of f.half.phase first → is_request first ≡ true
   wants_request d may user first stands = by (is_request first) refl
     where

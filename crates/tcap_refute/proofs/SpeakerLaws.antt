@@ -47,24 +47,24 @@ pub kept_own : (e : End) (f : KeptHalf) → IsEnd e → Has e f → f.slot ≡ B
 kept_own e f is_end had slot = rw slot at (is_end.kept f had)
 
 -- and its Begin was sent over it;
-over_begun : (side : Side) (items : List Item) (f : KeptHalf) (messages : List Message)
+pub over_begun : (side : Side) (items : List Item) (f : KeptHalf) (messages : List Message)
     → IsToldOver side items f messages → f.slot ≡ Begun
     → (begin : Message) × (begin_from side f.key items ≡ Some begin)
     × (messages ≡ begin ∷ told_to side items f.half.peer)
 over_begun side items f messages is slot = rw slot at is
 
 -- over one that began by receiving, what was told.
-over_accepted : (side : Side) (items : List Item) (f : KeptHalf) (messages : List Message)
+pub over_accepted : (side : Side) (items : List Item) (f : KeptHalf) (messages : List Message)
     → IsToldOver side items f messages → f.slot ≡ Accepted → messages ≡ told_to side items f.half.peer
 over_accepted side items f messages is slot = rw slot at is
 
 -- What may have come to them.
-come_begun : (side : Side) (items : List Item) (slot : Slot) (own peer : Option (List ℕ)) (w id : List ℕ)
+pub come_begun : (side : Side) (items : List Item) (slot : Slot) (own peer : Option (List ℕ)) (w id : List ℕ)
     → slot ≡ Begun → own ≡ Some w → peer ≡ Some id
     → may_have_come side items slot own peer ≡ filter (goes_on_to w) (back side id items)
 come_begun side items slot own peer w id is mine theirs = rw (is, mine, theirs) refl
 
-come_accepted : (side : Side) (items : List Item) (slot : Slot) (own peer : Option (List ℕ)) (id : List ℕ)
+pub come_accepted : (side : Side) (items : List Item) (slot : Slot) (own peer : Option (List ℕ)) (id : List ℕ)
     → slot ≡ Accepted → peer ≡ Some id
     → may_have_come side items slot own peer ≡ heard_begin side id items ++ later_to side id items own
 come_accepted side items slot own peer id is theirs = rw (is, theirs) refl

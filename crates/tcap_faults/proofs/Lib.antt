@@ -1,0 +1,9 @@
+pub mod TangledLaws
+pub mod BackLaws
+pub mod OwnHalfLaws
+pub mod HalfKindsLaws
+pub mod DialogueLaws
+pub mod ComponentLaws
+pub mod ReplyLaws
+pub mod FaultLaws
+pub mod BlamedLaws

@@ -1,0 +1,161 @@
+-- Components that the half with their destination ID does not allow, by what it heard, told and invoked (Q.774 3.2, Q.771
+-- 3.1.2). Each fact is a count: more was sent than what was heard could allow.
+use Rattle.std.specs.Prelude.{ℕ, ℤ, ◌+◌, Bool, true, false, List, [], ◌∷◌, ◌++◌, Option, Some, None, ◌==◌, ◌&&◌, ◌||◌, not, nat_lt, nat_le, cond}
+use Rattle.std.specs.List.{list_any}
+use Rattle.tcap_parts.specs.declared.code.Code.{Code}
+use Rattle.tcap_parts.specs.declared.component.ResultBody.{ResultBody}
+use Rattle.tcap_parts.specs.declared.component.Component.{Component}
+use Rattle.tcap_parts.specs.declared.component.Component.TheVariants.{Invoke, ReturnResult, ReturnError, Reject}
+use Rattle.tcap_parts.specs.declared.problem.Problem.{Problem}
+use Rattle.tcap_parts.specs.declared.problem.Problem.TheVariants as problems
+use Rattle.tcap_end.specs.Component.{is_code, links}
+use Rattle.tcap_end.specs.Table.{Table}
+use Rattle.tcap_refute.specs.Before.{is_invoke_id, invokes}
+use Rattle.tcap_refute.specs.ComponentKinds.{count_suited, is_linked_to, is_of_link, is_problem, lists_nothing}
+use Rattle.tcap_refute.specs.Counts.{any_problem, count, count_class, count_lasting, has_class, invokes_linked, invokes_so, is_error, is_last_result, is_not_last, is_result, is_result_of, rejects_error, rejects_invoke, rejects_result, takes}
+use Rattle.tcap_faults.specs.HalfOf.{HalfOf}
+
+-- A component stands behind those of its message, and behind those that the end told that ID before, these of the message
+-- counted: both are given, the first one first.
+
+-- ---- F10: an invoke ID that is in use
+
+-- a Reject of that ID with a general problem
+abbrev pub rejects_generally : ℤ → Component → Bool
+rejects_generally id (Reject (Some other) (problems.General n)) = is_invoke_id id other
+rejects_generally id c = false
+
+-- a Reject of an Invoke: with an invoke problem, or a general one
+abbrev pub may_reject_invoke : ℤ → Component → Bool
+may_reject_invoke id c = rejects_invoke id any_problem c || rejects_generally id c
+
+-- a Reject of an answer: with a result problem, or a general one
+abbrev pub may_reject_answer : ℤ → Component → Bool
+may_reject_answer id c = rejects_result id any_problem c || rejects_generally id c
+
+-- More own invocations of an ID do not expire than can have ended. One of class 1 or 3 is ended by what the peer sent, a last
+-- Return Result, a Return Error or a Reject, or by an own Reject of an answer; any of these, or an answer that is not the last
+-- but is rejected, ends one. What the end told counts whole, this message too.
+abbrev pub is_busy : Table → HalfOf → List Component → ℤ → Bool
+is_busy table h all id =
+    nat_lt (ends + count (may_reject_answer id) all) (of_class 1 + of_class 3)
+    || nat_lt (ends + count (is_not_last id) h.heard) (count_lasting table id (λ code. true) h.invoked)
+  where
+    of_class : ℕ → ℕ
+    of_class class = count_lasting table id (has_class table class) h.invoked
+
+    ends : ℕ
+    ends = count (is_last_result id) h.heard + count (is_error id) h.heard + count (may_reject_invoke id) h.heard
+
+abbrev pub invokes_busy : Table → HalfOf → List Component → List Component → List Component → Component → Bool
+invokes_busy table h all own before (Invoke id linked code parameter) =
+    list_any (invokes id) own || is_busy table h all id
+invokes_busy table h all own before c = false
+
+-- ---- F11: a linked ID of no invocation that is there
+
+-- All invocations of the ID that were heard are taken, or none of them lists the operation.
+abbrev pub is_badly_linked : Table → HalfOf → List Component → ℤ → Code → Bool
+is_badly_linked table h before id code =
+    nat_le (count (invokes id) h.heard) (count (takes id) before)
+    || not (list_any (invokes_so id (λ to. links table to code)) h.heard)
+
+abbrev pub links_badly : Table → HalfOf → List Component → List Component → Component → Bool
+links_badly table h own before (Invoke id (Some linked) code parameter) = is_badly_linked table h before linked code
+links_badly table h own before c = false
+
+-- ---- F12: an invocation that was answered already
+
+-- More was answered of an ID than invocations of it were heard that allow it: so many Return Results, Return Errors and
+-- Rejects.
+abbrev pub more_answered : Table → HalfOf → ℤ → ℕ → ℕ → ℕ → Bool
+more_answered table h id results errors rejects =
+    nat_lt (of_class 1 + of_class 3) results || nat_lt (of_class 1 + of_class 2) errors
+    || nat_lt (of_class 1 + of_class 2 + of_class 3) (results + errors)
+    || nat_lt (count (invokes id) h.heard) (results + errors + rejects)
+  where
+    of_class : ℕ → ℕ
+    of_class class = count_class table id class h.heard
+
+-- the same, where what was answered is counted among these components, and so many Return Results besides
+abbrev pub is_overspent : Table → HalfOf → ℤ → List Component → ℕ → Bool
+is_overspent table h id components besides =
+    more_answered table h id (count (is_last_result id) components + besides) (count (is_error id) components)
+    (count (rejects_invoke id any_problem) components)
+
+-- A Return Result names an operation, and as many last ones of that operation were sent before as invocations of it heard.
+abbrev pub is_operation_overspent : HalfOf → List Component → ℤ → Option ResultBody → Bool
+is_operation_overspent h before id None = false
+is_operation_overspent h before id (Some body) =
+    nat_le (count (invokes_so id (is_code body.code)) h.heard) (count (is_result_of id body.code) before)
+
+abbrev pub answers_again : Table → HalfOf → List Component → List Component → Component → Bool
+answers_again table h own before (ReturnResult true id body) =
+    is_overspent table h id (before ++ ReturnResult true id body ∷ []) 0 || is_operation_overspent h before id body
+answers_again table h own before (ReturnResult false id body) =
+    is_overspent table h id before 1 || is_operation_overspent h before id body
+answers_again table h own before (ReturnError id code parameter) =
+    is_overspent table h id (before ++ ReturnError id code parameter ∷ []) 0
+answers_again table h own before (Reject (Some id) (problems.Invoke n)) =
+    is_overspent table h id (before ++ Reject (Some id) (problems.Invoke n) ∷ []) 0
+answers_again table h own before c = false
+
+-- ---- F13: a Reject with a problem that nothing has; the components are those up to it
+
+-- by problem 6: no Invoke of the ID names an own invocation of an operation that lists nothing; by 7: none names one of an
+-- operation that lists others
+abbrev pub is_link_fine : Table → HalfOf → ℤ → ℕ → Bool
+is_link_fine table h id problem =
+    (problem == 6 && not (list_any (is_linked_to (λ to code. lists_nothing table to) h.invoked id) h.heard))
+    || (problem == 7 && not (list_any (is_linked_to lists_others h.invoked id) h.heard))
+  where
+    lists_others : Code → Code → Bool
+    lists_others to code = not (lists_nothing table to) && not (links table to code)
+
+-- duplicateInvokeID (0) as often as Invokes of the ID were heard, of which the first is none; problems of a link (5 to 7) more
+-- often than linked Invokes of it; a problem of a link that none has; a problem over 7
+abbrev pub is_invoke_reject_wrong : Table → HalfOf → List Component → ℤ → ℕ → Bool
+is_invoke_reject_wrong table h components id problem =
+    (problem == 0 && nat_le (count (invokes id) h.heard) (count (rejects_invoke id (is_problem 0)) components))
+    || (is_of_link problem && nat_lt (count (invokes_linked id) h.heard) (count (rejects_invoke id is_of_link) components))
+    || is_link_fine table h id problem
+    || nat_lt 7 problem
+
+-- a Return Result of that ID and of an operation that no own invocation of it has
+abbrev pub is_of_no_operation : HalfOf → ℤ → Component → Bool
+is_of_no_operation h id (ReturnResult last other (Some body)) =
+    is_invoke_id id other && not (list_any (invokes_so id (is_code body.code)) h.invoked)
+is_of_no_operation h id c = false
+
+-- returnResultUnexpected, returnErrorUnexpected (1) of what none can be unexpected of: each own invocation of the ID suits such
+-- an answer by its class; fewer than two answers were heard, of which the second may be unexpected; and none is of an
+-- operation that none of the invocations has.
+abbrev pub is_expected : Table → HalfOf → Bool → ℤ → Bool
+is_expected table h of_result id =
+    (count_suited table of_result id h.invoked == count (invokes id) h.invoked)
+    && nat_lt (count (is_result id) h.heard + count (is_error id) h.heard) 2
+    && not (list_any (is_of_no_operation h id) h.heard)
+
+-- A Reject of an answer, where so many of the ID were sent, and so many answers were heard: there are more than answers; or
+-- the problem is no answer's; or all answers are expected; or, by a problem from 2 on, no own invocation suits the answer.
+abbrev pub is_answer_reject_wrong : Table → HalfOf → Bool → ℤ → ℕ → ℕ → ℕ → Bool
+is_answer_reject_wrong table h of_result id problem rejects answers =
+    nat_lt answers rejects
+    || nat_lt (cond of_result 2 4) problem
+    || (problem == 1 && is_expected table h of_result id)
+    || (nat_le 2 problem && (count_suited table of_result id h.invoked == 0))
+
+abbrev pub is_reject_wrong : Table → HalfOf → List Component → ℤ → Problem → Bool
+is_reject_wrong table h components id (problems.General n) = false
+is_reject_wrong table h components id (problems.Invoke n) = is_invoke_reject_wrong table h components id n
+is_reject_wrong table h components id (problems.ReturnResult n) =
+    is_answer_reject_wrong table h true id n (count (rejects_result id any_problem) components)
+    (count (is_result id) h.heard)
+is_reject_wrong table h components id (problems.ReturnError n) =
+    is_answer_reject_wrong table h false id n (count (rejects_error id any_problem) components)
+    (count (is_error id) h.heard)
+
+abbrev pub rejects_wrongly : Table → HalfOf → List Component → List Component → Component → Bool
+rejects_wrongly table h own before (Reject (Some id) problem) =
+    is_reject_wrong table h (before ++ Reject (Some id) problem ∷ []) id problem
+rejects_wrongly table h own before c = false

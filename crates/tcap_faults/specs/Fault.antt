@@ -1,0 +1,170 @@
+-- What an end did wrong, whatever its peer did: all kinds of a message, by what stood before it since the last quiet mark
+-- (Q.771, Q.773, Q.774), and what is blamed on an end of a record.
+use Rattle.std.specs.Prelude.{ℕ, ℤ, ◌+◌, Bool, false, List, [], ◌∷◌, ◌++◌, map, Option, Some, None, Result, Ok, Err, ◌==◌, ◌&&◌, ◌||◌, not, nat_lt, cond}
+use Rattle.std.specs.List.{find, list_any}
+use Rattle.tcap_parts.specs.declared.component.Component.{Component}
+use Rattle.tcap_parts.specs.declared.component.Component.TheVariants.{Invoke, ReturnResult, ReturnError, Reject}
+use Rattle.tcap_parts.specs.declared.problem.Problem.TheVariants as problems
+use Rattle.tcap_msg.specs.declared.kind.Kind.TheVariants as forms
+use Rattle.tcap_msg.specs.declared.message.Message.{Message}
+use Rattle.tcap_msg.specs.Parts.{cause_in, components_in, dtid_in, otid_in}
+use Rattle.tcap_record.specs.declared.entry.End.{End as Side}
+use Rattle.tcap_record.specs.declared.entry.Entry.{Entry}
+use Rattle.tcap_end.specs.Table.{Table}
+use Rattle.tcap_model.specs.declared.reason.Reason.{Reason}
+use Rattle.tcap_model.specs.World.{Item, Sent, is_side}
+use Rattle.tcap_model.specs.Entries.{item_of}
+use Rattle.tcap_refute.specs.declared.kind.Kind.{Kind}
+use Rattle.tcap_refute.specs.declared.kind.Kind.TheVariants as kinds
+use Rattle.tcap_refute.specs.declared.kind.Refutation.{Refutation}
+use Rattle.tcap_refute.specs.Before.{asked, components_of, is_a, is_invoke_id, sent_by, since_quiet}
+use Rattle.tcap_refute.specs.Blame.{all_go_to_open, bad_entry_of, is_abort_with}
+use Rattle.tcap_refute.specs.ComponentKinds.{has_component, invokes_again, is_linked}
+use Rattle.tcap_refute.specs.Counts.{count}
+use Rattle.tcap_refute.specs.Kind.{answers_none_of, answers_nothing, is_of_kind, or_else, refutation_at}
+use Rattle.tcap_refute.specs.Speaker.{is_nothing, is_surely_open, told}
+use Rattle.tcap_faults.specs.ComponentKinds.{answers_again, invokes_busy, links_badly, rejects_wrongly}
+use Rattle.tcap_faults.specs.HalfKinds.{is_accepted, is_wrong_dialogue, is_wrong_half}
+use Rattle.tcap_faults.specs.HalfOf.{HalfOf, half_of}
+use Rattle.tcap_faults.specs.Tangled.{goes_over_tangled}
+use Rattle.tcap_faults.specs.UsedAgain.{has_used_again}
+
+-- ---- F5, but for a spelling that a stack may call wrong
+
+-- an Invoke or an answer of that ID
+abbrev pub is_of_id : ℤ → Component → Bool
+is_of_id id (Invoke other linked code parameter) = is_invoke_id id other
+is_of_id id (ReturnResult last other body) = is_invoke_id id other
+is_of_id id (ReturnError other code parameter) = is_invoke_id id other
+is_of_id id (Reject other problem) = false
+
+-- Whether a component answers or rejects what none of these is. A Reject with mistypedComponent (1) or
+-- badlyStructuredComponent (2) of an ID that one of these has may be of that one: this profile takes parameters as they are.
+abbrev pub answers_none : List Component → Component → Bool
+answers_none components (Reject (Some id) (problems.General n)) =
+    not ((n == 1 || n == 2) && list_any (is_of_id id) components)
+answers_none components c = answers_none_of components c
+
+abbrev pub answers_nothing_there : Side → List Item → Message → Bool
+answers_nothing_there side items m = by (dtid_in m)
+  where
+    by : Option (List ℕ) → Bool
+    by None = answers_nothing side items m
+    by (Some id) = list_any (answers_none (components_of (asked side id items))) (components_in m)
+
+-- F2 to F7, as they are asked of one end
+abbrev pub is_of_first_kind : Table → Side → List Item → Message → Kind → Bool
+is_of_first_kind table side items m kinds.AnswersNothing = answers_nothing_there side items m
+is_of_first_kind table side items m kind = is_of_kind table side items m kind
+
+-- ---- F14: an Abort of the provider that answers nothing that is left (Q.774 3.3)
+
+-- how many Continues from that ID were surely received, and not answered by an Abort with cause 1: one, where something was
+-- told there and no Begin from there was accepted
+abbrev pub count_received : Side → List ℕ → List Item → HalfOf → ℕ
+count_received side id items h = cond (is_nothing (told side id items) || is_accepted h.how) 0 1
+
+-- Cause 1: more Continues would be answered or received than were sent, or all of them go to halves that are open. Cause 4: no
+-- Begin was sent, or it was refused already, or something was told there.
+abbrev pub is_wrong_reply : Table → Side → List ℕ → List Item → HalfOf → ℕ → Bool
+is_wrong_reply table side id items h cause =
+    (cause == 1
+    && (nat_lt (count (is_a forms.Continue) (asked side id items))
+    (count (is_abort_with 1 id) (sent_by side items) + 1 + count_received side id items h)
+    || all_go_to_open table side items (asked side id items)))
+    || (cause == 4 && (not (is_accepted h.how) || not (is_nothing (told side id items))))
+
+-- ---- F15: a half that is open at a quiet mark (this profile's choice)
+
+-- whether a message is a Continue over no tangled IDs, from an own ID whose half is surely open
+abbrev pub is_left_open : Table → Side → List Item → Message → Bool
+is_left_open table side items m =
+    is_a forms.Continue m && by (otid_in m) && not (goes_over_tangled side items m)
+  where
+    by : Option (List ℕ) → Bool
+    by None = false
+    by (Some own) = is_surely_open table side items own
+
+abbrev pub is_open_at_mark : Table → Side → List Item → Bool
+is_open_at_mark table side items = list_any (is_left_open table side items) (sent_by side items)
+
+-- ---- all kinds of a message
+
+-- F8 to F13, of a message to that ID that is no Abort of the provider. What no half may send is measured by nothing else.
+abbrev pub is_of_half_kind : Table → Side → List ℕ → List Item → Message → HalfOf → Kind → Bool
+is_of_half_kind table side id items m h kinds.WrongHalf = is_wrong_half side items m h
+is_of_half_kind table side id items m h kinds.WrongDialogue =
+    not (is_wrong_half side items m h) && is_wrong_dialogue side items id m h
+is_of_half_kind table side id items m h kinds.InvokeIdBusy =
+    not (is_wrong_half side items m h)
+    && has_component (invokes_busy table h (h.told ++ components_in m)) [] h.told (components_in m)
+is_of_half_kind table side id items m h kinds.BadLink =
+    not (is_wrong_half side items m h) && has_component (links_badly table h) [] h.told (components_in m)
+is_of_half_kind table side id items m h kinds.AnsweredAlready =
+    not (is_wrong_half side items m h) && has_component (answers_again table h) [] h.told (components_in m)
+is_of_half_kind table side id items m h kinds.RejectNotAllowed =
+    not (is_wrong_half side items m h) && has_component (rejects_wrongly table h) [] h.told (components_in m)
+is_of_half_kind table side id items m h kind = false
+
+-- F14, of an Abort of the provider, with that cause
+abbrev pub is_of_reply_kind : Table → Side → List ℕ → List Item → HalfOf → ℕ → Kind → Bool
+is_of_reply_kind table side id items h cause kinds.WrongReply = is_wrong_reply table side id items h cause
+is_of_reply_kind table side id items h cause kind = false
+
+-- of a message without destination ID: nothing came before what it invokes
+abbrev pub is_of_alone_kind : Message → Kind → Bool
+is_of_alone_kind m kinds.InvokeIdBusy = has_component invokes_again [] [] (components_in m)
+is_of_alone_kind m kinds.BadLink = list_any is_linked (components_in m)
+is_of_alone_kind m kind = false
+
+-- by the cause of an Abort
+abbrev pub is_of_kind_to : Table → Side → List ℕ → List Item → Message → Option ℕ → Kind → Bool
+is_of_kind_to table side id items m None kind =
+    is_of_half_kind table side id items m (half_of side items id) kind
+is_of_kind_to table side id items m (Some cause) kind =
+    is_of_reply_kind table side id items (half_of side items id) cause kind
+
+-- F8 to F14, by the destination ID
+abbrev pub is_of_further_kind : Table → Side → List Item → Message → Option (List ℕ) → Kind → Bool
+is_of_further_kind table side items m None kind = is_of_alone_kind m kind
+is_of_further_kind table side items m (Some id) kind = is_of_kind_to table side id items m (cause_in m) kind
+
+-- whether a message that an end sends has a kind, behind these items since the last quiet mark
+abbrev pub is_fault : Table → Side → List Item → Message → Kind → Bool
+is_fault table side items m kind =
+    not (goes_over_tangled side items m)
+    && (is_of_first_kind table side items m kind || is_of_further_kind table side items m (dtid_in m) kind)
+
+-- the kinds of a message, the lowest first
+abbrev pub first_kinds : List Kind
+first_kinds = kinds.UnknownTransaction ∷ kinds.ReusedId ∷ kinds.AfterEnd ∷ kinds.AnswersNothing ∷ kinds.WrongOperation
+    ∷ kinds.MisplacedDialogue ∷ []
+
+abbrev pub further_kinds : List Kind
+further_kinds = kinds.WrongHalf ∷ kinds.WrongDialogue ∷ kinds.InvokeIdBusy ∷ kinds.BadLink ∷ kinds.AnsweredAlready
+    ∷ kinds.RejectNotAllowed ∷ kinds.WrongReply ∷ []
+
+-- ---- a record
+
+-- The lowest kind of an item of that end, or of a quiet mark for it, behind these since the last quiet mark. Where the end has
+-- used an own ID again, by this item too, there is none up to the next mark, and none at that.
+abbrev pub fault_since : Table → Side → List Item → Item → Option Kind
+fault_since table side items (Sent sender m) =
+    cond (is_side side sender && not (has_used_again table side (items ++ Sent sender m ∷ [])))
+    (find (is_fault table side items m) (first_kinds ++ further_kinds)) None
+fault_since table side items Item.Quiet =
+    cond (not (has_used_again table side items) && is_open_at_mark table side items) (Some kinds.OpenAtMark) None
+
+-- The lowest of these entries that is a fault of that end, with its lowest kind; what stands before them is known, and they
+-- are so many. What stands behind the first entry that is no item, of either end, is not looked at.
+abbrev pub blamed_behind : Table → Side → List Item → ℕ → List (Option Side × Result Item Reason) → Option Refutation
+blamed_behind table side items number [] = None
+blamed_behind table side items number ((sender, Err reason) ∷ more) =
+    refutation_at number (bad_entry_of side sender reason)
+blamed_behind table side items number ((sender, Ok item) ∷ more) =
+    or_else (refutation_at number (fault_since table side (since_quiet items) item))
+    (blamed_behind table side (items ++ item ∷ []) (number + 1) more)
+
+-- the lowest entry of that end, or quiet mark, that has a kind, with its lowest kind
+abbrev pub blamed : Table → Side → List Entry → Option Refutation
+blamed table side entries = blamed_behind table side [] 0 (map (λ e. (e.side, item_of e)) entries)

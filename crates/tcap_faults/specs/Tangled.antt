@@ -1,0 +1,107 @@
+-- Tangled transaction IDs: one transaction that was given two IDs, two transactions that were given one, or an ID that was
+-- begun twice. Q.774 3.3 looks at no originating ID of a Continue to an active transaction, and says nothing of a peer that
+-- does any of this. So what an end does over such IDs is no fault, whatever this profile chooses.
+use Rattle.std.specs.Prelude.{ℕ, Bool, false, List, [], ◌∷◌, ◌++◌, filter, filter_map, flat_map, Option, Some, None, ◌&&◌, ◌||◌, not, nat_le, cond}
+use Rattle.std.specs.List.{list_any}
+use Rattle.std.specs.Str.{bytes_eq}
+use Rattle.tcap_msg.specs.declared.kind.Kind.TheVariants as forms
+use Rattle.tcap_msg.specs.declared.message.Message.{Message}
+use Rattle.tcap_msg.specs.declared.message.Message.TheVariants.{Continue}
+use Rattle.tcap_msg.specs.Parts.{dtid_in, otid_in}
+use Rattle.tcap_record.specs.declared.entry.End.{End as Side}
+use Rattle.tcap_record.specs.Ends.{other}
+use Rattle.tcap_end.specs.End.{is_id}
+use Rattle.tcap_model.specs.World.{Item, Sent, is_side}
+use Rattle.tcap_refute.specs.Before.{asked, has_a, is_a, sent_by}
+use Rattle.tcap_refute.specs.Counts.{count}
+use Rattle.tcap_refute.specs.Speaker.{began, goes_on_to}
+
+-- whether one of these items passes a test, behind those before it
+abbrev pub one_passes : (List Item → Item → Bool) → List Item → List Item → Bool
+one_passes passes seen [] = false
+one_passes passes seen (item ∷ items) = passes seen item || one_passes passes (seen ++ item ∷ []) items
+
+-- ---- joined IDs
+
+-- a Continue from that originating ID
+abbrev pub goes_on_from : List ℕ → Message → Bool
+goes_on_from id m = is_a forms.Continue m && is_id id (otid_in m)
+
+-- whether an end used an own ID: it sent a Begin or a Continue from there
+abbrev pub has_used : Side → List Item → List ℕ → Bool
+has_used side items own = list_any (λ m. is_id own (otid_in m)) (sent_by side items)
+
+-- the IDs of the peer that are joined with an own ID: the end sent a Continue from this to that; or the peer sent one from
+-- that to this, and the end used it
+abbrev pub peers_of : Side → List Item → List ℕ → List (List ℕ)
+peers_of side items own =
+    filter_map dtid_in (filter (goes_on_from own) (sent_by side items))
+    ++ cond (has_used side items own) (filter_map otid_in (filter (goes_on_to own) (sent_by (other side) items))) []
+
+-- the own IDs that are joined with an ID of the peer
+abbrev pub owns_of : Side → List Item → List ℕ → List (List ℕ)
+owns_of side items id =
+    filter_map otid_in (filter (goes_on_to id) (sent_by side items))
+    ++ filter (has_used side items) (filter_map dtid_in (filter (goes_on_from id) (sent_by (other side) items)))
+
+-- whether two of these IDs differ
+abbrev pub two_differ : List (List ℕ) → Bool
+two_differ [] = false
+two_differ (id ∷ more) = list_any (λ other. not (bytes_eq id other)) more
+
+-- ---- tangled IDs
+
+-- an own ID with which two IDs of the peer are joined
+abbrev pub is_own_tangled : Side → List Item → List ℕ → Bool
+is_own_tangled side items own = two_differ (peers_of side items own)
+
+-- a Continue to an ID that the end began
+abbrev pub goes_to_begun : Side → List Item → Message → Bool
+goes_to_begun side items m = by (dtid_in m)
+  where
+    by : Option (List ℕ) → Bool
+    by None = false
+    by (Some own) = is_a forms.Continue m && began side own items
+
+-- a Continue of the peer from an ID that it has begun, to one that the end has not used by then: the peer guesses it
+abbrev pub guesses : Side → List ℕ → List Item → Item → Bool
+guesses side id seen (Sent sender m) =
+    is_side (other side) sender && goes_on_from id m && has_a forms.Begin (asked side id seen) && by (dtid_in m)
+  where
+    by : Option (List ℕ) → Bool
+    by None = false
+    by (Some own) = not (has_used side seen own)
+guesses side id seen Item.Quiet = false
+
+-- an ID of the peer with which two own IDs are joined; or with two Begins; or with a Begin, and a Continue to an ID that the
+-- end began; or with a Begin, and behind it a Continue to one that it guesses
+abbrev pub is_peer_tangled : Side → List Item → List ℕ → Bool
+is_peer_tangled side items id =
+    two_differ (owns_of side items id)
+    || nat_le 2 (count (is_a forms.Begin) (asked side id items))
+    || (has_a forms.Begin (asked side id items) && list_any (goes_to_begun side items) (asked side id items))
+    || one_passes (guesses side id) [] items
+
+-- ---- a message that goes over them
+
+-- the originating ID of a Continue
+abbrev pub own_of_continue : Message → List (List ℕ)
+own_of_continue (Continue otid dtid dialogue components) = otid ∷ []
+own_of_continue m = []
+
+-- the own IDs near a message to an ID: those that are joined with it, and that of a Continue
+abbrev pub near : Side → List Item → Message → List ℕ → List (List ℕ)
+near side items m id = owns_of side items id ++ own_of_continue m
+
+-- the IDs of the peer behind these: the destination ID, and those that are joined with one near it
+abbrev pub far : Side → List Item → Message → List ℕ → List (List ℕ)
+far side items m id = id ∷ flat_map (peers_of side items) (near side items m id)
+
+abbrev pub goes_over_tangled : Side → List Item → Message → Bool
+goes_over_tangled side items m = by (dtid_in m)
+  where
+    by : Option (List ℕ) → Bool
+    by None = false
+    by (Some id) =
+        list_any (is_own_tangled side items) (near side items m id)
+        || list_any (is_peer_tangled side items) (far side items m id)
