@@ -7,3 +7,10 @@ pub mod ComponentLaws
 pub mod ReplyLaws
 pub mod FaultLaws
 pub mod BlamedLaws
+pub mod SumLaws
+pub mod CodeLaws
+pub mod FoundLaws
+pub mod LinkLaws
+pub mod SortLaws
+pub mod TallyLaws
+pub mod GlobalLaws

@@ -20,3 +20,11 @@ pub mod FaultRows10
 pub mod FaultRows11
 pub mod FaultRows12
 pub mod FaultRows13
+pub mod Listed
+pub mod Tallied
+pub mod Tallies
+pub mod Noted
+pub mod Ids
+pub mod Kept
+pub mod Noting
+pub mod Linking

@@ -2,8 +2,18 @@
 //! messages, each of which can be checked by hand.
 #![tactic(auto)]
 
+mod by_class;
+mod code_counts;
+mod facts;
 pub mod fault_rows;
 mod how;
+mod ids;
 pub mod laws;
+mod of_id;
+mod sent_from;
+mod sent_to;
+mod sort;
+mod sums;
+mod tally;
 
 pub use how::How;

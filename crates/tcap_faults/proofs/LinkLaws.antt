@@ -1,0 +1,93 @@
+-- Linked Invokes by their linked IDs: what a test finds behind one more.
+use Rattle.std.proofs.Common.{◌≡◌, ℤ, Bool, true, false, cond, ◌||◌, List, [], ◌∷◌, Some, None, Ordering, Less, Equal, Greater, int_cmp, refl, sym, ap, ◌∙◌}
+use Rattle.std.specs.BTreeMap.{BTreeMap, WritesThrough, insert_entry, is_at}
+use Rattle.std.specs.List.{list_any}
+use Rattle.std.specs.Map.{lookup, set_value}
+use Rattle.std.specs.Ordering.{match_ordering}
+use Rattle.std.proofs.lemmas.Map.Lookups.{exact_signed}
+use Rattle.std.proofs.lemmas.Map.Views.{tells_apart}
+use Rattle.tcap_parts.specs.declared.code.Code.{Code}
+use Rattle.tcap_refute.proofs.TestLaws.{or_none}
+use Rattle.tcap_faults.specs.declared.code_counts.CodeCounts.{CodeCounts}
+use Rattle.tcap_faults.specs.Tallies.{links_at}
+
+first : (a b p : Bool) → ((a || p) || b) ≡ ((a || b) || p)
+first true b p = refl
+first false true true = refl
+first false true false = refl
+first false false p = sym (or_none p)
+
+later : (a b p : Bool) → (a || (b || p)) ≡ ((a || b) || p)
+later true b p = refl
+later false b p = refl
+
+before : (a p : Bool) → (p || a) ≡ (a || p)
+before true true = refl
+before true false = refl
+before false p = sym (or_none p)
+
+module _ {K X : Type 0} (finds : K × X → Bool) where
+  -- Where a value takes the place of one, and what the test finds there is more by that,
+  pub any_set : (test : K → Bool) (was now : X) (p : Bool)
+      → ((k : K) → test k ≡ true → finds (k, now) ≡ (finds (k, was) || p)) → (es : List (K × X))
+      → Some was ≡ lookup test es → list_any finds (set_value test es now) ≡ (list_any finds es || p)
+  any_set test was now p gains [] there = cc
+  any_set test was now p gains ((k, x) ∷ es) there = by (test k) refl (any_set test was now p gains es)
+    where
+      by : (b : Bool) → test k ≡ b
+          → (Some was ≡ lookup test es → list_any finds (set_value test es now) ≡ (list_any finds es || p))
+          → list_any finds (cond b ((k, now) ∷ es) ((k, x) ∷ set_value test es now))
+          ≡ ((finds (k, x) || list_any finds es) || p)
+      by true is rest =
+          let same : Some was ≡ Some x = rw is at there in
+          let one : was ≡ x = cc in
+          ap (λ b. b || list_any finds es) (gains k is ∙ ap (λ y. finds (k, y) || p) one)
+          ∙ first (finds (k, x)) (list_any finds es) p
+      by false is rest =
+          let left : Some was ≡ lookup test es = rw is at there in
+          ap (λ b. finds (k, x) || b) (rest left)
+          ∙ later (finds (k, x)) (list_any finds es) p
+
+  -- and where one is new.
+  pub any_inserted : (cmp : K → K → Ordering) (k : K) (x : X) (es : List (K × X)) → None ≡ lookup (is_at (cmp k)) es
+      → list_any finds (insert_entry cmp es k x) ≡ (list_any finds es || finds (k, x))
+  any_inserted cmp k x [] none = sym (or_none _)
+  any_inserted cmp k x (e ∷ es) none = by (cmp k e.0) refl (any_inserted cmp k x es)
+    where
+      by : (r : Ordering) → cmp k e.0 ≡ r
+          → (None ≡ lookup (is_at (cmp k)) es
+          → list_any finds (insert_entry cmp es k x) ≡ (list_any finds es || finds (k, x)))
+          → list_any finds (match_ordering r ((k, x) ∷ e ∷ es) ((e.0, x) ∷ es) (e ∷ insert_entry cmp es k x))
+          ≡ ((finds e || list_any finds es) || finds (k, x))
+      by Less is rest = before (finds e || list_any finds es) (finds (k, x))
+      by Equal is rest =
+          let here : None ≡ Some e.1 = rw is at none in cc
+      by Greater is rest =
+          let left : None ≡ lookup (is_at (cmp k)) es = rw is at none in
+          ap (λ b. finds e || b) (rest left) ∙ later (finds e) (list_any finds es) (finds (k, x))
+
+module _ (linked : ℤ) (code : Code) (old new : BTreeMap ℤ CodeCounts) (s : CodeCounts) where
+  -- Something was kept of the linked ID.
+  pub link_written : (was : CodeCounts) → Some was ≡ lookup (is_at (int_cmp linked)) old.entries
+      → WritesThrough int_cmp (int_cmp linked) old s new
+      → ((passes : Code → Bool) → list_any passes s.codes.items ≡ (list_any passes was.codes.items || passes code))
+      → (passes : ℤ → Code → Bool)
+      → list_any (links_at passes) new.entries ≡ (list_any (links_at passes) old.entries || passes linked code)
+  link_written was there writes gains passes =
+      ap (list_any (links_at passes)) writes.0
+      ∙ any_set (links_at passes) (is_at (int_cmp linked)) was s (passes linked code)
+      (λ k same. gains (passes k)
+      ∙ ap (λ q. list_any (passes k) was.codes.items || passes q code) (sym (tells_apart exact_signed linked k same)))
+      old.entries there
+
+  -- Nothing was.
+  pub link_made : (fresh : CodeCounts) → None ≡ lookup (is_at (int_cmp linked)) old.entries
+      → new.entries ≡ insert_entry int_cmp old.entries linked s → fresh.codes.items ≡ []
+      → ((passes : Code → Bool) → list_any passes s.codes.items ≡ (list_any passes fresh.codes.items || passes code))
+      → (passes : ℤ → Code → Bool)
+      → list_any (links_at passes) new.entries ≡ (list_any (links_at passes) old.entries || passes linked code)
+  link_made fresh none puts nothing gains passes =
+      ap (list_any (links_at passes)) puts
+      ∙ any_inserted (links_at passes) int_cmp linked s old.entries none
+      ∙ ap (λ b. list_any (links_at passes) old.entries || b)
+      (gains (passes linked) ∙ ap (λ cs. list_any (passes linked) cs || passes linked code) nothing)

@@ -1,0 +1,100 @@
+-- What a component of an invoke ID is, is what it is whatever its ID, where that is its ID.
+use Rattle.std.proofs.Common.{◌≡◌, ℕ, ℤ, Bool, true, false, ◌&&◌, List, Option, Some, None, not, refl, sym}
+use Rattle.tcap_parts.specs.declared.code.Code.{Code}
+use Rattle.tcap_parts.specs.declared.problem.Problem.{Problem}
+use Rattle.tcap_parts.specs.declared.problem.Problem.TheVariants as problems
+use Rattle.tcap_parts.specs.declared.component.ResultBody.{ResultBody}
+use Rattle.tcap_parts.specs.declared.component.Component.{Component}
+use Rattle.tcap_parts.specs.declared.component.Component.TheVariants.{Invoke, ReturnResult, ReturnError, Reject}
+use Rattle.tcap_end.specs.Table.{Table}
+use Rattle.tcap_refute.specs.Before.{is_invoke_id}
+use Rattle.tcap_refute.specs.Counts.{invokes_so, is_result_of}
+use Rattle.tcap_refute.proofs.TestLaws.{and_false}
+use Rattle.tcap_faults.specs.declared.sort.Sort.{Sort}
+use Rattle.tcap_faults.specs.declared.sort.Sort.TheVariants as sorts
+use Rattle.tcap_faults.specs.Tallied.{invokes_link, is_sort}
+use Rattle.tcap_faults.specs.Noted.{error_has, has_sort, invoke_has, invoke_id, invokes_by, is_its_id, links_so, names_code, reject_has, result_has}
+
+and_true : (a : Bool) → a ≡ (a && true)
+and_true true = refl
+and_true false = refl
+
+turned : (a b : Bool) → (a && b) ≡ (b && a)
+turned true b = and_true b
+turned false b = sym (and_false b)
+
+module _ (table : Table) (id : ℤ) where
+  invoke_sort : (n : ℤ) (linked : Option ℤ) (code : Code) (parameter : Option (List ℕ)) (sort : Sort)
+      → is_sort table id sort (Invoke n linked code parameter)
+      ≡ (is_invoke_id id n && invoke_has table linked code sort)
+  invoke_sort n linked code parameter (sorts.Invokes class) = refl
+  invoke_sort n linked code parameter (sorts.Lasting class) = refl
+  invoke_sort n linked code parameter sorts.Linked = refl
+  invoke_sort n linked code parameter sort = sym (and_false _)
+
+  result_sort : (last : Bool) (n : ℤ) (body : Option ResultBody) (sort : Sort)
+      → is_sort table id sort (ReturnResult last n body) ≡ (is_invoke_id id n && result_has last sort)
+  result_sort last n body sorts.Results = and_true _
+  result_sort last n body sorts.LastResults = turned last _
+  result_sort last n body sorts.NotLasts = turned (not last) _
+  result_sort last n body sort = sym (and_false _)
+
+  error_sort : (n : ℤ) (code : Code) (parameter : Option (List ℕ)) (sort : Sort)
+      → is_sort table id sort (ReturnError n code parameter) ≡ (is_invoke_id id n && error_has sort)
+  error_sort n code parameter sorts.Errors = and_true _
+  error_sort n code parameter sort = sym (and_false _)
+
+  no_sort : (problem : Problem) (sort : Sort) → is_sort table id sort (Reject None problem) ≡ false
+  no_sort problem (sorts.Invokes class) = refl
+  no_sort problem sort = refl
+
+  general_sort : (n : ℤ) (k : ℕ) (sort : Sort)
+      → is_sort table id sort (Reject (Some n) (problems.General k)) ≡ (is_invoke_id id n && false)
+  general_sort n k (sorts.Invokes class) = sym (and_false _)
+  general_sort n k sort = sym (and_false _)
+
+  reject_sort : (n : ℤ) (problem : Problem) (sort : Sort)
+      → is_sort table id sort (Reject (Some n) problem) ≡ (is_invoke_id id n && reject_has problem sort)
+  reject_sort n (problems.General k) sort = general_sort n k sort
+  reject_sort n (problems.Invoke k) sorts.InvokeRejects = refl
+  reject_sort n (problems.Invoke k) sorts.DuplicateRejects = refl
+  reject_sort n (problems.Invoke k) sorts.LinkRejects = refl
+  reject_sort n (problems.ReturnResult k) sorts.ResultRejects = refl
+  reject_sort n (problems.ReturnResult k) sorts.MistypedResults = refl
+  reject_sort n (problems.ReturnError k) sorts.ErrorRejects = refl
+  reject_sort n (problems.ReturnError k) sorts.MistypedErrors = refl
+  reject_sort n problem sort = sym (and_false _)
+
+  pub its_sort : (sort : Sort) (c : Component)
+      → is_sort table id sort c ≡ (is_its_id id (invoke_id c) && has_sort table sort c)
+  its_sort sort (Invoke n linked code parameter) = invoke_sort n linked code parameter sort
+  its_sort sort (ReturnResult last n body) = result_sort last n body sort
+  its_sort sort (ReturnError n code parameter) = error_sort n code parameter sort
+  its_sort sort (Reject None problem) = no_sort problem sort
+  its_sort sort (Reject (Some n) problem) = reject_sort n problem sort
+
+module _ (id : ℤ) where
+  pub its_operation : (passes : Code → Bool) (c : Component)
+      → invokes_so id passes c ≡ (is_its_id id (invoke_id c) && invokes_by passes c)
+  its_operation passes (Invoke n linked code parameter) = refl
+  its_operation passes (ReturnResult last n body) = sym (and_false _)
+  its_operation passes (ReturnError n code parameter) = sym (and_false _)
+  its_operation passes (Reject n problem) = sym (and_false _)
+
+  pub its_name : (code : Code) (c : Component)
+      → is_result_of id code c ≡ (is_its_id id (invoke_id c) && names_code code c)
+  its_name code (Invoke n linked other parameter) = sym (and_false _)
+  its_name code (ReturnResult true n None) = sym (and_false _)
+  its_name code (ReturnResult true n (Some body)) = refl
+  its_name code (ReturnResult false n None) = sym (and_false _)
+  its_name code (ReturnResult false n (Some body)) = sym (and_false _)
+  its_name code (ReturnError n other parameter) = sym (and_false _)
+  its_name code (Reject n problem) = sym (and_false _)
+
+  pub its_link : (passes : ℤ → Code → Bool) (c : Component)
+      → invokes_link id passes c ≡ (is_its_id id (invoke_id c) && links_so passes c)
+  its_link passes (Invoke n None code parameter) = sym (and_false _)
+  its_link passes (Invoke n (Some linked) code parameter) = refl
+  its_link passes (ReturnResult last n body) = sym (and_false _)
+  its_link passes (ReturnError n code parameter) = sym (and_false _)
+  its_link passes (Reject n problem) = sym (and_false _)

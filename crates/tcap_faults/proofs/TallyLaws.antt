@@ -1,0 +1,173 @@
+-- What is counted behind one component more.
+use Rattle.std.proofs.Common.{◌≡◌, ℕ, ℤ, Bool, true, false, cond, ◌&&◌, ◌||◌, List, [], ◌∷◌, ◌++◌, Option, Some, None, option_map, int_cmp, refl, sym, ap, ◌∙◌, arith}
+use Rattle.std.proofs.Math.Path.{fun_ext}
+use Rattle.std.specs.BTreeMap.{is_at}
+use Rattle.std.specs.Global.{Box}
+use Rattle.std.specs.List.{list_any}
+use Rattle.std.proofs.lemmas.Cmp.{eq_by_cmp_equiv, int_cmp_total}
+use Rattle.std.proofs.lemmas.List.{length-append}
+use Rattle.std.proofs.lemmas.List.Folds.{list_any-append}
+use Rattle.tcap_parts.specs.declared.code.Code.{Code}
+use Rattle.tcap_parts.specs.declared.component.Component.{Component}
+use Rattle.tcap_end.specs.Component.{is_code}
+use Rattle.tcap_end.specs.Table.{Table}
+use Rattle.tcap_refute.specs.Counts.{invokes_so, is_result_of}
+use Rattle.tcap_refute.proofs.TestLaws.{or_none}
+use Rattle.tcap_faults.specs.declared.sort.Sort.{Sort}
+use Rattle.tcap_faults.specs.declared.of_id.OfId.{OfId}
+use Rattle.tcap_faults.specs.declared.tally.Tally.{Tally}
+use Rattle.tcap_faults.specs.Tallied.{AreFew, Tallied, invokes_link, is_sort, more_if, tallied}
+use Rattle.tcap_faults.specs.Tallies.{IsTally, count_in, count_of, invokes_in, kept_of, links_in, of_kept, tally_of}
+use Rattle.tcap_faults.specs.Noted.{IsNoted, IsNothing, has_sort, invoke_id, invokes_by, is_its_id, links_so, names_code, one_tallied}
+use Rattle.tcap_faults.proofs.FoundLaws.{Puts, read_put}
+use Rattle.tcap_faults.proofs.SortLaws.{its_link, its_name, its_operation, its_sort}
+use Rattle.tcap_faults.proofs.SumLaws.{count_one_more}
+
+-- ---- what is counted, part by part
+
+abbrev made : (ℤ → Sort → ℕ) → (ℤ → Code → ℕ) → (ℤ → Code → ℕ) → (ℤ → (Code → Bool) → Bool)
+    → (ℤ → (ℤ → Code → Bool) → Bool) → Tallied
+made counts invokes results operations links = record {
+  count = counts;
+  invokes_of = invokes;
+  results_of = results;
+  has_operation = operations;
+  has_link = links;
+}
+
+pub same_tallied : (a b : Tallied) → ((id : ℤ) (sort : Sort) → a.count id sort ≡ b.count id sort)
+    → ((id : ℤ) (code : Code) → a.invokes_of id code ≡ b.invokes_of id code)
+    → ((id : ℤ) (code : Code) → a.results_of id code ≡ b.results_of id code)
+    → ((id : ℤ) (passes : Code → Bool) → a.has_operation id passes ≡ b.has_operation id passes)
+    → ((id : ℤ) (passes : ℤ → Code → Bool) → a.has_link id passes ≡ b.has_link id passes) → a ≡ b
+same_tallied a b counts invokes results operations links =
+    ap (λ f. made f a.invokes_of a.results_of a.has_operation a.has_link) (fun_ext λ id. fun_ext (counts id))
+    ∙ (ap (λ f. made b.count f a.results_of a.has_operation a.has_link) (fun_ext λ id. fun_ext (invokes id))
+    ∙ (ap (λ f. made b.count b.invokes_of f a.has_operation a.has_link) (fun_ext λ id. fun_ext (results id))
+    ∙ (ap (λ f. made b.count b.invokes_of b.results_of f a.has_link) (fun_ext λ id. fun_ext (operations id))
+    ∙ ap (λ f. made b.count b.invokes_of b.results_of b.has_operation f) (fun_ext λ id. fun_ext (links id)))))
+
+-- ---- a component of an ID
+
+-- What is kept of its ID is a step further than what was kept, if anything.
+pub record AreSteps (table : Table) (c : Component) (old : Option OfId) (new : OfId) : Type 0 where
+  pub counts : (sort : Sort) → count_in sort new ≡ more_if (has_sort table sort c) (of_kept 0 (count_in sort) old)
+  pub invokes : (code : Code)
+      → count_of code new.operations
+      ≡ more_if (invokes_by (is_code code) c) (of_kept 0 (λ kept. count_of code kept.operations) old)
+  pub results : (code : Code)
+      → count_of code new.named ≡ more_if (names_code code c) (of_kept 0 (λ kept. count_of code kept.named) old)
+  pub operations : (passes : Code → Bool)
+      → invokes_in passes new
+      ≡ (of_kept false (invokes_in passes) old || invokes_by passes c)
+  pub links : (passes : ℤ → Code → Bool)
+      → links_in passes new
+      ≡ (of_kept false (links_in passes) old || links_so passes c)
+
+module _ (table : Table) (c : Component) (old : Option OfId) (new : OfId) where
+  pub steps_on : (was : OfId) → Some was ≡ old → IsNoted table c was new → AreSteps table c old new
+  steps_on was there noted = rw (← there) (record {
+    counts = noted.counts;
+    invokes = noted.invokes;
+    results = noted.results;
+    operations = noted.operations;
+    links = noted.links;
+  })
+
+  pub steps_first : (fresh : OfId) → None ≡ old → IsNothing fresh → IsNoted table c fresh new → AreSteps table c old new
+  steps_first fresh none nothing noted = rw (← none) (record {
+    counts = λ sort. noted.counts sort ∙ ap (more_if (has_sort table sort c)) (nothing.counts sort);
+    invokes = λ code. noted.invokes code ∙ ap (more_if (invokes_by (is_code code) c)) (nothing.invokes code);
+    results = λ code. noted.results code ∙ ap (more_if (names_code code c)) (nothing.results code);
+    operations = λ passes. noted.operations passes ∙ ap (λ b. b || invokes_by passes c) (nothing.operations passes);
+    links = λ passes. noted.links passes ∙ ap (λ b. b || links_so passes c) (nothing.links passes);
+  })
+
+module _ (c : Component) (id q : ℤ) (its : invoke_id c ≡ Some id) (so has : Bool)
+    (is : so ≡ (is_its_id q (invoke_id c) && has)) where
+  at_its_id : so ≡ (is_at (int_cmp id) q && has)
+  at_its_id =
+      is ∙ ap (λ i. is_its_id q i && has) its ∙ ap (λ b. b && has) ((eq_by_cmp_equiv int_cmp_total).symm q id)
+
+  counted_at : (n : ℕ) → cond (is_at (int_cmp id) q) (more_if has n) n ≡ more_if so n
+  counted_at n = rw at_its_id (by (is_at (int_cmp id) q))
+    where
+      by : (b : Bool) → cond b (more_if has n) n ≡ more_if (b && has) n
+      by true = refl
+      by false = refl
+
+  found_at : (b : Bool) → cond (is_at (int_cmp id) q) (b || has) b ≡ (b || so)
+  found_at found = rw at_its_id (by (is_at (int_cmp id) q))
+    where
+      by : (b : Bool) → cond b (found || has) found ≡ (found || (b && has))
+      by true = refl
+      by false = or_none found
+
+module _ (table : Table) (c : Component) (id : ℤ) (its : invoke_id c ≡ Some id) (old new : Tally) (s : Box OfId)
+    (puts : Puts id s old.ids.entries new.ids.entries) (steps : AreSteps table c (kept_of id old) s.value) where
+  read_at : {A : Type 0} (nothing : A) (f : OfId → A) (step : A → A)
+      → f s.value ≡ step (of_kept nothing f (kept_of id old)) → (q : ℤ) → of_kept nothing f (kept_of q new)
+      ≡ cond (is_at (int_cmp id) q) (step (of_kept nothing f (kept_of q old))) (of_kept nothing f (kept_of q old))
+  read_at nothing f step is q =
+      read_put (λ o. of_kept nothing f (option_map (λ kept. kept.value) o)) step id s old.ids.entries new.ids.entries
+      puts is q
+
+  pub tally_noted : tally_of new ≡ one_tallied table c (tally_of old)
+  tally_noted =
+      same_tallied (tally_of new) (one_tallied table c (tally_of old))
+      (λ q sort. read_at 0 (count_in sort) (more_if (has_sort table sort c)) (steps.counts sort) q
+      ∙ counted_at c id q its (is_sort table q sort c) (has_sort table sort c) (its_sort table q sort c) _)
+      (λ q code. read_at 0 (λ kept. count_of code kept.operations) (more_if (invokes_by (is_code code) c))
+      (steps.invokes code) q
+      ∙ counted_at c id q its (invokes_so q (is_code code) c) (invokes_by (is_code code) c)
+      (its_operation q (is_code code) c) _)
+      (λ q code. read_at 0 (λ kept. count_of code kept.named) (more_if (names_code code c)) (steps.results code) q
+      ∙ counted_at c id q its (is_result_of q code c) (names_code code c) (its_name q code c) _)
+      (λ q passes. read_at false (invokes_in passes) (λ b. b || invokes_by passes c)
+      (steps.operations passes) q
+      ∙ found_at c id q its (invokes_so q passes c) (invokes_by passes c) (its_operation q passes c) _)
+      (λ q passes. read_at false (links_in passes) (λ b. b || links_so passes c)
+      (steps.links passes) q
+      ∙ found_at c id q its (invokes_link q passes c) (links_so passes c) (its_link q passes c) _)
+
+-- ---- a component of none
+
+module _ (q : ℤ) (c : Component) (none : invoke_id c ≡ None) (so has : Bool)
+    (is : so ≡ (is_its_id q (invoke_id c) && has)) where
+  is_none : so ≡ false
+  is_none = is ∙ ap (λ i. is_its_id q i && has) none
+
+  uncounted : (n : ℕ) → n ≡ more_if so n
+  uncounted n = rw is_none refl
+
+  unfound : (b : Bool) → b ≡ (b || so)
+  unfound b = rw is_none (or_none b)
+
+pub none_tallied : (table : Table) (c : Component) (t : Tallied) → invoke_id c ≡ None → t ≡ one_tallied table c t
+none_tallied table c t none =
+    same_tallied t (one_tallied table c t)
+    (λ q sort. uncounted q c none _ (has_sort table sort c) (its_sort table q sort c) _)
+    (λ q code. uncounted q c none _ (invokes_by (is_code code) c) (its_operation q (is_code code) c) _)
+    (λ q code. uncounted q c none _ (names_code code c) (its_name q code c) _)
+    (λ q passes. unfound q c none _ (invokes_by passes c) (its_operation q passes c) _)
+    (λ q passes. unfound q c none _ (links_so passes c) (its_link q passes c) _)
+
+-- ---- few components
+
+module _ (table : Table) (cs : List Component) (c : Component) where
+  any_more : (p : Component → Bool) → (list_any p cs || p c) ≡ list_any p (cs ++ c ∷ [])
+  any_more p = sym (list_any-append p cs (c ∷ []) ∙ ap (λ b. list_any p cs || b) (sym (or_none (p c))))
+
+  one_more : AreFew (cs ++ c ∷ []) → one_tallied table c (tallied table cs) ≡ tallied table (cs ++ c ∷ [])
+  one_more few =
+      same_tallied (one_tallied table c (tallied table cs)) (tallied table (cs ++ c ∷ []))
+      (λ q sort. count_one_more (is_sort table q sort) cs c few)
+      (λ q code. count_one_more (invokes_so q (is_code code)) cs c few)
+      (λ q code. count_one_more (is_result_of q code) cs c few)
+      (λ q passes. any_more (invokes_so q passes))
+      (λ q passes. any_more (invokes_link q passes))
+
+  pub is_more : (old new : Tally) → tally_of new ≡ one_tallied table c (tally_of old) → IsTally table cs old
+      → IsTally table (cs ++ c ∷ []) new
+  is_more old new is was few =
+      is ∙ (ap (one_tallied table c) (was (omega (arith, length-append cs (c ∷ []), few))) ∙ one_more few)

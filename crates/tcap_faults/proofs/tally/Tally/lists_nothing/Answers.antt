@@ -1,0 +1,15 @@
+use Rattle.std.proofs.Common.{false, to_z-of_z, ap, ◌∙◌}
+use Rattle.tcap_refute.specs.ComponentKinds.{lists_nothing}
+use Rattle.tcap_faults.specs.Tallies.{invokes_in, of_kept}
+use Rattle.tcap_faults.proofs.tally.Tally.lists_nothing.Goals as goal
+
+pub returns-in-Some : goal.returns-in-Some
+returns-in-Some c =
+    c.lists_nothing.ensures
+    ∙ ap (of_kept false (invokes_in (lists_nothing c.args.table.now)))
+    (rw (to_z-of_z c.ranges.id) at c.in-Some.ensures)
+
+pub returns-in-None : goal.returns-in-None
+returns-in-None c =
+    ap (of_kept false (invokes_in (lists_nothing c.args.table.now)))
+    (rw (to_z-of_z c.ranges.id) at c.in-None.ensures)

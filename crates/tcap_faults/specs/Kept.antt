@@ -1,0 +1,138 @@
+-- What is kept of what an end sent since the last quiet mark, by the transaction IDs from which and to which it sent: of which
+-- messages each part is.
+use Rattle.std.specs.Prelude.{◌≡◌, ⊤, ◌≤◌, ℕ, ◌^◌, Bool, true, false, List, [], ◌∷◌, ◌++◌, length, filter, filter_map, Option, Some, None, is_some, is_none, ◌&&◌, ◌||◌, not, nat_le, cond}
+use Rattle.std.specs.Map.{lookup}
+use Rattle.std.specs.BTreeMap.{BTreeMap, is_at}
+use Rattle.std.specs.BTreeSet as set
+use Rattle.std.specs.List.{find, list_any}
+use Rattle.tcap_msg.specs.declared.kind.Kind.TheVariants as forms
+use Rattle.tcap_msg.specs.declared.message.Message.{Message}
+use Rattle.tcap_msg.specs.Parts.{cause_in, components_in, dtid_in, otid_in}
+use Rattle.tcap_record.specs.declared.entry.End.{End as Side}
+use Rattle.tcap_record.specs.declared.entry.End.TheVariants.{A, B}
+use Rattle.tcap_record.specs.Ends.{other}
+use Rattle.tcap_end.specs.End.{is_id}
+use Rattle.tcap_end.specs.Table.{Table, octets_cmp}
+use Rattle.tcap_model.specs.World.{Item}
+use Rattle.tcap_model.specs.Since.{ended_by}
+use Rattle.tcap_refute.specs.Before.{components_of, is_a, sent_by}
+use Rattle.tcap_refute.specs.Counts.{count}
+use Rattle.tcap_refute.specs.HalfKinds.{was_closed_behind}
+use Rattle.tcap_refute.specs.Kind.{is_begin_with_request}
+use Rattle.tcap_refute.specs.Speaker.{goes_on_to, is_cause, is_nothing}
+use Rattle.tcap_faults.specs.declared.facts.Facts.{Facts}
+use Rattle.tcap_faults.specs.declared.facts.SideFacts.{SideFacts}
+use Rattle.tcap_faults.specs.declared.sent_from.Came.{Came}
+use Rattle.tcap_faults.specs.declared.sent_from.FirstBegin.{FirstBegin}
+use Rattle.tcap_faults.specs.declared.sent_from.SentFrom.{SentFrom}
+use Rattle.tcap_faults.specs.declared.sent_to.SentTo.{SentTo}
+use Rattle.tcap_faults.specs.HalfOf.{from_first, responds}
+use Rattle.tcap_faults.specs.Ids.{AreAmong, AreIds}
+use Rattle.tcap_faults.specs.Tallies.{IsTally}
+use Rattle.tcap_faults.specs.Tangled.{guesses, has_used, one_passes, peers_of}
+use Rattle.tcap_faults.specs.UsedAgain.{has_ended, has_used_again}
+
+-- ---- by transaction IDs
+
+-- the messages of an end from that ID, and those to that ID
+abbrev pub sent_from : Side → List Item → List ℕ → List Message
+sent_from side items id = filter (λ m. is_id id (otid_in m)) (sent_by side items)
+
+abbrev pub sent_to : Side → List Item → List ℕ → List Message
+sent_to side items id = filter (λ m. is_id id (dtid_in m)) (sent_by side items)
+
+-- the destination IDs of the Continues among these, and their originating IDs
+abbrev pub dtids_of : List Message → List (List ℕ)
+dtids_of ms = filter_map dtid_in (filter (is_a forms.Continue) ms)
+
+abbrev pub otids_of : List Message → List (List ℕ)
+otids_of ms = filter_map otid_in (filter (is_a forms.Continue) ms)
+
+-- ---- Continues to an ID, apart by the first that answers a dialogue request
+
+abbrev pub before_response : List Message → List Message
+before_response [] = []
+before_response (m ∷ ms) = cond (responds m) [] (m ∷ before_response ms)
+
+-- Of these Continues.
+pub record IsCame (table : Table) (ms : List Message) (kept : Came) : Type 0 where
+  pub answered : kept.answered ≡ list_any responds ms
+  pub sooner : IsTally table (components_of (before_response ms)) kept.sooner
+  pub since : IsTally table (components_of (from_first responds ms)) kept.since
+
+-- what is kept of these Continues, if there are any
+abbrev pub IsCameAt : Table → List Message → Option Came → Type 0
+IsCameAt table ms None = ms ≡ []
+IsCameAt table ms (Some kept) = (is_nothing ms ≡ false) × IsCame table ms kept
+
+-- ---- what was sent from an ID
+
+-- Of the first Begin, if there is one.
+abbrev pub IsFirstBegin : Table → Option Message → Option FirstBegin → Type 0
+IsFirstBegin table None None = ⊤
+IsFirstBegin table (Some begin) (Some kept) =
+    (kept.requests ≡ is_begin_with_request begin) × IsTally table (components_in begin) kept.components
+IsFirstBegin table _ _ = ⊥
+
+-- Of these messages from one ID.
+pub record IsFrom (table : Table) (ms : List Message) (kept : SentFrom) : Type 0 where
+  pub begin : IsFirstBegin table (find (is_a forms.Begin) ms) kept.begin
+  pub twice : kept.begun_twice ≡ nat_le 2 (count (is_a forms.Begin) ms)
+  pub continues : length ms ≤ 2 ^ 126 → kept.continues ≡ count (is_a forms.Continue) ms
+  pub to : AreIds (dtids_of ms) kept.to
+  pub came : (own : List ℕ) → IsCameAt table (filter (goes_on_to own) ms) (lookup (is_at (octets_cmp own)) kept.came.entries)
+
+abbrev pub IsFromAt : Table → List Message → Option SentFrom → Type 0
+IsFromAt table ms None = ms ≡ []
+IsFromAt table ms (Some kept) = (is_nothing ms ≡ false) × IsFrom table ms kept
+
+-- ---- what was sent to an ID
+
+-- those that are no Aborts of the provider
+abbrev pub of_user : List Message → List Message
+of_user ms = filter (λ m. is_none (cause_in m)) ms
+
+-- an End, or an Abort without cause; an End or an Abort
+abbrev pub ends : Message → Bool
+ends m = is_some (ended_by m)
+
+abbrev pub silences : Message → Bool
+silences m = is_a forms.End m || is_a forms.Abort m
+
+-- Of these messages to one ID.
+pub record IsTo (table : Table) (ms : List Message) (kept : SentTo) : Type 0 where
+  pub spoke : kept.spoke ≡ not (is_nothing (of_user ms))
+  pub from : AreIds (otids_of ms) kept.from
+  pub refused : kept.refused ≡ list_any (λ m. is_cause 4 (cause_in m)) ms
+  pub unknown : length ms ≤ 2 ^ 126 → kept.unknown ≡ count (λ m. is_cause 1 (cause_in m)) ms
+  pub ended : kept.ended ≡ list_any ends ms
+  pub silenced : kept.silenced ≡ list_any silences ms
+  pub components : IsTally table (components_of (of_user ms)) kept.components
+
+abbrev pub IsToAt : Table → List Message → Option SentTo → Type 0
+IsToAt table ms None = ms ≡ []
+IsToAt table ms (Some kept) = (is_nothing ms ≡ false) × IsTo table ms kept
+
+-- ---- all of an end
+
+-- Of what that end sent in these items, and what its peer did.
+pub record IsSide (table : Table) (side : Side) (items : List Item) (kept : SideFacts) : Type 0 where
+  pub from : (id : List ℕ) → IsFromAt table (sent_from side items id) (lookup (is_at (octets_cmp id)) kept.from.entries)
+  pub to : (id : List ℕ) → IsToAt table (sent_to side items id) (lookup (is_at (octets_cmp id)) kept.to.entries)
+  -- of the destination IDs of its Continues from an ID those that the other end used
+  pub joined : (id : List ℕ)
+      → AreAmong (filter (has_used (other side) items) (dtids_of (sent_from side items id)))
+      (lookup (is_at (octets_cmp id)) kept.joined.entries)
+  -- its IDs from which it guessed one of the other end
+  pub guessed : (id : List ℕ) → set.contains octets_cmp kept.guessed id ≡ one_passes (guesses (other side) id) [] items
+  -- its IDs that it answered as closed
+  pub closed : (id : List ℕ) → set.contains octets_cmp kept.closed id ≡ was_closed_behind side id [] items
+  -- its IDs whose peers it ended
+  pub over : (id : List ℕ)
+      → set.contains octets_cmp kept.over id ≡ list_any (has_ended side items) (peers_of side items id)
+  pub again : kept.again ≡ has_used_again table side items
+
+-- Of both ends.
+pub record AreFacts (table : Table) (items : List Item) (kept : Facts) : Type 0 where
+  pub a : IsSide table A items kept.a
+  pub b : IsSide table B items kept.b

@@ -1,0 +1,188 @@
+-- What one component more does to what is counted: to what is kept of its invoke ID, and to all of it.
+use Rattle.std.specs.Prelude.{◌≡◌, ℕ, ℤ, Bool, true, false, Option, Some, None, is_some, ◌&&◌, ◌||◌, not, nat_le}
+use Rattle.tcap_parts.specs.declared.code.Code.{Code}
+use Rattle.tcap_parts.specs.declared.problem.Problem.{Problem}
+use Rattle.tcap_parts.specs.declared.problem.Problem.TheVariants as problems
+use Rattle.tcap_parts.specs.declared.component.ResultBody.{ResultBody}
+use Rattle.tcap_parts.specs.declared.component.Component.{Component}
+use Rattle.tcap_parts.specs.declared.component.Component.TheVariants.{Invoke, ReturnResult, ReturnError, Reject}
+use Rattle.tcap_end.specs.Component.{is_code}
+use Rattle.tcap_end.specs.Table.{Table}
+use Rattle.tcap_refute.specs.Before.{is_invoke_id}
+use Rattle.tcap_refute.specs.Counts.{invokes_so, is_class, is_result_of}
+use Rattle.tcap_refute.specs.ComponentKinds.{is_of_link, is_problem}
+use Rattle.tcap_faults.specs.declared.sort.Class.{Class}
+use Rattle.tcap_faults.specs.declared.sort.Class.TheVariants as classes
+use Rattle.tcap_faults.specs.declared.sort.Sort.{Sort}
+use Rattle.tcap_faults.specs.declared.sort.Sort.TheVariants as sorts
+use Rattle.tcap_faults.specs.declared.of_id.OfId.{OfId}
+use Rattle.tcap_faults.specs.Tallied.{Tallied, invokes_link, is_of_class, is_sort, more_if, not_expiring, sum}
+use Rattle.tcap_faults.specs.Tallies.{count_in, count_of, count_of_class, invokes_in, links_in}
+
+-- whether an operation of that class in the table, or of none, is of a class
+abbrev pub is_of : Class → Option ℕ → Bool
+is_of classes.Any class = true
+is_of classes.One class = is_class 1 class
+is_of classes.Two class = is_class 2 class
+is_of classes.Three class = is_class 3 class
+is_of classes.Four class = is_class 4 class
+
+-- ---- what a component is, whatever its ID
+
+-- its invoke ID
+abbrev pub invoke_id : Component → Option ℤ
+invoke_id (Invoke id linked code parameter) = Some id
+invoke_id (ReturnResult last id body) = Some id
+invoke_id (ReturnError id code parameter) = Some id
+invoke_id (Reject id problem) = id
+
+-- whether that is its invoke ID
+abbrev pub is_its_id : ℤ → Option ℤ → Bool
+is_its_id id None = false
+is_its_id id (Some other) = is_invoke_id id other
+
+-- whether an Invoke, a Return Result, a Return Error or a Reject is of a sort
+abbrev pub invoke_has : Table → Option ℤ → Code → Sort → Bool
+invoke_has table linked code (sorts.Invokes class) = is_of_class table class code
+invoke_has table linked code (sorts.Lasting class) = not_expiring table class code
+invoke_has table linked code sorts.Linked = is_some linked
+invoke_has table linked code _ = false
+
+abbrev pub result_has : Bool → Sort → Bool
+result_has last sorts.Results = true
+result_has last sorts.LastResults = last
+result_has last sorts.NotLasts = not last
+result_has last _ = false
+
+abbrev pub error_has : Sort → Bool
+error_has sorts.Errors = true
+error_has _ = false
+
+abbrev pub reject_has : Problem → Sort → Bool
+reject_has (problems.General n) sort = false
+reject_has (problems.Invoke n) sorts.InvokeRejects = true
+reject_has (problems.Invoke n) sorts.DuplicateRejects = is_problem 0 n
+reject_has (problems.Invoke n) sorts.LinkRejects = is_of_link n
+reject_has (problems.ReturnResult n) sorts.ResultRejects = true
+reject_has (problems.ReturnResult n) sorts.MistypedResults = nat_le 2 n
+reject_has (problems.ReturnError n) sorts.ErrorRejects = true
+reject_has (problems.ReturnError n) sorts.MistypedErrors = nat_le 2 n
+reject_has _ _ = false
+
+abbrev pub has_sort : Table → Sort → Component → Bool
+has_sort table sort (Invoke id linked code parameter) = invoke_has table linked code sort
+has_sort table sort (ReturnResult last id body) = result_has last sort
+has_sort table sort (ReturnError id code parameter) = error_has sort
+has_sort table sort (Reject id problem) = reject_has problem sort
+
+-- whether it is an Invoke whose operation passes a test
+abbrev pub invokes_by : (Code → Bool) → Component → Bool
+invokes_by passes (Invoke id linked code parameter) = passes code
+invokes_by passes _ = false
+
+-- whether what a Return Result carries names that operation
+abbrev pub names : Code → Option ResultBody → Bool
+names code None = false
+names code (Some body) = is_code code body.code
+
+-- whether it is a last Return Result that names that operation
+abbrev pub names_code : Code → Component → Bool
+names_code code (ReturnResult last id body) = last && names code body
+names_code code _ = false
+
+-- whether a linked ID, where there is one, passes a test with an operation
+abbrev pub links_by : (ℤ → Code → Bool) → Option ℤ → Code → Bool
+links_by passes None code = false
+links_by passes (Some linked) code = passes linked code
+
+-- whether it is a linked Invoke whose linked ID passes a test with its operation
+abbrev pub links_so : (ℤ → Code → Bool) → Component → Bool
+links_so passes (Invoke id linked code parameter) = links_by passes linked code
+links_so passes _ = false
+
+-- ---- what is kept of its invoke ID
+
+-- Nothing is kept.
+pub record IsNothing (kept : OfId) : Type 0 where
+  pub counts : (sort : Sort) → count_in sort kept ≡ 0
+  pub invokes : (code : Code) → count_of code kept.operations ≡ 0
+  pub results : (code : Code) → count_of code kept.named ≡ 0
+  pub operations : (passes : Code → Bool) → invokes_in passes kept ≡ false
+  pub links : (passes : ℤ → Code → Bool) → links_in passes kept ≡ false
+
+-- A component more is kept.
+pub record IsNoted (table : Table) (c : Component) (old new : OfId) : Type 0 where
+  pub counts : (sort : Sort) → count_in sort new ≡ more_if (has_sort table sort c) (count_in sort old)
+  pub invokes : (code : Code)
+      → count_of code new.operations ≡ more_if (invokes_by (is_code code) c) (count_of code old.operations)
+  pub results : (code : Code) → count_of code new.named ≡ more_if (names_code code c) (count_of code old.named)
+  pub operations : (passes : Code → Bool)
+      → invokes_in passes new ≡ invokes_in passes old || invokes_by passes c
+  pub links : (passes : ℤ → Code → Bool)
+      → links_in passes new
+      ≡ links_in passes old || links_so passes c
+
+-- An Invoke more is.
+pub record IsInvoked (table : Table) (linked : Option ℤ) (code : Code) (old new : OfId) : Type 0 where
+  pub invokes : (class : Class)
+      → count_of_class class new.invokes ≡ more_if (is_of_class table class code) (count_of_class class old.invokes)
+  pub lasting : (class : Class)
+      → count_of_class class new.lasting ≡ more_if (not_expiring table class code) (count_of_class class old.lasting)
+  pub linked_ones : new.linked ≡ more_if (is_some linked) old.linked
+  pub counts : (other : Code)
+      → count_of other new.operations ≡ more_if (is_code other code) (count_of other old.operations)
+  pub operations : (passes : Code → Bool)
+      → invokes_in passes new ≡ invokes_in passes old || passes code
+  pub links : (passes : ℤ → Code → Bool)
+      → links_in passes new
+      ≡ links_in passes old || links_by passes linked code
+  pub others : new ≡ record old {
+    invokes = new.invokes;
+    lasting = new.lasting;
+    linked = new.linked;
+    operations = new.operations;
+    by_link = new.by_link;
+  }
+
+-- A Return Result more is.
+pub record IsAnswered (last : Bool) (body : Option ResultBody) (old new : OfId) : Type 0 where
+  pub named : (code : Code) → count_of code new.named ≡ more_if (last && names code body) (count_of code old.named)
+  pub others : new ≡ record old {
+    results = sum old.results 1;
+    last_results = more_if last old.last_results;
+    not_lasts = more_if (not last) old.not_lasts;
+    named = new.named;
+  }
+
+-- an invoke problem more
+abbrev pub invoke_rejected : ℕ → OfId → OfId
+invoke_rejected n old = record old {
+  invoke_rejects = sum old.invoke_rejects 1;
+  duplicate_rejects = more_if (is_problem 0 n) old.duplicate_rejects;
+  link_rejects = more_if (is_of_link n) old.link_rejects;
+}
+
+-- a Reject more
+abbrev pub rejected : Problem → OfId → OfId
+rejected (problems.General n) old = old
+rejected (problems.Invoke n) old = invoke_rejected n old
+rejected (problems.ReturnResult n) old = record old {
+  result_rejects = sum old.result_rejects 1;
+  mistyped_results = more_if (nat_le 2 n) old.mistyped_results;
+}
+rejected (problems.ReturnError n) old = record old {
+  error_rejects = sum old.error_rejects 1;
+  mistyped_errors = more_if (nat_le 2 n) old.mistyped_errors;
+}
+
+-- ---- all that is counted
+
+-- a component more
+abbrev pub one_tallied : Table → Component → Tallied → Tallied
+one_tallied table c t = record {
+  count = λ id sort. more_if (is_sort table id sort c) (t.count id sort);
+  invokes_of = λ id code. more_if (invokes_so id (is_code code) c) (t.invokes_of id code);
+  results_of = λ id code. more_if (is_result_of id code c) (t.results_of id code);
+  has_operation = λ id passes. t.has_operation id passes || invokes_so id passes c;
+  has_link = λ id passes. t.has_link id passes || invokes_link id passes c;
+}

@@ -1,0 +1,52 @@
+-- What is kept behind a message more.
+use Rattle.std.specs.Prelude.{◌≡◌, ℕ, Bool, true, List, [], ◌∷◌, ◌++◌, Option, ◌==◌, ◌||◌, cond}
+use Rattle.std.specs.Map.{lookup}
+use Rattle.std.specs.BTreeMap.{BTreeMap, is_at}
+use Rattle.tcap_msg.specs.declared.message.Message.{Message}
+use Rattle.tcap_end.specs.End.{is_id}
+use Rattle.tcap_end.specs.Table.{Table, octets_cmp}
+use Rattle.tcap_refute.specs.Before.{components_of}
+use Rattle.tcap_faults.specs.declared.sent_from.Came.{Came}
+use Rattle.tcap_faults.specs.declared.sent_from.SentFrom.{SentFrom}
+use Rattle.tcap_faults.specs.declared.sent_to.SentTo.{SentTo}
+use Rattle.tcap_faults.specs.Ids.{AreIds}
+use Rattle.tcap_faults.specs.Kept.{IsCameAt, IsFromAt, IsToAt, of_user, otids_of}
+use Rattle.tcap_faults.specs.Tallied.{more_if}
+use Rattle.tcap_faults.specs.Tallies.{IsTally}
+
+-- ---- messages by transaction IDs
+
+-- these lists, with a message more at that ID of it
+abbrev pub with_more : (Message → Option (List ℕ)) → Message → (List ℕ → List Message) → List ℕ → List Message
+with_more id_in m lists id = lists id ++ cond (is_id id (id_in m)) (m ∷ []) []
+
+abbrev pub AreCame : Table → (List ℕ → List Message) → BTreeMap (List ℕ) Came → Type 0
+AreCame table lists kept = (id : List ℕ) → IsCameAt table (lists id) (lookup (is_at (octets_cmp id)) kept.entries)
+
+abbrev pub AreFrom : Table → (List ℕ → List Message) → BTreeMap (List ℕ) SentFrom → Type 0
+AreFrom table lists kept = (id : List ℕ) → IsFromAt table (lists id) (lookup (is_at (octets_cmp id)) kept.entries)
+
+abbrev pub AreTo : Table → (List ℕ → List Message) → BTreeMap (List ℕ) SentTo → Type 0
+AreTo table lists kept = (id : List ℕ) → IsToAt table (lists id) (lookup (is_at (octets_cmp id)) kept.entries)
+
+-- ---- parts of what is kept of an ID
+
+-- the cause of an Abort of the provider more
+pub record IsCaused (cause : ℕ) (old new : SentTo) : Type 0 where
+  pub refused : new.refused ≡ old.refused || (cause == 4)
+  pub unknown : new.unknown ≡ more_if (cause == 1) old.unknown
+  pub spoke : new.spoke ≡ old.spoke
+  pub from : new.from ≡ old.from
+  pub ended : new.ended ≡ old.ended
+  pub silenced : new.silenced ≡ old.silenced
+  pub components : new.components ≡ old.components
+
+-- what is no such Abort more: what it tells, but not whether it ends anything
+pub record IsTold (table : Table) (ms : List Message) (m : Message) (old new : SentTo) : Type 0 where
+  pub spoke : new.spoke ≡ true
+  pub from : AreIds (otids_of (ms ++ m ∷ [])) new.from
+  pub components : IsTally table (components_of (of_user (ms ++ m ∷ []))) new.components
+  pub refused : new.refused ≡ old.refused
+  pub unknown : new.unknown ≡ old.unknown
+  pub ended : new.ended ≡ old.ended
+  pub silenced : new.silenced ≡ old.silenced

@@ -1,0 +1,115 @@
+-- Components as they are counted, by their invoke IDs (Q.773 4.2.2). No count is kept above the greatest; where there
+-- are few components, each count is how many there are.
+use Rattle.std.specs.Prelude.{ℕ, ℤ, ◌+◌, ◌^◌, ◌≤◌, Bool, true, false, List, length, Some, ◌&&◌, ◌||◌, not, nat_lt, nat_le, cond}
+use Rattle.std.specs.List.{list_any}
+use Rattle.tcap_parts.specs.declared.code.Code.{Code}
+use Rattle.tcap_parts.specs.declared.component.Component.{Component}
+use Rattle.tcap_parts.specs.declared.component.Component.TheVariants.{Invoke}
+use Rattle.tcap_end.specs.Component.{is_code}
+use Rattle.tcap_end.specs.Table.{Table, expires_of}
+use Rattle.tcap_refute.specs.Before.{is_invoke_id}
+use Rattle.tcap_refute.specs.Counts.{any_problem, count, has_class, invokes_linked, invokes_so, is_error, is_last_result, is_not_last, is_result, is_result_of, rejects_error, rejects_invoke, rejects_result}
+use Rattle.tcap_refute.specs.ComponentKinds.{is_of_link, is_problem}
+use Rattle.tcap_faults.specs.declared.sort.Class.{Class}
+use Rattle.tcap_faults.specs.declared.sort.Class.TheVariants as classes
+use Rattle.tcap_faults.specs.declared.sort.Sort.{Sort}
+use Rattle.tcap_faults.specs.declared.sort.Sort.TheVariants as sorts
+
+-- ---- counts
+
+-- the greatest count that is kept
+abbrev pub greatest : ℕ
+greatest = 340282366920938463463374607431768211455
+
+-- the sum of two counts, or the greatest
+abbrev pub sum : ℕ → ℕ → ℕ
+sum a b = cond (nat_lt (a + b) (2 ^ 128)) (a + b) greatest
+
+-- one more, where that is so
+abbrev pub more_if : Bool → ℕ → ℕ
+more_if so n = cond so (sum n 1) n
+
+-- ---- sorts of components
+
+-- whether an operation is of that class, or of any
+abbrev pub is_of_class : Table → Class → Code → Bool
+is_of_class table classes.Any code = true
+is_of_class table classes.One code = has_class table 1 code
+is_of_class table classes.Two code = has_class table 2 code
+is_of_class table classes.Three code = has_class table 3 code
+is_of_class table classes.Four code = has_class table 4 code
+
+-- whether one is, and does not expire
+abbrev pub not_expiring : Table → Class → Code → Bool
+not_expiring table class code = not (expires_of table code) && is_of_class table class code
+
+-- whether a component of that invoke ID is of that sort
+abbrev pub is_sort : Table → ℤ → Sort → Component → Bool
+is_sort table id (sorts.Invokes class) = invokes_so id (is_of_class table class)
+is_sort table id (sorts.Lasting class) = invokes_so id (not_expiring table class)
+is_sort table id sorts.Linked = invokes_linked id
+is_sort table id sorts.Results = is_result id
+is_sort table id sorts.LastResults = is_last_result id
+is_sort table id sorts.NotLasts = is_not_last id
+is_sort table id sorts.Errors = is_error id
+is_sort table id sorts.InvokeRejects = rejects_invoke id any_problem
+is_sort table id sorts.DuplicateRejects = rejects_invoke id (is_problem 0)
+is_sort table id sorts.LinkRejects = rejects_invoke id is_of_link
+is_sort table id sorts.ResultRejects = rejects_result id any_problem
+is_sort table id sorts.MistypedResults = rejects_result id (nat_le 2)
+is_sort table id sorts.ErrorRejects = rejects_error id any_problem
+is_sort table id sorts.MistypedErrors = rejects_error id (nat_le 2)
+
+-- an Invoke of that ID whose linked ID, with its operation, passes a test
+abbrev pub invokes_link : ℤ → (ℤ → Code → Bool) → Component → Bool
+invokes_link id passes (Invoke other (Some linked) code parameter) = is_invoke_id id other && passes linked code
+invokes_link id passes _ = false
+
+-- ---- components that are counted
+
+-- What is counted of components.
+pub record Tallied : Type 0 where
+  -- how many of an ID are of a sort
+  pub count : ℤ → Sort → ℕ
+  -- how many Invokes of an ID are of an operation
+  pub invokes_of : ℤ → Code → ℕ
+  -- how many last Return Results of an ID name an operation
+  pub results_of : ℤ → Code → ℕ
+  -- whether an Invoke of an ID is of an operation that passes a test
+  pub has_operation : ℤ → (Code → Bool) → Bool
+  -- whether a linked one is, by its linked ID and its operation
+  pub has_link : ℤ → (ℤ → Code → Bool) → Bool
+
+-- what is counted of these components
+abbrev pub tallied : Table → List Component → Tallied
+tallied table cs = record {
+  count = λ id sort. count (is_sort table id sort) cs;
+  invokes_of = λ id code. count (invokes_so id (is_code code)) cs;
+  results_of = λ id code. count (is_result_of id code) cs;
+  has_operation = λ id passes. list_any (invokes_so id passes) cs;
+  has_link = λ id passes. list_any (invokes_link id passes) cs;
+}
+
+-- nothing
+abbrev pub nothing_tallied : Tallied
+nothing_tallied = record {
+  count = λ id sort. 0;
+  invokes_of = λ id code. 0;
+  results_of = λ id code. 0;
+  has_operation = λ id passes. false;
+  has_link = λ id passes. false;
+}
+
+-- of both
+abbrev pub both_tallied : Tallied → Tallied → Tallied
+both_tallied a b = record {
+  count = λ id sort. sum (a.count id sort) (b.count id sort);
+  invokes_of = λ id code. sum (a.invokes_of id code) (b.invokes_of id code);
+  results_of = λ id code. sum (a.results_of id code) (b.results_of id code);
+  has_operation = λ id passes. a.has_operation id passes || b.has_operation id passes;
+  has_link = λ id passes. a.has_link id passes || b.has_link id passes;
+}
+
+-- so few components that no sum of three counts of them is above the greatest
+abbrev pub AreFew : List Component → Type 0
+AreFew cs = length cs ≤ 2 ^ 126

@@ -1,0 +1,97 @@
+-- What tallies say of components.
+use Rattle.std.specs.Prelude.{◌≡◌, ℕ, ℤ, Bool, false, List, [], ◌∷◌, Option, Some, None, option_map}
+use Rattle.std.specs.Ordering.{int_cmp}
+use Rattle.std.specs.List.{list_any}
+use Rattle.std.specs.Map.{lookup}
+use Rattle.std.specs.BTreeMap.{is_at}
+use Rattle.tcap_parts.specs.declared.code.Code.{Code}
+use Rattle.tcap_parts.specs.declared.component.Component.{Component}
+use Rattle.tcap_end.specs.Table.{Table}
+use Rattle.tcap_faults.specs.declared.sort.Class.{Class}
+use Rattle.tcap_faults.specs.declared.sort.Class.TheVariants as classes
+use Rattle.tcap_faults.specs.declared.sort.Sort.{Sort}
+use Rattle.tcap_faults.specs.declared.sort.Sort.TheVariants as sorts
+use Rattle.tcap_faults.specs.declared.code_counts.CodeCounts.{CodeCounts}
+use Rattle.tcap_faults.specs.declared.by_class.ByClass.{ByClass}
+use Rattle.tcap_faults.specs.declared.of_id.OfId.{OfId}
+use Rattle.tcap_faults.specs.declared.tally.Tally.{Tally}
+use Rattle.tcap_faults.specs.Listed.{counted}
+use Rattle.tcap_faults.specs.Tallied.{AreFew, Tallied, both_tallied, nothing_tallied, tallied}
+
+-- a count that is kept, or 0
+abbrev pub or_zero : Option ℕ → ℕ
+or_zero None = 0
+or_zero (Some n) = n
+
+-- how often a code was counted
+abbrev pub count_of : Code → CodeCounts → ℕ
+count_of code kept = or_zero (counted kept.locals.entries kept.globals.entries code)
+
+abbrev pub count_of_class : Class → ByClass → ℕ
+count_of_class classes.Any kept = kept.all
+count_of_class classes.One kept = kept.one
+count_of_class classes.Two kept = kept.two
+count_of_class classes.Three kept = kept.three
+count_of_class classes.Four kept = kept.four
+
+-- ---- of an invoke ID
+
+abbrev pub count_in : Sort → OfId → ℕ
+count_in (sorts.Invokes class) kept = count_of_class class kept.invokes
+count_in (sorts.Lasting class) kept = count_of_class class kept.lasting
+count_in sorts.Linked kept = kept.linked
+count_in sorts.Results kept = kept.results
+count_in sorts.LastResults kept = kept.last_results
+count_in sorts.NotLasts kept = kept.not_lasts
+count_in sorts.Errors kept = kept.errors
+count_in sorts.InvokeRejects kept = kept.invoke_rejects
+count_in sorts.DuplicateRejects kept = kept.duplicate_rejects
+count_in sorts.LinkRejects kept = kept.link_rejects
+count_in sorts.ResultRejects kept = kept.result_rejects
+count_in sorts.MistypedResults kept = kept.mistyped_results
+count_in sorts.ErrorRejects kept = kept.error_rejects
+count_in sorts.MistypedErrors kept = kept.mistyped_errors
+
+-- whether one of the operations of a linked ID passes a test with it
+abbrev pub links_at : (ℤ → Code → Bool) → ℤ × CodeCounts → Bool
+links_at passes (linked, kept) = list_any (passes linked) kept.codes.items
+
+-- whether the operation of an Invoke passes a test
+abbrev pub invokes_in : (Code → Bool) → OfId → Bool
+invokes_in passes kept = list_any passes kept.operations.codes.items
+
+-- whether the linked ID of a linked one does, with its operation
+abbrev pub links_in : (ℤ → Code → Bool) → OfId → Bool
+links_in passes kept = list_any (links_at passes) kept.by_link.entries
+
+-- ---- of all of them
+
+-- what is kept of that ID
+abbrev pub kept_of : ℤ → Tally → Option OfId
+kept_of id tally = option_map (λ kept. kept.value) (lookup (is_at (int_cmp id)) tally.ids.entries)
+
+-- something of what is kept, or what there is of nothing
+abbrev pub of_kept : {A : Type 0} → A → (OfId → A) → Option OfId → A
+of_kept nothing f None = nothing
+of_kept nothing f (Some kept) = f kept
+
+-- what a tally says
+abbrev pub tally_of : Tally → Tallied
+tally_of tally = record {
+  count = λ id sort. of_kept 0 (count_in sort) (kept_of id tally);
+  invokes_of = λ id code. of_kept 0 (λ kept. count_of code kept.operations) (kept_of id tally);
+  results_of = λ id code. of_kept 0 (λ kept. count_of code kept.named) (kept_of id tally);
+  has_operation = λ id passes. of_kept false (invokes_in passes) (kept_of id tally);
+  has_link = λ id passes. of_kept false (links_in passes) (kept_of id tally);
+}
+
+-- A tally is of these components: where they are few it says what is counted of them.
+abbrev pub IsTally : Table → List Component → Tally → Type 0
+IsTally table cs tally = AreFew cs → tally_of tally ≡ tallied table cs
+
+-- ---- several tallies
+
+-- what tallies say together
+abbrev pub tallies_of : List Tally → Tallied
+tallies_of [] = nothing_tallied
+tallies_of (tally ∷ more) = both_tallied (tally_of tally) (tallies_of more)

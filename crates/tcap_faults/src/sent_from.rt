@@ -1,0 +1,231 @@
+//! What an end sent from a transaction ID, since the last quiet mark.
+
+ghost use Rattle.std.specs.Prelude.{◌≡◌, [], ◌∷◌, ◌++◌, ℕ, true, List, Some, IfOk, OnOk, option_map};
+ghost use Rattle.tcap_parts.specs.DialogueMeaning.{dialogue_of};
+ghost use Rattle.tcap_msg.specs.declared.kind.Kind.TheVariants as forms;
+ghost use Rattle.tcap_msg.specs.declared.message.Message.{Message};
+ghost use Rattle.tcap_msg.specs.Parts.{dtid_in, otid_in};
+ghost use Rattle.tcap_end.specs.Dialogue.{is_request, is_response};
+ghost use Rattle.tcap_end.specs.Table.{Table};
+ghost use Rattle.tcap_refute.specs.Before.{is_a};
+ghost use Rattle.tcap_faults.specs.Kept.{IsCame, IsFirstBegin, IsFrom};
+ghost use Rattle.tcap_faults.specs.Noting.{AreCame, AreFrom, with_more};
+
+use crate::ids::Ids;
+use crate::tally::Tally;
+use std::alloc::{AllocError, Global};
+use std::collections::BTreeMap;
+use tcap_end::Table;
+use tcap_msg::{Kind as Form, MessageParts, TransactionId};
+use tcap_parts::DialogueView;
+
+/// The Continues from an ID to another.
+#[derive(Debug, Drop)]
+pub(crate) struct Came {
+    /// Whether one of them answers a dialogue request.
+    pub(crate) answered: bool,
+    /// The components of those before the first that does; of all, where none does.
+    pub(crate) sooner: Tally,
+    /// Those from the first on that does.
+    pub(crate) since: Tally,
+}
+
+/// The first Begin from an ID.
+#[derive(Debug, Drop)]
+pub(crate) struct FirstBegin {
+    /// Whether it has a dialogue request.
+    pub(crate) requests: bool,
+    pub(crate) components: Tally,
+}
+
+/// What was sent from an ID.
+#[derive(Debug, Drop)]
+pub(crate) struct SentFrom {
+    pub(crate) begin: Option<FirstBegin>,
+    /// Whether there are two Begins or more.
+    pub(crate) begun_twice: bool,
+    /// How many Continues there are.
+    pub(crate) continues: u128,
+    /// Their destination IDs.
+    pub(crate) to: Ids,
+    /// The Continues, by their destination IDs.
+    pub(crate) came: BTreeMap<TransactionId, Came>,
+}
+
+/// Whether it is a dialogue request.
+pub(crate) fn is_request(dialogue: Option<DialogueView>) -> bool
+    ensures { result ≡ is_request (option_map dialogue_of dialogue.entry) }
+{
+    matches!(dialogue, Some(DialogueView::Request { .. }))
+}
+
+/// Whether it is a response.
+pub(crate) fn is_response(dialogue: Option<DialogueView>) -> bool
+    ensures { result ≡ is_response (option_map dialogue_of dialogue.entry) }
+{
+    matches!(dialogue, Some(DialogueView::Response { .. }))
+}
+
+impl Came {
+    /// That of none.
+    fn new(alloc: Global) -> Came
+        ensures { (table : Table) → IsCame table [] result }
+    {
+        Came {
+            answered: false,
+            sooner: Tally::new(alloc),
+            since: Tally::new(alloc),
+        }
+    }
+
+    /// A Continue more.
+    fn note<M: MessageParts>(
+        &mut self,
+        alloc: Global,
+        table: &Table,
+        message: &M,
+    ) -> Result<(), AllocError>
+        ensures { (ms : List Message) → IsCame table.now ms self.old
+            → OnOk result (IsCame table.now (ms ++ M.meaning message.now ∷ []) self.new) }
+    {
+        self.answered |= is_response(message.dialogue());
+        if self.answered {
+            self.since.note_all(alloc, table, message.components())
+        } else {
+            self.sooner.note_all(alloc, table, message.components())
+        }
+    }
+}
+
+/// A Continue more, by its destination ID.
+fn note_came<M: MessageParts>(
+    came: &mut BTreeMap<TransactionId, Came>,
+    alloc: Global,
+    table: &Table,
+    message: &M,
+) -> Result<(), AllocError>
+    ensures { (lists : List ℕ → List Message) → AreCame table.now lists came.old
+        → OnOk result (AreCame table.now (with_more dtid_in (M.meaning message.now) lists) came.new) }
+{
+    let Some(dtid) = message.dtid() else {
+        return Ok(());
+    };
+    let key = dtid.to_transaction_id();
+    if let Some(kept) = came.get_mut(&key) {
+        return kept.note(alloc, table, message);
+    }
+    let mut kept = Came::new(alloc);
+    kept.note(alloc, table, message)?;
+    came.insert(key, kept)?;
+    Ok(())
+}
+
+impl FirstBegin {
+    /// That of a Begin.
+    fn of<M: MessageParts>(
+        alloc: Global,
+        table: &Table,
+        message: &M,
+    ) -> Result<FirstBegin, AllocError>
+        ensures { is_a forms.Begin (M.meaning message.now) ≡ true
+            → IfOk result (λ kept. IsFirstBegin table.now (Some (M.meaning message.now)) (Some kept)) }
+    {
+        let mut components = Tally::new(alloc);
+        components.note_all(alloc, table, message.components())?;
+        Ok(FirstBegin {
+            requests: is_request(message.dialogue()),
+            components,
+        })
+    }
+}
+
+impl SentFrom {
+    /// That of no messages.
+    fn new(alloc: Global) -> SentFrom
+        ensures { (table : Table) → IsFrom table [] result }
+    {
+        SentFrom {
+            begin: None,
+            begun_twice: false,
+            continues: 0,
+            to: Ids::new(alloc),
+            came: BTreeMap::new(alloc),
+        }
+    }
+
+    /// A Begin more.
+    fn note_begin<M: MessageParts>(
+        &mut self,
+        alloc: Global,
+        table: &Table,
+        message: &M,
+    ) -> Result<(), AllocError>
+        ensures { (ms : List Message) → is_a forms.Begin (M.meaning message.now) ≡ true → IsFrom table.now ms self.old
+            → OnOk result (IsFrom table.now (ms ++ M.meaning message.now ∷ []) self.new) }
+    {
+        if self.begin.is_some() {
+            self.begun_twice = true;
+            return Ok(());
+        }
+        self.begin = Some(FirstBegin::of(alloc, table, message)?);
+        Ok(())
+    }
+
+    /// A Continue more.
+    fn note_continue<M: MessageParts>(
+        &mut self,
+        alloc: Global,
+        table: &Table,
+        message: &M,
+    ) -> Result<(), AllocError>
+        ensures { (ms : List Message) → is_a forms.Continue (M.meaning message.now) ≡ true
+            → IsFrom table.now ms self.old
+            → OnOk result (IsFrom table.now (ms ++ M.meaning message.now ∷ []) self.new) }
+    {
+        self.continues = self.continues.saturating_add(1);
+        if let Some(dtid) = message.dtid() {
+            self.to.add(dtid)?;
+        }
+        note_came(&mut self.came, alloc, table, message)
+    }
+
+    /// A message more.
+    fn note<M: MessageParts>(
+        &mut self,
+        alloc: Global,
+        table: &Table,
+        message: &M,
+    ) -> Result<(), AllocError>
+        ensures { (ms : List Message) → IsFrom table.now ms self.old
+            → OnOk result (IsFrom table.now (ms ++ M.meaning message.now ∷ []) self.new) }
+    {
+        match message.kind() {
+            Form::Begin => self.note_begin(alloc, table, message),
+            Form::Continue => self.note_continue(alloc, table, message),
+            _ => Ok(()),
+        }
+    }
+}
+
+/// A message more, by its originating ID.
+pub(crate) fn note_from<M: MessageParts>(
+    from: &mut BTreeMap<TransactionId, SentFrom>,
+    alloc: Global,
+    table: &Table,
+    message: &M,
+) -> Result<(), AllocError>
+    ensures { (lists : List ℕ → List Message) → AreFrom table.now lists from.old
+        → OnOk result (AreFrom table.now (with_more otid_in (M.meaning message.now) lists) from.new) }
+{
+    let Some(otid) = message.otid() else {
+        return Ok(());
+    };
+    let key = otid.to_transaction_id();
+    if let Some(kept) = from.get_mut(&key) {
+        return kept.note(alloc, table, message);
+    }
+    let mut kept = SentFrom::new(alloc);
+    kept.note(alloc, table, message)?;
+    from.insert(key, kept)?;
+    Ok(())
+}

@@ -1,0 +1,146 @@
+//! What an end sent to a transaction ID, since the last quiet mark.
+
+ghost use Rattle.std.specs.Prelude.{◌≡◌, [], ◌∷◌, ◌++◌, None, ℕ, List, OnOk};
+ghost use Rattle.tcap_msg.specs.declared.message.Message.{Message};
+ghost use Rattle.tcap_msg.specs.Parts.{cause_in, dtid_in};
+ghost use Rattle.tcap_end.specs.Table.{Table};
+ghost use Rattle.tcap_refute.specs.Before.{components_of};
+ghost use Rattle.tcap_faults.specs.Ids.{AreIds};
+ghost use Rattle.tcap_faults.specs.Kept.{IsTo, ends, of_user, otids_of, silences};
+ghost use Rattle.tcap_faults.specs.Noting.{AreTo, IsCaused, IsTold, with_more};
+ghost use Rattle.tcap_faults.specs.Tallies.{IsTally};
+
+use crate::ids::Ids;
+use crate::tally::Tally;
+use std::alloc::{AllocError, Global};
+use std::collections::BTreeMap;
+use tcap_ber::SmallView;
+use tcap_end::Table;
+use tcap_msg::{Kind as Form, MessageParts, TransactionId};
+
+/// What was sent to an ID.
+#[derive(Debug, Drop)]
+pub(crate) struct SentTo {
+    /// Whether a message is no Abort of the provider.
+    pub(crate) spoke: bool,
+    /// The originating IDs of the Continues.
+    pub(crate) from: Ids,
+    /// Whether the provider refused a Begin from there (P-Abort cause 4).
+    pub(crate) refused: bool,
+    /// How many Aborts with cause 1 there are.
+    pub(crate) unknown: u128,
+    /// Whether there is an End, or an Abort without cause.
+    pub(crate) ended: bool,
+    /// Whether there is an End or an Abort.
+    pub(crate) silenced: bool,
+    /// The components of all but the Aborts of the provider.
+    pub(crate) components: Tally,
+}
+
+/// Whether a message is an End, or an Abort without cause.
+pub(crate) fn ends<M: MessageParts>(message: &M) -> bool
+    ensures { result ≡ ends (M.meaning message.now) }
+{
+    match message.kind() {
+        Form::End => true,
+        Form::Abort => message.cause().is_none(),
+        _ => false,
+    }
+}
+
+/// Whether it is an End or an Abort.
+fn silences<M: MessageParts>(message: &M) -> bool
+    ensures { result ≡ silences (M.meaning message.now) }
+{
+    matches!(message.kind(), Form::End | Form::Abort)
+}
+
+impl SentTo {
+    /// That of no messages.
+    fn new(alloc: Global) -> SentTo
+        ensures { (table : Table) → IsTo table [] result }
+    {
+        SentTo {
+            spoke: false,
+            from: Ids::new(alloc),
+            refused: false,
+            unknown: 0,
+            ended: false,
+            silenced: false,
+            components: Tally::new(alloc),
+        }
+    }
+
+    /// The cause of an Abort of the provider.
+    fn note_cause(&mut self, cause: SmallView)
+        ensures { IsCaused cause.number self.old self.new }
+    {
+        match cause.number {
+            1 => self.unknown = self.unknown.saturating_add(1),
+            4 => self.refused = true,
+            _ => {}
+        }
+    }
+
+    /// A message more that is no Abort of the provider.
+    fn note_of_user<M: MessageParts>(
+        &mut self,
+        alloc: Global,
+        table: &Table,
+        message: &M,
+    ) -> Result<(), AllocError>
+        ensures { (ms : List Message) → cause_in (M.meaning message.now) ≡ None
+            → AreIds (otids_of ms) self.old.from → IsTally table.now (components_of (of_user ms)) self.old.components
+            → OnOk result (IsTold table.now ms (M.meaning message.now) self.old self.new) }
+    {
+        self.spoke = true;
+        if let (Form::Continue, Some(otid)) = (message.kind(), message.otid()) {
+            self.from.add(otid)?;
+        }
+        self.components.note_all(alloc, table, message.components())
+    }
+
+    /// A message more.
+    fn note<M: MessageParts>(
+        &mut self,
+        alloc: Global,
+        table: &Table,
+        message: &M,
+    ) -> Result<(), AllocError>
+        ensures { (ms : List Message) → IsTo table.now ms self.old
+            → OnOk result (IsTo table.now (ms ++ M.meaning message.now ∷ []) self.new) }
+    {
+        self.ended |= ends(message);
+        self.silenced |= silences(message);
+        match message.cause() {
+            Some(cause) => {
+                self.note_cause(cause);
+                Ok(())
+            }
+            None => self.note_of_user(alloc, table, message),
+        }
+    }
+}
+
+/// A message more, by its destination ID.
+pub(crate) fn note_to<M: MessageParts>(
+    to: &mut BTreeMap<TransactionId, SentTo>,
+    alloc: Global,
+    table: &Table,
+    message: &M,
+) -> Result<(), AllocError>
+    ensures { (lists : List ℕ → List Message) → AreTo table.now lists to.old
+        → OnOk result (AreTo table.now (with_more dtid_in (M.meaning message.now) lists) to.new) }
+{
+    let Some(dtid) = message.dtid() else {
+        return Ok(());
+    };
+    let key = dtid.to_transaction_id();
+    if let Some(kept) = to.get_mut(&key) {
+        return kept.note(alloc, table, message);
+    }
+    let mut kept = SentTo::new(alloc);
+    kept.note(alloc, table, message)?;
+    to.insert(key, kept)?;
+    Ok(())
+}

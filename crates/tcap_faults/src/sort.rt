@@ -1,0 +1,44 @@
+//! Sorts of components that are counted.
+
+/// A class of operations (Q.771 3.1.2), or any.
+#[derive(Clone, Copy, Debug)]
+pub(crate) enum Class {
+    Any,
+    One,
+    Two,
+    Three,
+    Four,
+}
+
+/// A sort of components of an invoke ID (Q.773 4.2.2).
+#[derive(Clone, Copy, Debug)]
+pub(crate) enum Sort {
+    /// Invokes of operations of that class.
+    Invokes(Class),
+    /// Those of operations that do not expire.
+    Lasting(Class),
+    /// Linked Invokes.
+    Linked,
+    /// Return Results.
+    Results,
+    /// Last ones.
+    LastResults,
+    /// Others.
+    NotLasts,
+    /// Return Errors.
+    Errors,
+    /// Rejects with an invoke problem.
+    InvokeRejects,
+    /// Rejects with duplicateInvokeID.
+    DuplicateRejects,
+    /// Rejects with a problem of a link.
+    LinkRejects,
+    /// Rejects with a return result problem.
+    ResultRejects,
+    /// Those with a problem from mistypedParameter on.
+    MistypedResults,
+    /// Rejects with a return error problem.
+    ErrorRejects,
+    /// Those with a problem from unrecognizedError on.
+    MistypedErrors,
+}
