@@ -20,7 +20,7 @@ use Rattle.tcap_refute.specs.Speaker.{began, begin_from, goes_on_to}
 use Rattle.tcap_refute.proofs.HalfLawsFinds.{filter_is, find_has}
 use Rattle.tcap_refute.proofs.LifeLawsItems.{begins_from}
 use Rattle.tcap_refute.proofs.Members.{any_has, filter_has, filter_map_has, has_not}
-use Rattle.tcap_faults.specs.Tangled.{far, goes_on_from, goes_over_tangled, goes_to_begun, has_used, is_own_tangled, is_peer_tangled, near, owns_of, two_differ}
+use Rattle.tcap_faults.specs.Tangled.{are_tangled, far, goes_on_from, goes_over_tangled, goes_to_begun, has_used, is_own_tangled, is_peer_tangled, near, own_of_continue, owns_of, two_differ}
 
 -- None of these IDs differs from another.
 pub all_same : (ids : List (List ℕ)) (x y : List ℕ) → two_differ ids ≡ false → Contains ids x → Contains ids y → x ≡ y
@@ -69,9 +69,8 @@ plain_peer side items id plain =
 pub plain_to : (side : Side) (items : List Item) (m : Message) (id : List ℕ) → dtid_in m ≡ Some id
     → goes_over_tangled side items m ≡ false → IsPlain side items id
 plain_to side items m id to over =
-    let so : (list_any (is_own_tangled side items) (near side items m id)
-    || list_any (is_peer_tangled side items) (far side items m id)) ≡ false = rw to at over in
-    let (own, peers) = or_parts (list_any (is_own_tangled side items) (near side items m id)) _ so in
+    let so : are_tangled side items (own_of_continue m) id ≡ false = rw to at over in
+    let (own, peers) = or_parts (list_any (is_own_tangled side items) (near side items (own_of_continue m) id)) _ so in
     plain_peer side items id (or_parts (is_peer_tangled side items id) _ peers).0
 
 -- ---- what is joined

@@ -30,3 +30,8 @@ pub record AreSame (xs ys : List (List ℕ)) : Type 0 where
 abbrev pub AreAmong : List (List ℕ) → Option Ids → Type 0
 AreAmong ids None = ids ≡ []
 AreAmong ids (Some kept) = (those : List (List ℕ)) × AreIds those kept × AreSame those ids
+
+-- It is one of these IDs; there is none where they are none.
+abbrev pub IsOneOf : List (List ℕ) → Option (List ℕ) → Type 0
+IsOneOf ids None = ids ≡ []
+IsOneOf ids (Some id) = Contains ids id

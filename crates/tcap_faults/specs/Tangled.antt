@@ -89,19 +89,24 @@ abbrev pub own_of_continue : Message → List (List ℕ)
 own_of_continue (Continue otid dtid dialogue components) = otid ∷ []
 own_of_continue m = []
 
--- the own IDs near a message to an ID: those that are joined with it, and that of a Continue
-abbrev pub near : Side → List Item → Message → List ℕ → List (List ℕ)
-near side items m id = owns_of side items id ++ own_of_continue m
+-- the own IDs near an ID of the peer: those that are joined with it, and these
+abbrev pub near : Side → List Item → List (List ℕ) → List ℕ → List (List ℕ)
+near side items own id = owns_of side items id ++ own
 
--- the IDs of the peer behind these: the destination ID, and those that are joined with one near it
-abbrev pub far : Side → List Item → Message → List ℕ → List (List ℕ)
-far side items m id = id ∷ flat_map (peers_of side items) (near side items m id)
+-- the IDs of the peer behind them: that ID, and those that are joined with one near it
+abbrev pub far : Side → List Item → List (List ℕ) → List ℕ → List (List ℕ)
+far side items own id = id ∷ flat_map (peers_of side items) (near side items own id)
 
+-- whether one of these is tangled
+abbrev pub are_tangled : Side → List Item → List (List ℕ) → List ℕ → Bool
+are_tangled side items own id =
+    list_any (is_own_tangled side items) (near side items own id)
+    || list_any (is_peer_tangled side items) (far side items own id)
+
+-- whether a message goes over tangled IDs: one near its destination ID, with that of a Continue, or one behind them
 abbrev pub goes_over_tangled : Side → List Item → Message → Bool
 goes_over_tangled side items m = by (dtid_in m)
   where
     by : Option (List ℕ) → Bool
     by None = false
-    by (Some id) =
-        list_any (is_own_tangled side items) (near side items m id)
-        || list_any (is_peer_tangled side items) (far side items m id)
+    by (Some id) = are_tangled side items (own_of_continue m) id

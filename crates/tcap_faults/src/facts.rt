@@ -1,10 +1,26 @@
 //! What is kept of what both ends sent, since the last quiet mark.
 
+ghost use Rattle.std.specs.Prelude.{◌≡◌, ℕ, List, [], nat_le, not};
+ghost use Rattle.std.specs.List.{list_any};
+ghost use Rattle.tcap_msg.specs.declared.kind.Kind.TheVariants as forms;
+ghost use Rattle.tcap_record.specs.declared.entry.End.{End as Side};
+ghost use Rattle.tcap_record.specs.Ends.{other};
+ghost use Rattle.tcap_end.specs.Table.{Table};
+ghost use Rattle.tcap_model.specs.World.{Item};
+ghost use Rattle.tcap_refute.specs.Before.{is_a, sent_by};
+ghost use Rattle.tcap_refute.specs.Counts.{count};
+ghost use Rattle.tcap_refute.specs.Speaker.{began, ends_to, goes_on_to, is_nothing, told};
+ghost use Rattle.tcap_faults.specs.Kept.{AreFacts, IsSide, sent_from};
+ghost use Rattle.tcap_faults.specs.Tangled.{has_used};
+ghost use Rattle.tcap_faults.specs.UsedAgain.{has_ended};
+
 use crate::ids::Ids;
 use crate::sent_from::SentFrom;
 use crate::sent_to::SentTo;
+use std::alloc::Global;
 use std::collections::{BTreeMap, BTreeSet};
 use tcap_msg::TransactionId;
+use tcap_record::End;
 
 /// What is kept of an end.
 #[derive(Debug, Drop)]
@@ -30,4 +46,118 @@ pub(crate) struct SideFacts {
 pub(crate) struct Facts {
     pub(crate) a: SideFacts,
     pub(crate) b: SideFacts,
+}
+
+impl SideFacts {
+    /// That of nothing.
+    fn new(alloc: Global) -> SideFacts
+        ensures { (table : Table) (side : Side) → IsSide table side [] result }
+    {
+        SideFacts {
+            from: BTreeMap::new(alloc),
+            to: BTreeMap::new(alloc),
+            joined: BTreeMap::new(alloc),
+            guessed: BTreeSet::new(alloc),
+            closed: BTreeSet::new(alloc),
+            over: BTreeSet::new(alloc),
+            again: false,
+        }
+    }
+
+    /// Whether the end used an ID: it sent a Begin or a Continue from there.
+    pub(crate) fn has_used(&self, id: &TransactionId) -> bool
+        ensures { (table : Table) (side : Side) (items : List Item) → IsSide table side items self.now
+            → result ≡ has_used side items id.now }
+    {
+        self.from.contains_key(id)
+    }
+
+    /// Whether it sent a Begin from there.
+    pub(crate) fn began(&self, id: &TransactionId) -> bool
+        ensures { (table : Table) (side : Side) (items : List Item) → IsSide table side items self.now
+            → result ≡ began side id.now items }
+    {
+        match self.from.get(id) {
+            Some(kept) => kept.begin.is_some(),
+            None => false,
+        }
+    }
+
+    /// Whether it sent two there, or more.
+    pub(crate) fn began_twice(&self, id: &TransactionId) -> bool
+        ensures { (table : Table) (side : Side) (items : List Item) → IsSide table side items self.now
+            → result ≡ nat_le 2 (count (is_a forms.Begin) (sent_from side items id.now)) }
+    {
+        match self.from.get(id) {
+            Some(kept) => kept.begun_twice,
+            None => false,
+        }
+    }
+
+    /// Whether it sent a Continue from an ID to another.
+    pub(crate) fn goes_on(&self, from: &TransactionId, to: &TransactionId) -> bool
+        ensures { (table : Table) (side : Side) (items : List Item) → IsSide table side items self.now
+            → result ≡ list_any (goes_on_to to.now) (sent_from side items «from».now) }
+    {
+        match self.from.get(from) {
+            Some(kept) => kept.came.contains_key(to),
+            None => false,
+        }
+    }
+
+    /// Whether it told an ID something that is no Abort of the provider.
+    pub(crate) fn has_spoken_to(&self, id: &TransactionId) -> bool
+        ensures { (table : Table) (side : Side) (items : List Item) → IsSide table side items self.now
+            → result ≡ not (is_nothing (told side id.now items)) }
+    {
+        match self.to.get(id) {
+            Some(kept) => kept.spoke,
+            None => false,
+        }
+    }
+
+    /// Whether it sent an End or an Abort to an ID.
+    pub(crate) fn has_silenced(&self, id: &TransactionId) -> bool
+        ensures { (table : Table) (side : Side) (items : List Item) → IsSide table side items self.now
+            → result ≡ list_any (ends_to id.now) (sent_by side items) }
+    {
+        match self.to.get(id) {
+            Some(kept) => kept.silenced,
+            None => false,
+        }
+    }
+
+    /// Whether it sent an End, or an Abort without cause, to an ID.
+    pub(crate) fn has_ended(&self, id: &TransactionId) -> bool
+        ensures { (table : Table) (side : Side) (items : List Item) → IsSide table side items self.now
+            → result ≡ has_ended side items id.now }
+    {
+        match self.to.get(id) {
+            Some(kept) => kept.ended,
+            None => false,
+        }
+    }
+}
+
+impl Facts {
+    /// That of nothing.
+    pub(crate) fn new(alloc: Global) -> Facts
+        ensures { (table : Table) → AreFacts table [] result }
+    {
+        Facts {
+            a: SideFacts::new(alloc),
+            b: SideFacts::new(alloc),
+        }
+    }
+
+    /// What is kept of an end.
+    pub(crate) fn of(&self, side: End) -> &SideFacts
+        ensures { (table : Table) (items : List Item) → AreFacts table items self.now
+            → IsSide table side items result.now }
+    {
+        match side {
+            End::A => &self.a,
+            End::B => &self.b,
+        }
+    }
 }

@@ -2,7 +2,7 @@
 
 ghost use Rattle.std.specs.Prelude.{◌≡◌, ℕ, List, [], ◌∷◌, ◌++◌, Option, Some, OnOk};
 ghost use Rattle.tcap_msg.specs.Meaning.{id_of};
-ghost use Rattle.tcap_faults.specs.Ids.{AreIds, ids_first};
+ghost use Rattle.tcap_faults.specs.Ids.{AreAmong, AreIds, ids_first};
 ghost use Rattle.tcap_faults.specs.Tangled.{two_differ};
 
 use std::alloc::{AllocError, Global};
@@ -60,6 +60,20 @@ impl Ids {
         match &self.first {
             Some(first) => Some(first.view()),
             None => None,
+        }
+    }
+
+    /// Whether two of them and of those differ.
+    pub(crate) fn differs_from(&self, others: &Ids) -> bool
+        ensures { (xs ys : List (List ℕ)) → AreAmong xs (Some self.now) → AreAmong ys (Some others.now)
+            → result ≡ two_differ (xs ++ ys) }
+    {
+        if self.differ() || others.differ() {
+            return true;
+        }
+        match (self.first(), others.first()) {
+            (Some(one), Some(other)) => one.octets != other.octets,
+            _ => false,
         }
     }
 }

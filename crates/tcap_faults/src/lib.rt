@@ -15,5 +15,6 @@ mod sent_to;
 mod sort;
 mod sums;
 mod tally;
+mod tangled;
 
 pub use how::How;
