@@ -1,0 +1,291 @@
+//! What is kept behind a message more.
+
+ghost use Rattle.std.specs.Prelude.{◌≡◌, ℕ, Bool, List, [], ◌∷◌, ◌++◌, ◌×◌, ◌&&◌, ◌||◌, Option, Some, not, OnOk};
+ghost use Rattle.std.specs.List.{list_any};
+ghost use Rattle.std.specs.Str.{bytes_eq};
+ghost use Rattle.tcap_record.specs.declared.entry.End.{End as Side};
+ghost use Rattle.tcap_record.specs.Ends.{other};
+ghost use Rattle.tcap_end.specs.End.{is_id};
+ghost use Rattle.tcap_end.specs.Table.{Table};
+ghost use Rattle.tcap_model.specs.Since.{ended_by};
+ghost use Rattle.tcap_model.specs.World.{Item, Sent};
+ghost use Rattle.tcap_refute.specs.Before.{sent_by};
+ghost use Rattle.tcap_refute.specs.HalfKinds.{shows_closed};
+ghost use Rattle.tcap_faults.specs.Joining.{GetsMore, HasMore};
+ghost use Rattle.tcap_faults.specs.Kept.{AreFacts, IsSide, dtids_of, otids_of, sent_from, sent_to};
+ghost use Rattle.tcap_faults.specs.Tangled.{guesses, has_used, owns_of};
+ghost use Rattle.tcap_faults.specs.UsedAgain.{has_ended};
+
+use crate::facts::{Facts, SideFacts};
+use crate::ids::Ids;
+use crate::sent_from::note_from;
+use crate::sent_to::{ends, note_to};
+use crate::tangled::Ends;
+use std::alloc::{AllocError, Global};
+use std::collections::{BTreeMap, BTreeSet};
+use tcap_end::Table;
+use tcap_msg::{Kind as Form, MessageParts, TransactionId, TransactionIdView};
+use tcap_record::End;
+
+/// An ID more at a key.
+fn add_at(
+    alloc: Global,
+    map: &mut BTreeMap<TransactionId, Ids>,
+    key: TransactionIdView,
+    id: TransactionIdView,
+) -> Result<(), AllocError>
+    ensures { OnOk result (GetsMore (bytes_eq key.entry.octets.now) id.entry.octets.now map.old map.new) }
+{
+    let key = key.to_transaction_id();
+    if let Some(ids) = map.get_mut(&key) {
+        return ids.add(id);
+    }
+    let mut ids = Ids::new(alloc);
+    ids.add(id)?;
+    map.insert(key, ids)?;
+    Ok(())
+}
+
+/// An ID more at each of these keys.
+fn add_at_all(
+    alloc: Global,
+    map: &mut BTreeMap<TransactionId, Ids>,
+    keys: &Ids,
+    id: TransactionIdView,
+) -> Result<(), AllocError>
+    ensures { (those : List (List ℕ)) → AreAmong those (Some keys.now)
+        → OnOk result (GetsMore (λ key. list_any (bytes_eq key) those) id.entry.octets.now map.old map.new) }
+{
+    if let Some(first) = &keys.first {
+        add_at(alloc, map, first.view(), id)?;
+        for key in &keys.more {
+            add_at(alloc, map, key.view(), id)?;
+        }
+    }
+    Ok(())
+}
+
+/// These IDs more.
+fn insert_all(set: &mut BTreeSet<TransactionId>, ids: Option<&Ids>) -> Result<(), AllocError>
+    ensures { (those : List (List ℕ)) → AreAmong those (option_copied ids.entry)
+        → OnOk result (HasMore (λ id. list_any (bytes_eq id) those) set.old set.new) }
+{
+    let Some(ids) = ids else {
+        return Ok(());
+    };
+    if let Some(first) = &ids.first {
+        set.insert(first.view().to_transaction_id())?;
+        for id in &ids.more {
+            set.insert(id.view().to_transaction_id())?;
+        }
+    }
+    Ok(())
+}
+
+impl SideFacts {
+    /// Whether the end sent an End, or an Abort without cause, to one of these IDs.
+    fn ended_one(&self, ids: &Ids) -> bool
+        ensures { (table : Table) (side : Side) (items : List Item) (those : List (List ℕ)) → IsSide table side items self.now
+            → AreAmong those (Some ids.now) → result ≡ list_any (has_ended side items) those }
+    {
+        let Some(first) = &ids.first else {
+            return false;
+        };
+        if self.has_ended(first) {
+            return true;
+        }
+        for id in &ids.more {
+            if self.has_ended(id) {
+                return true;
+            }
+        }
+        false
+    }
+}
+
+/// The own ID that an Abort with cause 1 to that ID shows to be closed: all Continues from there went to it, and the end used
+/// it.
+fn closed_at(own: &SideFacts, peer: &SideFacts, dtid: &TransactionId) -> Option<TransactionId>
+    ensures { (table : Table) (side : Side) (items : List Item) (id : List ℕ) → IsSide table side items own.now
+        → IsSide table (other side) items peer.now
+        → is_id id result ≡ all_go_on_to id (asked side dtid.now items) && has_used side items id }
+{
+    let Some(ids) = peer.goes_to(dtid) else {
+        return None;
+    };
+    if ids.differ() {
+        return None;
+    }
+    let first = ids.first()?.to_transaction_id();
+    if own.has_used(&first) {
+        Some(first)
+    } else {
+        None
+    }
+}
+
+/// The own ID that a message shows to be closed, where the end sends it now.
+fn closed_by<M: MessageParts>(own: &SideFacts, peer: &SideFacts, message: &M) -> Option<TransactionId>
+    ensures { (table : Table) (side : Side) (items : List Item) (id : List ℕ) → IsSide table side items own.now
+        → IsSide table (other side) items peer.now
+        → is_id id result ≡ shows_closed side id items (Sent side (M.meaning message.now)) }
+{
+    match (message.cause(), message.dtid()) {
+        (Some(cause), Some(dtid)) if cause.number == 1 => {
+            closed_at(own, peer, &dtid.to_transaction_id())
+        }
+        _ => None,
+    }
+}
+
+/// The ID from which a message goes on, where its end guesses the other: it began that ID, and the other end has not used the
+/// one that it goes to.
+fn guessed_by<M: MessageParts>(own: &SideFacts, peer: &SideFacts, message: &M) -> Option<TransactionId>
+    ensures { (table : Table) (side : Side) (items : List Item) (id : List ℕ) → IsSide table side items own.now
+        → IsSide table (other side) items peer.now
+        → is_id id result ≡ guesses (other side) id items (Sent side (M.meaning message.now)) }
+{
+    if !matches!(message.kind(), Form::Continue) {
+        return None;
+    }
+    let own_id = message.otid()?.to_transaction_id();
+    let id = message.dtid()?.to_transaction_id();
+    if own.began(&own_id) && !peer.has_used(&id) {
+        Some(own_id)
+    } else {
+        None
+    }
+}
+
+/// An ID more, where there is one.
+fn insert_some(set: &mut BTreeSet<TransactionId>, id: Option<TransactionId>) -> Result<(), AllocError>
+    ensures { OnOk result (HasMore (λ other. is_id other id) set.old set.new) }
+{
+    if let Some(id) = id {
+        set.insert(id)?;
+    }
+    Ok(())
+}
+
+/// The first use of an ID: those from which the peer went on to it are joined with it.
+fn join_first(
+    alloc: Global,
+    own: &mut SideFacts,
+    peer: &mut SideFacts,
+    otid: TransactionIdView,
+) -> Result<(), AllocError>
+    ensures { (table : Table) (side : Side) (items : List Item) → IsSide table side items own.old
+        → IsSide table (other side) items peer.old
+        → OnOk result (
+        GetsMore (λ key. not (has_used side items otid.entry.octets.now)
+            && list_any (bytes_eq key) (otids_of (sent_to (other side) items otid.entry.octets.now)))
+            otid.entry.octets.now peer.old.joined peer.new.joined
+        × HasMore (λ id. bytes_eq id otid.entry.octets.now && not (has_used side items otid.entry.octets.now)
+            && list_any (has_ended side items) (otids_of (sent_to (other side) items otid.entry.octets.now)))
+            own.old.over own.new.over
+        × (own.new ≡ record own.old { over = own.new.over })
+        × (peer.new ≡ record peer.old { joined = peer.new.joined })) }
+{
+    let id = otid.to_transaction_id();
+    if own.has_used(&id) {
+        return Ok(());
+    }
+    let Some(kept) = peer.to.get(&id) else {
+        return Ok(());
+    };
+    add_at_all(alloc, &mut peer.joined, &kept.from, otid)?;
+    if own.ended_one(&kept.from) {
+        own.over.insert(id)?;
+    }
+    Ok(())
+}
+
+/// A Continue from an own ID to one of the peer: they are joined.
+fn join_continue(
+    alloc: Global,
+    own: &mut SideFacts,
+    peer: &mut SideFacts,
+    otid: TransactionIdView,
+    dtid: TransactionIdView,
+) -> Result<(), AllocError>
+    ensures { (table : Table) (side : Side) (items : List Item) (over : BTreeSet (List ℕ)) (joined : BTreeMap (List ℕ) Ids)
+        → IsSide table side items (record own.old { over = over })
+        → IsSide table (other side) items (record peer.old { joined = joined })
+        → OnOk result (
+        GetsMore (λ key. bytes_eq key otid.entry.octets.now && has_used (other side) items dtid.entry.octets.now)
+            dtid.entry.octets.now own.old.joined own.new.joined
+        × HasMore (λ id. bytes_eq id otid.entry.octets.now && has_ended side items dtid.entry.octets.now)
+            own.old.over own.new.over
+        × HasMore (λ id. bytes_eq id dtid.entry.octets.now && has_used (other side) items dtid.entry.octets.now
+            && has_ended (other side) items otid.entry.octets.now) peer.old.over peer.new.over
+        × (own.new ≡ record own.old { over = own.new.over; joined = own.new.joined })
+        × (peer.new ≡ record peer.old { over = peer.new.over })) }
+{
+    let (own_id, id) = (otid.to_transaction_id(), dtid.to_transaction_id());
+    if own.has_ended(&id) {
+        own.over.insert(otid.to_transaction_id())?;
+    }
+    if !peer.has_used(&id) {
+        return Ok(());
+    }
+    add_at(alloc, &mut own.joined, otid, dtid)?;
+    if peer.has_ended(&own_id) {
+        peer.over.insert(id)?;
+    }
+    Ok(())
+}
+
+/// An end of the transaction with an ID of the peer: those of the end that are joined with it may be over.
+fn end_all(own: &mut SideFacts, peer: &SideFacts, dtid: TransactionIdView) -> Result<(), AllocError>
+    ensures { (table : Table) (side : Side) (items : List Item) → IsSide table side items own.old
+        → IsSide table (other side) items peer.now
+        → OnOk result (
+        HasMore (λ id. not (has_ended side items dtid.entry.octets.now)
+            && list_any (bytes_eq id) (owns_of side items dtid.entry.octets.now)) own.old.over own.new.over
+        × (own.new ≡ record own.old { over = own.new.over })) }
+{
+    let id = dtid.to_transaction_id();
+    if own.has_ended(&id) {
+        return Ok(());
+    }
+    let SideFacts { to, over, .. } = own;
+    if let Some(kept) = to.get(&id) {
+        insert_all(over, Some(&kept.from))?;
+    }
+    insert_all(over, peer.joined.get(&id))
+}
+
+/// A message more that an end sent: what is kept of it, and of its peer.
+fn note_sent<M: MessageParts>(
+    alloc: Global,
+    table: &Table,
+    own: &mut SideFacts,
+    peer: &mut SideFacts,
+    message: &M,
+) -> Result<(), AllocError>
+    ensures { (side : Side) (items : List Item) → IsSide table.now side items own.old
+        → IsSide table.now (other side) items peer.old
+        → OnOk result (IsSide table.now side (items ++ Sent side (M.meaning message.now) ∷ []) own.new
+        × IsSide table.now (other side) (items ++ Sent side (M.meaning message.now) ∷ []) peer.new) }
+{
+    Ok(())
+}
+
+impl Facts {
+    /// A message more, which that end sent.
+    pub(crate) fn note<M: MessageParts>(
+        &mut self,
+        alloc: Global,
+        table: &Table,
+        sender: End,
+        message: &M,
+    ) -> Result<(), AllocError>
+        ensures { (items : List Item) → AreFacts table.now items self.old
+            → OnOk result (AreFacts table.now (items ++ Sent sender (M.meaning message.now) ∷ []) self.new) }
+    {
+        match sender {
+            End::A => note_sent(alloc, table, &mut self.a, &mut self.b, message),
+            End::B => note_sent(alloc, table, &mut self.b, &mut self.a, message),
+        }
+    }
+}
