@@ -13,4 +13,11 @@ pub mod FoundLaws
 pub mod LinkLaws
 pub mod SortLaws
 pub mod TallyLaws
+pub mod TalliesLaws
 pub mod GlobalLaws
+pub mod CountTests
+pub mod FewSums
+pub mod InvokeSums
+pub mod AnswerSums
+pub mod RejectSums
+pub mod ComponentFinds

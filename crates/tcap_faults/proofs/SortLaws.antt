@@ -12,8 +12,8 @@ use Rattle.tcap_refute.specs.Counts.{invokes_so, is_result_of}
 use Rattle.tcap_refute.proofs.TestLaws.{and_false}
 use Rattle.tcap_faults.specs.declared.sort.Sort.{Sort}
 use Rattle.tcap_faults.specs.declared.sort.Sort.TheVariants as sorts
-use Rattle.tcap_faults.specs.Tallied.{invokes_link, is_sort}
-use Rattle.tcap_faults.specs.Noted.{error_has, has_sort, invoke_has, invoke_id, invokes_by, is_its_id, links_so, names_code, reject_has, result_has}
+use Rattle.tcap_faults.specs.Tallied.{invokes_link, is_sort, results_so}
+use Rattle.tcap_faults.specs.Noted.{answers_by, error_has, has_sort, invoke_has, invoke_id, invokes_by, is_its_id, links_so, names_code, reject_has, result_has}
 
 and_true : (a : Bool) → a ≡ (a && true)
 and_true true = refl
@@ -48,21 +48,14 @@ module _ (table : Table) (id : ℤ) where
   no_sort problem (sorts.Invokes class) = refl
   no_sort problem sort = refl
 
-  general_sort : (n : ℤ) (k : ℕ) (sort : Sort)
-      → is_sort table id sort (Reject (Some n) (problems.General k)) ≡ (is_invoke_id id n && false)
-  general_sort n k (sorts.Invokes class) = sym (and_false _)
-  general_sort n k sort = sym (and_false _)
-
   reject_sort : (n : ℤ) (problem : Problem) (sort : Sort)
       → is_sort table id sort (Reject (Some n) problem) ≡ (is_invoke_id id n && reject_has problem sort)
-  reject_sort n (problems.General k) sort = general_sort n k sort
+  reject_sort n (problems.General k) sorts.GeneralRejects = and_true _
   reject_sort n (problems.Invoke k) sorts.InvokeRejects = refl
   reject_sort n (problems.Invoke k) sorts.DuplicateRejects = refl
   reject_sort n (problems.Invoke k) sorts.LinkRejects = refl
   reject_sort n (problems.ReturnResult k) sorts.ResultRejects = refl
-  reject_sort n (problems.ReturnResult k) sorts.MistypedResults = refl
   reject_sort n (problems.ReturnError k) sorts.ErrorRejects = refl
-  reject_sort n (problems.ReturnError k) sorts.MistypedErrors = refl
   reject_sort n problem sort = sym (and_false _)
 
   pub its_sort : (sort : Sort) (c : Component)
@@ -98,3 +91,11 @@ module _ (id : ℤ) where
   its_link passes (ReturnResult last n body) = sym (and_false _)
   its_link passes (ReturnError n code parameter) = sym (and_false _)
   its_link passes (Reject n problem) = sym (and_false _)
+
+  pub its_answer : (passes : Code → Bool) (c : Component)
+      → results_so id passes c ≡ (is_its_id id (invoke_id c) && answers_by passes c)
+  its_answer passes (Invoke n linked code parameter) = sym (and_false _)
+  its_answer passes (ReturnResult last n None) = sym (and_false _)
+  its_answer passes (ReturnResult last n (Some body)) = refl
+  its_answer passes (ReturnError n code parameter) = sym (and_false _)
+  its_answer passes (Reject n problem) = sym (and_false _)

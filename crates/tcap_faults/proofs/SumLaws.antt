@@ -1,5 +1,6 @@
 -- Sums of counts, and counts of few components.
 use Rattle.std.proofs.Common.{◌≡◌, ℕ, ◌+◌, ◌^◌, ◌<◌, ◌≤◌, Bool, true, false, List, [], ◌∷◌, ◌++◌, length, refl, sym, ◌∙◌, arith}
+use Rattle.std.specs.Prelude.{nat_lt}
 use Rattle.std.proofs.lemmas.Bool.Decides.{nat_tests}
 use Rattle.std.proofs.lemmas.List.{length-append}
 use Rattle.std.proofs.lemmas.List.Sums.{count_by-le-length, length-filter}
@@ -7,8 +8,13 @@ use Rattle.tcap_refute.specs.Counts.{count}
 use Rattle.tcap_refute.proofs.LedLawsCounts.{count_last}
 use Rattle.tcap_faults.specs.Tallied.{more_if, sum}
 
-pub sum_assoc : (a b c : ℕ) → sum (sum a b) c ≡ sum a (sum b c)
-sum_assoc a b c = grind (arith, nat_tests)
+-- A sum of a sum is that of all.
+pub sum_more : (a b c : ℕ) → sum (sum a b) c ≡ sum (a + b) c
+sum_more a b c = grind (arith, nat_tests)
+
+-- What is no count above the greatest is above a sum where it is above what the sum stands for.
+pub above_sum : (a b n : ℕ) → n < 2 ^ 128 → nat_lt (sum a b) n ≡ nat_lt (a + b) n
+above_sum a b n fits = grind (arith, nat_tests)
 
 pub sum_few : (a b : ℕ) → a + b < 2 ^ 128 → sum a b ≡ a + b
 sum_few a b few = grind (arith, nat_tests)

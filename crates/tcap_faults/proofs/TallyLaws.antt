@@ -16,36 +16,39 @@ use Rattle.tcap_refute.proofs.TestLaws.{or_none}
 use Rattle.tcap_faults.specs.declared.sort.Sort.{Sort}
 use Rattle.tcap_faults.specs.declared.of_id.OfId.{OfId}
 use Rattle.tcap_faults.specs.declared.tally.Tally.{Tally}
-use Rattle.tcap_faults.specs.Tallied.{AreFew, Tallied, invokes_link, is_sort, more_if, tallied}
-use Rattle.tcap_faults.specs.Tallies.{IsTally, count_in, count_of, invokes_in, kept_of, links_in, of_kept, tally_of}
-use Rattle.tcap_faults.specs.Noted.{IsNoted, IsNothing, has_sort, invoke_id, invokes_by, is_its_id, links_so, names_code, one_tallied}
+use Rattle.tcap_faults.specs.Tallied.{AreFew, Tallied, invokes_link, is_sort, more_if, results_so, tallied}
+use Rattle.tcap_faults.specs.Tallies.{IsTally, answers_in, count_in, count_of, invokes_in, kept_of, links_in, of_kept, tally_of}
+use Rattle.tcap_faults.specs.Noted.{IsNoted, IsNothing, answers_by, has_sort, invoke_id, invokes_by, is_its_id, links_so, names_code, one_tallied}
 use Rattle.tcap_faults.proofs.FoundLaws.{Puts, read_put}
-use Rattle.tcap_faults.proofs.SortLaws.{its_link, its_name, its_operation, its_sort}
+use Rattle.tcap_faults.proofs.SortLaws.{its_answer, its_link, its_name, its_operation, its_sort}
 use Rattle.tcap_faults.proofs.SumLaws.{count_one_more}
 
 -- ---- what is counted, part by part
 
 abbrev made : (ℤ → Sort → ℕ) → (ℤ → Code → ℕ) → (ℤ → Code → ℕ) → (ℤ → (Code → Bool) → Bool)
-    → (ℤ → (ℤ → Code → Bool) → Bool) → Tallied
-made counts invokes results operations links = record {
+    → (ℤ → (ℤ → Code → Bool) → Bool) → (ℤ → (Code → Bool) → Bool) → Tallied
+made counts invokes results operations links answers = record {
   count = counts;
   invokes_of = invokes;
   results_of = results;
   has_operation = operations;
   has_link = links;
+  has_result = answers;
 }
 
 pub same_tallied : (a b : Tallied) → ((id : ℤ) (sort : Sort) → a.count id sort ≡ b.count id sort)
     → ((id : ℤ) (code : Code) → a.invokes_of id code ≡ b.invokes_of id code)
     → ((id : ℤ) (code : Code) → a.results_of id code ≡ b.results_of id code)
     → ((id : ℤ) (passes : Code → Bool) → a.has_operation id passes ≡ b.has_operation id passes)
-    → ((id : ℤ) (passes : ℤ → Code → Bool) → a.has_link id passes ≡ b.has_link id passes) → a ≡ b
-same_tallied a b counts invokes results operations links =
-    ap (λ f. made f a.invokes_of a.results_of a.has_operation a.has_link) (fun_ext λ id. fun_ext (counts id))
-    ∙ (ap (λ f. made b.count f a.results_of a.has_operation a.has_link) (fun_ext λ id. fun_ext (invokes id))
-    ∙ (ap (λ f. made b.count b.invokes_of f a.has_operation a.has_link) (fun_ext λ id. fun_ext (results id))
-    ∙ (ap (λ f. made b.count b.invokes_of b.results_of f a.has_link) (fun_ext λ id. fun_ext (operations id))
-    ∙ ap (λ f. made b.count b.invokes_of b.results_of b.has_operation f) (fun_ext λ id. fun_ext (links id)))))
+    → ((id : ℤ) (passes : ℤ → Code → Bool) → a.has_link id passes ≡ b.has_link id passes)
+    → ((id : ℤ) (passes : Code → Bool) → a.has_result id passes ≡ b.has_result id passes) → a ≡ b
+same_tallied a b counts invokes results operations links answers =
+    ap (λ f. made f a.invokes_of a.results_of a.has_operation a.has_link a.has_result) (fun_ext λ id. fun_ext (counts id))
+    ∙ (ap (λ f. made b.count f a.results_of a.has_operation a.has_link a.has_result) (fun_ext λ id. fun_ext (invokes id))
+    ∙ (ap (λ f. made b.count b.invokes_of f a.has_operation a.has_link a.has_result) (fun_ext λ id. fun_ext (results id))
+    ∙ (ap (λ f. made b.count b.invokes_of b.results_of f a.has_link a.has_result) (fun_ext λ id. fun_ext (operations id))
+    ∙ (ap (λ f. made b.count b.invokes_of b.results_of b.has_operation f a.has_result) (fun_ext λ id. fun_ext (links id))
+    ∙ ap (λ f. made b.count b.invokes_of b.results_of b.has_operation b.has_link f) (fun_ext λ id. fun_ext (answers id))))))
 
 -- ---- a component of an ID
 
@@ -63,6 +66,9 @@ pub record AreSteps (table : Table) (c : Component) (old : Option OfId) (new : O
   pub links : (passes : ℤ → Code → Bool)
       → links_in passes new
       ≡ (of_kept false (links_in passes) old || links_so passes c)
+  pub answers : (passes : Code → Bool)
+      → answers_in passes new
+      ≡ (of_kept false (answers_in passes) old || answers_by passes c)
 
 module _ (table : Table) (c : Component) (old : Option OfId) (new : OfId) where
   pub steps_on : (was : OfId) → Some was ≡ old → IsNoted table c was new → AreSteps table c old new
@@ -72,6 +78,7 @@ module _ (table : Table) (c : Component) (old : Option OfId) (new : OfId) where
     results = noted.results;
     operations = noted.operations;
     links = noted.links;
+    answers = noted.answers;
   })
 
   pub steps_first : (fresh : OfId) → None ≡ old → IsNothing fresh → IsNoted table c fresh new → AreSteps table c old new
@@ -81,6 +88,7 @@ module _ (table : Table) (c : Component) (old : Option OfId) (new : OfId) where
     results = λ code. noted.results code ∙ ap (more_if (names_code code c)) (nothing.results code);
     operations = λ passes. noted.operations passes ∙ ap (λ b. b || invokes_by passes c) (nothing.operations passes);
     links = λ passes. noted.links passes ∙ ap (λ b. b || links_so passes c) (nothing.links passes);
+    answers = λ passes. noted.answers passes ∙ ap (λ b. b || answers_by passes c) (nothing.answers passes);
   })
 
 module _ (c : Component) (id q : ℤ) (its : invoke_id c ≡ Some id) (so has : Bool)
@@ -129,6 +137,9 @@ module _ (table : Table) (c : Component) (id : ℤ) (its : invoke_id c ≡ Some 
       (λ q passes. read_at false (links_in passes) (λ b. b || links_so passes c)
       (steps.links passes) q
       ∙ found_at c id q its (invokes_link q passes c) (links_so passes c) (its_link q passes c) _)
+      (λ q passes. read_at false (answers_in passes) (λ b. b || answers_by passes c)
+      (steps.answers passes) q
+      ∙ found_at c id q its (results_so q passes c) (answers_by passes c) (its_answer q passes c) _)
 
 -- ---- a component of none
 
@@ -151,6 +162,7 @@ none_tallied table c t none =
     (λ q code. uncounted q c none _ (names_code code c) (its_name q code c) _)
     (λ q passes. unfound q c none _ (invokes_by passes c) (its_operation q passes c) _)
     (λ q passes. unfound q c none _ (links_so passes c) (its_link q passes c) _)
+    (λ q passes. unfound q c none _ (answers_by passes c) (its_answer q passes c) _)
 
 -- ---- few components
 
@@ -166,6 +178,7 @@ module _ (table : Table) (cs : List Component) (c : Component) where
       (λ q code. count_one_more (is_result_of q code) cs c few)
       (λ q passes. any_more (invokes_so q passes))
       (λ q passes. any_more (invokes_link q passes))
+      (λ q passes. any_more (results_so q passes))
 
   pub is_more : (old new : Tally) → tally_of new ≡ one_tallied table c (tally_of old) → IsTally table cs old
       → IsTally table (cs ++ c ∷ []) new

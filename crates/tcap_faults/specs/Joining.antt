@@ -1,5 +1,5 @@
 -- What a message more does to what is kept of IDs that are joined.
-use Rattle.std.specs.Prelude.{◌≡◌, ℕ, Bool, true, false, List, [], ◌∷◌, ◌++◌, Option, Some, None, ◌&&◌, ◌||◌, not, cond}
+use Rattle.std.specs.Prelude.{◌≡◌, ℕ, Bool, true, false, List, [], ◌∷◌, ◌++◌, filter, ◌||◌, cond}
 use Rattle.std.specs.List.{list_any}
 use Rattle.std.specs.Map.{lookup}
 use Rattle.std.specs.BTreeMap.{BTreeMap, is_at}
@@ -8,7 +8,15 @@ use Rattle.std.specs.BTreeSet.{BTreeSet}
 use Rattle.std.specs.Str.{bytes_eq}
 use Rattle.tcap_end.specs.Table.{octets_cmp}
 use Rattle.tcap_faults.specs.declared.ids.Ids.{Ids}
+use Rattle.tcap_record.specs.declared.entry.End.{End as Side}
+use Rattle.tcap_record.specs.Ends.{other}
+use Rattle.tcap_msg.specs.declared.message.Message.{Message}
+use Rattle.tcap_model.specs.World.{Item, Sent}
+use Rattle.tcap_faults.specs.declared.facts.SideFacts.{SideFacts}
 use Rattle.tcap_faults.specs.Ids.{AreAmong}
+use Rattle.tcap_faults.specs.Kept.{dtids_of, sent_from}
+use Rattle.tcap_faults.specs.Tangled.{has_used, peers_of}
+use Rattle.tcap_faults.specs.UsedAgain.{has_ended}
 
 -- An ID more where that is so.
 abbrev pub id_if : Bool → List ℕ → List (List ℕ)
@@ -23,3 +31,20 @@ GetsMore so id old new =
 -- In a set of IDs, those that pass a test are there too.
 abbrev pub HasMore : (List ℕ → Bool) → BTreeSet (List ℕ) → BTreeSet (List ℕ) → Type 0
 HasMore so old new = (id : List ℕ) → set.contains octets_cmp new id ≡ set.contains octets_cmp old id || so id
+
+-- Behind a message more that an end sent, what is kept of joined IDs is of it too; nothing else became another.
+pub record IsJoined (side : Side) (items : List Item) (m : Message) (own own_now peer peer_now : SideFacts) : Type 0 where
+  pub own_joined : (id : List ℕ)
+      → AreAmong (filter (has_used (other side) items) (dtids_of (sent_from side (items ++ Sent side m ∷ []) id)))
+      (lookup (is_at (octets_cmp id)) own_now.joined.entries)
+  pub peer_joined : (id : List ℕ)
+      → AreAmong (filter (has_used side (items ++ Sent side m ∷ [])) (dtids_of (sent_from (other side) items id)))
+      (lookup (is_at (octets_cmp id)) peer_now.joined.entries)
+  pub own_over : (id : List ℕ)
+      → set.contains octets_cmp own_now.over id
+      ≡ list_any (has_ended side (items ++ Sent side m ∷ [])) (peers_of side (items ++ Sent side m ∷ []) id)
+  pub peer_over : (id : List ℕ)
+      → set.contains octets_cmp peer_now.over id
+      ≡ list_any (has_ended (other side) (items ++ Sent side m ∷ [])) (peers_of (other side) (items ++ Sent side m ∷ []) id)
+  pub own_rest : own_now ≡ record own { over = own_now.over; joined = own_now.joined }
+  pub peer_rest : peer_now ≡ record peer { over = peer_now.over; joined = peer_now.joined }

@@ -1,5 +1,6 @@
--- Operations by what may be linked to them (Q.771 3.1.2), and linked Invokes by the invocations that they name.
-use Rattle.std.specs.Prelude.{ℤ, Bool, ◌&&◌, not}
+-- Operations by what may be linked to them (Q.771 3.1.2), linked Invokes by the invocations that they name, and operations by
+-- the invocations of them.
+use Rattle.std.specs.Prelude.{ℤ, Bool, ◌==◌, ◌&&◌, not}
 use Rattle.tcap_parts.specs.declared.code.Code.{Code}
 use Rattle.tcap_end.specs.Component.{links}
 use Rattle.tcap_end.specs.Table.{Table}
@@ -16,3 +17,7 @@ names_none table invoked linked code = invoked.has_operation linked (lists_nothi
 
 abbrev pub names_other : Table → Tallied → ℤ → Code → Bool
 names_other table invoked linked code = invoked.has_operation linked (lists_other table code)
+
+-- whether no invocation of that ID is of an operation
+abbrev pub is_of_none : Tallied → ℤ → Code → Bool
+is_of_none invoked id code = invoked.invokes_of id code == 0

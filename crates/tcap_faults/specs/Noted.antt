@@ -1,5 +1,5 @@
 -- What one component more does to what is counted: to what is kept of its invoke ID, and to all of it.
-use Rattle.std.specs.Prelude.{◌≡◌, ℕ, ℤ, Bool, true, false, Option, Some, None, is_some, ◌&&◌, ◌||◌, not, nat_le}
+use Rattle.std.specs.Prelude.{◌≡◌, ℕ, ℤ, Bool, true, false, Option, Some, None, is_some, ◌&&◌, ◌||◌, not}
 use Rattle.tcap_parts.specs.declared.code.Code.{Code}
 use Rattle.tcap_parts.specs.declared.problem.Problem.{Problem}
 use Rattle.tcap_parts.specs.declared.problem.Problem.TheVariants as problems
@@ -16,8 +16,8 @@ use Rattle.tcap_faults.specs.declared.sort.Class.TheVariants as classes
 use Rattle.tcap_faults.specs.declared.sort.Sort.{Sort}
 use Rattle.tcap_faults.specs.declared.sort.Sort.TheVariants as sorts
 use Rattle.tcap_faults.specs.declared.of_id.OfId.{OfId}
-use Rattle.tcap_faults.specs.Tallied.{Tallied, invokes_link, is_of_class, is_sort, more_if, not_expiring, sum}
-use Rattle.tcap_faults.specs.Tallies.{count_in, count_of, count_of_class, invokes_in, links_in}
+use Rattle.tcap_faults.specs.Tallied.{Tallied, invokes_link, is_of_class, is_sort, more_if, not_expiring, results_so, sum}
+use Rattle.tcap_faults.specs.Tallies.{answers_in, count_in, count_of, count_of_class, invokes_in, links_in}
 
 -- whether an operation of that class in the table, or of none, is of a class
 abbrev pub is_of : Class → Option ℕ → Bool
@@ -25,7 +25,6 @@ is_of classes.Any class = true
 is_of classes.One class = is_class 1 class
 is_of classes.Two class = is_class 2 class
 is_of classes.Three class = is_class 3 class
-is_of classes.Four class = is_class 4 class
 
 -- ---- what a component is, whatever its ID
 
@@ -59,14 +58,12 @@ error_has sorts.Errors = true
 error_has _ = false
 
 abbrev pub reject_has : Problem → Sort → Bool
-reject_has (problems.General n) sort = false
+reject_has (problems.General n) sorts.GeneralRejects = true
 reject_has (problems.Invoke n) sorts.InvokeRejects = true
 reject_has (problems.Invoke n) sorts.DuplicateRejects = is_problem 0 n
 reject_has (problems.Invoke n) sorts.LinkRejects = is_of_link n
 reject_has (problems.ReturnResult n) sorts.ResultRejects = true
-reject_has (problems.ReturnResult n) sorts.MistypedResults = nat_le 2 n
 reject_has (problems.ReturnError n) sorts.ErrorRejects = true
-reject_has (problems.ReturnError n) sorts.MistypedErrors = nat_le 2 n
 reject_has _ _ = false
 
 abbrev pub has_sort : Table → Sort → Component → Bool
@@ -80,15 +77,20 @@ abbrev pub invokes_by : (Code → Bool) → Component → Bool
 invokes_by passes (Invoke id linked code parameter) = passes code
 invokes_by passes _ = false
 
--- whether what a Return Result carries names that operation
-abbrev pub names : Code → Option ResultBody → Bool
-names code None = false
-names code (Some body) = is_code code body.code
+-- whether what a Return Result carries names an operation that passes a test
+abbrev pub names : (Code → Bool) → Option ResultBody → Bool
+names passes None = false
+names passes (Some body) = passes body.code
 
 -- whether it is a last Return Result that names that operation
 abbrev pub names_code : Code → Component → Bool
-names_code code (ReturnResult last id body) = last && names code body
+names_code code (ReturnResult last id body) = last && names (is_code code) body
 names_code code _ = false
+
+-- whether it is a Return Result that names an operation that passes a test
+abbrev pub answers_by : (Code → Bool) → Component → Bool
+answers_by passes (ReturnResult last id body) = names passes body
+answers_by passes _ = false
 
 -- whether a linked ID, where there is one, passes a test with an operation
 abbrev pub links_by : (ℤ → Code → Bool) → Option ℤ → Code → Bool
@@ -109,6 +111,7 @@ pub record IsNothing (kept : OfId) : Type 0 where
   pub results : (code : Code) → count_of code kept.named ≡ 0
   pub operations : (passes : Code → Bool) → invokes_in passes kept ≡ false
   pub links : (passes : ℤ → Code → Bool) → links_in passes kept ≡ false
+  pub answers : (passes : Code → Bool) → answers_in passes kept ≡ false
 
 -- A component more is kept.
 pub record IsNoted (table : Table) (c : Component) (old new : OfId) : Type 0 where
@@ -121,6 +124,8 @@ pub record IsNoted (table : Table) (c : Component) (old new : OfId) : Type 0 whe
   pub links : (passes : ℤ → Code → Bool)
       → links_in passes new
       ≡ links_in passes old || links_so passes c
+  pub answers : (passes : Code → Bool)
+      → answers_in passes new ≡ answers_in passes old || answers_by passes c
 
 -- An Invoke more is.
 pub record IsInvoked (table : Table) (linked : Option ℤ) (code : Code) (old new : OfId) : Type 0 where
@@ -146,12 +151,15 @@ pub record IsInvoked (table : Table) (linked : Option ℤ) (code : Code) (old ne
 
 -- A Return Result more is.
 pub record IsAnswered (last : Bool) (body : Option ResultBody) (old new : OfId) : Type 0 where
-  pub named : (code : Code) → count_of code new.named ≡ more_if (last && names code body) (count_of code old.named)
+  pub named : (code : Code)
+      → count_of code new.named ≡ more_if (last && names (is_code code) body) (count_of code old.named)
+  pub answers : (passes : Code → Bool) → answers_in passes new ≡ answers_in passes old || names passes body
   pub others : new ≡ record old {
     results = sum old.results 1;
     last_results = more_if last old.last_results;
     not_lasts = more_if (not last) old.not_lasts;
     named = new.named;
+    answered = new.answered;
   }
 
 -- an invoke problem more
@@ -164,16 +172,10 @@ invoke_rejected n old = record old {
 
 -- a Reject more
 abbrev pub rejected : Problem → OfId → OfId
-rejected (problems.General n) old = old
+rejected (problems.General n) old = record old { general_rejects = sum old.general_rejects 1 }
 rejected (problems.Invoke n) old = invoke_rejected n old
-rejected (problems.ReturnResult n) old = record old {
-  result_rejects = sum old.result_rejects 1;
-  mistyped_results = more_if (nat_le 2 n) old.mistyped_results;
-}
-rejected (problems.ReturnError n) old = record old {
-  error_rejects = sum old.error_rejects 1;
-  mistyped_errors = more_if (nat_le 2 n) old.mistyped_errors;
-}
+rejected (problems.ReturnResult n) old = record old { result_rejects = sum old.result_rejects 1 }
+rejected (problems.ReturnError n) old = record old { error_rejects = sum old.error_rejects 1 }
 
 -- ---- all that is counted
 
@@ -185,4 +187,5 @@ one_tallied table c t = record {
   results_of = λ id code. more_if (is_result_of id code c) (t.results_of id code);
   has_operation = λ id passes. t.has_operation id passes || invokes_so id passes c;
   has_link = λ id passes. t.has_link id passes || invokes_link id passes c;
+  has_result = λ id passes. t.has_result id passes || results_so id passes c;
 }

@@ -1,15 +1,16 @@
 -- Components as they are counted, by their invoke IDs (Q.773 4.2.2). No count is kept above the greatest; where there
 -- are few components, each count is how many there are.
-use Rattle.std.specs.Prelude.{ℕ, ℤ, ◌+◌, ◌^◌, ◌≤◌, Bool, true, false, List, length, Some, ◌&&◌, ◌||◌, not, nat_lt, nat_le, cond}
+use Rattle.std.specs.Prelude.{ℕ, ℤ, ◌+◌, ◌^◌, ◌≤◌, Bool, true, false, List, length, Some, ◌&&◌, ◌||◌, not, nat_lt, cond}
 use Rattle.std.specs.List.{list_any}
 use Rattle.tcap_parts.specs.declared.code.Code.{Code}
 use Rattle.tcap_parts.specs.declared.component.Component.{Component}
-use Rattle.tcap_parts.specs.declared.component.Component.TheVariants.{Invoke}
+use Rattle.tcap_parts.specs.declared.component.Component.TheVariants.{Invoke, ReturnResult}
 use Rattle.tcap_end.specs.Component.{is_code}
 use Rattle.tcap_end.specs.Table.{Table, expires_of}
 use Rattle.tcap_refute.specs.Before.{is_invoke_id}
 use Rattle.tcap_refute.specs.Counts.{any_problem, count, has_class, invokes_linked, invokes_so, is_error, is_last_result, is_not_last, is_result, is_result_of, rejects_error, rejects_invoke, rejects_result}
 use Rattle.tcap_refute.specs.ComponentKinds.{is_of_link, is_problem}
+use Rattle.tcap_faults.specs.ComponentKinds.{rejects_generally}
 use Rattle.tcap_faults.specs.declared.sort.Class.{Class}
 use Rattle.tcap_faults.specs.declared.sort.Class.TheVariants as classes
 use Rattle.tcap_faults.specs.declared.sort.Sort.{Sort}
@@ -37,7 +38,6 @@ is_of_class table classes.Any code = true
 is_of_class table classes.One code = has_class table 1 code
 is_of_class table classes.Two code = has_class table 2 code
 is_of_class table classes.Three code = has_class table 3 code
-is_of_class table classes.Four code = has_class table 4 code
 
 -- whether one is, and does not expire
 abbrev pub not_expiring : Table → Class → Code → Bool
@@ -52,18 +52,22 @@ is_sort table id sorts.Results = is_result id
 is_sort table id sorts.LastResults = is_last_result id
 is_sort table id sorts.NotLasts = is_not_last id
 is_sort table id sorts.Errors = is_error id
+is_sort table id sorts.GeneralRejects = rejects_generally id
 is_sort table id sorts.InvokeRejects = rejects_invoke id any_problem
 is_sort table id sorts.DuplicateRejects = rejects_invoke id (is_problem 0)
 is_sort table id sorts.LinkRejects = rejects_invoke id is_of_link
 is_sort table id sorts.ResultRejects = rejects_result id any_problem
-is_sort table id sorts.MistypedResults = rejects_result id (nat_le 2)
 is_sort table id sorts.ErrorRejects = rejects_error id any_problem
-is_sort table id sorts.MistypedErrors = rejects_error id (nat_le 2)
 
 -- an Invoke of that ID whose linked ID, with its operation, passes a test
 abbrev pub invokes_link : ℤ → (ℤ → Code → Bool) → Component → Bool
 invokes_link id passes (Invoke other (Some linked) code parameter) = is_invoke_id id other && passes linked code
 invokes_link id passes _ = false
+
+-- a Return Result of that ID, last or not, that names an operation that passes a test
+abbrev pub results_so : ℤ → (Code → Bool) → Component → Bool
+results_so id passes (ReturnResult last other (Some body)) = is_invoke_id id other && passes body.code
+results_so id passes _ = false
 
 -- ---- components that are counted
 
@@ -79,6 +83,8 @@ pub record Tallied : Type 0 where
   pub has_operation : ℤ → (Code → Bool) → Bool
   -- whether a linked one is, by its linked ID and its operation
   pub has_link : ℤ → (ℤ → Code → Bool) → Bool
+  -- whether a Return Result of an ID names an operation that passes a test
+  pub has_result : ℤ → (Code → Bool) → Bool
 
 -- what is counted of these components
 abbrev pub tallied : Table → List Component → Tallied
@@ -88,6 +94,7 @@ tallied table cs = record {
   results_of = λ id code. count (is_result_of id code) cs;
   has_operation = λ id passes. list_any (invokes_so id passes) cs;
   has_link = λ id passes. list_any (invokes_link id passes) cs;
+  has_result = λ id passes. list_any (results_so id passes) cs;
 }
 
 -- nothing
@@ -98,6 +105,7 @@ nothing_tallied = record {
   results_of = λ id code. 0;
   has_operation = λ id passes. false;
   has_link = λ id passes. false;
+  has_result = λ id passes. false;
 }
 
 -- of both
@@ -108,6 +116,7 @@ both_tallied a b = record {
   results_of = λ id code. sum (a.results_of id code) (b.results_of id code);
   has_operation = λ id passes. a.has_operation id passes || b.has_operation id passes;
   has_link = λ id passes. a.has_link id passes || b.has_link id passes;
+  has_result = λ id passes. a.has_result id passes || b.has_result id passes;
 }
 
 -- so few components that no sum of three counts of them is above the greatest

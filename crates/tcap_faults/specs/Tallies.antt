@@ -32,7 +32,6 @@ count_of_class classes.Any kept = kept.all
 count_of_class classes.One kept = kept.one
 count_of_class classes.Two kept = kept.two
 count_of_class classes.Three kept = kept.three
-count_of_class classes.Four kept = kept.four
 
 -- ---- of an invoke ID
 
@@ -44,13 +43,12 @@ count_in sorts.Results kept = kept.results
 count_in sorts.LastResults kept = kept.last_results
 count_in sorts.NotLasts kept = kept.not_lasts
 count_in sorts.Errors kept = kept.errors
+count_in sorts.GeneralRejects kept = kept.general_rejects
 count_in sorts.InvokeRejects kept = kept.invoke_rejects
 count_in sorts.DuplicateRejects kept = kept.duplicate_rejects
 count_in sorts.LinkRejects kept = kept.link_rejects
 count_in sorts.ResultRejects kept = kept.result_rejects
-count_in sorts.MistypedResults kept = kept.mistyped_results
 count_in sorts.ErrorRejects kept = kept.error_rejects
-count_in sorts.MistypedErrors kept = kept.mistyped_errors
 
 -- whether one of the operations of a linked ID passes a test with it
 abbrev pub links_at : (ℤ → Code → Bool) → ℤ × CodeCounts → Bool
@@ -63,6 +61,10 @@ invokes_in passes kept = list_any passes kept.operations.codes.items
 -- whether the linked ID of a linked one does, with its operation
 abbrev pub links_in : (ℤ → Code → Bool) → OfId → Bool
 links_in passes kept = list_any (links_at passes) kept.by_link.entries
+
+-- whether the operation that a Return Result names does
+abbrev pub answers_in : (Code → Bool) → OfId → Bool
+answers_in passes kept = list_any passes kept.answered.codes.items
 
 -- ---- of all of them
 
@@ -83,6 +85,7 @@ tally_of tally = record {
   results_of = λ id code. of_kept 0 (λ kept. count_of code kept.named) (kept_of id tally);
   has_operation = λ id passes. of_kept false (invokes_in passes) (kept_of id tally);
   has_link = λ id passes. of_kept false (links_in passes) (kept_of id tally);
+  has_result = λ id passes. of_kept false (answers_in passes) (kept_of id tally);
 }
 
 -- A tally is of these components: where they are few it says what is counted of them.

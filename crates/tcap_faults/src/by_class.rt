@@ -17,7 +17,6 @@ pub(crate) struct ByClass {
     pub(crate) one: u128,
     pub(crate) two: u128,
     pub(crate) three: u128,
-    pub(crate) four: u128,
 }
 
 impl ByClass {
@@ -30,7 +29,6 @@ impl ByClass {
             one: 0,
             two: 0,
             three: 0,
-            four: 0,
         }
     }
 
@@ -43,7 +41,6 @@ impl ByClass {
             Class::One => self.one,
             Class::Two => self.two,
             Class::Three => self.three,
-            Class::Four => self.four,
         }
     }
 
@@ -56,7 +53,6 @@ impl ByClass {
             Some(1) => self.one = more(self.one, 1),
             Some(2) => self.two = more(self.two, 1),
             Some(3) => self.three = more(self.three, 1),
-            Some(4) => self.four = more(self.four, 1),
             _ => {}
         }
     }

@@ -2,18 +2,29 @@
 //! messages, each of which can be checked by hand.
 #![tactic(auto)]
 
+mod answers;
+mod before;
 mod by_class;
 mod code_counts;
+mod components;
+mod dialogues;
 mod facts;
 pub mod fault_rows;
+mod half;
 mod how;
 mod ids;
+mod invokes;
 pub mod laws;
+mod noting;
 mod of_id;
+mod rejects;
+mod replies;
 mod sent_from;
 mod sent_to;
 mod sort;
+mod speaking;
 mod sums;
+mod tallies;
 mod tally;
 mod tangled;
 

@@ -1,6 +1,6 @@
 //! What is kept behind a message more.
 
-ghost use Rattle.std.specs.Prelude.{◌≡◌, ℕ, Bool, List, [], ◌∷◌, ◌++◌, ◌×◌, ◌&&◌, ◌||◌, Option, Some, not, OnOk};
+ghost use Rattle.std.specs.Prelude.{◌≡◌, ℕ, Bool, List, [], ◌∷◌, ◌++◌, ◌&&◌, ◌||◌, Option, Some, not, option_copied, OnOk};
 ghost use Rattle.std.specs.List.{list_any};
 ghost use Rattle.std.specs.Str.{bytes_eq};
 ghost use Rattle.tcap_record.specs.declared.entry.End.{End as Side};
@@ -9,9 +9,13 @@ ghost use Rattle.tcap_end.specs.End.{is_id};
 ghost use Rattle.tcap_end.specs.Table.{Table};
 ghost use Rattle.tcap_model.specs.Since.{ended_by};
 ghost use Rattle.tcap_model.specs.World.{Item, Sent};
-ghost use Rattle.tcap_refute.specs.Before.{sent_by};
-ghost use Rattle.tcap_refute.specs.HalfKinds.{shows_closed};
-ghost use Rattle.tcap_faults.specs.Joining.{GetsMore, HasMore};
+ghost use Rattle.tcap_refute.specs.Before.{asked, sent_by};
+ghost use Rattle.tcap_refute.specs.HalfKinds.{all_go_on_to, shows_closed};
+ghost use Rattle.tcap_faults.specs.Joining.{GetsMore, HasMore, IsJoined};
+ghost use Rattle.tcap_faults.specs.Ids.{AreAmong};
+ghost use Rattle.std.specs.BTreeMap.{BTreeMap};
+ghost use Rattle.std.specs.BTreeSet.{BTreeSet};
+ghost use Rattle.tcap_faults.specs.declared.ids.Ids.{Ids};
 ghost use Rattle.tcap_faults.specs.Kept.{AreFacts, IsSide, dtids_of, otids_of, sent_from, sent_to};
 ghost use Rattle.tcap_faults.specs.Tangled.{guesses, has_used, owns_of};
 ghost use Rattle.tcap_faults.specs.UsedAgain.{has_ended};
@@ -255,6 +259,28 @@ fn end_all(own: &mut SideFacts, peer: &SideFacts, dtid: TransactionIdView) -> Re
     insert_all(over, peer.joined.get(&id))
 }
 
+/// What a message more does to what is kept of joined IDs.
+fn note_joined<M: MessageParts>(
+    alloc: Global,
+    own: &mut SideFacts,
+    peer: &mut SideFacts,
+    message: &M,
+) -> Result<(), AllocError>
+    ensures { (table : Table) (side : Side) (items : List Item) → IsSide table side items own.old
+        → IsSide table (other side) items peer.old
+        → OnOk result (IsJoined side items (M.meaning message.now) own.old own.new peer.old peer.new) }
+{
+    match (message.otid(), message.dtid()) {
+        (Some(otid), None) => join_first(alloc, own, peer, otid),
+        (Some(otid), Some(dtid)) => {
+            join_first(alloc, own, peer, otid)?;
+            join_continue(alloc, own, peer, otid, dtid)
+        }
+        (None, Some(dtid)) if ends(message) => end_all(own, peer, dtid),
+        _ => Ok(()),
+    }
+}
+
 /// A message more that an end sent: what is kept of it, and of its peer.
 fn note_sent<M: MessageParts>(
     alloc: Global,
@@ -268,7 +294,19 @@ fn note_sent<M: MessageParts>(
         → OnOk result (IsSide table.now side (items ++ Sent side (M.meaning message.now) ∷ []) own.new
         × IsSide table.now (other side) (items ++ Sent side (M.meaning message.now) ∷ []) peer.new) }
 {
-    Ok(())
+    let again = Ends {
+        own: &*own,
+        peer: &*peer,
+    }
+    .uses_again(table, message);
+    let closed = closed_by(own, peer, message);
+    let guessed = guessed_by(own, peer, message);
+    note_joined(alloc, own, peer, message)?;
+    own.again |= again;
+    insert_some(&mut own.closed, closed)?;
+    insert_some(&mut own.guessed, guessed)?;
+    note_from(&mut own.from, alloc, table, message)?;
+    note_to(&mut own.to, alloc, table, message)
 }
 
 impl Facts {

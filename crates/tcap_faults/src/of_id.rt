@@ -33,6 +33,8 @@ pub(crate) struct OfId {
     pub(crate) not_lasts: u128,
     /// Return Errors.
     pub(crate) errors: u128,
+    /// Rejects with a general problem.
+    pub(crate) general_rejects: u128,
     /// Rejects with an invoke problem.
     pub(crate) invoke_rejects: u128,
     /// Rejects with duplicateInvokeID.
@@ -41,16 +43,14 @@ pub(crate) struct OfId {
     pub(crate) link_rejects: u128,
     /// Rejects with a return result problem.
     pub(crate) result_rejects: u128,
-    /// Those with a problem from mistypedParameter on.
-    pub(crate) mistyped_results: u128,
     /// Rejects with a return error problem.
     pub(crate) error_rejects: u128,
-    /// Those with a problem from unrecognizedError on.
-    pub(crate) mistyped_errors: u128,
     /// Invokes, by their operations.
     pub(crate) operations: CodeCounts,
     /// Last Return Results, by the operations that they name.
     pub(crate) named: CodeCounts,
+    /// All Return Results, by the operations that they name.
+    pub(crate) answered: CodeCounts,
     /// Linked Invokes, by their linked IDs and their operations.
     pub(crate) by_link: BTreeMap<i8, CodeCounts>,
 }
@@ -87,15 +87,15 @@ impl OfId {
             last_results: 0,
             not_lasts: 0,
             errors: 0,
+            general_rejects: 0,
             invoke_rejects: 0,
             duplicate_rejects: 0,
             link_rejects: 0,
             result_rejects: 0,
-            mistyped_results: 0,
             error_rejects: 0,
-            mistyped_errors: 0,
             operations: CodeCounts::new(alloc),
             named: CodeCounts::new(alloc),
+            answered: CodeCounts::new(alloc),
             by_link: BTreeMap::new(alloc),
         }
     }
@@ -133,6 +133,9 @@ impl OfId {
         ensures { OnOk result (IsAnswered last (option_map body_of body.entry) self.old self.new) }
     {
         self.results = more(self.results, 1);
+        if let Some(body) = body {
+            self.answered.add(alloc, body.code)?;
+        }
         if !last {
             self.not_lasts = more(self.not_lasts, 1);
             return Ok(());
@@ -161,20 +164,10 @@ impl OfId {
         ensures { self.new ≡ rejected (problem_of problem) self.old }
     {
         match problem {
-            ProblemView::General(_) => {}
+            ProblemView::General(_) => self.general_rejects = more(self.general_rejects, 1),
             ProblemView::Invoke(problem) => self.note_invoke_reject(problem.number),
-            ProblemView::ReturnResult(problem) => {
-                self.result_rejects = more(self.result_rejects, 1);
-                if problem.number >= 2 {
-                    self.mistyped_results = more(self.mistyped_results, 1);
-                }
-            }
-            ProblemView::ReturnError(problem) => {
-                self.error_rejects = more(self.error_rejects, 1);
-                if problem.number >= 2 {
-                    self.mistyped_errors = more(self.mistyped_errors, 1);
-                }
-            }
+            ProblemView::ReturnResult(_) => self.result_rejects = more(self.result_rejects, 1),
+            ProblemView::ReturnError(_) => self.error_rejects = more(self.error_rejects, 1),
         }
     }
 
@@ -210,13 +203,12 @@ impl OfId {
             Sort::LastResults => self.last_results,
             Sort::NotLasts => self.not_lasts,
             Sort::Errors => self.errors,
+            Sort::GeneralRejects => self.general_rejects,
             Sort::InvokeRejects => self.invoke_rejects,
             Sort::DuplicateRejects => self.duplicate_rejects,
             Sort::LinkRejects => self.link_rejects,
             Sort::ResultRejects => self.result_rejects,
-            Sort::MistypedResults => self.mistyped_results,
             Sort::ErrorRejects => self.error_rejects,
-            Sort::MistypedErrors => self.mistyped_errors,
         }
     }
 }

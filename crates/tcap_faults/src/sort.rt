@@ -7,7 +7,6 @@ pub(crate) enum Class {
     One,
     Two,
     Three,
-    Four,
 }
 
 /// A sort of components of an invoke ID (Q.773 4.2.2).
@@ -27,6 +26,8 @@ pub(crate) enum Sort {
     NotLasts,
     /// Return Errors.
     Errors,
+    /// Rejects with a general problem.
+    GeneralRejects,
     /// Rejects with an invoke problem.
     InvokeRejects,
     /// Rejects with duplicateInvokeID.
@@ -35,10 +36,6 @@ pub(crate) enum Sort {
     LinkRejects,
     /// Rejects with a return result problem.
     ResultRejects,
-    /// Those with a problem from mistypedParameter on.
-    MistypedResults,
     /// Rejects with a return error problem.
     ErrorRejects,
-    /// Those with a problem from unrecognizedError on.
-    MistypedErrors,
 }

@@ -1,0 +1,49 @@
+-- Several tallies together: what a loop over them answers.
+use Rattle.std.proofs.Common.{◌≡◌, ℕ, ℤ, ◌+◌, ◌^◌, ◌<◌, ◌≤◌, Bool, true, false, ◌||◌, eqb, List, [], ◌∷◌, length, get_or, drop, Bor, refl, sym, ap, ◌∙◌, arith}
+use Rattle.std.specs.List.{list_any}
+use Rattle.std.proofs.lemmas.Bool.{or_left}
+use Rattle.std.proofs.lemmas.List.{at_drop_all, at_drop_more}
+use Rattle.tcap_parts.specs.declared.code.Code.{Code}
+use Rattle.tcap_faults.specs.declared.sort.Sort.{Sort}
+use Rattle.tcap_faults.specs.declared.tally.Tally.{Tally}
+use Rattle.tcap_faults.specs.Tallied.{sum}
+use Rattle.tcap_faults.specs.Tallies.{tallies_of}
+use Rattle.tcap_faults.proofs.SumLaws.{last, sum_below}
+
+pub count_below : (id : ℤ) (sort : Sort) (tallies : List Tally) → (tallies_of tallies).count id sort < 2 ^ 128
+count_below id sort [] = omega arith
+count_below id sort (tally ∷ more) = sum_below _ _
+
+pub invokes_below : (id : ℤ) (code : Code) (tallies : List Tally) → (tallies_of tallies).invokes_of id code < 2 ^ 128
+invokes_below id code [] = omega arith
+invokes_below id code (tally ∷ more) = sum_below _ _
+
+pub results_below : (id : ℤ) (code : Code) (tallies : List Tally) → (tallies_of tallies).results_of id code < 2 ^ 128
+results_below id code [] = omega arith
+results_below id code (tally ∷ more) = sum_below _ _
+
+-- Where none is left, the sum so far is that of all.
+pub counted_all : (f : List (Bor Tally) → ℕ) (all i : ℕ) (tallies : List (Bor Tally)) → f [] ≡ 0 → all < 2 ^ 128
+    → length tallies ≤ i → sum all (f (drop i tallies)) ≡ f tallies → all ≡ f tallies
+counted_all f all i tallies none few past is =
+    sym (last all few) ∙ (ap (sum all) (sym (at_drop_all f tallies i past ∙ none)) ∙ is)
+
+-- Where the next one is so, one of all is.
+pub found_next : (f : List (Bor Tally) → Bool) (p : Tally → Bool) (i : ℕ) (tallies : List (Bor Tally))
+    (tally : Bor Tally) → ((t : Bor Tally) (more : List (Bor Tally)) → f (t ∷ more) ≡ (p t.now || f more)) → i < length tallies
+    → tally ≡ get_or tallies i tally → p tally.now ≡ true → f (drop i tallies) ≡ f tallies → true ≡ f tallies
+found_next f p i tallies tally step within is so left =
+    let here : p (get_or tallies i tally).now ≡ true = rw (← is) so in
+    sym (at_drop_more f tallies i tally within ∙ step (get_or tallies i tally) (drop (i + 1) tallies)
+    ∙ or_left (p (get_or tallies i tally).now) (f (drop (i + 1) tallies)) here)
+    ∙ left
+
+-- A test that does not ask which code it is.
+never : (codes : List Code) → list_any (λ code. false) codes ≡ false
+never [] = refl
+never (code ∷ more) = never more
+
+pub always : (b : Bool) (codes : List Code) → eqb (length codes) 0 ≡ false → b ≡ list_any (λ code. b) codes
+always b [] some = cc
+always true (code ∷ more) some = refl
+always false (code ∷ more) some = sym (never more)

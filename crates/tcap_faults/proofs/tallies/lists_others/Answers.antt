@@ -1,0 +1,16 @@
+use Rattle.std.proofs.Common.{map, to_z-of_z, refl, sym, ◌∙◌}
+use Rattle.tcap_parts.specs.Meaning.{code_of}
+use Rattle.tcap_faults.specs.Linking.{lists_other}
+use Rattle.tcap_faults.specs.Tallies.{tallies_of, tally_of}
+use Rattle.tcap_faults.proofs.TalliesLaws.{found_next}
+use Rattle.tcap_faults.proofs.tallies.lists_others.Goals as goal
+
+pub returns-then-lists_others : goal.returns-then-lists_others
+returns-then-lists_others c =
+    found_next
+    (λ ts. (tallies_of (map (λ b. b.now) ts)).has_operation c.args.id
+    (lists_other c.args.table.now (code_of c.args.code)))
+    (λ t. (tally_of t).has_operation c.args.id (lists_other c.args.table.now (code_of c.args.code)))
+    c.loop-tally.tally-index c.args.tallies.now c.tally-item.result (λ t more. refl) c.loop-tally-test.true
+    c.tally-item.is (rw (to_z-of_z c.ranges.id) at (sym c.lists_others.ensures ∙ c.if-lists_others.true))
+    (rw (to_z-of_z c.ranges.id) at c.loop-tally.invariant)

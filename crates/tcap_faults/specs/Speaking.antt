@@ -1,0 +1,41 @@
+-- What is counted of a half, as it is read off what is kept.
+use Rattle.std.specs.Prelude.{◌≡◌, ℕ, List, [], ◌∷◌, ◌++◌, filter, Option, Some, None, cond}
+use Rattle.tcap_record.specs.declared.entry.End.{End as Side}
+use Rattle.tcap_record.specs.Ends.{other}
+use Rattle.tcap_end.specs.Table.{Table}
+use Rattle.tcap_model.specs.World.{Item}
+use Rattle.tcap_refute.specs.Speaker.{begin_from, goes_on_to}
+use Rattle.tcap_faults.specs.declared.sent_from.Came.{Came}
+use Rattle.tcap_faults.specs.declared.sent_from.FirstBegin.{FirstBegin}
+use Rattle.tcap_faults.specs.declared.sent_from.SentFrom.{SentFrom}
+use Rattle.tcap_faults.specs.declared.sent_to.SentTo.{SentTo}
+use Rattle.tcap_faults.specs.declared.tally.Tally.{Tally}
+use Rattle.tcap_faults.specs.Kept.{IsCameAt, IsFirstBegin, IsFrom, sent_from}
+
+abbrev pub came_counted : Option Came → List Tally
+came_counted None = []
+came_counted (Some came) = came.sooner ∷ came.since ∷ []
+
+abbrev pub begin_counted : Option FirstBegin → List Tally
+begin_counted None = []
+begin_counted (Some begin) = begin.components ∷ []
+
+abbrev pub told_counted : Option SentTo → List Tally
+told_counted None = []
+told_counted (Some told) = told.components ∷ []
+
+abbrev pub heard_counted : FirstBegin → Came → List Tally
+heard_counted begin came = cond begin.requests [] (came.sooner ∷ []) ++ came.since ∷ []
+
+-- What is kept is of the messages of that end from an ID.
+abbrev pub IsKeptFrom : Table → Side → List Item → List ℕ → SentFrom → Type 0
+IsKeptFrom table side items id kept = IsFrom table (sent_from side items id) kept
+
+-- It is of the Begin of an own ID.
+abbrev pub IsBegunBy : Table → Side → List Item → List ℕ → FirstBegin → Type 0
+IsBegunBy table side items own kept = IsFirstBegin table (begin_from side own items) (Some kept)
+
+-- It is of the Continues from an ID of the peer to an own one.
+abbrev pub IsCameBack : Table → Side → List Item → List ℕ → List ℕ → Came → Type 0
+IsCameBack table side items id own kept =
+    IsCameAt table (filter (goes_on_to own) (sent_from (other side) items id)) (Some kept)
