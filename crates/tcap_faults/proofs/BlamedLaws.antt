@@ -26,7 +26,8 @@ use Rattle.tcap_refute.specs.Kind.{kind_of_reason, or_else, refutation_at}
 use Rattle.tcap_refute.proofs.MarkKinds.{no_open_mark}
 use Rattle.tcap_refute.proofs.RefutedLaws.{bad_reason, found_so, oks}
 use Rattle.tcap_faults.specs.AtFault.{HasNoMessage, IsAtFaultOf, IsBadEntryOf}
-use Rattle.tcap_faults.specs.Fault.{blamed, blamed_behind, fault_since, first_kinds, further_kinds, is_fault, is_open_at_mark}
+use Rattle.tcap_refute.specs.FirstKinds.{first_kinds}
+use Rattle.tcap_faults.specs.Fault.{blamed, blamed_behind, fault_since, further_kinds, is_fault, is_open_at_mark}
 use Rattle.tcap_faults.specs.UsedAgain.{has_used_again}
 use Rattle.tcap_faults.proofs.FaultLaws.{none_at_fault}
 use Rattle.tcap_faults.proofs.ReplyLaws.{open_known}

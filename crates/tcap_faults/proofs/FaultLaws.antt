@@ -29,7 +29,8 @@ use Rattle.tcap_refute.proofs.MomentLaws.{IsMoment, RepliesIt, SendsIt, sent_at}
 use Rattle.tcap_refute.proofs.OverLaws.{IsOver}
 use Rattle.tcap_refute.proofs.ReplyKinds.{begin_left, continue_left}
 use Rattle.tcap_refute.proofs.SentLaws.{IsSent, half_over}
-use Rattle.tcap_faults.specs.Fault.{answers_none, answers_nothing_there, is_fault, is_of_alone_kind, is_of_first_kind, is_of_further_kind, is_of_half_kind, is_of_kind_to, is_of_reply_kind}
+use Rattle.tcap_refute.specs.FirstKinds.{answers_none, answers_nothing_there, is_of_first_kind}
+use Rattle.tcap_faults.specs.Fault.{is_fault, is_of_alone_kind, is_of_further_kind, is_of_half_kind, is_of_kind_to, is_of_reply_kind}
 use Rattle.tcap_faults.specs.HalfKinds.{is_wrong_half}
 use Rattle.tcap_faults.specs.HalfOf.{HalfOf, half_of}
 use Rattle.tcap_faults.specs.Tangled.{goes_over_tangled}

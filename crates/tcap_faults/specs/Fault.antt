@@ -21,41 +21,14 @@ use Rattle.tcap_refute.specs.Before.{asked, components_of, is_a, is_invoke_id, s
 use Rattle.tcap_refute.specs.Blame.{all_go_to_open, bad_entry_of, is_abort_with}
 use Rattle.tcap_refute.specs.ComponentKinds.{has_component, invokes_again, is_linked}
 use Rattle.tcap_refute.specs.Counts.{count}
-use Rattle.tcap_refute.specs.Kind.{answers_none_of, answers_nothing, is_of_kind, or_else, refutation_at}
+use Rattle.tcap_refute.specs.FirstKinds.{first_kinds, is_of_first_kind}
+use Rattle.tcap_refute.specs.Kind.{or_else, refutation_at}
 use Rattle.tcap_refute.specs.Speaker.{is_nothing, is_surely_open, told}
 use Rattle.tcap_faults.specs.ComponentKinds.{answers_again, invokes_busy, links_badly, rejects_wrongly}
 use Rattle.tcap_faults.specs.HalfKinds.{is_accepted, is_wrong_dialogue, is_wrong_half}
 use Rattle.tcap_faults.specs.HalfOf.{HalfOf, half_of}
 use Rattle.tcap_faults.specs.Tangled.{goes_over_tangled}
 use Rattle.tcap_faults.specs.UsedAgain.{has_used_again}
-
--- ---- F5, but for a spelling that a stack may call wrong
-
--- an Invoke or an answer of that ID
-abbrev pub is_of_id : ℤ → Component → Bool
-is_of_id id (Invoke other linked code parameter) = is_invoke_id id other
-is_of_id id (ReturnResult last other body) = is_invoke_id id other
-is_of_id id (ReturnError other code parameter) = is_invoke_id id other
-is_of_id id (Reject other problem) = false
-
--- Whether a component answers or rejects what none of these is. A Reject with mistypedComponent (1) or
--- badlyStructuredComponent (2) of an ID that one of these has may be of that one: this profile takes parameters as they are.
-abbrev pub answers_none : List Component → Component → Bool
-answers_none components (Reject (Some id) (problems.General n)) =
-    not ((n == 1 || n == 2) && list_any (is_of_id id) components)
-answers_none components c = answers_none_of components c
-
-abbrev pub answers_nothing_there : Side → List Item → Message → Bool
-answers_nothing_there side items m = by (dtid_in m)
-  where
-    by : Option (List ℕ) → Bool
-    by None = answers_nothing side items m
-    by (Some id) = list_any (answers_none (components_of (asked side id items))) (components_in m)
-
--- F2 to F7, as they are asked of one end
-abbrev pub is_of_first_kind : Table → Side → List Item → Message → Kind → Bool
-is_of_first_kind table side items m kinds.AnswersNothing = answers_nothing_there side items m
-is_of_first_kind table side items m kind = is_of_kind table side items m kind
 
 -- ---- F14: an Abort of the provider that answers nothing that is left (Q.774 3.3)
 
@@ -135,11 +108,7 @@ is_fault table side items m kind =
     not (goes_over_tangled side items m)
     && (is_of_first_kind table side items m kind || is_of_further_kind table side items m (dtid_in m) kind)
 
--- the kinds of a message, the lowest first
-abbrev pub first_kinds : List Kind
-first_kinds = kinds.UnknownTransaction ∷ kinds.ReusedId ∷ kinds.AfterEnd ∷ kinds.AnswersNothing ∷ kinds.WrongOperation
-    ∷ kinds.MisplacedDialogue ∷ []
-
+-- the further kinds, the lowest first
 abbrev pub further_kinds : List Kind
 further_kinds = kinds.WrongHalf ∷ kinds.WrongDialogue ∷ kinds.InvokeIdBusy ∷ kinds.BadLink ∷ kinds.AnsweredAlready
     ∷ kinds.RejectNotAllowed ∷ kinds.WrongReply ∷ []

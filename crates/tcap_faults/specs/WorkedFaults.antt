@@ -13,7 +13,8 @@ use Rattle.tcap_refute.specs.declared.kind.Kind.{Kind}
 use Rattle.tcap_refute.specs.declared.kind.Refutation.{Refutation}
 use Rattle.tcap_refute.specs.Before.{since_quiet}
 use Rattle.tcap_refute.specs.Kind.{kind_number}
-use Rattle.tcap_faults.specs.Fault.{blamed, first_kinds, further_kinds, is_fault, is_open_at_mark}
+use Rattle.tcap_refute.specs.FirstKinds.{first_kinds}
+use Rattle.tcap_faults.specs.Fault.{blamed, further_kinds, is_fault, is_open_at_mark}
 use Rattle.tcap_faults.specs.UsedAgain.{has_used_again}
 
 -- ---- operation tables

@@ -1,5 +1,6 @@
 pub mod Before
 pub mod Kind
+pub mod FirstKinds
 pub mod Facts
 pub mod Asking
 pub mod Kept

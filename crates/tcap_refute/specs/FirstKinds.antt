@@ -1,0 +1,47 @@
+-- The kinds F2 to F7 as they are asked of one end: those by which a record is refuted (`Kind`), but for F5 of a spelling that a
+-- stack may call wrong (Q.774 3.2, Q.773 4.2.2).
+use Rattle.std.specs.Prelude.{ℤ, ℕ, Bool, false, List, [], ◌∷◌, Option, Some, None, ◌==◌, ◌&&◌, ◌||◌, not}
+use Rattle.std.specs.List.{list_any}
+use Rattle.tcap_parts.specs.declared.component.Component.{Component}
+use Rattle.tcap_parts.specs.declared.component.Component.TheVariants.{Invoke, ReturnResult, ReturnError, Reject}
+use Rattle.tcap_parts.specs.declared.problem.Problem.TheVariants as problems
+use Rattle.tcap_msg.specs.declared.message.Message.{Message}
+use Rattle.tcap_msg.specs.Parts.{components_in, dtid_in}
+use Rattle.tcap_record.specs.declared.entry.End.{End as Side}
+use Rattle.tcap_end.specs.Table.{Table}
+use Rattle.tcap_model.specs.World.{Item}
+use Rattle.tcap_refute.specs.declared.kind.Kind.{Kind}
+use Rattle.tcap_refute.specs.declared.kind.Kind.TheVariants as kinds
+use Rattle.tcap_refute.specs.Before.{asked, components_of, is_invoke_id}
+use Rattle.tcap_refute.specs.Kind.{answers_none_of, answers_nothing, is_of_kind}
+
+-- an Invoke or an answer of that ID
+abbrev pub is_of_id : ℤ → Component → Bool
+is_of_id id (Invoke other linked code parameter) = is_invoke_id id other
+is_of_id id (ReturnResult last other body) = is_invoke_id id other
+is_of_id id (ReturnError other code parameter) = is_invoke_id id other
+is_of_id id (Reject other problem) = false
+
+-- Whether a component answers or rejects what none of these is. A Reject with mistypedComponent (1) or
+-- badlyStructuredComponent (2) of an ID that one of these has may be of that one: this profile takes parameters as they are.
+abbrev pub answers_none : List Component → Component → Bool
+answers_none components (Reject (Some id) (problems.General n)) =
+    not ((n == 1 || n == 2) && list_any (is_of_id id) components)
+answers_none components c = answers_none_of components c
+
+abbrev pub answers_nothing_there : Side → List Item → Message → Bool
+answers_nothing_there side items m = by (dtid_in m)
+  where
+    by : Option (List ℕ) → Bool
+    by None = answers_nothing side items m
+    by (Some id) = list_any (answers_none (components_of (asked side id items))) (components_in m)
+
+-- F2 to F7, as they are asked of one end
+abbrev pub is_of_first_kind : Table → Side → List Item → Message → Kind → Bool
+is_of_first_kind table side items m kinds.AnswersNothing = answers_nothing_there side items m
+is_of_first_kind table side items m kind = is_of_kind table side items m kind
+
+-- these kinds, the lowest first
+abbrev pub first_kinds : List Kind
+first_kinds = kinds.UnknownTransaction ∷ kinds.ReusedId ∷ kinds.AfterEnd ∷ kinds.AnswersNothing ∷ kinds.WrongOperation
+    ∷ kinds.MisplacedDialogue ∷ []
