@@ -33,3 +33,4 @@ pub mod Kept
 pub mod Noting
 pub mod Joining
 pub mod Speaking
+pub mod Searching

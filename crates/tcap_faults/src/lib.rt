@@ -4,6 +4,7 @@
 
 mod answers;
 mod before;
+mod blaming;
 mod by_class;
 mod code_counts;
 mod components;
@@ -14,6 +15,8 @@ mod half;
 mod how;
 mod ids;
 mod invokes;
+mod kept;
+mod kinds;
 pub mod laws;
 mod noting;
 mod of_id;
@@ -28,4 +31,5 @@ mod tallies;
 mod tally;
 mod tangled;
 
+pub use blaming::{BlamedEnds, blame, blame_both};
 pub use how::How;

@@ -1,0 +1,105 @@
+-- What is kept of the entries of a record while faults of its ends are looked for, and what was found.
+use Rattle.std.specs.Prelude.{◌≡◌, ◌≤◌, ℕ, ◌+◌, ◌^◌, Bool, true, false, List, [], ◌∷◌, ◌++◌, drop, length, map, Option, Some, None, Result, Ok, Err, ◌||◌, cond, not}
+use Rattle.tcap_msg.specs.Parts.{components_in}
+use Rattle.tcap_record.specs.declared.entry.End.{End as Side}
+use Rattle.tcap_record.specs.declared.entry.End.TheVariants.{A, B}
+use Rattle.tcap_model.specs.declared.reason.Reason.{Reason}
+use Rattle.tcap_refute.specs.Blame.{bad_entry_of}
+use Rattle.tcap_record.specs.declared.entry.Entry.{Entry}
+use Rattle.tcap_end.specs.Table.{Table}
+use Rattle.tcap_model.specs.World.{Item, Sent}
+use Rattle.tcap_model.specs.Entries.{item_of}
+use Rattle.tcap_refute.specs.declared.kind.Kind.{Kind}
+use Rattle.tcap_refute.specs.declared.kind.Kind.TheVariants as kinds
+use Rattle.tcap_refute.specs.declared.kind.Refutation.{Refutation}
+use Rattle.tcap_refute.specs.Before.{since_quiet}
+use Rattle.tcap_refute.specs.Kept.{AreNotesOf}
+use Rattle.tcap_faults.specs.declared.kept.Kept.{Kept}
+use Rattle.tcap_faults.specs.declared.blaming.Looking.{Looking}
+use Rattle.tcap_faults.specs.declared.blaming.SearchState.{SearchState}
+use Rattle.tcap_faults.specs.Fault.{blamed, blamed_behind, fault_since}
+use Rattle.tcap_faults.specs.Kept.{AreFacts}
+
+-- by whether one is busy, badly linked, answered already, or wrongly rejected
+abbrev pub kind_of_components : Bool → Bool → Bool → Bool → Option Kind
+kind_of_components busy linked answered rejected =
+    cond busy (Some kinds.InvokeIdBusy)
+    (cond linked (Some kinds.BadLink)
+    (cond answered (Some kinds.AnsweredAlready)
+    (cond rejected (Some kinds.RejectNotAllowed) None)))
+
+-- What is kept is of these items.
+pub record IsKept (table : Table) (items : List Item) (kept : Kept) : Type 0 where
+  pub notes : AreNotesOf table items kept.notes
+  pub facts : AreFacts table (since_quiet items) kept.facts
+
+-- how many components these items have
+abbrev pub components_in_all : List Item → ℕ
+components_in_all [] = 0
+components_in_all (Sent side m ∷ items) = length (components_in m) + components_in_all items
+components_in_all (Item.Quiet ∷ items) = components_in_all items
+
+-- there are so few items, with so few components, that no count of them is above the greatest
+pub record AreRoomy (items : List Item) : Type 0 where
+  pub few : length items ≤ 2 ^ 63
+  pub components : components_in_all items ≤ 2 ^ 126
+
+-- ---- what was found of an end
+
+abbrev pub looking_first : Bool → Looking
+looking_first is_asked = record { is_over = not is_asked; found = None }
+
+-- with what was found in an entry, if anything was
+abbrev pub looking_with : ℕ → Option Kind → Looking → Looking
+looking_with number None looking = looking
+looking_with number (Some kind) looking =
+    record { is_over = true; found = Some (record { entry = number; kind = kind }) }
+
+-- where it is not over
+abbrev pub looking_on : ℕ → Option Kind → Looking → Looking
+looking_on number kind looking = cond looking.is_over looking (looking_with number kind looking)
+
+-- behind an item of that number, behind these
+abbrev pub looking_behind : Table → List Item → ℕ → Item → Side → Looking → Looking
+looking_behind table items number item side looking =
+    looking_on number (fault_since table side (since_quiet items) item) looking
+
+-- behind an entry that is no item
+abbrev pub looking_bad : ℕ → Option Side → Reason → Side → Looking → Looking
+looking_bad number sender reason side looking = looking_on number (bad_entry_of side sender reason) looking
+
+abbrev pub looking_at : Side → SearchState → Looking
+looking_at A search = search.a
+looking_at B search = search.b
+
+abbrev pub looking_put : Side → Looking → SearchState → SearchState
+looking_put A looking search = record search { a = looking }
+looking_put B looking search = record search { b = looking }
+
+-- An item of that number is kept, and looked at.
+pub record IsTaken (table : Table) (items : List Item) (number : ℕ) (item : Item) (old new : SearchState) : Type 0 where
+  pub are : IsKept table (items ++ item ∷ []) new.kept
+  pub looking : (side : Side)
+      → looking_at side new ≡ looking_behind table items number item side (looking_at side old)
+
+-- An entry of that number was taken: an item is kept and looked at, and one behind it is looked at where the search for an end is
+-- not over; what is no item is looked at, and nothing behind it is.
+abbrev pub Takes : Table → List Item → ℕ → Entry → Bool → SearchState → SearchState → Type 0
+Takes table items number entry more old new = by (item_of entry)
+  where
+    by : Result Item Reason → Type 0
+    by (Ok item) = IsTaken table items number item old new × (more ≡ (not new.a.is_over || not new.b.is_over))
+    by (Err reason) =
+        (more ≡ false)
+        × ((side : Side) → looking_at side new ≡ looking_bad number entry.side reason side (looking_at side old))
+
+-- What is known of an end behind these items, which are so many: where its search is over, what is blamed on it was found; else
+-- nothing was yet, and what is left of the entries decides.
+abbrev pub IsFound : Table → Side → List Entry → List Item → ℕ → Looking → Type 0
+IsFound table side entries items number looking = by looking.is_over
+  where
+    by : Bool → Type 0
+    by true = looking.found ≡ blamed table side entries
+    by false = (looking.found ≡ None)
+        × (blamed_behind table side items number (map (λ e. (e.side, item_of e)) (drop number entries))
+        ≡ blamed table side entries)
