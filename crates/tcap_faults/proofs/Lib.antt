@@ -14,3 +14,9 @@ pub mod LinkLaws
 pub mod SortLaws
 pub mod TallyLaws
 pub mod GlobalLaws
+pub mod KeyLaws
+pub mod NotedLists
+pub mod MapLaws
+pub mod IdsLaws
+pub mod FromLaws
+pub mod ToLaws
