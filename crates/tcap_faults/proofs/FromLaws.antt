@@ -3,7 +3,7 @@ use Rattle.std.proofs.Common.{◌≡◌, ◌⊎◌, inl, inr, ◌+◌, ℕ, Bool
 use Rattle.std.specs.Prelude.{filter, filter_map, is_some, nat_le}
 use Rattle.std.specs.List.{cons_option, find, list_any}
 use Rattle.std.specs.Map.{lookup}
-use Rattle.std.specs.BTreeMap.{is_at}
+use Rattle.std.specs.BTreeMap.{BTreeMap, is_at}
 use Rattle.std.specs.Option.{option_or}
 use Rattle.std.proofs.lemmas.Bool.Decides.{nat_tests}
 use Rattle.std.proofs.lemmas.List.{append-nil}
@@ -237,19 +237,48 @@ module _ (table : Table) (ms : List Message) (m : Message) (old : SentFrom) (was
     came = came;
   }
 
-  -- A Continue goes to its destination ID;
-  pub from_continue : (new : SentFrom) → is_a forms.Continue m ≡ true → new.begin ≡ old.begin
-      → new.begun_twice ≡ old.begun_twice → new.continues ≡ sum old.continues 1
-      → AreIds (dtids_of (ms ++ m ∷ [])) new.to
-      → AreCame table (with_more dtid_in m (λ own. filter (goes_on_to own) ms)) new.came
-      → IsFrom table (ms ++ m ∷ []) new
-  from_continue new it begin twice continues to came =
-      from_other new (continue_only m it) begin twice (rw it continues) to
-      (λ own. rw (filter_more (goes_on_to own) ms m, it) (came own))
-
-  -- other messages are not kept.
+  -- Other messages are not kept.
   pub from_neither : IsNeither m → IsFrom table (ms ++ m ∷ []) old
   from_neither (no_begin, no_continue) =
       from_other old no_begin refl refl (rw no_continue refl)
       (rw (ids_same (is_a forms.Continue) dtid_in ms m (inl no_continue)) was.to)
       (λ own. rw (filter_more (goes_on_to own) ms m, no_continue, append-nil (filter (goes_on_to own) ms)) (was.came own))
+
+  -- ---- a Continue
+
+  module _ (it : is_a forms.Continue m ≡ true) where
+    -- It is counted, and its destination ID noted, if it has one;
+    pub record IsContinued (new : SentFrom) : Type 0 where
+      pub begin : new.begin ≡ old.begin
+      pub twice : new.begun_twice ≡ old.begun_twice
+      pub continues : new.continues ≡ sum old.continues 1
+      pub to : AreIds (dtids_of (ms ++ m ∷ [])) new.to
+      pub came : new.came ≡ old.came
+
+    pub continued_to : (n : ℕ) (id : List ℕ) (to : Ids) → n ≡ sum old.continues 1 → dtid_in m ≡ Some id
+        → AreIds (dtids_of ms ++ id ∷ []) to → IsContinued (record old { continues = n; to = to })
+    continued_to n id to counted goes are = record {
+      begin = refl;
+      twice = refl;
+      continues = counted;
+      to = rw (ids_more (is_a forms.Continue) dtid_in ms m id it goes) are;
+      came = refl;
+    }
+
+    pub continued_nowhere : (n : ℕ) → n ≡ sum old.continues 1 → dtid_in m ≡ None
+        → IsContinued (record old { continues = n })
+    continued_nowhere n counted goes = record {
+      begin = refl;
+      twice = refl;
+      continues = counted;
+      to = rw (ids_same (is_a forms.Continue) dtid_in ms m (inr goes)) was.to;
+      came = refl;
+    }
+
+    -- and it goes there.
+    pub from_continue : (new : SentFrom) (came : BTreeMap (List ℕ) Came) → IsContinued new
+        → AreCame table (with_more dtid_in m (λ own. filter (goes_on_to own) ms)) came
+        → IsFrom table (ms ++ m ∷ []) (record new { came = came })
+    from_continue new came is are =
+        from_other (record new { came = came }) (continue_only m it) is.begin is.twice (rw it is.continues) is.to
+        (λ own. rw (filter_more (goes_on_to own) ms m, it) (are own))
