@@ -1,20 +1,19 @@
 -- What is kept of what was sent from an ID, with a message more.
 use Rattle.std.proofs.Common.{◌≡◌, ◌⊎◌, inl, inr, ◌+◌, ℕ, Bool, true, false, cond, ◌||◌, List, [], ◌∷◌, ◌++◌, length, Option, Some, None, refl, sym, ap, ◌∙◌, arith}
-use Rattle.std.specs.Prelude.{filter, filter_map, is_some, nat_le}
-use Rattle.std.specs.List.{cons_option, find, list_any}
+use Rattle.std.specs.Prelude.{filter, is_some, nat_le}
+use Rattle.std.specs.List.{find, list_any}
 use Rattle.std.specs.Map.{lookup}
 use Rattle.std.specs.BTreeMap.{BTreeMap, is_at}
 use Rattle.std.specs.Option.{option_or}
 use Rattle.std.proofs.lemmas.Bool.Decides.{nat_tests}
 use Rattle.std.proofs.lemmas.List.{append-nil}
-use Rattle.std.proofs.lemmas.List.Elements.{filter_map-append}
 use Rattle.std.proofs.lemmas.List.Folds.{find-append}
 use Rattle.tcap_msg.specs.declared.kind.Kind.{Kind as Form}
 use Rattle.tcap_msg.specs.declared.kind.Kind.TheVariants as forms
 use Rattle.tcap_msg.specs.declared.message.Message.{Message}
 use Rattle.tcap_msg.specs.declared.message.Message.TheVariants.{Unidirectional, Begin, Continue, End as EndMessage, Abort}
 use Rattle.tcap_msg.specs.Parts.{components_in, dialogue_in, dtid_in, kind_in}
-use Rattle.tcap_end.specs.Dialogue.{is_request, is_response}
+use Rattle.tcap_end.specs.Dialogue.{is_request}
 use Rattle.tcap_end.specs.Table.{Table, octets_cmp}
 use Rattle.tcap_refute.specs.Before.{components_of, is_a}
 use Rattle.tcap_refute.specs.Counts.{count}

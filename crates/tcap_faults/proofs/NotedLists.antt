@@ -1,5 +1,5 @@
 -- Lists with one more behind.
-use Rattle.std.proofs.Common.{◌≡◌, ℕ, ◌+◌, ◌≤◌, ◌^◌, Bool, true, false, cond, ◌||◌, not, List, [], ◌∷◌, ◌++◌, length, Option, Some, None, ◌⊎◌, inl, inr, refl, sym, ap, ◌∙◌, arith}
+use Rattle.std.proofs.Common.{◌≡◌, ◌⊎◌, inl, inr, ℕ, ◌+◌, ◌≤◌, ◌^◌, Bool, true, false, cond, ◌||◌, List, [], ◌∷◌, ◌++◌, length, Option, Some, None, refl, sym, ap, ◌∙◌, arith}
 use Rattle.std.specs.Prelude.{filter, filter_map}
 use Rattle.std.specs.List.{list_any}
 use Rattle.std.proofs.lemmas.Bool.Decides.{nat_tests}
@@ -63,16 +63,6 @@ module _ {A : Type 0} where
             let few_all : length xs ≤ 2 ^ 126 = little in
             grind (arith, nat_tests)
         by false before = omega arith
-
-    -- Some pass where there are some that do.
-    pub any_kept : (xs : List A) → is_nothing (filter p xs) ≡ not (list_any p xs)
-    any_kept [] = refl
-    any_kept (x ∷ xs) = by (p x) (any_kept xs)
-      where
-        by : (b : Bool) → is_nothing (filter p xs) ≡ not (list_any p xs)
-            → is_nothing (cond b (x ∷ filter p xs) (filter p xs)) ≡ not (b || list_any p xs)
-        by true rest = refl
-        by false rest = rest
 
 -- ---- their IDs
 

@@ -1,5 +1,5 @@
 -- What is kept of what was sent to an ID, with a message more.
-use Rattle.std.proofs.Common.{◌≡◌, ◌⊎◌, inl, ℕ, Bool, true, false, ◌||◌, List, [], ◌∷◌, ◌++◌, Some, None, refl, sym, ◌∙◌}
+use Rattle.std.proofs.Common.{◌≡◌, ◌⊎◌, inl, ℕ, true, false, ◌||◌, List, [], ◌∷◌, ◌++◌, Some, None, refl, ◌∙◌}
 use Rattle.std.specs.Prelude.{is_none}
 use Rattle.std.proofs.lemmas.List.{append-nil}
 use Rattle.tcap_msg.specs.declared.kind.Kind.TheVariants as forms
@@ -8,7 +8,7 @@ use Rattle.tcap_msg.specs.declared.message.Message.TheVariants.{Unidirectional, 
 use Rattle.tcap_msg.specs.Parts.{cause_in, components_in, otid_in}
 use Rattle.tcap_end.specs.Table.{Table}
 use Rattle.tcap_refute.specs.Before.{components_of, is_a}
-use Rattle.tcap_refute.specs.Speaker.{is_cause, is_nothing}
+use Rattle.tcap_refute.specs.Speaker.{is_cause}
 use Rattle.tcap_refute.proofs.TestLaws.{or_none}
 use Rattle.tcap_faults.specs.declared.ids.Ids.{Ids}
 use Rattle.tcap_faults.specs.declared.sent_to.SentTo.{SentTo}

@@ -1,4 +1,3 @@
-use Rattle.std.proofs.Common.{refl}
 use Rattle.tcap_faults.proofs.FromLaws.{from_neither, neither}
 use Rattle.tcap_faults.proofs.sent_from.SentFrom.note.Goals as goal
 

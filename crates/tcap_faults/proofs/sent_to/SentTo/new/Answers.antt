@@ -1,5 +1,4 @@
 use Rattle.std.proofs.Common.{refl}
-use Rattle.tcap_faults.proofs.ToLaws.{to_cause}
 use Rattle.tcap_faults.proofs.sent_to.SentTo.new.Goals as goal
 
 pub returns : goal.returns

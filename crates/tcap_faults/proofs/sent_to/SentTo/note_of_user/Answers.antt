@@ -1,4 +1,4 @@
-use Rattle.std.proofs.Common.{◌≡◌, inl, inr, refl, rules}
+use Rattle.std.proofs.Common.{inl, inr, rules}
 use Rattle.std.proofs.lemmas.Result.{on_ok_weaker}
 use Rattle.tcap_refute.specs.Before.{components_of}
 use Rattle.tcap_faults.specs.Kept.{of_user, otids_of}
