@@ -21,3 +21,9 @@ pub mod InvokeSums
 pub mod AnswerSums
 pub mod RejectSums
 pub mod ComponentFinds
+pub mod KeyLaws
+pub mod NotedLists
+pub mod MapLaws
+pub mod IdsLaws
+pub mod FromLaws
+pub mod ToLaws
