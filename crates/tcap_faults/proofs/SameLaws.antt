@@ -74,18 +74,21 @@ pub first_none : (ids : List (List ℕ)) → ids_first ids ≡ None → ids ≡ 
 first_none [] first = refl
 first_none (id ∷ more) first = cc
 
-module _ (ids : List (List ℕ)) (kept : Ids) where
-  -- The first that is kept is one of these,
-  pub among_first : AreAmong ids (Some kept) → (x : List ℕ) → kept.first ≡ Some x → Contains ids x
-  among_first (those, are, same) x first = same.there x (first_has those x (sym are.first ∙ first))
+-- The IDs of which it is kept are among themselves.
+pub among_these : (ids : List (List ℕ)) (kept : Ids) → AreIds ids kept → AreAmong ids (Some kept)
+among_these ids kept are = (ids, are, record { there = λ id has. has; back = λ id has. has })
 
-  -- or there are none;
-  pub among_none : AreAmong ids (Some kept) → kept.first ≡ None → ids ≡ []
-  among_none (those, are, same) none = none_same ids (rw (first_none those (sym are.first ∙ none)) at same)
+module _ {ids : List (List ℕ)} {kept : Ids} where
+  -- What says of the IDs of which it is kept whether two differ says so of these,
+  pub among_differ : (b : Bool) → ((those : List (List ℕ)) → AreIds those kept → b ≡ two_differ those)
+      → AreAmong ids (Some kept) → b ≡ two_differ ids
+  among_differ b says (those, are, same) = says those are ∙ differ_same those ids same
 
-  -- and two of these differ where two that are kept do.
-  pub among_differ : AreAmong ids (Some kept) → not (is_nothing kept.more.items) ≡ two_differ ids
-  among_differ (those, are, same) = are.several ∙ differ_same those ids same
+  -- and their first is one of these.
+  pub among_one : (o : Option (List ℕ)) → ((those : List (List ℕ)) → AreIds those kept → o ≡ ids_first those)
+      → AreAmong ids (Some kept) → IsOneOf ids o
+  among_one None says (those, are, same) = none_same ids (rw (first_none those (sym (says those are))) at same)
+  among_one (Some x) says (those, are, same) = same.there x (first_has those x (sym (says those are)))
 
 -- ---- of two lists
 
@@ -122,7 +125,14 @@ module _ (xs ys : List (List ℕ)) where
           both_ways _ apart ((bytes_eq-Decides x y).1
           (one x y (Contains-append_left xs ys x has_x) (Contains-append_right xs ys y has_y)))))
 
-  -- What one of the lists has both have.
+  -- Where there are none of one they differ where the others do.
+  pub left_none : xs ≡ [] → two_differ ys ≡ two_differ (xs ++ ys)
+  left_none none = rw none refl
+
+  pub right_none : ys ≡ [] → two_differ xs ≡ two_differ (xs ++ ys)
+  right_none none = rw (none, append-nil xs) refl
+
+  -- One of the first, or one of the others where there is none of the first.
   pub one_left : (x : List ℕ) → IsOneOf xs (Some x) → IsOneOf (xs ++ ys) (Some x)
   one_left x has = Contains-append_left xs ys x has
 

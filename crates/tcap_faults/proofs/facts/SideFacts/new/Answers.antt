@@ -1,3 +1,2 @@
-use Rattle.tcap_faults.proofs.SideLaws.{used_is}
-use Rattle.tcap_faults.proofs.JoinLaws.{joined_is}
+use Rattle.tcap_faults.proofs.SameLaws.{among_differ}
 use Rattle.tcap_faults.proofs.facts.SideFacts.new.Goals as goal
