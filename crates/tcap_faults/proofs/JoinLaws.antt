@@ -1,6 +1,6 @@
 -- Which IDs are joined, and whether those that a message goes over are tangled, by what is kept of both ends.
-use Rattle.std.proofs.Common.{◌≡◌, ◌⊎◌, inl, inr, ℕ, Bool, true, false, cond, not, ◌&&◌, ◌||◌, List, [], ◌∷◌, ◌++◌, Option, Some, None, bytes_eq, filter, refl, sym, ap, ap₂, ◌∙◌}
-use Rattle.std.specs.Prelude.{Contains, filter_map}
+use Rattle.std.proofs.Common.{◌≡◌, ◌⊎◌, inl, inr, ℕ, Bool, true, false, cond, not, ◌&&◌, ◌||◌, List, [], ◌∷◌, ◌++◌, Option, Some, None, bytes_eq, filter, refl, sym, ap, ap₂, subst, ◌∙◌}
+use Rattle.std.specs.Prelude.{Contains, filter_map, nat_le}
 use Rattle.std.specs.List.{flat_map, list_any}
 use Rattle.std.proofs.lemmas.Bool.{and_from, and_left, and_parts, both_ways, false_from_ne_true, or_from, or_left, or_parts, or_right}
 use Rattle.std.proofs.lemmas.List.{append-nil}
@@ -24,6 +24,8 @@ use Rattle.tcap_refute.specs.Speaker.{began, goes_on_to}
 use Rattle.tcap_refute.proofs.HalfLawsFinds.{any_is, filter_is}
 use Rattle.tcap_refute.proofs.TestLaws.{or_none}
 use Rattle.tcap_refute.proofs.Members.{any_has, filter_has, filter_map_has, flat_map_has, has_first, has_later, has_not}
+use Rattle.tcap_faults.specs.declared.ids.Ids.{Ids}
+use Rattle.tcap_faults.specs.Ids.{AreAmong, IsOneOf}
 use Rattle.tcap_faults.specs.Kept.{dtids_of, otids_of, sent_from, sent_to}
 use Rattle.tcap_faults.specs.Tangled.{are_tangled, far, goes_on_from, goes_to_begun, guesses, has_used, is_own_tangled, is_peer_tangled, near, one_passes, owns_of, peers_of, two_differ}
 use Rattle.tcap_faults.proofs.SameLaws.{any_one, differ_so}
@@ -198,6 +200,14 @@ module _ (side : Side) (items : List Item) where
       ≡ list_any (goes_to_begun side items) (asked side id items)
   of_both id = begun_among (sent_from (other side) items id)
 
+  -- What the peer keeps of them it keeps of those that its peer's peer used.
+  pub heard_among : (id : List ℕ) (o : Option Ids)
+      → AreAmong (filter (has_used (other (other side)) items) (dtids_of (sent_from (other side) items id))) o
+      → AreAmong (filter (has_used side items) (dtids_of (sent_from (other side) items id))) o
+  heard_among id o are =
+      subst (λ (s : Side). AreAmong (filter (has_used s items) (dtids_of (sent_from (other side) items id))) o)
+      (other_twice side) are
+
 -- ---- near an ID of the peer, and behind
 
 module _ (side : Side) (items : List Item) (id : List ℕ) where
@@ -212,6 +222,25 @@ module _ (side : Side) (items : List Item) (id : List ℕ) where
   tangled_joined own joined has is =
       sym (or_left _ _ (any_has (is_own_tangled side items) (near side items own id) joined
       (Contains-append_left (owns_of side items id) own joined has) is))
+
+  -- One own ID at the most is joined with what is not tangled,
+  pub plain_same : is_peer_tangled side items id ≡ false → two_differ (owns_of side items id) ≡ false
+  plain_same plain =
+      let (three, guessed) = or_parts (two_differ (owns_of side items id)
+      || nat_le 2 (count (is_a forms.Begin) (asked side id items))
+      || (has_a forms.Begin (asked side id items) && list_any (goes_to_begun side items) (asked side id items))) _ plain
+      in
+      let (two, apart) = or_parts (two_differ (owns_of side items id)
+      || nat_le 2 (count (is_a forms.Begin) (asked side id items))) _ three in
+      (or_parts (two_differ (owns_of side items id)) _ two).0
+
+  -- and none is tangled where the one is not.
+  pub plain_owns : is_peer_tangled side items id ≡ false → (o : Option (List ℕ)) → IsOneOf (owns_of side items id) o
+      → ((joined : List ℕ) → o ≡ Some joined → is_own_tangled side items joined ≡ false)
+      → list_any (is_own_tangled side items) (owns_of side items id) ≡ false
+  plain_owns plain None none so = ap (list_any (is_own_tangled side items)) none
+  plain_owns plain (Some joined) has so =
+      any_one (is_own_tangled side items) (owns_of side items id) joined has (plain_same plain) ∙ so joined refl
 
   -- or what is near it besides, or behind that.
   module _ (plain : is_peer_tangled side items id ≡ false)

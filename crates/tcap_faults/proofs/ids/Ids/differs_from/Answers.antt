@@ -1,6 +1,7 @@
 use Rattle.std.proofs.Common.{Some, None, sym, ◌∙◌}
 use Rattle.tcap_faults.proofs.SameLaws.{among_differ, among_one, both_differ, left_differ, left_none, right_differ, right_none}
 use Rattle.tcap_faults.proofs.ids.Ids.differs_from.Goals as goal
+use Rattle.tcap_faults.proofs.ids.Ids.differs_from.Goals.{then-differ-via-then-differ, then-differ-via-else-differ+then-differ-2}
 
 pub returns-then-differ : goal.returns-then-differ
 returns-then-differ c = λ xs ys are_x are_y.

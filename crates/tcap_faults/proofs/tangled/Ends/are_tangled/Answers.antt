@@ -1,7 +1,36 @@
+use Rattle.std.proofs.Common.{◌||◌, Some, None, sym, ap, ◌∙◌}
+use Rattle.std.specs.Prelude.{option_copied}
+use Rattle.std.specs.List.{list_any}
+use Rattle.std.specs.Option.{option_to_list}
+use Rattle.tcap_faults.specs.Tangled.{are_tangled, is_own_tangled, is_peer_tangled, peers_of}
+use Rattle.tcap_faults.proofs.JoinLaws.{plain_besides, plain_joined, plain_owns}
 use Rattle.tcap_faults.proofs.tangled.Ends.are_tangled.Goals as goal
+use Rattle.tcap_faults.proofs.tangled.Ends.are_tangled.Goals.{in-Some+else-is_own_tangled, in_default}
 
 pub returns-else-is_own_tangled-2 : goal.returns-else-is_own_tangled-2
-returns-else-is_own_tangled-2 c = ?
+returns-else-is_own_tangled-2 c = λ table side items own_is peer_is.
+    let id = c.args.id.now in
+    let plain = sym (c.is_peer_tangled.ensures table side items own_is peer_is) ∙ c.if-is_peer_tangled.false in
+    let owns = plain_owns side items id plain c.joined_own.result (c.joined_own.ensures table side items own_is peer_is)
+    (λ joined is. elim c.match-joined_own.branch [
+      in-Some+else-is_own_tangled w ↦ let h = w.in-Some in let k = w.if-is_own_tangled in ?
+      | in_default w ↦ let h = w.in_default in ?
+    ]) in
+    let own = c.in-Some-own.own.now in
+    let here = sym (c.is_own_tangled-in-Some-own.ensures table side items own_is peer_is) ∙ c.if-is_own_tangled-2.false in
+    c.leads_to_tangled.ensures table side items own_is peer_is here
+    ∙ ap (λ b. b || list_any (is_peer_tangled side items) (peers_of side items own)) (sym here)
+    ∙ plain_besides side items id plain owns own
+    ∙ ap (λ o. are_tangled side items (option_to_list (option_copied o)) id) (sym c.in-Some-own.is)
 
 pub returns-in-None : goal.returns-in-None
-returns-in-None c = ?
+returns-in-None c = λ table side items own_is peer_is.
+    let id = c.args.id.now in
+    let plain = sym (c.is_peer_tangled.ensures table side items own_is peer_is) ∙ c.if-is_peer_tangled.false in
+    let owns = plain_owns side items id plain c.joined_own.result (c.joined_own.ensures table side items own_is peer_is)
+    (λ joined is. elim c.match-joined_own.branch [
+      in-Some+else-is_own_tangled w ↦ let h = w.in-Some in let k = w.if-is_own_tangled in ?
+      | in_default w ↦ let h = w.in_default in ?
+    ]) in
+    plain_joined side items id plain owns
+    ∙ ap (λ o. are_tangled side items (option_to_list (option_copied o)) id) (sym c.in-None.is)
