@@ -6,6 +6,12 @@ use Rattle.tcap_faults.proofs.tangled.differ.Goals.{in-Some-None, in-Some-None-2
 pub returns-in-Some-None : goal.returns-in-Some-None
 returns-in-Some-None c = λ xs ys are_x are_y.
     elim c.in-Some-None-1.branch [
-      in-Some-None w ↦ let h = w.in-Some-None in let k = w.ids-is in ?
-      | in-Some-None-2 w ↦ let h = w.in-Some-None in let k = w.ids-is in ?
+      in-Some-None w ↦
+          among_differ {ids = xs} c.differ.result c.differ.ensures
+          (rw w.ids-is (rw w.in-Some-None.is-0 at are_x))
+          ∙ right_none xs ys (rw w.in-Some-None.is-1 at are_y)
+      | in-Some-None-2 w ↦
+          among_differ {ids = ys} c.differ.result c.differ.ensures
+          (rw w.ids-is (rw w.in-Some-None.is-1 at are_y))
+          ∙ left_none xs ys (rw w.in-Some-None.is-0 at are_x)
     ]

@@ -26,7 +26,7 @@ returns-then-not-has_spoken_to c = λ table side items own_is peer_is used.
     elim c.if-began.branch [
       then-began w ↦ begun _ _ _ _ (asks ∙ w.if-began.true) (w.has_spoken_to.ensures table side items own_is)
           w.value-is
-      | else-began w ↦ not_begun _ _ _ (asks ∙ w.if-began.false) w.value-is
+      | else-began w ↦ not_begun _ _ _ (asks ∙ w.if-began.false) (w.value-is ∙ w.if-began.false)
     ] in
     ap not (c.is_joined.ensures table side items own_is peer_is used)
     ∙ ap (λ b. b && not (list_any (bytes_eq c.args.own.now) (owns_of side items id)))
@@ -40,7 +40,7 @@ returns-else-not-has_spoken_to c = λ table side items own_is peer_is used.
     elim c.if-began.branch [
       then-began w ↦ begun _ _ _ _ (asks ∙ w.if-began.true) (w.has_spoken_to.ensures table side items own_is)
           w.value-is
-      | else-began w ↦ not_begun _ _ _ (asks ∙ w.if-began.false) w.value-is
+      | else-began w ↦ not_begun _ _ _ (asks ∙ w.if-began.false) (w.value-is ∙ w.if-began.false)
     ] in
     c.if-not-has_spoken_to.false
     ∙ ap (λ b. b && not (list_any (bytes_eq c.args.own.now) (owns_of side items id)))
