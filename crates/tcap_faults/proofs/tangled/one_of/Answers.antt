@@ -1,4 +1,4 @@
-use Rattle.std.proofs.Common.{◌≡◌, ◌++◌, [], None, Some, sym, ◌∙◌}
+use Rattle.std.proofs.Common.{arith, ◌≡◌, ◌++◌, [], None, Some, sym, ◌∙◌}
 use Rattle.std.specs.Prelude.{Contains}
 use Rattle.std.proofs.lemmas.List.Elements.{Contains-append_left, Contains-append_right}
 use Rattle.tcap_msg.specs.Meaning.{id_of}
@@ -32,11 +32,12 @@ returns-in_err-one-in_default c = λ xs ys are_x are_y.
     let none_x : xs ≡ [] = rw c.in_err-one-in_default.was at one_x in
     elim c.in_default-1.branch [
       in_default-via-in-None+in-None-others w ↦
-          let h = w.in-None-others-1 in let k = w.enum_told_at-in-None-others-1 in
-          let none : c.args.others ≡ None = ? in
+          let none : c.args.others ≡ None = cc in
           let none_y : ys ≡ [] = rw none at are_y in
           rw c.from_residual-in_err-one-in_default.ensures (rw none_x none_y)
-      | in_default-via-in-Some-1 w ↦ let h = w.in-Some-1 in let k = w.in-Some-1.keys2 in ?
+      | in_default-via-in-Some-1 w ↦
+          let bad = rw c.in_err-one-in_default.was at w.in-Some-1.keys2 in
+          absurd (omega (arith, bad))
     ]
 
 pub returns : goal.returns

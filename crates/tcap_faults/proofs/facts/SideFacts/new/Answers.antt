@@ -1,2 +1,0 @@
-use Rattle.tcap_faults.proofs.SameLaws.{among_differ}
-use Rattle.tcap_faults.proofs.facts.SideFacts.new.Goals as goal
