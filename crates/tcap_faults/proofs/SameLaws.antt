@@ -131,10 +131,3 @@ module _ (xs ys : List (List ℕ)) where
 
   pub right_none : ys ≡ [] → two_differ xs ≡ two_differ (xs ++ ys)
   right_none none = rw (none, append-nil xs) refl
-
-  -- One of the first, or one of the others where there is none of the first.
-  pub one_left : (x : List ℕ) → IsOneOf xs (Some x) → IsOneOf (xs ++ ys) (Some x)
-  one_left x has = Contains-append_left xs ys x has
-
-  pub one_right : (o : Option (List ℕ)) → xs ≡ [] → IsOneOf ys o → IsOneOf (xs ++ ys) o
-  one_right o none one = rw none one
