@@ -1,8 +1,8 @@
-use Rattle.std.proofs.Common.{arith, ◌≡◌, ◌++◌, [], None, Some, sym, ◌∙◌}
+use Rattle.std.proofs.Common.{arith, ◌≡◌, ◌++◌, [], None}
 use Rattle.std.specs.Prelude.{Contains}
 use Rattle.std.proofs.lemmas.List.Elements.{Contains-append_left, Contains-append_right}
 use Rattle.tcap_msg.specs.Meaning.{id_of}
-use Rattle.tcap_faults.specs.Ids.{AreAmong, IsOneOf}
+use Rattle.tcap_faults.specs.Ids.{IsOneOf}
 use Rattle.tcap_faults.proofs.SameLaws.{among_one}
 use Rattle.tcap_faults.proofs.tangled.one_of.Goals as goal
 use Rattle.tcap_faults.proofs.tangled.one_of.Goals.{in-Some, in-None, in-None-Some+in_ok-one-in-None-Some, in_default+in_ok-one-in_default, in_default-via-in-None+in-None-others, in_default-via-in-Some-1}
