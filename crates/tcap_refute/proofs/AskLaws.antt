@@ -205,12 +205,12 @@ module _ (table : Table) (messages : List Message) where
       → told_of table messages (OfId id fact) ≡ list_any (shows table id fact) (components_of messages)
   told_id id fact = any_flat components_in (shows table id fact) messages
 
-  is_of_one : (id : ℤ) (c : Component) → ((invokes id c || answers true id c) || answers false id c) ≡ is_of_id id c
-  is_of_one id (Invoke other linked code parameter) =
+  has_id : (id : ℤ) (c : Component) → ((invokes id c || answers true id c) || answers false id c) ≡ is_of_id id c
+  has_id id (Invoke other linked code parameter) =
       sym (or_none (is_invoke_id id other || false)) ∙ sym (or_none (is_invoke_id id other))
-  is_of_one id (ReturnResult last other body) = sym (or_none (is_invoke_id id other))
-  is_of_one id (ReturnError other code parameter) = refl
-  is_of_one id (Reject other problem) = refl
+  has_id id (ReturnResult last other body) = sym (or_none (is_invoke_id id other))
+  has_id id (ReturnError other code parameter) = refl
+  has_id id (Reject other problem) = refl
 
   come : (id : ℤ) → has_come (told_of table messages) id ≡ list_any (is_of_id id) (components_of messages)
   come id =
@@ -219,7 +219,7 @@ module _ (table : Table) (messages : List Message) where
       ∙ ap (λ b. b || list_any (answers false id) (components_of messages))
       (any_or (invokes id) (answers true id) (components_of messages))
       ∙ any_or (λ c. invokes id c || answers true id c) (answers false id) (components_of messages)
-      ∙ same_any _ _ (components_of messages) (is_of_one id)
+      ∙ same_any _ _ (components_of messages) (has_id id)
 
   answers_of : (c : Component)
       → answers_none false (told_of table messages) c ≡ answers_none_of (components_of messages) c
@@ -232,18 +232,18 @@ module _ (table : Table) (messages : List Message) where
   answers_of (Reject (Some id) (problems.ReturnResult n)) = ap not (told_id id (Answered true))
   answers_of (Reject (Some id) (problems.ReturnError n)) = ap not (told_id id (Answered false))
 
-  answers_by_one : (of_one : Bool) (c : Component)
+  answers_asked : (of_one : Bool) (c : Component)
       → answers_none of_one (told_of table messages) c ≡ none_of of_one (components_of messages) c
-  answers_by_one false c = answers_of c
-  answers_by_one true (Invoke id linked code parameter) = refl
-  answers_by_one true (ReturnResult last id body) = answers_of (ReturnResult last id body)
-  answers_by_one true (ReturnError id code parameter) = answers_of (ReturnError id code parameter)
-  answers_by_one true (Reject None problem) = refl
-  answers_by_one true (Reject (Some id) (problems.General n)) = ap (λ b. not ((n == 1 || n == 2) && b)) (come id)
-  answers_by_one true (Reject (Some id) (problems.Invoke n)) = answers_of (Reject (Some id) (problems.Invoke n))
-  answers_by_one true (Reject (Some id) (problems.ReturnResult n)) =
+  answers_asked false c = answers_of c
+  answers_asked true (Invoke id linked code parameter) = refl
+  answers_asked true (ReturnResult last id body) = answers_of (ReturnResult last id body)
+  answers_asked true (ReturnError id code parameter) = answers_of (ReturnError id code parameter)
+  answers_asked true (Reject None problem) = refl
+  answers_asked true (Reject (Some id) (problems.General n)) = ap (λ b. not ((n == 1 || n == 2) && b)) (come id)
+  answers_asked true (Reject (Some id) (problems.Invoke n)) = answers_of (Reject (Some id) (problems.Invoke n))
+  answers_asked true (Reject (Some id) (problems.ReturnResult n)) =
       answers_of (Reject (Some id) (problems.ReturnResult n))
-  answers_by_one true (Reject (Some id) (problems.ReturnError n)) = answers_of (Reject (Some id) (problems.ReturnError n))
+  answers_asked true (Reject (Some id) (problems.ReturnError n)) = answers_of (Reject (Some id) (problems.ReturnError n))
 
   allowed : (c : Component)
       → is_not_allowed (told_of table messages) c ≡ no_class_allows table (components_of messages) c
@@ -263,7 +263,7 @@ module _ (table : Table) (items : List Item) (side : Side) where
       ≡ list_any (none_of of_one (components_of (asked side dtid (since_quiet items)))) components
   one_answers of_one dtid components =
       ap (λ told. list_any (answers_none of_one told) components) (told_is table items (other side) dtid)
-      ∙ same_any _ _ components (answers_by_one table (asked side dtid (since_quiet items)) of_one)
+      ∙ same_any _ _ components (answers_asked table (asked side dtid (since_quiet items)) of_one)
 
   one_allowed : (dtid : List ℕ) (components : List Component)
       → list_any (is_not_allowed (told_from (told_by_list table items (other side)) (Some dtid))) components

@@ -55,12 +55,7 @@ impl Notes {
 
     /// The lowest of the kinds F2 to F7, as they are asked of one end (Q.771, Q.773, Q.774): as `lowest_kind`, but that a Reject
     /// with the general problems 1 and 2 may be of what has its ID and came from there.
-    pub fn first_kind<M: MessageParts>(
-        &self,
-        table: &Table,
-        side: End,
-        message: &M,
-    ) -> Option<Kind>
+    pub fn first_kind<M: MessageParts>(&self, table: &Table, side: End, message: &M) -> Option<Kind>
         ensures { (items : List Item) → AreNotesOf table.now items self.now
             → result ≡ find (is_of_first_kind table.now side (since_quiet items) (M.meaning message.now)) first_kinds }
     {
