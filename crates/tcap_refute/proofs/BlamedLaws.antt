@@ -1,5 +1,5 @@
 -- What is blamed of an end says of all runs.
-use Rattle.std.proofs.Common.{◌≡◌, ◌⊎◌, inl, inr, Bool, true, false, cond, ℕ, ◌+◌, List, [], ◌∷◌, ◌++◌, map, length, slice_get, Option, Some, None, Result, Ok, Err, refl, sym, ap, subst, ◌∙◌}
+use Rattle.std.proofs.Common.{◌≡◌, inl, inr, Bool, true, false, cond, ℕ, ◌+◌, List, [], ◌∷◌, ◌++◌, map, length, slice_get, Option, Some, None, Result, Ok, Err, refl, sym, ap, subst, ◌∙◌}
 use Rattle.std.specs.List.{find}
 use Rattle.std.proofs.lemmas.List.{length-append}
 use Rattle.tcap_msg.specs.declared.message.Message.{Message}
@@ -15,9 +15,9 @@ use Rattle.tcap_refute.specs.declared.kind.Kind.{Kind}
 use Rattle.tcap_refute.specs.declared.kind.Kind.TheVariants as kinds
 use Rattle.tcap_refute.specs.declared.kind.Refutation.{Refutation}
 use Rattle.tcap_refute.specs.Before.{since_quiet}
-use Rattle.tcap_refute.specs.Kind.{is_limit, kind_of_reason, or_else, refutation_at, refuting_kinds}
+use Rattle.tcap_refute.specs.Kind.{kind_of_reason, or_else, refutation_at, refuting_kinds}
 use Rattle.tcap_refute.specs.Blame.{bad_entry_of, blamed, blamed_behind, further_kinds, is_entry_of, is_fault, is_open_at_mark, lowest_fault}
-use Rattle.tcap_refute.specs.Unsendable.{IsAtFaultOf, IsBadEntry, IsFalseMark, IsFaultOf}
+use Rattle.tcap_refute.specs.Unsendable.{IsAtFaultOf}
 use Rattle.tcap_refute.proofs.BlameLaws.{none_at_fault}
 use Rattle.tcap_refute.proofs.MarkKinds.{no_open_mark}
 use Rattle.tcap_refute.proofs.RefutedLaws.{bad_reason, found_so, get_there, oks, oks_more}

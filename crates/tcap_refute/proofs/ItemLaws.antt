@@ -83,17 +83,17 @@ module _ (side : Side) (m : Message) where
 
   -- A message that was asked for its kind and has none, and was noted.
   pub passes : (table : Table) (items : List Item) (old new : Notes) → AreNotesOf table items old
-      → (asked : Option Kind) → asked ≡ kind_by table (told_by_notes old) side m → (asked ≡ None)
+      → (asked : Option Kind) → asked ≡ kind_by false table (told_by_notes old) side m → (asked ≡ None)
       → ((end : Side) (fact : EndFact) → told_by_notes new end fact
       ≡ (told_by_notes old end fact || (is_side end side && shows_end table fact m)))
       → Judges table items (Ok (Sent side m)) Passed new
   passes table items old new are asked is none told =
-      (sym (kind_noted table items old side m are) ∙ sym is ∙ none, noted table items old new are told)
+      (sym (kind_noted false table items old side m are) ∙ sym is ∙ none, noted table items old new are told)
 
   -- One that has a kind.
   pub is_refuted : (table : Table) (items : List Item) (old : Notes) → AreNotesOf table items old → (kind : Kind)
-      → Some kind ≡ kind_by table (told_by_notes old) side m → lowest_kind table items (Sent side m) ≡ Some kind
-  is_refuted table items old are kind is = sym (is ∙ kind_noted table items old side m are)
+      → Some kind ≡ kind_by false table (told_by_notes old) side m → lowest_kind table items (Sent side m) ≡ Some kind
+  is_refuted table items old are kind is = sym (is ∙ kind_noted false table items old side m are)
 
 -- ---- a quiet mark more
 

@@ -55,18 +55,23 @@ comes_after_end told _ _ = false
 
 -- ---- components: by what is told of the destination ID
 
-abbrev pub rejects_none : (FromFact → Bool) → Option ℤ → Problem → Bool
-rejects_none told None problem = true
-rejects_none told (Some id) (problems.General n) = true
-rejects_none told (Some id) (problems.Invoke n) = not (told (OfId id Invoked))
-rejects_none told (Some id) (problems.ReturnResult n) = not (told (OfId id (Answered true)))
-rejects_none told (Some id) (problems.ReturnError n) = not (told (OfId id (Answered false)))
+-- an Invoke or an answer of that ID
+abbrev pub has_come : (FromFact → Bool) → ℤ → Bool
+has_come told id = told (OfId id Invoked) || told (OfId id (Answered true)) || told (OfId id (Answered false))
 
-abbrev pub answers_none : (FromFact → Bool) → Component → Bool
-answers_none told (Invoke id linked code parameter) = false
-answers_none told (ReturnResult last id body) = not (told (OfId id Invoked))
-answers_none told (ReturnError id code parameter) = not (told (OfId id Invoked))
-answers_none told (Reject id problem) = rejects_none told id problem
+-- It is given whether that is asked of one end (`FirstKinds`): then the general problems 1 and 2 may be of what has come.
+abbrev pub rejects_none : Bool → (FromFact → Bool) → Option ℤ → Problem → Bool
+rejects_none of_one told None problem = true
+rejects_none of_one told (Some id) (problems.General n) = not (of_one && ((n == 1 || n == 2) && has_come told id))
+rejects_none of_one told (Some id) (problems.Invoke n) = not (told (OfId id Invoked))
+rejects_none of_one told (Some id) (problems.ReturnResult n) = not (told (OfId id (Answered true)))
+rejects_none of_one told (Some id) (problems.ReturnError n) = not (told (OfId id (Answered false)))
+
+abbrev pub answers_none : Bool → (FromFact → Bool) → Component → Bool
+answers_none of_one told (Invoke id linked code parameter) = false
+answers_none of_one told (ReturnResult last id body) = not (told (OfId id Invoked))
+answers_none of_one told (ReturnError id code parameter) = not (told (OfId id Invoked))
+answers_none of_one told (Reject id problem) = rejects_none of_one told id problem
 
 abbrev pub is_not_allowed : (FromFact → Bool) → Component → Bool
 is_not_allowed told (ReturnResult last id body) = not (told (OfId id (Succeeds (option_map (λ b. b.code) body))))
@@ -77,16 +82,19 @@ is_not_allowed told _ = false
 abbrev pub passes : Table → (FromFact → Bool) → Test → Component → Bool
 passes table told tests.Answer component = is_answer component
 passes table told tests.AnswerOrReject component = is_answer component || is_reject component
-passes table told tests.AnswersNothing component = answers_none told component
+passes table told (tests.AnswersNothing of_one) component = answers_none of_one told component
 passes table told tests.UnknownOperation component = is_unknown_operation table component
 passes table told tests.NotOfClass4 component = is_not_of_class_4 table component
 passes table told tests.NotAllowed component = is_not_allowed told component
 
 -- whether a component of such a message answers or rejects nothing
-abbrev pub one_answers_nothing : Table → (FromFact → Bool) → Form → List Component → Bool
-one_answers_nothing table told forms.Unidirectional components = list_any (passes table told tests.Answer) components
-one_answers_nothing table told forms.Begin components = list_any (passes table told tests.AnswerOrReject) components
-one_answers_nothing table told _ components = list_any (passes table told tests.AnswersNothing) components
+abbrev pub one_answers_nothing : Bool → Table → (FromFact → Bool) → Form → List Component → Bool
+one_answers_nothing of_one table told forms.Unidirectional components =
+    list_any (passes table told tests.Answer) components
+one_answers_nothing of_one table told forms.Begin components =
+    list_any (passes table told tests.AnswerOrReject) components
+one_answers_nothing of_one table told _ components =
+    list_any (passes table told (tests.AnswersNothing of_one)) components
 
 -- whether one is of a wrong operation
 abbrev pub one_is_wrong : Table → (FromFact → Bool) → Form → List Component → Bool
@@ -114,15 +122,15 @@ kind_of_ids own there message =
     (cond (comes_after_end own (dtid_in message) (cause_in message)) (Some kinds.AfterEnd) None))
 
 -- by its components and its dialogue portion: where that is told of its destination ID
-abbrev pub kind_of_parts : Table → (FromFact → Bool) → Message → Option Kind
-kind_of_parts table there message =
-    cond (one_answers_nothing table there (kind_in message) (components_in message)) (Some kinds.AnswersNothing)
+abbrev pub kind_of_parts : Bool → Table → (FromFact → Bool) → Message → Option Kind
+kind_of_parts of_one table there message =
+    cond (one_answers_nothing of_one table there (kind_in message) (components_in message)) (Some kinds.AnswersNothing)
     (cond (one_is_wrong table there (kind_in message) (components_in message)) (Some kinds.WrongOperation)
     (cond (dialogue_is_misplaced (there Asked) (kind_in message) (dialogue_in message)) (Some kinds.MisplacedDialogue)
     None))
 
--- where that is told of each end
-abbrev pub kind_by : Table → (Side → EndFact → Bool) → Side → Message → Option Kind
-kind_by table told side message =
+-- where that is told of each end, and whether it is asked of one end
+abbrev pub kind_by : Bool → Table → (Side → EndFact → Bool) → Side → Message → Option Kind
+kind_by of_one table told side message =
     or_else (kind_of_ids (told side) (told_from (told (other side)) (dtid_in message)) message)
-    (kind_of_parts table (told_from (told (other side)) (dtid_in message)) message)
+    (kind_of_parts of_one table (told_from (told (other side)) (dtid_in message)) message)

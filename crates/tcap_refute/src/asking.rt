@@ -149,13 +149,14 @@ impl EndNotes {
 /// The lowest kind by the components and the dialogue portion of a message; there has what was sent from its
 /// destination ID.
 fn kind_of_parts<M: MessageParts>(
+    of_one: bool,
     table: &Table,
     there: Option<&FromId>,
     message: &M,
 ) -> Option<Kind>
-    ensures { result ≡ kind_of_parts table.now (told_by_from (option_copied there.entry)) (M.meaning message.now) }
+    ensures { result ≡ kind_of_parts of_one table.now (told_by_from (option_copied there.entry)) (M.meaning message.now) }
 {
-    if one_answers_nothing(table, there, message) {
+    if one_answers_nothing(of_one, table, there, message) {
         Some(Kind::AnswersNothing)
     } else if one_is_wrong(table, there, message) {
         Some(Kind::WrongOperation)
@@ -167,19 +168,20 @@ fn kind_of_parts<M: MessageParts>(
 }
 
 impl Notes {
-    /// The lowest kind of a message that an end sends.
+    /// The lowest kind of a message that an end sends; and whether that is asked of one end.
     pub(crate) fn kind_of<M: MessageParts>(
         &self,
+        of_one: bool,
         table: &Table,
         side: End,
         message: &M,
     ) -> Option<Kind>
-        ensures { result ≡ kind_by table.now (told_by_notes self.now) side (M.meaning message.now) }
+        ensures { result ≡ kind_by of_one table.now (told_by_notes self.now) side (M.meaning message.now) }
     {
         let there = self.at(side.other()).from_there(message.dtid());
         match self.at(side).kind_of_ids(there, message) {
             Some(kind) => Some(kind),
-            None => kind_of_parts(table, there, message),
+            None => kind_of_parts(of_one, table, there, message),
         }
     }
 }

@@ -9,7 +9,7 @@ ghost use Rattle.tcap_end.specs.Table.{class_of};
 ghost use Rattle.tcap_refute.specs.declared.components.Test.TheVariants as tests;
 ghost use Rattle.tcap_refute.specs.Facts.{Answered, Fails, Invoked, OfId, Succeeds};
 ghost use Rattle.tcap_refute.specs.Kept.{id_in, told_by_from};
-ghost use Rattle.tcap_refute.specs.Asking.{answers_none, is_not_allowed, one_answers_nothing, one_is_wrong, passes, rejects_none};
+ghost use Rattle.tcap_refute.specs.Asking.{answers_none, has_come, is_not_allowed, one_answers_nothing, one_is_wrong, passes, rejects_none};
 
 use crate::by_id::ById;
 use crate::from_id::FromId;
@@ -24,8 +24,8 @@ pub(crate) enum Test {
     Answer,
     /// Whether it is an answer or a Reject.
     AnswerOrReject,
-    /// Whether it answers or rejects what was never sent from an ID.
-    AnswersNothing,
+    /// Whether it answers or rejects what was never sent from an ID; and whether that is asked of one end.
+    AnswersNothing(bool),
     /// Whether it is an Invoke whose operation the table lacks.
     UnknownOperation,
     /// Whether it is an Invoke of another class than 4.
@@ -91,12 +91,26 @@ fn fails(from: Option<&FromId>, id: i8) -> bool
     }
 }
 
-/// Whether a Reject rejects what was never sent from there.
-fn rejects_none(from: Option<&FromId>, id: Option<i8>, problem: ProblemView) -> bool
-    ensures { result ≡ rejects_none (told_by_from (option_copied from.entry)) id (problem_of problem) }
+/// Whether an Invoke or an answer of that ID came from there.
+fn has_come(from: Option<&FromId>, id: i8) -> bool
+    ensures { result ≡ has_come (told_by_from (option_copied from.entry)) id }
+{
+    match of_id(from, id) {
+        Some(kept) => kept.invoked || kept.by_result || kept.by_error,
+        None => false,
+    }
+}
+
+/// Whether a Reject rejects what was never sent from there. Asked of one end, one with mistypedComponent (1) or
+/// badlyStructuredComponent (2) may be of what has its ID and came from there.
+fn rejects_none(of_one: bool, from: Option<&FromId>, id: Option<i8>, problem: ProblemView) -> bool
+    ensures { result ≡ rejects_none of_one (told_by_from (option_copied from.entry)) id (problem_of problem) }
 {
     match (id, problem) {
-        (None, _) | (Some(_), ProblemView::General(_)) => true,
+        (None, _) => true,
+        (Some(id), ProblemView::General(n)) => {
+            !(of_one && ((n.number == 1 || n.number == 2) && has_come(from, id)))
+        }
         (Some(id), ProblemView::Invoke(_)) => !is_invoked(from, id),
         (Some(id), ProblemView::ReturnResult(_)) => !is_answered(from, true, id),
         (Some(id), ProblemView::ReturnError(_)) => !is_answered(from, false, id),
@@ -104,15 +118,15 @@ fn rejects_none(from: Option<&FromId>, id: Option<i8>, problem: ProblemView) -> 
 }
 
 /// Whether a component answers or rejects what was never sent from there.
-fn answers_none(from: Option<&FromId>, component: ComponentView) -> bool
-    ensures { result ≡ answers_none (told_by_from (option_copied from.entry)) (component_of component.entry) }
+fn answers_none(of_one: bool, from: Option<&FromId>, component: ComponentView) -> bool
+    ensures { result ≡ answers_none of_one (told_by_from (option_copied from.entry)) (component_of component.entry) }
 {
     match component {
         ComponentView::Invoke { .. } => false,
         ComponentView::ReturnResult { id, .. } | ComponentView::ReturnError { id, .. } => {
             !is_invoked(from, id)
         }
-        ComponentView::Reject { id, problem } => rejects_none(from, id, problem),
+        ComponentView::Reject { id, problem } => rejects_none(of_one, from, id, problem),
     }
 }
 
@@ -135,7 +149,7 @@ fn passes(table: &Table, from: Option<&FromId>, test: Test, component: Component
         (Test::Answer | Test::AnswerOrReject, ComponentView::Invoke { .. }) => false,
         (Test::Answer, ComponentView::Reject { .. }) => false,
         (Test::Answer | Test::AnswerOrReject, _) => true,
-        (Test::AnswersNothing, component) => answers_none(from, component),
+        (Test::AnswersNothing(of_one), component) => answers_none(of_one, from, component),
         (Test::UnknownOperation, ComponentView::Invoke { code, .. }) => {
             table.class_of(code).is_none()
         }
@@ -176,19 +190,21 @@ fn any_wrong(table: &Table, from: Option<&FromId>, components: Components) -> bo
     false
 }
 
-/// Whether a component of a message of that kind answers or rejects what was never sent from there.
+/// Whether a component of a message of that kind answers or rejects what was never sent from there; and whether that is
+/// asked of one end.
 pub(crate) fn one_answers_nothing<M: MessageParts>(
+    of_one: bool,
     table: &Table,
     from: Option<&FromId>,
     message: &M,
 ) -> bool
-    ensures { result ≡ one_answers_nothing table.now (told_by_from (option_copied from.entry))
+    ensures { result ≡ one_answers_nothing of_one table.now (told_by_from (option_copied from.entry))
         (kind_in (M.meaning message.now)) (components_in (M.meaning message.now)) }
 {
     let test = match message.kind() {
         Form::Unidirectional => Test::Answer,
         Form::Begin => Test::AnswerOrReject,
-        _ => Test::AnswersNothing,
+        _ => Test::AnswersNothing(of_one),
     };
     any(table, from, test, message.components())
 }

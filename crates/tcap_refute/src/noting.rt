@@ -1,10 +1,13 @@
 //! What is kept of the items of a record, for a search over one end.
 
 ghost use Rattle.std.specs.Prelude.{◌≡◌, [], ◌∷◌, ◌++◌, List, Some, None, OnOk, cond};
+ghost use Rattle.std.specs.List.{find};
 ghost use Rattle.tcap_end.specs.Table.{Table};
 ghost use Rattle.tcap_model.specs.World.{Item, Sent};
 ghost use Rattle.tcap_refute.specs.declared.kind.Kind.TheVariants.{BadMessage};
+ghost use Rattle.tcap_refute.specs.Before.{since_quiet};
 ghost use Rattle.tcap_refute.specs.Kind.{is_limit, lowest_kind};
+ghost use Rattle.tcap_refute.specs.FirstKinds.{first_kinds, is_of_first_kind};
 ghost use Rattle.tcap_refute.specs.Kept.{AreNotesOf};
 
 use crate::judging::is_limit;
@@ -47,7 +50,16 @@ impl Notes {
         ensures { (items : List Item) → AreNotesOf table.now items self.now
             → result ≡ lowest_kind table.now items (Sent side (M.meaning message.now)) }
     {
-        self.kind_of(table, side, message)
+        self.kind_of(false, table, side, message)
+    }
+
+    /// The lowest of the kinds F2 to F7, as they are asked of one end (Q.771, Q.773, Q.774): as `lowest_kind`, but that a Reject
+    /// with the general problems 1 and 2 may be of what has its ID and came from there.
+    pub fn first_kind<M: MessageParts>(&self, table: &Table, side: End, message: &M) -> Option<Kind>
+        ensures { (items : List Item) → AreNotesOf table.now items self.now
+            → result ≡ find (is_of_first_kind table.now side (since_quiet items) (M.meaning message.now)) first_kinds }
+    {
+        self.kind_of(true, table, side, message)
     }
 
     /// One message more, which that end sent. `AllocError` where memory ran out; what is noted then is nothing to go on with.
