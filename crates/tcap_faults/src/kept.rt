@@ -64,7 +64,7 @@ impl Kept {
         if ends.own.again || ends.uses_again(table, message) || ends.goes_over_tangled(message) {
             return Ok(None);
         }
-        match self.notes.lowest_kind(table, side, message) {
+        match self.notes.first_kind(table, side, message) {
             Some(kind) => Ok(Some(kind)),
             None => ends.further_kind(alloc, table, message),
         }
