@@ -1,0 +1,1 @@
+use Rattle.tcap_faults.proofs.SpeakingLaws.{came_are}
