@@ -1,6 +1,8 @@
 -- The half with an ID of the peer is the one that is read off what is kept.
-use Rattle.std.proofs.Common.{◌≡◌, ℕ, Bool, true, false, cond, not, ◌&&◌, ◌||◌, List, [], ◌∷◌, ◌++◌, Option, Some, None, is_some, filter, map, refl, sym, ap, subst, ◌∙◌}
+use Rattle.std.proofs.Common.{◌≡◌, Bor, ℕ, Bool, true, false, cond, not, ◌&&◌, ◌||◌, List, [], ◌∷◌, ◌++◌, Option, Some, None, is_some, filter, map, option_copied, refl, sym, ap, subst, ◌∙◌}
 use Rattle.std.specs.Prelude.{Contains, is_none}
+use Rattle.std.specs.Map.{lookup}
+use Rattle.std.specs.BTreeMap.{is_at}
 use Rattle.std.specs.List.{find, flat_map, list_any}
 use Rattle.std.specs.Option.{option_to_list}
 use Rattle.std.proofs.lemmas.Bool.{and_from, and_parts, both_ways}
@@ -13,7 +15,7 @@ use Rattle.tcap_msg.specs.Parts.{cause_in, components_in, dtid_in, otid_in, reas
 use Rattle.tcap_record.specs.declared.entry.End.{End as Side}
 use Rattle.tcap_record.specs.Ends.{other}
 use Rattle.tcap_end.specs.End.{is_id}
-use Rattle.tcap_end.specs.Table.{Table}
+use Rattle.tcap_end.specs.Table.{Table, octets_cmp}
 use Rattle.tcap_model.specs.World.{Item}
 use Rattle.tcap_model.specs.Run.{then_so}
 use Rattle.tcap_model.proofs.TurnLaws.{id_is}
@@ -138,6 +140,15 @@ pub went_on : (side : Side) (id : List ℕ) (items : List Item)
     → is_none (ids_first (otids_of (sent_to side items id))) ≡ not (has_a forms.Continue (told side id items))
 went_on side id items = ap is_none (first_answer side id items) ∙ first_there (told side id items)
 
+-- ---- what is kept of what was told
+
+module _ (table : Table) (ms : List Message) (o : Option (Bor SentTo)) (at : IsToAt table ms (option_copied o)) where
+  pub told_there : (to : Bor SentTo) → o ≡ Some to → IsTo table ms to.now
+  told_there to is = (rw is at at).1
+
+  pub told_nowhere : o ≡ None → ms ≡ []
+  told_nowhere is = rw is at at
+
 -- ---- Continues, apart by the first that answers
 
 apart : (ms : List Message) → before_response ms ++ from_first responds ms ≡ ms
@@ -160,6 +171,11 @@ none_from (m ∷ ms) = by (responds m) (none_from ms)
 
 -- ---- components that are counted
 
+-- of the Continues to an own ID, if that is known
+abbrev pub later_of : SentFrom → Option (List ℕ) → List Tally
+later_of asks None = []
+later_of asks (Some own) = came_counted (lookup (is_at (octets_cmp own)) asks.came.entries)
+
 module _ (table : Table) where
   both_are : (ms : List Message) (came : Came) → IsCame table ms came
       → AreTallies table (components_of ms) (came.sooner ∷ came.since ∷ [])
@@ -172,10 +188,17 @@ module _ (table : Table) where
           sym (flat_map-append components_in (before_response ms) (from_first responds ms))
           ∙ ap components_of (apart ms)
 
-  pub came_are : (ms : List Message) (came : Option Came) → IsCameAt table ms came
+  came_are : (ms : List Message) (came : Option Came) → IsCameAt table ms came
       → AreTallies table (components_of ms) (came_counted came)
   came_are ms None none = rw none (are_none table)
   came_are ms (Some came) (some, is) = both_are ms came is
+
+  -- the Continues to the half's own ID, if that is known
+  later_are : (side : Side) (items : List Item) (id : List ℕ) (asks : SentFrom)
+      → IsFrom table (sent_from (other side) items id) asks → (own : Option (List ℕ))
+      → AreTallies table (components_of (continued_to side items id own)) (later_of asks own)
+  later_are side items id asks is None = are_none table
+  later_are side items id asks is (Some own) = came_are _ _ (is.came own)
 
   told_are : (side : Side) (id : List ℕ) (items : List Item) (kept : Option SentTo)
       → IsToAt table (sent_to side items id) kept
@@ -224,19 +247,21 @@ module _ (table : Table) (side : Side) (id : List ℕ) (items : List Item) (kept
       → AreTallies table cs these
   read cs these those same are = rw same are
 
-  pub is_accepted : (asks : SentFrom) (begin : FirstBegin) (to : Option SentTo) (later : List Tally)
+  pub is_accepted : (asks : SentFrom) (begin : FirstBegin) (to : Option SentTo)
       → IsFrom table (sent_from (other side) items id) asks → asks.begin ≡ Some begin
       → IsToAt table (sent_to side items id) to
-      → AreTallies table (components_of (continued_to side items id (answered_from side items id))) later
       → kept.how ≡ cond (was_refused side id items) Refused Accepted → kept.own ≡ answered_from side items id
-      → kept.requests ≡ begin.requests → heard ≡ begin.components ∷ later → tells ≡ told_counted to
+      → kept.requests ≡ begin.requests → heard ≡ begin.components ∷ later_of asks kept.own → tells ≡ told_counted to
       → invokes ≡ told_counted to
       → IsHalf table (accepted_half side items id) kept
-  is_accepted asks begin to later is begun at come how own requests hears told_so invoked_so = record {
+  is_accepted asks begin to is begun at how own requests hears told_so invoked_so = record {
     how = how;
     own = own;
     requests = requests ∙ asks_so table _ begin begins;
-    heard = read _ _ _ hears (behind table _ begin _ later begins come);
+    heard =
+        read _ _ _ (hears ∙ ap (λ o. begin.components ∷ later_of asks o) own)
+        (behind table _ begin _ (later_of asks (answered_from side items id)) begins
+        (later_are table side items id asks is (answered_from side items id)));
     told = read _ _ _ told_so (told_are table side id items to at);
     invoked = read _ _ _ invoked_so (told_are table side id items to at);
   }
