@@ -11,7 +11,7 @@ use Rattle.tcap_parts.specs.declared.component.Component.{Component}
 use Rattle.tcap_msg.specs.declared.kind.Kind.TheVariants as forms
 use Rattle.tcap_msg.specs.declared.message.Message.{Message}
 use Rattle.tcap_msg.specs.declared.message.Message.TheVariants.{Unidirectional, Begin, Continue, End as EndMessage, Abort}
-use Rattle.tcap_msg.specs.Parts.{cause_in, components_in, dtid_in, otid_in, reason_cause}
+use Rattle.tcap_msg.specs.Parts.{cause_in, components_in, dialogue_in, dtid_in, kind_in, otid_in, reason_cause}
 use Rattle.tcap_record.specs.declared.entry.End.{End as Side}
 use Rattle.tcap_record.specs.Ends.{other}
 use Rattle.tcap_end.specs.End.{is_id}
@@ -38,10 +38,11 @@ use Rattle.tcap_faults.specs.HalfOf.{HalfOf, accepted_half, answered_from, begun
 use Rattle.tcap_faults.specs.Ids.{IsOneOf, ids_first}
 use Rattle.tcap_faults.specs.Kept.{IsCame, IsCameAt, IsFirstBegin, IsFrom, IsFromAt, IsTo, IsToAt, before_response, of_user, otids_of, sent_from, sent_to}
 use Rattle.tcap_faults.specs.Speaking.{IsBegunBy, IsCameBack, begin_counted, came_counted, heard_counted, told_counted}
-use Rattle.tcap_faults.specs.Tangled.{goes_to_begun, owns_of}
+use Rattle.tcap_faults.specs.HalfKinds.{is_first_answer, is_wrong_dialogue, is_wrong_going_on}
+use Rattle.tcap_faults.specs.Tangled.{goes_to_begun, is_peer_tangled, owns_of}
 use Rattle.tcap_faults.proofs.OwnHalfLaws.{begun_there, to_begun}
 use Rattle.tcap_faults.proofs.TalliedLaws.{are_more, are_none, are_one}
-use Rattle.tcap_faults.proofs.TangledLaws.{IsPlain, began_used, joins}
+use Rattle.tcap_faults.proofs.TangledLaws.{IsPlain, began_used, joins, plain_peer}
 
 -- ---- two tests
 
@@ -96,7 +97,7 @@ found_both p q (x ∷ xs) = by (p x) (found_both p q xs)
 -- ---- what was told
 
 -- What was told is what was sent there, without the Aborts of the provider;
-pub told_is : (side : Side) (id : List ℕ) (items : List Item) → of_user (sent_to side items id) ≡ told side id items
+told_is : (side : Side) (id : List ℕ) (items : List Item) → of_user (sent_to side items id) ≡ told side id items
 told_is side id items = filter_both (λ m. is_id id (dtid_in m)) (λ m. is_none (cause_in m)) (sent_by side items)
 
 -- and by one of these a Begin was refused.
@@ -312,7 +313,7 @@ module _ (table : Table) (side : Side) (id : List ℕ) (items : List Item) (kept
 
 module _ (side : Side) (items : List Item) (id : List ℕ) where
   -- Where the peer began the ID, it is the accepted one.
-  pub half_accepted : (table : Table) (begin : FirstBegin)
+  half_accepted : (table : Table) (begin : FirstBegin)
       → IsFirstBegin table (find (is_a forms.Begin) (asked side id items)) (Some begin)
       → half_of side items id ≡ accepted_half side items id
   half_accepted table begin begins = rw (any_found (is_a forms.Begin) (asked side id items), there_so table _ begin begins) refl
@@ -358,7 +359,7 @@ module _ (side : Side) (items : List Item) (id : List ℕ) where
       joins side items id own goes.message goes.has goes.goes_on goes.to (began_used side items own goes.begun)
 
   -- So where none is joined, there is none;
-  pub none_joined : owns_of side items id ≡ [] → begun_from side items id ≡ None
+  none_joined : owns_of side items id ≡ [] → begun_from side items id ≡ None
   none_joined none = begun_nowhere (λ own goes. has_not own (subst (λ (ids : List (List ℕ)). Contains ids own) none (joined own goes)))
 
   module _ (plain : IsPlain side items id) (own : List ℕ) (is_joined : Contains (owns_of side items id) own) where
@@ -366,7 +367,7 @@ module _ (side : Side) (items : List Item) (id : List ℕ) where
     same one goes = plain.one_own one own (joined one goes) is_joined
 
     -- nor where no Continue came to the one that is joined,
-    pub none_came : filter (goes_on_to own) (asked side id items) ≡ [] → begun_from side items id ≡ None
+    none_came : filter (goes_on_to own) (asked side id items) ≡ [] → begun_from side items id ≡ None
     none_came none = begun_nowhere bad
       where
         bad : (one : List ℕ) → GoesTo one → ⊥
@@ -378,7 +379,7 @@ module _ (side : Side) (items : List Item) (id : List ℕ) where
             (is_that_id own (dtid_in goes.message) (goes.to ∙ ap Some (same one goes))))))
 
     -- or the end did not begin that.
-    pub none_begun : begin_from side own items ≡ None → begun_from side items id ≡ None
+    none_begun : begin_from side own items ≡ None → begun_from side items id ≡ None
     none_begun none = begun_nowhere bad
       where
         bad : (one : List ℕ) → GoesTo one → ⊥
@@ -387,7 +388,7 @@ module _ (side : Side) (items : List Item) (id : List ℕ) where
             both_ways _ (ap is_some none) begun
 
     -- Else it is that one.
-    pub goes_from : (table : Table) (begin : FirstBegin) (came : Came) → IsBegunBy table side items own begin
+    goes_from : (table : Table) (begin : FirstBegin) (came : Came) → IsBegunBy table side items own begin
         → IsCameBack table side items id own came → begun_from side items id ≡ Some own
     goes_from table begin came begins (some, is) =
         by (filter (goes_on_to own) (asked side id items)) refl some
@@ -413,14 +414,79 @@ module _ (side : Side) (items : List Item) (id : List ℕ) where
 
   -- The half where the peer did not begin the ID.
   module _ (table : Table) (not_begun : IsFirstBegin table (find (is_a forms.Begin) (asked side id items)) None) where
-    pub half_nowhere : begun_from side items id ≡ None → half_of side items id ≡ no_half
+    half_nowhere : begun_from side items id ≡ None → half_of side items id ≡ no_half
     half_nowhere none = rw (none_began table not_begun, none) refl
 
-    pub half_begun : (own : List ℕ) → begun_from side items id ≡ Some own
+    half_begun : (own : List ℕ) → begun_from side items id ≡ Some own
         → half_of side items id ≡ begun_half side items id own
     half_begun own is = rw (none_began table not_begun, is) refl
 
 -- The Begin of an own ID, as it is kept.
-pub begin_is : (side : Side) (own : List ℕ) (items : List Item)
-    → find (is_a forms.Begin) (sent_from side items own) ≡ begin_from side own items
-begin_is side own items = found_both (λ m. is_id own (otid_in m)) (is_a forms.Begin) (sent_by side items)
+abbrev pub begin_kept : Option SentFrom → Option FirstBegin
+begin_kept None = None
+begin_kept (Some kept) = kept.begin
+
+pub begin_is : (table : Table) (side : Side) (items : List Item) (own : List ℕ) (o : Option SentFrom)
+    → IsFromAt table (sent_from side items own) o
+    → IsFirstBegin table (begin_from side own items) (begin_kept o)
+begin_is table side items own o at =
+    subst (λ (begin : Option Message). IsFirstBegin table begin (begin_kept o))
+    (found_both (λ m. is_id own (otid_in m)) (is_a forms.Begin) (sent_by side items)) (by o at)
+  where
+    by : (o : Option SentFrom) → IsFromAt table (sent_from side items own) o
+        → IsFirstBegin table (find (is_a forms.Begin) (sent_from side items own)) (begin_kept o)
+    by None none = rw none tt
+    by (Some kept) (some, is) = is.begin
+
+-- ---- which half is read off
+
+module _ (table : Table) (side : Side) (items : List Item) (id : List ℕ) where
+  -- Where nothing was asked from there, there is no half,
+  pub half_unasked : asked side id items ≡ [] → half_of side items id ≡ no_half
+  half_unasked none = rw none refl
+
+  module _ (asks : SentFrom) (is : IsFrom table (sent_from (other side) items id) asks) where
+    pub begun_it : (begin : FirstBegin) → asks.begin ≡ Some begin
+        → half_of side items id ≡ accepted_half side items id
+    begun_it begin begun = half_accepted side items id table begin (rw begun at is.begin)
+
+    module _ (none : asks.begin ≡ None) where
+      not_begun : IsFirstBegin table (find (is_a forms.Begin) (asked side id items)) None
+      not_begun = rw none at is.begin
+
+      -- nor where no own ID is joined with it,
+      pub half_unjoined : owns_of side items id ≡ [] → half_of side items id ≡ no_half
+      half_unjoined no_own = half_nowhere side items id table not_begun (none_joined side items id no_own)
+
+      module _ (plain : is_peer_tangled side items id ≡ false) (own : List ℕ)
+          (is_joined : Contains (owns_of side items id) own) where
+        -- or nothing came to that,
+        pub half_not_come : IsCameAt table (filter (goes_on_to own) (sent_from (other side) items id)) None
+            → half_of side items id ≡ no_half
+        half_not_come no_came =
+            half_nowhere side items id table not_begun
+            (none_came side items id (plain_peer side items id plain) own is_joined no_came)
+
+        -- or the end did not begin it.
+        pub half_not_begun : IsFirstBegin table (begin_from side own items) None → half_of side items id ≡ no_half
+        half_not_begun no_begin =
+            half_nowhere side items id table not_begun
+            (none_begun side items id (plain_peer side items id plain) own is_joined (none_so table _ no_begin))
+
+        pub half_goes : (begin : FirstBegin) (came : Came) → IsBegunBy table side items own begin
+            → IsCameBack table side items id own came → half_of side items id ≡ begun_half side items id own
+        half_goes begin came begins back =
+            half_begun side items id table not_begun own
+            (goes_from side items id (plain_peer side items id plain) own is_joined table begin came begins back)
+
+-- ---- the dialogue
+
+pub going_on_else : (side : Side) (items : List Item) (id : List ℕ) (m : Message) (h : HalfOf)
+    → (kind_in m ≡ forms.Abort → ⊥)
+    → is_wrong_going_on (is_first_answer side items id h) (is_request_of h.begin) (dialogue_in m)
+    ≡ is_wrong_dialogue side items id m h
+going_on_else side items id (Unidirectional dialogue components) h not_so = refl
+going_on_else side items id (Begin otid dialogue components) h not_so = refl
+going_on_else side items id (Continue otid dtid dialogue components) h not_so = refl
+going_on_else side items id (EndMessage dtid dialogue components) h not_so = refl
+going_on_else side items id (Abort dtid reason) h not_so = absurd (not_so refl)

@@ -29,10 +29,10 @@ returns c = λ table side items own peer kept begun.
     how table side items at = elim c.match-told-2.branch [
       in-Some-told w ↦
         w.how-is
-        ∙ ap (λ b. cond b Refused Accepted) (sym w.if-told.true ∙ refused (w.in-Some-told.told) w.in-Some-told.is)
+        ∙ ap (λ b. cond b Refused Accepted) (sym w.if-told.true ∙ refused w.in-Some-told.told w.in-Some-told.is)
       | in_default-told-2 w ↦
         w.how-is
-        ∙ ap (λ b. cond b Refused Accepted) (sym w.if-told.false ∙ refused (w.in-Some-told.told) w.in-Some-told.is)
+        ∙ ap (λ b. cond b Refused Accepted) (sym w.if-told.false ∙ refused w.in-Some-told.told w.in-Some-told.is)
       | in_default-told w ↦
         w.how-is
         ∙ ap (λ b. cond b Refused Accepted)
@@ -40,7 +40,6 @@ returns c = λ table side items own peer kept begun.
         (sym (told_nowhere table (sent_to side items c.args.id.now) c.get-told.result at w.in_default-told.is))
         ∙ refused_is side c.args.id.now items)
     ]
-
       where
         refused : (to : Bor SentTo) → c.get-told.result ≡ Some to
             → to.now.refused ≡ was_refused side c.args.id.now items

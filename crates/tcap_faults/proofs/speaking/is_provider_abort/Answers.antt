@@ -1,1 +1,0 @@
-use Rattle.tcap_faults.proofs.SpeakingLaws.{came_are}
