@@ -3,7 +3,7 @@ use Rattle.std.proofs.Common.{◌≡◌, Bor, ℕ, Bool, true, false, cond, not,
 use Rattle.std.specs.Prelude.{Contains, is_none}
 use Rattle.std.specs.Map.{lookup}
 use Rattle.std.specs.BTreeMap.{is_at}
-use Rattle.std.specs.List.{find, flat_map, list_any}
+use Rattle.std.specs.List.{find, list_any}
 use Rattle.std.specs.Option.{option_to_list}
 use Rattle.std.proofs.lemmas.Bool.{and_from, and_parts, both_ways}
 use Rattle.std.proofs.lemmas.Grind.{flat_map-append}
@@ -26,7 +26,6 @@ use Rattle.tcap_refute.proofs.BeforeLaws.{is_that_id}
 use Rattle.tcap_refute.proofs.HalfLawsFinds.{filter_is, find_has, find_none}
 use Rattle.tcap_refute.proofs.Members.{filter_has, has_first, has_not}
 use Rattle.tcap_faults.specs.declared.half.Half.{Half}
-use Rattle.tcap_faults.specs.declared.how.How.{How}
 use Rattle.tcap_faults.specs.declared.how.How.TheVariants.{Accepted, Begun, Refused, Unanswered}
 use Rattle.tcap_faults.specs.declared.sent_from.Came.{Came}
 use Rattle.tcap_faults.specs.declared.sent_from.FirstBegin.{FirstBegin}
@@ -35,9 +34,9 @@ use Rattle.tcap_faults.specs.declared.sent_to.SentTo.{SentTo}
 use Rattle.tcap_faults.specs.declared.tally.Tally.{Tally}
 use Rattle.tcap_faults.specs.HalfKept.{AreTallies, IsHalf}
 use Rattle.tcap_faults.specs.HalfOf.{HalfOf, accepted_half, answered_from, begun_from, begun_half, continued_to, from_first, half_of, heard_of, no_half, responds}
-use Rattle.tcap_faults.specs.Ids.{IsOneOf, ids_first}
+use Rattle.tcap_faults.specs.Ids.{ids_first}
 use Rattle.tcap_faults.specs.Kept.{IsCame, IsCameAt, IsFirstBegin, IsFrom, IsFromAt, IsTo, IsToAt, before_response, of_user, otids_of, sent_from, sent_to}
-use Rattle.tcap_faults.specs.Speaking.{IsBegunBy, IsCameBack, begin_counted, came_counted, heard_counted, told_counted}
+use Rattle.tcap_faults.specs.Speaking.{IsBegunBy, IsCameBack, came_counted, heard_counted, told_counted}
 use Rattle.tcap_faults.specs.HalfKinds.{is_first_answer, is_wrong_dialogue, is_wrong_going_on}
 use Rattle.tcap_faults.specs.Tangled.{goes_to_begun, is_peer_tangled, owns_of}
 use Rattle.tcap_faults.proofs.OwnHalfLaws.{begun_there, to_begun}
@@ -290,9 +289,6 @@ module _ (table : Table) (side : Side) (id : List ℕ) (items : List Item) (kept
     invoked = read _ _ _ invoked_so (behind table _ begin _ (told_counted to) begins (told_are table side id items to at));
   }
     where
-      ms : List Message
-      ms = continued_to side items id (Some own)
-
       asks : begin.requests ≡ is_request_of (begin_from side own items)
       asks = asks_so table (begin_from side own items) begin begins
 
@@ -335,14 +331,17 @@ module _ (side : Side) (items : List Item) (id : List ℕ) where
       → (own : List ℕ) × (begun_from side items id ≡ Some own) × GoesTo own
   goes_there n found =
       let (has, goes) = find_has (goes_to_begun side items) (asked side id items) n found in
-      let (own, to, goes_on, begun) = begun_there side items n goes in
-      (own, ap (λ (o : Option Message). then_so o dtid_in) found ∙ to, record {
-        begun = begun;
-        message = n;
-        has = has;
-        goes_on = goes_on;
-        to = to;
-      })
+      let (own, to, goes_on, begun) = begun_there side items n goes in (
+        own,
+        ap (λ (o : Option Message). then_so o dtid_in) found ∙ to,
+        record {
+          begun = begun;
+          message = n;
+          has = has;
+          goes_on = goes_on;
+          to = to;
+        },
+      )
 
   -- There is none where no own ID is so,
   begun_nowhere : ((own : List ℕ) → GoesTo own → ⊥) → begun_from side items id ≡ None

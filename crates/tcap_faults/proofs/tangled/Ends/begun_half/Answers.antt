@@ -1,4 +1,4 @@
-use Rattle.std.proofs.Common.{◌≡◌, cond, not, ◌&&◌, option_copied, refl, sym, ◌∙◌}
+use Rattle.std.proofs.Common.{◌≡◌, cond, not, ◌&&◌, option_copied, refl}
 use Rattle.tcap_faults.specs.declared.how.How.TheVariants.{Begun, Unanswered}
 use Rattle.tcap_faults.proofs.SpeakingLaws.{is_begun}
 use Rattle.tcap_faults.proofs.tangled.Ends.begun_half.Goals as goal
@@ -12,9 +12,9 @@ returns c = λ table side items own peer begins came.
   where
     how : c.if-begin.how ≡ cond (c.args.begin.now.requests && not c.args.came.now.answered) Unanswered Begun
     how = elim c.if-begin.branch [
-      then-begin+then-not-came w ↦ rw (w.if-begin.true, w.if-not-came.true) w.how-is
+      | then-begin+then-not-came w ↦ rw (w.if-begin.true, w.if-not-came.true) w.how-is
       | else-begin w ↦ elim w.else-begin.branch [
-          else-begin-via-then-begin+else-not-came v ↦ rw (v.if-begin.true, v.if-not-came.false) w.how-is
-          | else-begin-via-else-begin v ↦ rw v.if-begin.false w.how-is
-        ]
+        | else-begin-via-then-begin+else-not-came v ↦ rw (v.if-begin.true, v.if-not-came.false) w.how-is
+        | else-begin-via-else-begin v ↦ rw v.if-begin.false w.how-is
+      ]
     ]

@@ -26,7 +26,7 @@ returns-in-Some-begin c = λ table side items own peer kept none plain.
   where
     begun : option_copied c.match-get-2.begin ≡ begin_kept (option_copied c.get-2.result)
     begun = elim c.match-get-2.branch [
-      in-Some-get-2 w ↦ rw (w.begin-is, w.as_ref-begin.ensures.value, w.in-Some-get-2.is) refl
+      | in-Some-get-2 w ↦ rw (w.begin-is, w.as_ref-begin.ensures.value, w.in-Some-get-2.is) refl
       | in-None w ↦ rw (w.begin-is, w.in-None.is) refl
     ]
 
@@ -41,6 +41,6 @@ returns-in-None-begin c = λ table side items own peer kept none plain.
   where
     begun : option_copied c.match-get-2.begin ≡ begin_kept (option_copied c.get-2.result)
     begun = elim c.match-get-2.branch [
-      in-Some-get-2 w ↦ rw (w.begin-is, w.as_ref-begin.ensures.value, w.in-Some-get-2.is) refl
+      | in-Some-get-2 w ↦ rw (w.begin-is, w.as_ref-begin.ensures.value, w.in-Some-get-2.is) refl
       | in-None w ↦ rw (w.begin-is, w.in-None.is) refl
     ]
