@@ -17,6 +17,8 @@ pub mod FoundLaws
 pub mod LinkLaws
 pub mod SortLaws
 pub mod TallyLaws
+pub mod TalliedLaws
+pub mod SpeakingLaws
 pub mod TalliesLaws
 pub mod GlobalLaws
 pub mod CountTests

@@ -50,7 +50,7 @@ how_begun xs x has = by (is_nothing xs) refl
     by false some = refl
 
 -- what goes to a begun ID goes there
-begun_there : (side : Side) (items : List Item) (m : Message) → goes_to_begun side items m ≡ true
+pub begun_there : (side : Side) (items : List Item) (m : Message) → goes_to_begun side items m ≡ true
     → (own : List ℕ) × (dtid_in m ≡ Some own) × (is_a forms.Continue m ≡ true) × (began side own items ≡ true)
 begun_there side items m is = by (dtid_in m) refl
   where
@@ -62,7 +62,7 @@ begun_there side items m is = by (dtid_in m) refl
         let (goes_on, begun) = and_parts (is_a forms.Continue m) (began side own items) both in
         (own, to, goes_on, begun)
 
-to_begun : (side : Side) (items : List Item) (m : Message) (own : List ℕ) → dtid_in m ≡ Some own
+pub to_begun : (side : Side) (items : List Item) (m : Message) (own : List ℕ) → dtid_in m ≡ Some own
     → is_a forms.Continue m ≡ true → began side own items ≡ true → goes_to_begun side items m ≡ true
 to_begun side items m own to goes_on begun = rw to (and_from (is_a forms.Continue m) _ goes_on begun)
 
