@@ -1,42 +1,54 @@
-use Rattle.std.proofs.Common.{rules, ◌≡◌, ◌≤◌, ◌+◌, ◌^◌, ◌||◌, ℕ, Bool, List, Some, length, nat_lt, not, ◌-◌, ◌*◌, ◌<◌, ◌/◌, ◌%◌, true, false, nat_eq, [], ◌∷◌, ◌++◌, slice_index_or, slice_set, bit_and, bit_or, Fits, w8, w32, w64, Bor, MutBor}
+use Rattle.std.proofs.Common.{◌≡◌, ℕ, List, Bool, true, false, Some, None, ◌||◌, not, refl, sym, ap, ◌∙◌}
 use Rattle.std.specs.List.{list_any}
-use Rattle.tcap_msg.specs.declared.kind.Kind.TheVariants as forms
-use Rattle.tcap_record.specs.declared.entry.End.{End as Side}
-use Rattle.tcap_record.specs.Ends.{other}
-use Rattle.tcap_end.specs.Table.{Table}
-use Rattle.tcap_model.specs.World.{Item}
-use Rattle.tcap_refute.specs.Before.{asked, is_a, sent_by}
-use Rattle.tcap_refute.specs.Blame.{all_go_to_open, is_abort_with}
-use Rattle.tcap_refute.specs.Counts.{count}
 use Rattle.tcap_refute.specs.Speaker.{is_surely_open}
-use Rattle.tcap_faults.specs.Fault.{count_received, is_left_open, is_open_at_mark, is_wrong_reply}
-use Rattle.tcap_faults.specs.HalfKinds.{is_accepted}
-use Rattle.tcap_faults.specs.HalfOf.{half_of}
-use Rattle.tcap_faults.specs.Ids.{AreAmong}
-use Rattle.tcap_faults.specs.Kept.{IsSide, sent_from}
-use Rattle.tcap_faults.specs.Speaking.{IsKeptFrom}
+use Rattle.tcap_faults.specs.Ids.{ids_kept}
+use Rattle.tcap_faults.proofs.MarkLaws.{any_first, any_kept_of, any_last, any_next}
 use Rattle.tcap_faults.proofs.tangled.Ends.goes_to_shut.Goals as goal
 
--- src/replies.rt:62:13
 pub returns-in_default : goal.returns-in_default
-returns-in_default c = ?
+returns-in_default c = λ side items those own_is peer_is are.
+    let shut : List ℕ → Bool = λ own. not (is_surely_open c.args.table.now side items own) in
+    ap (λ first. list_any shut (ids_kept first c.args.ids.now.more.items)) (sym c.in_default.is)
+    ∙ any_kept_of shut those c.args.ids.now are
 
--- src/replies.rt:65:13
 pub returns-then-not-is_surely_open : goal.returns-then-not-is_surely_open
-returns-then-not-is_surely_open c = ?
+returns-then-not-is_surely_open c = λ side items those own_is peer_is are.
+    let shut : List ℕ → Bool = λ own. not (is_surely_open c.args.table.now side items own) in
+    let more = c.args.ids.now.more.items in
+    ap (λ b. not b || list_any shut more)
+    (sym c.if-not-is_surely_open.true ∙ c.is_surely_open.ensures side items own_is peer_is)
+    ∙ ap (λ first. list_any shut (ids_kept first more)) (sym c.in-Some.is)
+    ∙ any_kept_of shut those c.args.ids.now are
 
--- src/replies.rt:67:9
 pub loop-id-init : goal.loop-id-init
-loop-id-init c = ?
+loop-id-init c = λ side items own_is peer_is. refl
 
--- src/replies.rt:69:17
 pub returns-then-not-is_surely_open-2 : goal.returns-then-not-is_surely_open-2
-returns-then-not-is_surely_open-2 c = ?
+returns-then-not-is_surely_open-2 c = λ side items those own_is peer_is are.
+    let shut : List ℕ → Bool = λ own. not (is_surely_open c.args.table.now side items own) in
+    let more = c.args.ids.now.more.items in
+    any_first shut _ c.loop-id.id-index (c.loop-id.invariant side items own_is peer_is) c.id-item.result
+    c.loop-id-test.true c.id-item.is
+    (ap not (sym (c.is_surely_open-in-loop-id.ensures side items own_is peer_is) ∙ c.if-not-is_surely_open-2.true))
+    ∙ ap (list_any shut) c.deref-id-items.ensures.value
+    ∙ ap (λ b. not b || list_any shut more)
+    (sym c.if-not-is_surely_open.false ∙ c.is_surely_open.ensures side items own_is peer_is)
+    ∙ ap (λ first. list_any shut (ids_kept first more)) (sym c.in-Some.is)
+    ∙ any_kept_of shut those c.args.ids.now are
 
--- src/replies.rt:67:9
 pub loop-id-preserved : goal.loop-id-preserved
-loop-id-preserved c = ?
+loop-id-preserved c = λ side items own_is peer_is.
+    any_next (λ own. not (is_surely_open c.args.table.now side items own)) _ c.loop-id.id-index
+    (c.loop-id.invariant side items own_is peer_is) c.id-item.result c.loop-id-test.true c.id-item.is
+    (ap not (sym (c.is_surely_open-in-loop-id.ensures side items own_is peer_is) ∙ c.if-not-is_surely_open-2.false))
 
--- src/replies.rt:56:5
 pub returns : goal.returns
-returns c = ?
+returns c = λ side items those own_is peer_is are.
+    let shut : List ℕ → Bool = λ own. not (is_surely_open c.args.table.now side items own) in
+    let more = c.args.ids.now.more.items in
+    any_last shut _ c.loop-id.id-index (c.loop-id.invariant side items own_is peer_is) c.loop-id-test.false
+    ∙ ap (list_any shut) c.deref-id-items.ensures.value
+    ∙ ap (λ b. not b || list_any shut more)
+    (sym c.if-not-is_surely_open.false ∙ c.is_surely_open.ensures side items own_is peer_is)
+    ∙ ap (λ first. list_any shut (ids_kept first more)) (sym c.in-Some.is)
+    ∙ any_kept_of shut those c.args.ids.now are

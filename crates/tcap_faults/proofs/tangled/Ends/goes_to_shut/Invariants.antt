@@ -1,21 +1,16 @@
-use Rattle.std.proofs.Common.{◌≡◌, ◌≤◌, ◌+◌, ◌^◌, ◌||◌, ℕ, Bool, List, Some, length, nat_lt, not, ◌-◌, ◌*◌, ◌<◌}
+-- What is left decides.
+use Rattle.std.proofs.Common.{◌≡◌, List, drop, not}
 use Rattle.std.specs.List.{list_any}
-use Rattle.tcap_msg.specs.declared.kind.Kind.TheVariants as forms
 use Rattle.tcap_record.specs.declared.entry.End.{End as Side}
 use Rattle.tcap_record.specs.Ends.{other}
-use Rattle.tcap_end.specs.Table.{Table}
 use Rattle.tcap_model.specs.World.{Item}
-use Rattle.tcap_refute.specs.Before.{asked, is_a, sent_by}
-use Rattle.tcap_refute.specs.Blame.{all_go_to_open, is_abort_with}
-use Rattle.tcap_refute.specs.Counts.{count}
 use Rattle.tcap_refute.specs.Speaker.{is_surely_open}
-use Rattle.tcap_faults.specs.Fault.{count_received, is_left_open, is_open_at_mark, is_wrong_reply}
-use Rattle.tcap_faults.specs.HalfKinds.{is_accepted}
-use Rattle.tcap_faults.specs.HalfOf.{half_of}
-use Rattle.tcap_faults.specs.Ids.{AreAmong}
-use Rattle.tcap_faults.specs.Kept.{IsSide, sent_from}
-use Rattle.tcap_faults.specs.Speaking.{IsKeptFrom}
+use Rattle.tcap_faults.specs.Kept.{IsSide}
 use Rattle.tcap_faults.proofs.tangled.Ends.goes_to_shut.Given as goal
 
 abbrev pub invariant-loop-id : goal.invariant-loop-id
-invariant-loop-id l = ?
+invariant-loop-id l =
+    (side : Side) (items : List Item) → IsSide l.table side items l.self.own.now
+    → IsSide l.table (other side) items l.self.peer.now
+    → list_any (λ own. not (is_surely_open l.table side items own)) (drop l.id-index l.id-items)
+    ≡ list_any (λ own. not (is_surely_open l.table side items own)) l.id-items

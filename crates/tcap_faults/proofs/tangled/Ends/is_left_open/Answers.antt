@@ -1,30 +1,33 @@
-use Rattle.std.proofs.Common.{rules, ◌≡◌, ◌≤◌, ◌+◌, ◌^◌, ◌||◌, ℕ, Bool, List, Some, length, nat_lt, not, ◌-◌, ◌*◌, ◌<◌, ◌/◌, ◌%◌, true, false, nat_eq, [], ◌∷◌, ◌++◌, slice_index_or, slice_set, bit_and, bit_or, Fits, w8, w32, w64, Bor, MutBor}
+use Rattle.std.proofs.Common.{◌≡◌, false, not, refl, sym, ap, ◌∙◌}
 use Rattle.std.specs.List.{list_any}
-use Rattle.tcap_msg.specs.declared.kind.Kind.TheVariants as forms
-use Rattle.tcap_record.specs.declared.entry.End.{End as Side}
-use Rattle.tcap_record.specs.Ends.{other}
-use Rattle.tcap_end.specs.Table.{Table}
-use Rattle.tcap_model.specs.World.{Item}
-use Rattle.tcap_refute.specs.Before.{asked, is_a, sent_by}
-use Rattle.tcap_refute.specs.Blame.{all_go_to_open, is_abort_with}
-use Rattle.tcap_refute.specs.Counts.{count}
-use Rattle.tcap_refute.specs.Speaker.{is_surely_open}
-use Rattle.tcap_faults.specs.Fault.{count_received, is_left_open, is_open_at_mark, is_wrong_reply}
-use Rattle.tcap_faults.specs.HalfKinds.{is_accepted}
-use Rattle.tcap_faults.specs.HalfOf.{half_of}
-use Rattle.tcap_faults.specs.Ids.{AreAmong}
-use Rattle.tcap_faults.specs.Kept.{IsSide, sent_from}
-use Rattle.tcap_faults.specs.Speaking.{IsKeptFrom}
+use Rattle.tcap_faults.specs.Fault.{is_left_open}
+use Rattle.tcap_faults.specs.Kept.{sent_from}
+use Rattle.tcap_faults.proofs.MarkLaws.{left_at, left_differing, left_shut, open_nowhere}
 use Rattle.tcap_faults.proofs.tangled.Ends.is_left_open.Goals as goal
+use Rattle.tcap_faults.proofs.tangled.Ends.is_left_open.Goals.{then-differ-via-then-differ, then-differ-via-else-differ+then-not-is_open}
 
--- src/replies.rt:142:13
 pub returns-then-differ : goal.returns-then-differ
-returns-then-differ c = ?
+returns-then-differ c = λ side items own_is peer_is from.
+    let own = c.args.own.now in
+    let table = c.args.table.now in
+    elim c.then-differ.branch [
+      then-differ-via-then-differ w ↦
+          left_differing table side items own (sym (c.differ.ensures _ from.to) ∙ w.if-differ.true)
+      | then-differ-via-else-differ+then-not-is_open w ↦
+          left_shut table side items own
+          (sym (w.is_open.ensures side items own_is peer_is from) ∙ w.if-not-is_open.true)
+    ]
 
--- src/replies.rt:136:5
 pub returns-in-Some : goal.returns-in-Some
-returns-in-Some c = ?
+returns-in-Some c = λ side items own_is peer_is from.
+    let own = c.args.own.now in
+    let table = c.args.table.now in
+    ap not (c.are_tangled.ensures table side items own_is peer_is)
+    ∙ left_at table side items own c.in-Some.to (sym c.in-Some.is ∙ from.to.first)
+    (sym (c.differ.ensures _ from.to) ∙ c.if-differ.false)
+    (sym (c.is_open.ensures side items own_is peer_is from) ∙ c.if-not-is_open.false)
 
--- src/replies.rt:136:5
 pub returns-in-None : goal.returns-in-None
-returns-in-None c = ?
+returns-in-None c = λ side items own_is peer_is from.
+    left_shut c.args.table.now side items c.args.own.now
+    (sym (open_nowhere c.args.table.now side items c.args.own.now (sym c.in-None.is ∙ from.to.first)))

@@ -1,30 +1,51 @@
-use Rattle.std.proofs.Common.{rules, ◌≡◌, ◌≤◌, ◌+◌, ◌^◌, ◌||◌, ℕ, Bool, List, Some, length, nat_lt, not, ◌-◌, ◌*◌, ◌<◌, ◌/◌, ◌%◌, true, false, nat_eq, [], ◌∷◌, ◌++◌, slice_index_or, slice_set, bit_and, bit_or, Fits, w8, w32, w64, Bor, MutBor}
+use Rattle.std.proofs.Common.{◌≡◌, ℕ, Bool, false, List, ◌&&◌, not, Some, None, refl, sym, ap, ◌∙◌}
 use Rattle.std.specs.List.{list_any}
-use Rattle.tcap_msg.specs.declared.kind.Kind.TheVariants as forms
-use Rattle.tcap_record.specs.declared.entry.End.{End as Side}
 use Rattle.tcap_record.specs.Ends.{other}
-use Rattle.tcap_end.specs.Table.{Table}
-use Rattle.tcap_model.specs.World.{Item}
-use Rattle.tcap_refute.specs.Before.{asked, is_a, sent_by}
-use Rattle.tcap_refute.specs.Blame.{all_go_to_open, is_abort_with}
-use Rattle.tcap_refute.specs.Counts.{count}
-use Rattle.tcap_refute.specs.Speaker.{is_surely_open}
-use Rattle.tcap_faults.specs.Fault.{count_received, is_left_open, is_open_at_mark, is_wrong_reply}
-use Rattle.tcap_faults.specs.HalfKinds.{is_accepted}
-use Rattle.tcap_faults.specs.HalfOf.{half_of}
-use Rattle.tcap_faults.specs.Ids.{AreAmong}
-use Rattle.tcap_faults.specs.Kept.{IsSide, sent_from}
-use Rattle.tcap_faults.specs.Speaking.{IsKeptFrom}
+use Rattle.tcap_refute.specs.Before.{sent_by}
+use Rattle.tcap_refute.specs.Speaker.{ends_to}
+use Rattle.tcap_faults.specs.UsedAgain.{has_ended}
+use Rattle.tcap_faults.proofs.MarkLaws.{open_nowhere, open_there}
 use Rattle.tcap_faults.proofs.tangled.Ends.is_open.Goals as goal
+use Rattle.tcap_faults.proofs.tangled.Ends.is_open.Goals.{then-not-prearranged, else-not-prearranged}
 
--- src/replies.rt:30:5
 pub returns-then-not-has_ended : goal.returns-then-not-has_ended
-returns-then-not-has_ended c = ?
+returns-then-not-has_ended c = λ side items own_is peer_is from.
+    let own = c.args.own.now in
+    let table = c.args.table.now in
+    let stays : c.if-not-prearranged.value ≡ (not table.prearranged && not (has_ended side items c.in-Some.to)) =
+    elim c.if-not-prearranged.branch [
+      then-not-prearranged w ↦
+          w.value-is ∙ ap not (w.has_ended.ensures table side items own_is)
+          ∙ ap (λ b. not b && not (has_ended side items c.in-Some.to))
+          (sym w.if-not-prearranged.true ∙ c.prearranged.ensures)
+      | else-not-prearranged w ↦
+          w.value-is
+          ∙ ap (λ b. not b && not (has_ended side items c.in-Some.to))
+          (sym w.if-not-prearranged.false ∙ c.prearranged.ensures)
+    ] in
+    ap not (c.has_silenced.ensures table (other side) items peer_is)
+    ∙ ap (λ b. b && not (list_any (ends_to own) (sent_by (other side) items))) (sym c.if-not-has_ended.true)
+    ∙ open_there table side items own c.in-Some.to c.if-not-prearranged.value (sym c.in-Some.is ∙ from.to.first) stays
 
--- src/replies.rt:30:5
 pub returns-else-not-has_ended : goal.returns-else-not-has_ended
-returns-else-not-has_ended c = ?
+returns-else-not-has_ended c = λ side items own_is peer_is from.
+    let own = c.args.own.now in
+    let table = c.args.table.now in
+    let stays : c.if-not-prearranged.value ≡ (not table.prearranged && not (has_ended side items c.in-Some.to)) =
+    elim c.if-not-prearranged.branch [
+      then-not-prearranged w ↦
+          w.value-is ∙ ap not (w.has_ended.ensures table side items own_is)
+          ∙ ap (λ b. not b && not (has_ended side items c.in-Some.to))
+          (sym w.if-not-prearranged.true ∙ c.prearranged.ensures)
+      | else-not-prearranged w ↦
+          w.value-is
+          ∙ ap (λ b. not b && not (has_ended side items c.in-Some.to))
+          (sym w.if-not-prearranged.false ∙ c.prearranged.ensures)
+    ] in
+    c.if-not-has_ended.false
+    ∙ ap (λ b. b && not (list_any (ends_to own) (sent_by (other side) items))) (sym c.if-not-has_ended.false)
+    ∙ open_there table side items own c.in-Some.to c.if-not-prearranged.value (sym c.in-Some.is ∙ from.to.first) stays
 
--- src/replies.rt:30:5
 pub returns-in-None : goal.returns-in-None
-returns-in-None c = ?
+returns-in-None c = λ side items own_is peer_is from.
+    open_nowhere c.args.table.now side items c.args.own.now (sym c.in-None.is ∙ from.to.first)

@@ -1,34 +1,43 @@
-use Rattle.std.proofs.Common.{rules, ◌≡◌, ◌≤◌, ◌+◌, ◌^◌, ◌||◌, ℕ, Bool, List, Some, length, nat_lt, not, ◌-◌, ◌*◌, ◌<◌, ◌/◌, ◌%◌, true, false, nat_eq, [], ◌∷◌, ◌++◌, slice_index_or, slice_set, bit_and, bit_or, Fits, w8, w32, w64, Bor, MutBor}
+use Rattle.std.proofs.Common.{◌≡◌, true, false, ◌||◌, List, [], ◌∷◌, refl, sym, ap, ◌∙◌}
 use Rattle.std.specs.List.{list_any}
-use Rattle.tcap_msg.specs.declared.kind.Kind.TheVariants as forms
-use Rattle.tcap_record.specs.declared.entry.End.{End as Side}
-use Rattle.tcap_record.specs.Ends.{other}
-use Rattle.tcap_end.specs.Table.{Table}
-use Rattle.tcap_model.specs.World.{Item}
-use Rattle.tcap_refute.specs.Before.{asked, is_a, sent_by}
-use Rattle.tcap_refute.specs.Blame.{all_go_to_open, is_abort_with}
-use Rattle.tcap_refute.specs.Counts.{count}
-use Rattle.tcap_refute.specs.Speaker.{is_surely_open}
-use Rattle.tcap_faults.specs.Fault.{count_received, is_left_open, is_open_at_mark, is_wrong_reply}
-use Rattle.tcap_faults.specs.HalfKinds.{is_accepted}
-use Rattle.tcap_faults.specs.HalfOf.{half_of}
-use Rattle.tcap_faults.specs.Ids.{AreAmong}
-use Rattle.tcap_faults.specs.Kept.{IsSide, sent_from}
-use Rattle.tcap_faults.specs.Speaking.{IsKeptFrom}
+use Rattle.tcap_refute.proofs.Members.{has_first, has_later}
+use Rattle.tcap_faults.proofs.MarkLaws.{entry_kept, leaves, open_at_mark}
 use Rattle.tcap_faults.proofs.tangled.Ends.is_open_at_mark.Goals as goal
 
--- src/replies.rt:156:9
 pub loop-own-init : goal.loop-own-init
-loop-own-init c = ?
+loop-own-init c = record { kept = λ e has. has; left = λ side items own_is peer_is. refl }
 
--- src/replies.rt:158:17
 pub returns-then-is_left_open : goal.returns-then-is_left_open
-returns-then-is_left_open c = ?
+returns-then-is_left_open c = λ side items own_is peer_is.
+    let table = c.args.table.now in
+    let ordered = c.into_iter-own-iterator.ensures.into_iter_gives.5 in
+    let has = c.loop-own.invariant.kept (c.in-Some.own.now, c.in-Some.kept.now)
+    (rw c.in-Some.ensures.steps (has_first (c.in-Some.own.now, c.in-Some.kept.now) c.next.new.self)) in
+    let here = sym (c.is_left_open.ensures side items own_is peer_is
+    (entry_kept own_is ordered c.in-Some.own.now c.in-Some.kept.now has)) ∙ c.if-is_left_open.true in
+    sym (ap (list_any (leaves table side items)) c.in-Some.ensures.steps
+    ∙ ap (λ b. b || list_any (leaves table side items) c.next.new.self) here)
+    ∙ c.loop-own.invariant.left side items own_is peer_is
+    ∙ open_at_mark own_is ordered
 
--- src/replies.rt:156:9
 pub loop-own-preserved : goal.loop-own-preserved
-loop-own-preserved c = ?
+loop-own-preserved c = record {
+  kept = λ e has. c.loop-own.invariant.kept e
+      (rw c.in-Some.ensures.steps (has_later (c.in-Some.own.now, c.in-Some.kept.now) c.next.new.self e has));
+  left = λ side items own_is peer_is.
+      let table = c.args.table.now in
+      let ordered = c.into_iter-own-iterator.ensures.into_iter_gives.5 in
+      let has = c.loop-own.invariant.kept (c.in-Some.own.now, c.in-Some.kept.now)
+      (rw c.in-Some.ensures.steps (has_first (c.in-Some.own.now, c.in-Some.kept.now) c.next.new.self)) in
+      let here = sym (c.is_left_open.ensures side items own_is peer_is
+      (entry_kept own_is ordered c.in-Some.own.now c.in-Some.kept.now has)) ∙ c.if-is_left_open.false in
+      sym (ap (list_any (leaves table side items)) c.in-Some.ensures.steps
+      ∙ ap (λ b. b || list_any (leaves table side items) c.next.new.self) here)
+      ∙ c.loop-own.invariant.left side items own_is peer_is;
+}
 
--- src/replies.rt:151:5
 pub returns : goal.returns
-returns c = ?
+returns c = λ side items own_is peer_is.
+    ap (list_any (leaves c.args.table.now side items)) (sym c.in-None.ensures.steps.0)
+    ∙ c.loop-own.invariant.left side items own_is peer_is
+    ∙ open_at_mark own_is c.into_iter-own-iterator.ensures.into_iter_gives.5

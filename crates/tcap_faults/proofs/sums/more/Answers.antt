@@ -1,0 +1,1 @@
+use Rattle.tcap_faults.proofs.MarkLaws.{all_open_is}
