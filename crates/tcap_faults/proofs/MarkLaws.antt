@@ -191,23 +191,23 @@ module _ (side : Side) (items : List Item) (id : List ℕ) where
 
   -- One was received where something was told there, and no Begin was accepted,
   pub received_one : not (is_nothing (told side id items)) ≡ true → is_accepted (half_of side items id).how ≡ false
-      → 1 ≡ count_received side id items (half_of side items id)
+      → ◌≡◌ {A = ℕ} 1 (count_received side id items (half_of side items id))
   received_one spoke none = by (is_nothing (told side id items)) spoke
     where
-      by : (b : Bool) → not b ≡ true → 1 ≡ cond (b || is_accepted (half_of side items id).how) 0 1
+      by : (b : Bool) → not b ≡ true → ◌≡◌ {A = ℕ} 1 (cond (b || is_accepted (half_of side items id).how) 0 1)
       by true is = cc
       by false is = rw none refl
 
   -- and else none.
   pub none_received : is_accepted (half_of side items id).how ≡ true
-      → 0 ≡ count_received side id items (half_of side items id)
+      → ◌≡◌ {A = ℕ} 0 (count_received side id items (half_of side items id))
   none_received accepted = ap (λ b. cond b 0 1) (sym (or_right (is_nothing (told side id items)) _ accepted))
 
   pub none_spoken : not (is_nothing (told side id items)) ≡ false
-      → 0 ≡ count_received side id items (half_of side items id)
+      → ◌≡◌ {A = ℕ} 0 (count_received side id items (half_of side items id))
   none_spoken silent = by (is_nothing (told side id items)) silent
     where
-      by : (b : Bool) → not b ≡ false → 0 ≡ cond (b || is_accepted (half_of side items id).how) 0 1
+      by : (b : Bool) → not b ≡ false → ◌≡◌ {A = ℕ} 0 (cond (b || is_accepted (half_of side items id).how) 0 1)
       by true is = refl
       by false is = cc
 

@@ -5,7 +5,11 @@ use Rattle.tcap_faults.proofs.MarkLaws.{entry_kept, leaves, open_at_mark}
 use Rattle.tcap_faults.proofs.tangled.Ends.is_open_at_mark.Goals as goal
 
 pub loop-own-init : goal.loop-own-init
-loop-own-init c = record { kept = λ e has. has; left = λ side items own_is peer_is. refl }
+loop-own-init c = record {
+  kept = λ e has. rw c.into_iter-own-iterator.ensures.into_iter_gives.0 at has;
+  left = λ side items own_is peer_is.
+      ap (list_any (leaves c.args.table.now side items)) c.into_iter-own-iterator.ensures.into_iter_gives.0;
+}
 
 pub returns-then-is_left_open : goal.returns-then-is_left_open
 returns-then-is_left_open c = λ side items own_is peer_is.

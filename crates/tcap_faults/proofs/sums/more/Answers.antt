@@ -1,1 +1,0 @@
-use Rattle.tcap_faults.proofs.MarkLaws.{all_open_is}
