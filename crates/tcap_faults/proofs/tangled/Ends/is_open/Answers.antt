@@ -11,8 +11,8 @@ use Rattle.tcap_faults.proofs.tangled.Ends.is_open.Goals.{then-not-prearranged, 
 by_ended : {p q e f : Bool} → p ≡ false → p ≡ q → e ≡ f → not e ≡ (not q && not f)
 by_ended none same is = ap₂ (λ a b. not a && not b) (sym none ∙ same) is
 
-by_prearranged : {p q f : Bool} → p ≡ true → p ≡ q → not p ≡ (not q && not f)
-by_prearranged {f = f} so same = ap not so ∙ ap (λ a. not a && not f) (sym so ∙ same)
+by_prearranged : {p q : Bool} (f : Bool) → p ≡ true → p ≡ q → not p ≡ (not q && not f)
+by_prearranged f so same = ap not so ∙ ap (λ a. not a && not f) (sym so ∙ same)
 
 pub returns-then-not-has_ended : goal.returns-then-not-has_ended
 returns-then-not-has_ended c = λ side items own_is peer_is from.
@@ -23,7 +23,7 @@ returns-then-not-has_ended c = λ side items own_is peer_is from.
       then-not-prearranged w ↦
           w.value-is
           ∙ by_ended w.if-not-prearranged.true c.prearranged.ensures (w.has_ended.ensures table side items own_is)
-      | else-not-prearranged w ↦ w.value-is ∙ by_prearranged w.if-not-prearranged.false c.prearranged.ensures
+      | else-not-prearranged w ↦ w.value-is ∙ by_prearranged _ w.if-not-prearranged.false c.prearranged.ensures
     ] in
     ap not (c.has_silenced.ensures table (other side) items peer_is)
     ∙ ap (λ b. b && not (list_any (ends_to own) (sent_by (other side) items))) (sym c.if-not-has_ended.true)
@@ -38,7 +38,7 @@ returns-else-not-has_ended c = λ side items own_is peer_is from.
       then-not-prearranged w ↦
           w.value-is
           ∙ by_ended w.if-not-prearranged.true c.prearranged.ensures (w.has_ended.ensures table side items own_is)
-      | else-not-prearranged w ↦ w.value-is ∙ by_prearranged w.if-not-prearranged.false c.prearranged.ensures
+      | else-not-prearranged w ↦ w.value-is ∙ by_prearranged _ w.if-not-prearranged.false c.prearranged.ensures
     ] in
     c.if-not-has_ended.false
     ∙ ap (λ b. b && not (list_any (ends_to own) (sent_by (other side) items))) (sym c.if-not-has_ended.false)
