@@ -1,12 +1,12 @@
 -- Aborts of a provider, and halves that are open at a quiet mark, by what is kept of both ends.
-use Rattle.std.proofs.Common.{◌≡◌, ◌⊎◌, inl, inr, ℕ, ◌+◌, ◌-◌, ◌<◌, ◌≤◌, ◌^◌, arith, Bool, true, false, cond, not, ◌&&◌, ◌||◌, List, [], ◌∷◌, ◌++◌, Option, Some, None, is_some, bytes_eq, drop, filter, get_or, length, refl, sym, ap, ap₂, ◌∙◌}
-use Rattle.std.specs.Prelude.{Contains, filter_map, nat_le, nat_lt, ◌==◌}
+use Rattle.std.proofs.Common.{◌≡◌, ◌⊎◌, inl, inr, ℕ, ◌+◌, ◌-◌, ◌<◌, ◌≤◌, ◌^◌, arith, Bool, true, false, cond, not, ◌&&◌, ◌||◌, List, [], ◌∷◌, Option, Some, None, is_some, bytes_eq, drop, filter, get_or, length, refl, sym, ap, ap₂, ◌∙◌}
+use Rattle.std.specs.Prelude.{Contains, filter_map, nat_le, nat_lt}
 use Rattle.std.specs.Cmp as tests
 use Rattle.std.specs.List.{cons_option, find, list_any}
 use Rattle.std.specs.Map.{lookup}
-use Rattle.std.specs.BTreeMap.{BTreeMap, IsOrdered, is_at}
+use Rattle.std.specs.BTreeMap.{IsOrdered, is_at}
 use Rattle.std.specs.Cmp.Lexicographic.{nat_list_cmp_total}
-use Rattle.std.proofs.lemmas.Bool.{and_parts, cases_lt, le-leb, le-ltb, lt-leb, lt-ltb, or_left, or_right}
+use Rattle.std.proofs.lemmas.Bool.{cases_lt, le-leb, le-ltb, lt-leb, lt-ltb, or_left, or_right}
 use Rattle.std.proofs.lemmas.List.{at_drop_all, at_drop_more}
 use Rattle.std.proofs.lemmas.List.Elements.{Contains-append_right}
 use Rattle.std.proofs.lemmas.Map.Lookups.{exact_bytes}
@@ -38,7 +38,7 @@ use Rattle.tcap_faults.specs.declared.sent_from.SentFrom.{SentFrom}
 use Rattle.tcap_faults.specs.Fault.{count_received, is_left_open, is_open_at_mark}
 use Rattle.tcap_faults.specs.HalfKinds.{is_accepted}
 use Rattle.tcap_faults.specs.HalfOf.{half_of}
-use Rattle.tcap_faults.specs.Ids.{AreAmong, AreIds, AreSame, ids_first, ids_kept}
+use Rattle.tcap_faults.specs.Ids.{AreAmong, AreIds, ids_first, ids_kept}
 use Rattle.tcap_faults.specs.Kept.{IsFrom, IsFromAt, IsSide, dtids_of, sent_from, sent_to}
 use Rattle.tcap_faults.specs.Tangled.{are_tangled, goes_on_from, has_used, is_own_tangled, near, owns_of, two_differ}
 use Rattle.tcap_faults.specs.UsedAgain.{has_ended}

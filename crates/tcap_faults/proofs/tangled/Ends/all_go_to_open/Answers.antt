@@ -1,4 +1,4 @@
-use Rattle.std.proofs.Common.{◌≡◌, ℕ, List, [], Option, Some, None, ◌&&◌, not, is_some, option_copied, refl, sym, ap, ◌∙◌}
+use Rattle.std.proofs.Common.{◌≡◌, ℕ, List, [], Option, Some, None, ◌&&◌, not, is_some, refl, sym, ap, ◌∙◌}
 use Rattle.std.specs.List.{list_any}
 use Rattle.tcap_record.specs.Ends.{other}
 use Rattle.tcap_msg.specs.declared.transaction_id.TransactionIdView.{TransactionIdView}

@@ -1,4 +1,4 @@
-use Rattle.std.proofs.Common.{◌≡◌, ℕ, List, Bool, true, false, Some, None, ◌||◌, not, refl, sym, ap, ◌∙◌}
+use Rattle.std.proofs.Common.{ℕ, List, Bool, ◌||◌, not, refl, sym, ap, ◌∙◌}
 use Rattle.std.specs.List.{list_any}
 use Rattle.tcap_refute.specs.Speaker.{is_surely_open}
 use Rattle.tcap_faults.specs.Ids.{ids_kept}

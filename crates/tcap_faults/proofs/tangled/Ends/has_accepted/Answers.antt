@@ -1,4 +1,4 @@
-use Rattle.std.proofs.Common.{◌≡◌, false, true, ◌&&◌, not, sym, ap, ◌∙◌}
+use Rattle.std.proofs.Common.{◌&&◌, not, sym, ap, ◌∙◌}
 use Rattle.std.specs.List.{list_any}
 use Rattle.tcap_record.specs.Ends.{other}
 use Rattle.tcap_msg.specs.Parts.{cause_in}

@@ -1,7 +1,4 @@
-use Rattle.std.proofs.Common.{◌≡◌, false, not, refl, sym, ap, ◌∙◌}
-use Rattle.std.specs.List.{list_any}
-use Rattle.tcap_faults.specs.Fault.{is_left_open}
-use Rattle.tcap_faults.specs.Kept.{sent_from}
+use Rattle.std.proofs.Common.{not, sym, ap, ◌∙◌}
 use Rattle.tcap_faults.proofs.MarkLaws.{left_at, left_differing, left_shut, open_nowhere}
 use Rattle.tcap_faults.proofs.tangled.Ends.is_left_open.Goals as goal
 use Rattle.tcap_faults.proofs.tangled.Ends.is_left_open.Goals.{then-differ-via-then-differ, then-differ-via-else-differ+then-not-is_open}
@@ -11,7 +8,7 @@ returns-then-differ c = λ side items own_is peer_is from.
     let own = c.args.own.now in
     let table = c.args.table.now in
     elim c.then-differ.branch [
-      then-differ-via-then-differ w ↦
+      | then-differ-via-then-differ w ↦
           left_differing table side items own (sym (c.differ.ensures _ from.to) ∙ w.if-differ.true)
       | then-differ-via-else-differ+then-not-is_open w ↦
           left_shut table side items own

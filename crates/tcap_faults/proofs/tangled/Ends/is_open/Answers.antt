@@ -1,4 +1,4 @@
-use Rattle.std.proofs.Common.{◌≡◌, ℕ, Bool, true, false, List, ◌&&◌, not, Some, None, refl, sym, ap, ap₂, ◌∙◌}
+use Rattle.std.proofs.Common.{◌≡◌, Bool, true, false, ◌&&◌, not, sym, ap, ap₂, ◌∙◌}
 use Rattle.std.specs.List.{list_any}
 use Rattle.tcap_record.specs.Ends.{other}
 use Rattle.tcap_refute.specs.Before.{sent_by}
@@ -20,7 +20,7 @@ returns-then-not-has_ended c = λ side items own_is peer_is from.
     let table = c.args.table.now in
     let stays : c.if-not-prearranged.value ≡ (not table.prearranged && not (has_ended side items c.in-Some.to)) =
     elim c.if-not-prearranged.branch [
-      then-not-prearranged w ↦
+      | then-not-prearranged w ↦
           w.value-is
           ∙ by_ended w.if-not-prearranged.true c.prearranged.ensures (w.has_ended.ensures table side items own_is)
       | else-not-prearranged w ↦ w.value-is ∙ by_prearranged _ w.if-not-prearranged.false c.prearranged.ensures
@@ -35,7 +35,7 @@ returns-else-not-has_ended c = λ side items own_is peer_is from.
     let table = c.args.table.now in
     let stays : c.if-not-prearranged.value ≡ (not table.prearranged && not (has_ended side items c.in-Some.to)) =
     elim c.if-not-prearranged.branch [
-      then-not-prearranged w ↦
+      | then-not-prearranged w ↦
           w.value-is
           ∙ by_ended w.if-not-prearranged.true c.prearranged.ensures (w.has_ended.ensures table side items own_is)
       | else-not-prearranged w ↦ w.value-is ∙ by_prearranged _ w.if-not-prearranged.false c.prearranged.ensures

@@ -1,4 +1,4 @@
-use Rattle.std.proofs.Common.{◌≡◌, true, false, ◌||◌, List, [], ◌∷◌, refl, sym, ap, ◌∙◌}
+use Rattle.std.proofs.Common.{◌||◌, sym, ap, ◌∙◌}
 use Rattle.std.specs.List.{list_any}
 use Rattle.tcap_refute.proofs.Members.{has_first, has_later}
 use Rattle.tcap_faults.proofs.MarkLaws.{entry_kept, leaves, open_at_mark}
