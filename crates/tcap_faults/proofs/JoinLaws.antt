@@ -1,8 +1,8 @@
 -- Which IDs are joined, and whether those that a message goes over are tangled, by what is kept of both ends.
-use Rattle.std.proofs.Common.{◌≡◌, ◌⊎◌, inl, inr, ℕ, Bool, true, false, cond, not, ◌&&◌, ◌||◌, List, [], ◌∷◌, ◌++◌, Option, Some, None, bytes_eq, filter, refl, sym, ap, ap₂, subst, ◌∙◌}
+use Rattle.std.proofs.Common.{◌≡◌, ◌⊎◌, inl, inr, ℕ, Bool, true, false, cond, ◌&&◌, ◌||◌, List, [], ◌∷◌, ◌++◌, Option, Some, None, bytes_eq, filter, refl, sym, ap, ap₂, subst, ◌∙◌}
 use Rattle.std.specs.Prelude.{Contains, filter_map, nat_le}
 use Rattle.std.specs.List.{flat_map, list_any}
-use Rattle.std.proofs.lemmas.Bool.{and_from, and_left, and_parts, both_ways, false_from_ne_true, or_from, or_left, or_parts, or_right}
+use Rattle.std.proofs.lemmas.Bool.{and_from, and_parts, or_from, or_parts}
 use Rattle.std.proofs.lemmas.List.{append-nil}
 use Rattle.std.proofs.lemmas.List.Elements.{Contains-append_cases, Contains-append_left, Contains-append_right}
 use Rattle.std.proofs.lemmas.List.Folds.{list_any-append}
@@ -16,18 +16,17 @@ use Rattle.tcap_record.specs.declared.entry.End.{End as Side}
 use Rattle.tcap_record.specs.Ends.{other}
 use Rattle.tcap_end.specs.End.{is_id}
 use Rattle.tcap_model.specs.World.{Item}
-use Rattle.tcap_model.proofs.ListLaws.{contains_first}
 use Rattle.tcap_model.proofs.TurnLaws.{id_is}
 use Rattle.tcap_refute.specs.Before.{asked, has_a, is_a, sent_by}
 use Rattle.tcap_refute.specs.Counts.{count}
 use Rattle.tcap_refute.specs.Speaker.{began, goes_on_to}
-use Rattle.tcap_refute.proofs.HalfLawsFinds.{any_is, filter_is}
-use Rattle.tcap_refute.proofs.TestLaws.{or_none}
-use Rattle.tcap_refute.proofs.Members.{any_has, filter_has, filter_map_has, flat_map_has, has_first, has_later, has_not}
+use Rattle.tcap_refute.proofs.HalfLawsFinds.{filter_is}
+use Rattle.tcap_refute.proofs.TestLaws.{and_false, or_none}
+use Rattle.tcap_refute.proofs.Members.{filter_has, filter_map_has}
 use Rattle.tcap_faults.specs.declared.ids.Ids.{Ids}
 use Rattle.tcap_faults.specs.Ids.{AreAmong, IsOneOf}
 use Rattle.tcap_faults.specs.Kept.{dtids_of, otids_of, sent_from, sent_to}
-use Rattle.tcap_faults.specs.Tangled.{are_tangled, far, goes_on_from, goes_to_begun, guesses, has_used, is_own_tangled, is_peer_tangled, near, one_passes, owns_of, peers_of, two_differ}
+use Rattle.tcap_faults.specs.Tangled.{are_tangled, goes_on_from, goes_to_begun, has_used, is_own_tangled, is_peer_tangled, owns_of, peers_of, two_differ}
 use Rattle.tcap_faults.proofs.SameLaws.{any_one, differ_so}
 use Rattle.tcap_faults.proofs.SideLaws.{other_twice}
 use Rattle.tcap_faults.proofs.TangledLaws.{all_same, began_used}
@@ -100,11 +99,7 @@ module _ (side : Side) (items : List Item) (own id : List ℕ) where
       so one true same =
           let is : own ≡ one = (bytes_eq-Decides own one).0 same in
           and_from _ true (ap (has_used side items) (sym is) ∙ used) refl
-      so one false apart = none (has_used side items one)
-        where
-          none : (b : Bool) → (b && false) ≡ false
-          none true = refl
-          none false = refl
+      so one false apart = and_false (has_used side items one)
 
   pub joined_is : has_used side items own ≡ true
       → (list_any (goes_on_to id) (sent_from side items own)
@@ -172,11 +167,7 @@ module _ (side : Side) (items : List Item) where
     where
       so : (own : List ℕ) (b : Bool) → began side own items ≡ b → (has_used side items own && b) ≡ b
       so own true begun = and_from _ true (began_used side items own begun) refl
-      so own false not_begun = none (has_used side items own)
-        where
-          none : (b : Bool) → (b && false) ≡ false
-          none true = refl
-          none false = refl
+      so own false not_begun = and_false (has_used side items own)
 
       of : (ns : List Message) → list_any (λ own. began side own items) (dtids_of ns) ≡ list_any (goes_to_begun side items) ns
       of [] = refl
@@ -211,18 +202,6 @@ module _ (side : Side) (items : List Item) where
 -- ---- near an ID of the peer, and behind
 
 module _ (side : Side) (items : List Item) (id : List ℕ) where
-  -- It is tangled itself,
-  pub tangled_itself : (own : List (List ℕ)) → is_peer_tangled side items id ≡ true
-      → true ≡ are_tangled side items own id
-  tangled_itself own is = sym (or_right _ _ (or_left _ _ is))
-
-  -- or an own ID is that is joined with it;
-  pub tangled_joined : (own : List (List ℕ)) (joined : List ℕ) → Contains (owns_of side items id) joined
-      → is_own_tangled side items joined ≡ true → true ≡ are_tangled side items own id
-  tangled_joined own joined has is =
-      sym (or_left _ _ (any_has (is_own_tangled side items) (near side items own id) joined
-      (Contains-append_left (owns_of side items id) own joined has) is))
-
   -- One own ID at the most is joined with what is not tangled,
   pub plain_same : is_peer_tangled side items id ≡ false → two_differ (owns_of side items id) ≡ false
   plain_same plain =
@@ -242,7 +221,7 @@ module _ (side : Side) (items : List Item) (id : List ℕ) where
   plain_owns plain (Some joined) has so =
       any_one (is_own_tangled side items) (owns_of side items id) joined has (plain_same plain) ∙ so joined refl
 
-  -- or what is near it besides, or behind that.
+  -- So what is near it besides is to be looked at, and what is behind that.
   module _ (plain : is_peer_tangled side items id ≡ false)
       (none_own : list_any (is_own_tangled side items) (owns_of side items id) ≡ false) where
     -- behind each own ID that is joined with it is it alone

@@ -1,16 +1,14 @@
 -- Transaction IDs that are the same as others, in some order, and whether two of them differ.
-use Rattle.std.proofs.Common.{◌≡◌, ◌⊎◌, inl, inr, ℕ, Bool, true, false, not, ◌||◌, List, [], ◌∷◌, ◌++◌, Option, Some, None, bytes_eq, refl, sym, ap, ◌∙◌}
+use Rattle.std.proofs.Common.{◌≡◌, ◌⊎◌, inl, inr, ℕ, Bool, true, false, not, List, [], ◌∷◌, ◌++◌, Option, Some, None, bytes_eq, refl, sym, ap, ◌∙◌}
 use Rattle.std.specs.Prelude.{Contains}
 use Rattle.std.specs.List.{list_any}
-use Rattle.std.proofs.lemmas.Bool.{both_ways, false_from_ne_true, not-true, or_from, true_from_ne_false}
+use Rattle.std.proofs.lemmas.Bool.{both_ways, true_from_ne_false}
 use Rattle.std.proofs.lemmas.List.{append-nil}
 use Rattle.std.proofs.lemmas.List.Elements.{Contains-append_cases, Contains-append_left, Contains-append_right}
 use Rattle.std.proofs.lemmas.Slice.Eq.{bytes_eq-Decides}
-use Rattle.tcap_refute.specs.Speaker.{is_nothing}
-use Rattle.tcap_refute.proofs.HalfLawsFinds.{any_is}
 use Rattle.tcap_refute.proofs.Members.{any_has, has_first, has_later, has_not}
 use Rattle.tcap_faults.specs.declared.ids.Ids.{Ids}
-use Rattle.tcap_faults.specs.Ids.{AreAmong, AreIds, AreSame, IsOneOf, ids_first, ids_kept}
+use Rattle.tcap_faults.specs.Ids.{AreAmong, AreIds, AreSame, IsOneOf, ids_first}
 use Rattle.tcap_faults.specs.Tangled.{two_differ}
 use Rattle.tcap_faults.proofs.TangledLaws.{all_same}
 use Rattle.tcap_faults.proofs.TwoTests.{none_passes}
@@ -131,10 +129,3 @@ module _ (xs ys : List (List ℕ)) where
 
   pub right_none : ys ≡ [] → two_differ xs ≡ two_differ (xs ++ ys)
   right_none none = rw (none, append-nil xs) refl
-
-  -- One of the first, or one of the others where there is none of the first.
-  pub one_left : (x : List ℕ) → IsOneOf xs (Some x) → IsOneOf (xs ++ ys) (Some x)
-  one_left x has = Contains-append_left xs ys x has
-
-  pub one_right : (o : Option (List ℕ)) → xs ≡ [] → IsOneOf ys o → IsOneOf (xs ++ ys) o
-  one_right o none one = rw none one

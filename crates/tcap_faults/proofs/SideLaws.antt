@@ -1,6 +1,6 @@
 -- What is looked up of what an end sent says what the definitions say of its messages.
-use Rattle.std.proofs.Common.{◌≡◌, ℕ, Bool, true, false, cond, not, ◌&&◌, List, [], ◌∷◌, Option, Some, None, is_some, filter, refl, sym, ap, ◌∙◌}
-use Rattle.std.specs.Prelude.{nat_le, is_none}
+use Rattle.std.proofs.Common.{◌≡◌, ℕ, Bool, true, false, not, ◌&&◌, List, [], Option, Some, None, is_some, filter, refl, sym, ap, ◌∙◌}
+use Rattle.std.specs.Prelude.{is_none}
 use Rattle.std.specs.List.{find, list_any}
 use Rattle.std.specs.Map.{lookup}
 use Rattle.std.specs.BTreeMap.{is_at}
@@ -26,7 +26,7 @@ use Rattle.tcap_faults.specs.declared.sent_to.SentTo.{SentTo}
 use Rattle.tcap_faults.specs.Kept.{IsCameAt, IsFirstBegin, IsFrom, IsFromAt, IsSide, IsTo, ends, of_user, sent_from, sent_to, silences}
 use Rattle.tcap_faults.specs.Tangled.{has_used}
 use Rattle.tcap_faults.specs.UsedAgain.{has_ended}
-use Rattle.tcap_faults.proofs.TwoTests.{and_turned, any_agree, any_both, any_found, any_kept, any_turned, filter_both, found_both}
+use Rattle.tcap_faults.proofs.TwoTests.{any_agree, any_both, any_found, any_kept, any_turned, filter_both, found_both}
 
 -- The peer's peer is the end.
 pub other_twice : (side : Side) → other (other side) ≡ side

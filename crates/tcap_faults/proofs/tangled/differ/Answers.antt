@@ -6,7 +6,7 @@ use Rattle.tcap_faults.proofs.tangled.differ.Goals.{in-Some-None, in-Some-None-2
 pub returns-in-Some-None : goal.returns-in-Some-None
 returns-in-Some-None c = λ xs ys are_x are_y.
     elim c.in-Some-None-1.branch [
-      in-Some-None w ↦
+      | in-Some-None w ↦
           let is : c.args.some ≡ Some c.in-Some-None-1.ids = cc in
           among_differ {ids = xs} c.differ.result c.differ.ensures (rw is at are_x)
           ∙ right_none xs ys (rw w.in-Some-None.is-1 at are_y)

@@ -6,7 +6,7 @@ use Rattle.tcap_faults.proofs.ids.Ids.differs_from.Goals.{then-differ-via-then-d
 pub returns-then-differ : goal.returns-then-differ
 returns-then-differ c = λ xs ys are_x are_y.
     elim c.then-differ.branch [
-      then-differ-via-then-differ w ↦
+      | then-differ-via-then-differ w ↦
           sym (left_differ xs ys (sym (among_differ c.differ.result c.differ.ensures are_x) ∙ w.if-differ.true))
       | then-differ-via-else-differ+then-differ-2 w ↦
           sym (right_differ xs ys

@@ -24,7 +24,7 @@ returns-then-not-has_spoken_to c = λ table side items own_is peer_is used.
     let asks = sym (began_asked side items id) ∙ sym (c.began.ensures table (other side) items peer_is) in
     let both : (has_a forms.Begin (asked side id items) && is_nothing (told side id items)) ≡ c.if-began.value =
     elim c.if-began.branch [
-      then-began w ↦ begun _ _ _ _ (asks ∙ w.if-began.true) (w.has_spoken_to.ensures table side items own_is)
+      | then-began w ↦ begun _ _ _ _ (asks ∙ w.if-began.true) (w.has_spoken_to.ensures table side items own_is)
           w.value-is
       | else-began w ↦ not_begun _ _ _ (asks ∙ w.if-began.false) (w.value-is ∙ w.if-began.false)
     ] in
@@ -38,7 +38,7 @@ returns-else-not-has_spoken_to c = λ table side items own_is peer_is used.
     let asks = sym (began_asked side items id) ∙ sym (c.began.ensures table (other side) items peer_is) in
     let both : (has_a forms.Begin (asked side id items) && is_nothing (told side id items)) ≡ c.if-began.value =
     elim c.if-began.branch [
-      then-began w ↦ begun _ _ _ _ (asks ∙ w.if-began.true) (w.has_spoken_to.ensures table side items own_is)
+      | then-began w ↦ begun _ _ _ _ (asks ∙ w.if-began.true) (w.has_spoken_to.ensures table side items own_is)
           w.value-is
       | else-began w ↦ not_begun _ _ _ (asks ∙ w.if-began.false) (w.value-is ∙ w.if-began.false)
     ] in

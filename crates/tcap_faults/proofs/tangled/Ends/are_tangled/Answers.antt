@@ -1,4 +1,4 @@
-use Rattle.std.proofs.Common.{◌≡◌, ℕ, List, ◌||◌, Some, None, sym, ap, ◌∙◌}
+use Rattle.std.proofs.Common.{◌≡◌, ℕ, List, ◌||◌, Some, sym, ap, ◌∙◌}
 use Rattle.std.specs.Prelude.{option_copied}
 use Rattle.std.specs.List.{list_any}
 use Rattle.std.specs.Option.{option_to_list}
@@ -16,7 +16,7 @@ returns-else-is_own_tangled-2 c = λ table side items own_is peer_is.
     let plain = sym (c.is_peer_tangled.ensures table side items own_is peer_is) ∙ c.if-is_peer_tangled.false in
     let owns = plain_owns side items id plain c.joined_own.result (c.joined_own.ensures table side items own_is peer_is)
     (λ joined is. elim c.match-joined_own.branch [
-      in-Some+else-is_own_tangled w ↦
+      | in-Some+else-is_own_tangled w ↦
           ap (is_own_tangled side items) (same_id joined w.in-Some.joined (sym is ∙ w.in-Some.is))
           ∙ sym (w.is_own_tangled.ensures table side items own_is peer_is) ∙ w.if-is_own_tangled.false
       | in_default w ↦ absurd (w.in_default.not-Some joined is)
@@ -34,7 +34,7 @@ returns-in-None c = λ table side items own_is peer_is.
     let plain = sym (c.is_peer_tangled.ensures table side items own_is peer_is) ∙ c.if-is_peer_tangled.false in
     let owns = plain_owns side items id plain c.joined_own.result (c.joined_own.ensures table side items own_is peer_is)
     (λ joined is. elim c.match-joined_own.branch [
-      in-Some+else-is_own_tangled w ↦
+      | in-Some+else-is_own_tangled w ↦
           ap (is_own_tangled side items) (same_id joined w.in-Some.joined (sym is ∙ w.in-Some.is))
           ∙ sym (w.is_own_tangled.ensures table side items own_is peer_is) ∙ w.if-is_own_tangled.false
       | in_default w ↦ absurd (w.in_default.not-Some joined is)

@@ -1,4 +1,4 @@
-use Rattle.std.proofs.Common.{◌≡◌, ◌&&◌, [], Some, None, filter, sym, ap, ◌∙◌}
+use Rattle.std.proofs.Common.{◌&&◌, Some, None, filter, sym, ap, ◌∙◌}
 use Rattle.std.specs.List.{list_any}
 use Rattle.std.proofs.lemmas.Bool.{and_left, and_right}
 use Rattle.tcap_record.specs.Ends.{other}

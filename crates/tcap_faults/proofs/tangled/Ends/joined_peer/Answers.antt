@@ -14,7 +14,7 @@ returns c = λ table side items own_is peer_is.
     let back : AreAmong (cond (has_used side items own) (otids_of (sent_to (other side) items own)) [])
     (option_copied c.if-has_used.back) =
     elim c.if-has_used.branch [
-      then-has_used w ↦
+      | then-has_used w ↦
           let used = sym (c.has_used.ensures table side items own_is) ∙ w.if-has_used.true in
           rw (used, w.back-is) (w.comes_from-back.ensures table (other side) items peer_is)
       | else-has_used w ↦
