@@ -109,6 +109,19 @@ any_kept_of p ids kept (those, are, same) = tests.both_ways _ _ there back
         let (id, has, passes) = any_is p ids is in
         any_has p (ids_kept kept.first kept.more.items) id (are.there id (same.back id has)) passes
 
+-- of the first of them,
+module _ (p : List ℕ → Bool) (ids : List (List ℕ)) (kept : Ids) (are : AreAmong ids (Some kept)) (first : List ℕ)
+    (is : kept.first ≡ Some first) where
+  either_kept : (p first || list_any p kept.more.items) ≡ list_any p ids
+  either_kept = ap (λ o. list_any p (ids_kept o kept.more.items)) (sym is) ∙ any_kept_of p ids kept are
+
+  pub first_so : p first ≡ true → true ≡ list_any p ids
+  first_so so = sym (or_left (p first) (list_any p kept.more.items) so) ∙ either_kept
+
+  -- or of the others where not of the first;
+  pub others_so : p first ≡ false → list_any p kept.more.items ≡ list_any p ids
+  others_so none = ap (λ b. b || list_any p kept.more.items) (sym none) ∙ either_kept
+
 first_there : (ids : List (List ℕ)) → is_some (ids_first ids) ≡ list_any (λ id. true) ids
 first_there [] = refl
 first_there (id ∷ more) = refl
@@ -356,10 +369,12 @@ leaves table side items e = list_any (is_left_open table side items) (sent_from 
 
 module _ {table : Table} {side : Side} {items : List Item} {facts : SideFacts} (is : IsSide table side items facts)
     (ordered : IsOrdered octets_cmp facts.from) where
-  -- What stands there is kept of its key.
-  pub entry_kept : (own : List ℕ) (kept : SentFrom) → Contains facts.from.entries (own, kept)
+  -- What is left first is kept of its key.
+  pub next_kept : (left more : List (List ℕ × SentFrom)) (own : List ℕ) (kept : SentFrom)
+      → ((e : List ℕ × SentFrom) → Contains left e → Contains facts.from.entries e) → left ≡ (own, kept) ∷ more
       → IsFrom table (sent_from side items own) kept
-  entry_kept own kept has =
+  next_kept left more own kept within steps =
+      let has = within (own, kept) (rw steps (has_first (own, kept) more)) in
       let found : lookup (is_at (octets_cmp own)) facts.from.entries ≡ Some kept =
       (btree_map_get_iff nat_list_cmp_total exact_bytes facts.from ordered own kept).1 has in
       (rw found at (is.from own)).1

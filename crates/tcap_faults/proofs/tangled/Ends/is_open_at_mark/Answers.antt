@@ -1,7 +1,7 @@
 use Rattle.std.proofs.Common.{◌||◌, sym, ap, ◌∙◌}
 use Rattle.std.specs.List.{list_any}
-use Rattle.tcap_refute.proofs.Members.{has_first, has_later}
-use Rattle.tcap_faults.proofs.MarkLaws.{entry_kept, leaves, open_at_mark}
+use Rattle.tcap_refute.proofs.Members.{has_later}
+use Rattle.tcap_faults.proofs.MarkLaws.{leaves, next_kept, open_at_mark}
 use Rattle.tcap_faults.proofs.tangled.Ends.is_open_at_mark.Goals as goal
 
 pub loop-own-init : goal.loop-own-init
@@ -15,10 +15,8 @@ pub returns-then-is_left_open : goal.returns-then-is_left_open
 returns-then-is_left_open c = λ side items own_is peer_is.
     let table = c.args.table.now in
     let ordered = c.into_iter-own-iterator.ensures.into_iter_gives.5 in
-    let has = c.loop-own.invariant.kept (c.in-Some.own.now, c.in-Some.kept.now)
-    (rw c.in-Some.ensures.steps (has_first (c.in-Some.own.now, c.in-Some.kept.now) c.next.new.self)) in
     let here = sym (c.is_left_open.ensures side items own_is peer_is
-    (entry_kept own_is ordered c.in-Some.own.now c.in-Some.kept.now has)) ∙ c.if-is_left_open.true in
+    (next_kept own_is ordered _ _ _ _ c.loop-own.invariant.kept c.in-Some.ensures.steps)) ∙ c.if-is_left_open.true in
     sym (ap (list_any (leaves table side items)) c.in-Some.ensures.steps
     ∙ ap (λ b. b || list_any (leaves table side items) c.next.new.self) here)
     ∙ c.loop-own.invariant.left side items own_is peer_is
@@ -31,10 +29,8 @@ loop-own-preserved c = record {
   left = λ side items own_is peer_is.
       let table = c.args.table.now in
       let ordered = c.into_iter-own-iterator.ensures.into_iter_gives.5 in
-      let has = c.loop-own.invariant.kept (c.in-Some.own.now, c.in-Some.kept.now)
-      (rw c.in-Some.ensures.steps (has_first (c.in-Some.own.now, c.in-Some.kept.now) c.next.new.self)) in
       let here = sym (c.is_left_open.ensures side items own_is peer_is
-      (entry_kept own_is ordered c.in-Some.own.now c.in-Some.kept.now has)) ∙ c.if-is_left_open.false in
+      (next_kept own_is ordered _ _ _ _ c.loop-own.invariant.kept c.in-Some.ensures.steps)) ∙ c.if-is_left_open.false in
       sym (ap (list_any (leaves table side items)) c.in-Some.ensures.steps
       ∙ ap (λ b. b || list_any (leaves table side items) c.next.new.self) here)
       ∙ c.loop-own.invariant.left side items own_is peer_is;
