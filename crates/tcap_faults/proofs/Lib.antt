@@ -9,6 +9,7 @@ pub mod HalfKindsLaws
 pub mod DialogueLaws
 pub mod ComponentLaws
 pub mod ReplyLaws
+pub mod MarkLaws
 pub mod FaultLaws
 pub mod BlamedLaws
 pub mod SumLaws

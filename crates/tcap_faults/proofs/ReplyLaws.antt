@@ -26,7 +26,7 @@ not_accepted_either true = refl
 not_accepted_either false = refl
 
 -- A half is accepted where the peer's Begin may stand.
-accepted_stands : (side : Side) (items : List Item) (id : List ℕ)
+pub accepted_stands : (side : Side) (items : List Item) (id : List ℕ)
     → is_accepted (half_of side items id).how ≡ may_stand side id items
 accepted_stands side items id = by (has_a forms.Begin (asked side id items)) (begun_from side items id)
   where

@@ -115,7 +115,11 @@ impl Ends<'_> {
             Some(told) => (told.unknown, told.spoke),
             None => (0, false),
         };
-        let received = if spoke && !self.has_accepted(id) { 1 } else { 0 };
+        let received = if spoke && !self.has_accepted(id) {
+            1
+        } else {
+            0
+        };
         continues.saturating_sub(received) <= unknown
     }
 
