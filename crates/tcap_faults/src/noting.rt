@@ -204,6 +204,36 @@ fn join_first(
     Ok(())
 }
 
+/// What a Continue from an own ID to one of the peer joins, by what was sent before.
+#[derive(Clone, Copy, Debug)]
+struct Joins {
+    /// Whether the end sent an End, or an Abort without cause, to the ID of the peer.
+    over: bool,
+    /// Whether the peer used its ID.
+    used: bool,
+    /// Whether it did, and sent an End, or an Abort without cause, to the own ID.
+    peer_over: bool,
+}
+
+impl Joins {
+    fn of(own: &SideFacts, peer: &SideFacts, otid: TransactionIdView, dtid: TransactionIdView) -> Joins
+        ensures { (table : Table) (side : Side) (items : List Item) → IsSide table side items own.now
+            → IsSide table (other side) items peer.now
+            → (result.over ≡ has_ended side items dtid.entry.octets.now)
+            × (result.used ≡ has_used (other side) items dtid.entry.octets.now)
+            × (result.peer_over ≡ has_used (other side) items dtid.entry.octets.now
+            && has_ended (other side) items otid.entry.octets.now) }
+    {
+        let id = dtid.to_transaction_id();
+        let used = peer.has_used(&id);
+        Joins {
+            over: own.has_ended(&id),
+            used,
+            peer_over: used && peer.has_ended(&otid.to_transaction_id()),
+        }
+    }
+}
+
 /// A Continue from an own ID to one of the peer: they are joined.
 fn join_continue(
     alloc: Global,
@@ -211,30 +241,24 @@ fn join_continue(
     peer: &mut SideFacts,
     otid: TransactionIdView,
     dtid: TransactionIdView,
+    joins: Joins,
 ) -> Result<(), AllocError>
-    ensures { (table : Table) (side : Side) (items : List Item) (over : BTreeSet (List ℕ)) (joined : BTreeMap (List ℕ) Ids)
-        → IsSide table side items (record own.old { over = over })
-        → IsSide table (other side) items (record peer.old { joined = joined })
-        → OnOk result (
-        GetsMore (λ key. bytes_eq key otid.entry.octets.now && has_used (other side) items dtid.entry.octets.now)
+    ensures { OnOk result (
+        GetsMore (λ key. bytes_eq key otid.entry.octets.now && joins.used)
             dtid.entry.octets.now own.old.joined own.new.joined
-        × HasMore (λ id. bytes_eq id otid.entry.octets.now && has_ended side items dtid.entry.octets.now)
-            own.old.over own.new.over
-        × HasMore (λ id. bytes_eq id dtid.entry.octets.now && has_used (other side) items dtid.entry.octets.now
-            && has_ended (other side) items otid.entry.octets.now) peer.old.over peer.new.over
+        × HasMore (λ id. bytes_eq id otid.entry.octets.now && joins.over) own.old.over own.new.over
+        × HasMore (λ id. bytes_eq id dtid.entry.octets.now && joins.peer_over) peer.old.over peer.new.over
         × (own.new ≡ record own.old { over = own.new.over; joined = own.new.joined })
         × (peer.new ≡ record peer.old { over = peer.new.over })) }
 {
-    let (own_id, id) = (otid.to_transaction_id(), dtid.to_transaction_id());
-    if own.has_ended(&id) {
+    if joins.over {
         own.over.insert(otid.to_transaction_id())?;
     }
-    if !peer.has_used(&id) {
-        return Ok(());
+    if joins.used {
+        add_at(alloc, &mut own.joined, otid, dtid)?;
     }
-    add_at(alloc, &mut own.joined, otid, dtid)?;
-    if peer.has_ended(&own_id) {
-        peer.over.insert(id)?;
+    if joins.peer_over {
+        peer.over.insert(dtid.to_transaction_id())?;
     }
     Ok(())
 }
@@ -273,8 +297,9 @@ fn note_joined<M: MessageParts>(
     match (message.otid(), message.dtid()) {
         (Some(otid), None) => join_first(alloc, own, peer, otid),
         (Some(otid), Some(dtid)) => {
+            let joins = Joins::of(own, peer, otid, dtid);
             join_first(alloc, own, peer, otid)?;
-            join_continue(alloc, own, peer, otid, dtid)
+            join_continue(alloc, own, peer, otid, dtid, joins)
         }
         (None, Some(dtid)) if ends(message) => end_all(own, peer, dtid),
         _ => Ok(()),
