@@ -21,3 +21,9 @@ pub mod InvokeSums
 pub mod AnswerSums
 pub mod RejectSums
 pub mod ComponentFinds
+pub mod NotedLists
+pub mod KeyLaws
+pub mod MapLaws
+pub mod JoinedLaws
+pub mod NotingLaws
+pub mod JoiningLaws

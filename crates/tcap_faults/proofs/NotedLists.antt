@@ -1,0 +1,107 @@
+-- Lists with one more behind.
+use Rattle.std.proofs.Common.{◌≡◌, ◌⊎◌, inl, inr, ℕ, ◌+◌, ◌≤◌, ◌^◌, Bool, true, false, cond, ◌||◌, List, [], ◌∷◌, ◌++◌, length, Option, Some, None, refl, sym, ap, ◌∙◌, arith}
+use Rattle.std.specs.Prelude.{filter, filter_map}
+use Rattle.std.specs.List.{list_any}
+use Rattle.std.proofs.lemmas.Bool.Decides.{nat_tests}
+use Rattle.std.proofs.lemmas.List.{append-nil, length-append}
+use Rattle.std.proofs.lemmas.List.Elements.{filter-append, filter_map-append}
+use Rattle.std.proofs.lemmas.List.Folds.{list_any-append}
+use Rattle.std.proofs.lemmas.Grind.{flat_map-append}
+use Rattle.tcap_msg.specs.declared.message.Message.{Message}
+use Rattle.tcap_msg.specs.Parts.{components_in}
+use Rattle.tcap_end.specs.Table.{Table}
+use Rattle.tcap_refute.specs.Before.{components_of}
+use Rattle.tcap_refute.specs.Counts.{count}
+use Rattle.tcap_refute.specs.Speaker.{is_nothing}
+use Rattle.tcap_refute.proofs.TestLaws.{or_none}
+use Rattle.tcap_faults.specs.declared.tally.Tally.{Tally}
+use Rattle.tcap_faults.specs.Tallied.{more_if}
+use Rattle.tcap_faults.specs.Tallies.{IsTally}
+
+module _ {A : Type 0} where
+  pub something : (xs : List A) (x : A) → is_nothing (xs ++ x ∷ []) ≡ false
+  something [] x = refl
+  something (y ∷ xs) x = refl
+
+  pub longer : (xs : List A) (x : A) → length (xs ++ x ∷ []) ≡ length xs + 1
+  longer xs x = length-append xs (x ∷ [])
+
+  module _ (p : A → Bool) where
+    pub filter_more : (xs : List A) (x : A) → filter p (xs ++ x ∷ []) ≡ filter p xs ++ cond (p x) (x ∷ []) []
+    filter_more xs x = filter-append p xs (x ∷ [])
+
+    pub any_more : (xs : List A) (x : A) → list_any p (xs ++ x ∷ []) ≡ (list_any p xs || p x)
+    any_more xs x = list_any-append p xs (x ∷ []) ∙ ap (λ b. list_any p xs || b) (sym (or_none (p x)))
+
+    pub count_more : (xs : List A) (x : A) → count p (xs ++ x ∷ []) ≡ count p xs + cond (p x) 1 0
+    count_more xs x = ap (length {A = A}) (filter_more xs x) ∙ length-append (filter p xs) _ ∙ by (p x)
+      where
+        by : (b : Bool) → length (filter p xs) + length (cond b (x ∷ []) []) ≡ length (filter p xs) + cond b 1 0
+        by true = refl
+        by false = refl
+
+    pub count_most : (xs : List A) → count p xs ≤ length xs
+    count_most [] = omega arith
+    count_most (x ∷ xs) = by (p x) (count_most xs)
+      where
+        by : (b : Bool) → count p xs ≤ length xs → length (cond b (x ∷ filter p xs) (filter p xs)) ≤ length (x ∷ xs)
+        by true most = omega arith
+        by false most = omega arith
+
+    -- A count that is exact where there are few stays so.
+    pub count_kept : (xs : List A) (x : A) (n more : ℕ) → (length xs ≤ 2 ^ 126 → n ≡ count p xs)
+        → more ≡ more_if (p x) n → length (xs ++ x ∷ []) ≤ 2 ^ 126 → more ≡ count p (xs ++ x ∷ [])
+    count_kept xs x n more was is few =
+        is ∙ by (p x) (was little) ∙ sym (count_more xs x)
+      where
+        little : length xs ≤ 2 ^ 126
+        little = omega (arith, longer xs x)
+
+        by : (b : Bool) → n ≡ count p xs → more_if b n ≡ count p xs + cond b 1 0
+        by true before =
+            let most : count p xs ≤ length xs = count_most xs in
+            let few_all : length xs ≤ 2 ^ 126 = little in
+            grind (arith, nat_tests)
+        by false before = omega arith
+
+-- ---- their IDs
+
+-- The IDs of those that pass, with one that passes and has one,
+module _ {A : Type 0} (p : A → Bool) (id_in : A → Option (List ℕ)) (xs : List A) (x : A) where
+  pub ids_more : (id : List ℕ) → p x ≡ true → id_in x ≡ Some id
+      → filter_map id_in (filter p (xs ++ x ∷ [])) ≡ filter_map id_in (filter p xs) ++ id ∷ []
+  ids_more id passes has =
+      ap (filter_map id_in) (filter_more p xs x ∙ rw passes refl) ∙ filter_map-append id_in (filter p xs) (x ∷ [])
+      ∙ rw has refl
+
+  -- and beside one that does not, or has none.
+  pub ids_same : (p x ≡ false) ⊎ (id_in x ≡ None)
+      → filter_map id_in (filter p (xs ++ x ∷ [])) ≡ filter_map id_in (filter p xs)
+  ids_same why =
+      ap (filter_map id_in) (filter_more p xs x) ∙ filter_map-append id_in (filter p xs) (cond (p x) (x ∷ []) [])
+      ∙ ap (λ more. filter_map id_in (filter p xs) ++ more) (by (p x) (id_in x) refl why)
+      ∙ append-nil (filter_map id_in (filter p xs))
+    where
+      by : (b : Bool) (o : Option (List ℕ)) → id_in x ≡ o → (b ≡ false) ⊎ (o ≡ None)
+          → filter_map id_in (cond b (x ∷ []) []) ≡ []
+      by false o is why = refl
+      by true o is (inl bad) = cc
+      by true None is (inr none) = rw is refl
+      by true (Some id) is (inr bad) = cc
+
+-- ---- their components
+
+pub components_more : (ms : List Message) (m : Message)
+    → components_of (ms ++ m ∷ []) ≡ components_of ms ++ components_in m
+components_more ms m =
+    flat_map-append components_in ms (m ∷ []) ∙ ap (λ cs. components_of ms ++ cs) (append-nil (components_in m))
+
+-- A tally of the components of those that pass, with those of one that passes, and beside one that does not.
+module _ (table : Table) (p : Message → Bool) (ms : List Message) (m : Message) (tally : Tally) where
+  pub tally_more : p m ≡ true → IsTally table (components_of (filter p ms) ++ components_in m) tally
+      → IsTally table (components_of (filter p (ms ++ m ∷ []))) tally
+  tally_more passes is = rw (filter_more p ms m, passes, components_more (filter p ms) m) is
+
+  pub tally_same : p m ≡ false → IsTally table (components_of (filter p ms)) tally
+      → IsTally table (components_of (filter p (ms ++ m ∷ []))) tally
+  tally_same passes_not is = rw (filter_more p ms m, passes_not, append-nil (filter p ms)) is
