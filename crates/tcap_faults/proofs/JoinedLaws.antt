@@ -1,15 +1,15 @@
 -- What is kept of IDs that are joined, with one more; and which IDs are joined.
-use Rattle.std.proofs.Common.{◌≡◌, ◌⊎◌, inl, inr, ℕ, Bool, true, false, cond, not, ◌&&◌, ◌||◌, List, [], ◌∷◌, ◌++◌, Option, Some, None, bytes_eq, refl, sym, ap, ◌∙◌}
-use Rattle.std.specs.Prelude.{Contains, filter, filter_map}
+use Rattle.std.proofs.Common.{◌≡◌, ◌⊎◌, inl, inr, ℕ, Bool, true, false, cond, not, ◌&&◌, ◌||◌, List, [], ◌∷◌, ◌++◌, Option, Some, None, is_some, bytes_eq, refl, sym, ap, ◌∙◌}
+use Rattle.std.specs.Prelude.{Contains, ◌+◌, ◌<◌, ◌≤◌, filter, filter_map, get_or, length, take}
 use Rattle.std.specs.List.{cons_option, list_any}
 use Rattle.std.specs.Map.{lookup}
-use Rattle.std.specs.BTreeMap.{BTreeMap, is_at}
+use Rattle.std.specs.BTreeMap.{BTreeMap, WritesThrough, is_at}
 use Rattle.std.specs.BTreeSet as set
 use Rattle.std.specs.BTreeSet.{BTreeSet}
 use Rattle.std.proofs.lemmas.Bool.{and_from, and_parts}
-use Rattle.std.proofs.lemmas.List.{append-nil}
+use Rattle.std.proofs.lemmas.List.{append-nil, take_all}
 use Rattle.std.proofs.lemmas.List.Elements.{Contains-append_cases, Contains-append_left, Contains-append_right}
-use Rattle.std.proofs.lemmas.List.Folds.{list_any-append}
+use Rattle.std.proofs.lemmas.List.Folds.{list_any_more}
 use Rattle.std.proofs.lemmas.Slice.Eq.{bytes_eq-Decides}
 use Rattle.tcap_msg.specs.declared.kind.Kind.TheVariants as forms
 use Rattle.tcap_msg.specs.declared.message.Message.{Message}
@@ -21,6 +21,7 @@ use Rattle.tcap_end.specs.Table.{octets_cmp}
 use Rattle.tcap_model.specs.World.{Item}
 use Rattle.tcap_model.proofs.ListLaws.{contains_first}
 use Rattle.tcap_refute.specs.Before.{is_a, sent_by}
+use Rattle.tcap_refute.proofs.TestLaws.{or_none}
 use Rattle.tcap_refute.specs.Speaker.{goes_on_to}
 use Rattle.tcap_refute.proofs.HalfLawsFinds.{any_is, filter_is}
 use Rattle.tcap_refute.proofs.Members.{any_has, filter_has, filter_map_has, has_first, has_later, has_not}
@@ -28,7 +29,7 @@ use Rattle.tcap_faults.specs.declared.ids.Ids.{Ids}
 use Rattle.tcap_faults.specs.Ids.{AreAmong, AreIds, AreSame, ids_kept}
 use Rattle.tcap_faults.specs.Joining.{GetsMore, HasMore, id_if}
 use Rattle.tcap_faults.specs.Tangled.{goes_on_from, has_used, owns_of, peers_of}
-use Rattle.tcap_faults.proofs.KeyLaws.{at_id}
+use Rattle.tcap_faults.proofs.KeyLaws.{at_id, set_more}
 use Rattle.tcap_faults.proofs.MapLaws.{Puts}
 
 -- ---- tests
@@ -171,7 +172,7 @@ module _ (id : List ℕ) where
       (twice_same ids id (first key) (second key)) (two key (ids ++ id_if (first key) id) (one key ids are))
 
   -- What was kept at a key was written, or is new there.
-  pub gets_at : (key : List ℕ) (old new : BTreeMap (List ℕ) Ids) (now : Ids) → Puts old.entries new.entries key now
+  gets_at : (key : List ℕ) (old new : BTreeMap (List ℕ) Ids) (now : Ids) → Puts old.entries new.entries key now
       → ((ids : List (List ℕ)) → AreAmong ids (lookup (is_at (octets_cmp key)) old.entries)
       → AreAmong (ids ++ id ∷ []) (Some now))
       → GetsMore (bytes_eq key) id old new
@@ -184,15 +185,28 @@ module _ (id : List ℕ) where
           let one : key ≡ k = (bytes_eq-Decides key k).0 same in more ids (rw (← one) at are)
       by k ids are false apart = rw (append-nil ids) are
 
-  pub among_more : (ids : List (List ℕ)) (old now : Ids)
+  among_more : (ids : List (List ℕ)) (old now : Ids)
       → ((those : List (List ℕ)) → AreIds those old → AreIds (those ++ id ∷ []) now) → AreAmong ids (Some old)
       → AreAmong (ids ++ id ∷ []) (Some now)
   among_more ids old now more (those, are, same) =
       (those ++ id ∷ [], more those are, same_behind those ids (id ∷ []) same)
 
-  pub among_first : (ids : List (List ℕ)) (now : Ids) → AreIds ([] ++ id ∷ []) now → AreAmong ids None
+  among_first : (ids : List (List ℕ)) (now : Ids) → AreIds ([] ++ id ∷ []) now → AreAmong ids None
       → AreAmong (ids ++ id ∷ []) (Some now)
   among_first ids now is none = rw none (id ∷ [], is, same_itself (id ∷ []))
+
+  pub gets_written : (key : List ℕ) (old new : BTreeMap (List ℕ) Ids) (was now : Ids)
+      → Some was ≡ lookup (is_at (octets_cmp key)) old.entries → WritesThrough octets_cmp (octets_cmp key) old now new
+      → ((those : List (List ℕ)) → AreIds those was → AreIds (those ++ id ∷ []) now) → GetsMore (bytes_eq key) id old new
+  gets_written key old new was now there writes more =
+      gets_at key old new now (writes.3 (sym (ap is_some there))).0
+      (λ ids are. among_more ids was now more (rw (← there) at are))
+
+  pub gets_made : (key : List ℕ) (old new : BTreeMap (List ℕ) Ids) (now : Ids)
+      → None ≡ lookup (is_at (octets_cmp key)) old.entries → Puts old.entries new.entries key now
+      → AreIds ([] ++ id ∷ []) now → GetsMore (bytes_eq key) id old new
+  gets_made key old new now nothing puts is =
+      gets_at key old new now puts (λ ids are. among_first ids now is (rw (← nothing) at are))
 
 -- ---- an ID more in a set
 
@@ -203,6 +217,106 @@ has_none so kept none = λ id. rw (none id) (by (set.contains octets_cmp kept id
     by : (b : Bool) → b ≡ (b || false)
     by true = refl
     by false = refl
+
+pub has_if : (id : List ℕ) (so : Bool) → so ≡ true → (old new : BTreeSet (List ℕ))
+    → ((key : List ℕ) → set.contains octets_cmp new key
+    ≡ cond (is_at (octets_cmp id) key) true (set.contains octets_cmp old key))
+    → HasMore (λ other. bytes_eq other id && so) old new
+has_if id so is old new puts = λ other.
+    set_more id old new puts other
+    ∙ rw is (ap (λ b. set.contains octets_cmp old other || b) (by (bytes_eq other id)))
+  where
+    by : (b : Bool) → b ≡ (b && true)
+    by true = refl
+    by false = refl
+
+-- ---- those that are kept, one after the other
+
+pub bytes_turned : (a b : List ℕ) → bytes_eq a b ≡ bytes_eq b a
+bytes_turned a b =
+    both_so _ _ (λ is. (bytes_eq-Decides b a).1 (sym ((bytes_eq-Decides a b).0 is)))
+    (λ is. (bytes_eq-Decides a b).1 (sym ((bytes_eq-Decides b a).0 is)))
+
+module _ (p : List ℕ → Bool) (kept : Ids) (those : List (List ℕ)) where
+  -- One of them passes:
+  pub found_first : (first : List ℕ) → kept.first ≡ Some first → true ≡ p first → AreAmong those (Some kept)
+      → true ≡ list_any p those
+  found_first first is passes are = sym (sym (any_kept p those kept are) ∙ rw (is, ← passes) refl)
+
+  pub found_later : (first : List ℕ) → kept.first ≡ Some first → (xs : List (List ℕ)) (i : ℕ) (x : List ℕ)
+      → xs ≡ kept.more.items → i < length xs → x ≡ get_or xs i x → true ≡ p x → AreAmong those (Some kept)
+      → true ≡ list_any p those
+  found_later first is xs i x same within at passes are =
+      sym (sym (any_kept p those kept are)
+      ∙ rw (is, ← same)
+      (any_has p (first ∷ xs) x
+      (has_later first xs x (i, within, sym at)) (sym passes)))
+
+  -- There are none without a first;
+  pub none_at_all : None ≡ kept.first → AreAmong those (Some kept) → list_any p those ≡ false
+  none_at_all none are = sym (any_kept p those kept are) ∙ rw (← none) refl
+
+  -- all of them,
+  pub any_all : (xs : List (List ℕ)) (i : ℕ) → xs ≡ kept.more.items → length xs ≤ i → AreAmong those (Some kept)
+      → list_any p (ids_kept kept.first (take i xs)) ≡ list_any p those
+  any_all xs i is long are = rw (take_all i xs long, is) (any_kept p those kept are)
+
+module _ (p : List ℕ → Bool) (kept : Option (List ℕ)) (first : List ℕ) (is : kept ≡ Some first)
+    (xs : List (List ℕ)) where
+  -- the first,
+  pub any_first : list_any p (ids_kept kept (take 0 xs)) ≡ p first
+  any_first = rw is (sym (or_none (p first)))
+
+  -- and one more.
+  pub any_next : (i : ℕ) (x : List ℕ) → i < length xs → x ≡ get_or xs i x
+      → list_any p (ids_kept kept (take (i + 1) xs)) ≡ (list_any p (ids_kept kept (take i xs)) || p x)
+  any_next i x within at =
+      rw is (ap (λ b. p first || b) (list_any_more p xs i x within
+      ∙ ap (λ y. list_any p (take i xs) || p y) (sym at))
+      ∙ by (p first) (list_any p (take i xs)) (p x))
+    where
+      by : (a b c : Bool) → (a || (b || c)) ≡ ((a || b) || c)
+      by true b c = refl
+      by false b c = refl
+
+module _ (kept : Option (List ℕ)) (first : List ℕ) (is : kept ≡ Some first) (xs : List (List ℕ)) where
+  module _ (id : List ℕ) (old : BTreeMap (List ℕ) Ids) where
+    pub gets_first : (new : BTreeMap (List ℕ) Ids) → GetsMore (bytes_eq first) id old new
+        → GetsMore (λ key. list_any (bytes_eq key) (ids_kept kept (take 0 xs))) id old new
+    gets_first new gets =
+        gets_same id (bytes_eq first) _ old new
+        (λ key. bytes_turned first key ∙ sym (any_first (bytes_eq key) kept first is xs)) gets
+
+    pub gets_next : (i : ℕ) (x : List ℕ) → i < length xs → x ≡ get_or xs i x → (mid new : BTreeMap (List ℕ) Ids)
+        → GetsMore (λ key. list_any (bytes_eq key) (ids_kept kept (take i xs))) id old mid
+        → GetsMore (bytes_eq x) id mid new
+        → GetsMore (λ key. list_any (bytes_eq key) (ids_kept kept (take (i + 1) xs))) id old new
+    gets_next i x within at mid new one two =
+        gets_same id (λ key. list_any (bytes_eq key) (ids_kept kept (take i xs)) || bytes_eq x key) _ old new
+        (λ key. ap (λ b. list_any (bytes_eq key) (ids_kept kept (take i xs)) || b) (bytes_turned x key)
+        ∙ sym (any_next (bytes_eq key) kept first is xs i x within at))
+        (gets_both id _ (bytes_eq x) old mid new one two)
+
+  module _ (old : BTreeSet (List ℕ)) where
+    pub has_at_first : (new : BTreeSet (List ℕ)) → HasMore (λ id. is_id id (Some first)) old new
+        → HasMore (λ id. list_any (bytes_eq id) (ids_kept kept (take 0 xs))) old new
+    has_at_first new more = λ id.
+        more id
+        ∙ ap (λ b. set.contains octets_cmp old id || b) (sym (any_first (bytes_eq id) kept first is xs))
+
+    pub has_next : (i : ℕ) (x : List ℕ) → i < length xs → x ≡ get_or xs i x → (mid new : BTreeSet (List ℕ))
+        → HasMore (λ id. list_any (bytes_eq id) (ids_kept kept (take i xs))) old mid
+        → HasMore (λ id. is_id id (Some x)) mid new
+        → HasMore (λ id. list_any (bytes_eq id) (ids_kept kept (take (i + 1) xs))) old new
+    has_next i x within at mid new one two = λ id.
+        two id
+        ∙ ap (λ b. b || bytes_eq id x) (one id)
+        ∙ by (set.contains octets_cmp old id) (list_any (bytes_eq id) (ids_kept kept (take i xs))) (bytes_eq id x)
+        ∙ ap (λ b. set.contains octets_cmp old id || b) (sym (any_next (bytes_eq id) kept first is xs i x within at))
+      where
+        by : (a b c : Bool) → ((a || b) || c) ≡ (a || (b || c))
+        by true b c = refl
+        by false b c = refl
 
 -- ---- which IDs are joined
 

@@ -27,3 +27,5 @@ pub mod MapLaws
 pub mod JoinedLaws
 pub mod NotingLaws
 pub mod JoiningLaws
+pub mod ShownLaws
+pub mod StepLaws

@@ -171,6 +171,16 @@ fn insert_some(set: &mut BTreeSet<TransactionId>, id: Option<TransactionId>) -> 
     Ok(())
 }
 
+/// An ID more, where that is so.
+fn insert_if(set: &mut BTreeSet<TransactionId>, so: bool, id: TransactionIdView) -> Result<(), AllocError>
+    ensures { OnOk result (HasMore (λ other. bytes_eq other id.entry.octets.now && so) set.old set.new) }
+{
+    if so {
+        set.insert(id.to_transaction_id())?;
+    }
+    Ok(())
+}
+
 /// The first use of an ID: those from which the peer went on to it are joined with it.
 fn join_first(
     alloc: Global,
@@ -198,10 +208,8 @@ fn join_first(
         return Ok(());
     };
     add_at_all(alloc, &mut peer.joined, &kept.from, otid)?;
-    if own.ended_one(&kept.from) {
-        own.over.insert(id)?;
-    }
-    Ok(())
+    let ended = own.ended_one(&kept.from);
+    insert_if(&mut own.over, ended, otid)
 }
 
 /// What a Continue from an own ID to one of the peer joins, by what was sent before.
@@ -251,16 +259,12 @@ fn join_continue(
         × (own.new ≡ record own.old { over = own.new.over; joined = own.new.joined })
         × (peer.new ≡ record peer.old { over = peer.new.over })) }
 {
-    if joins.over {
-        own.over.insert(otid.to_transaction_id())?;
+    insert_if(&mut own.over, joins.over, otid)?;
+    insert_if(&mut peer.over, joins.peer_over, dtid)?;
+    if !joins.used {
+        return Ok(());
     }
-    if joins.used {
-        add_at(alloc, &mut own.joined, otid, dtid)?;
-    }
-    if joins.peer_over {
-        peer.over.insert(dtid.to_transaction_id())?;
-    }
-    Ok(())
+    add_at(alloc, &mut own.joined, otid, dtid)
 }
 
 /// An end of the transaction with an ID of the peer: those of the end that are joined with it may be over.

@@ -1,28 +1,20 @@
-use Rattle.std.proofs.Common.{rules, ◌≡◌, ℕ, Bool, List, [], ◌∷◌, ◌++◌, ◌&&◌, ◌||◌, Option, Some, not, option_copied, OnOk, ◌+◌, ◌-◌, ◌*◌, ◌<◌, ◌≤◌, length, ◌/◌, ◌%◌, true, false, nat_eq, nat_lt, slice_index_or, slice_set, bit_and, bit_or, Fits, w8, w32, w64, Bor, MutBor}
-use Rattle.std.specs.List.{list_any}
-use Rattle.std.specs.Str.{bytes_eq}
-use Rattle.tcap_record.specs.declared.entry.End.{End as Side}
-use Rattle.tcap_record.specs.Ends.{other}
-use Rattle.tcap_end.specs.End.{is_id}
-use Rattle.tcap_end.specs.Table.{Table}
-use Rattle.tcap_model.specs.Since.{ended_by}
-use Rattle.tcap_model.specs.World.{Item, Sent}
-use Rattle.tcap_refute.specs.Before.{asked, sent_by}
-use Rattle.tcap_refute.specs.HalfKinds.{all_go_on_to, shows_closed}
-use Rattle.tcap_faults.specs.Joining.{GetsMore, HasMore, IsJoined}
-use Rattle.tcap_faults.specs.Ids.{AreAmong}
-use Rattle.std.specs.BTreeMap.{BTreeMap}
-use Rattle.std.specs.BTreeSet.{BTreeSet}
-use Rattle.tcap_faults.specs.declared.ids.Ids.{Ids}
-use Rattle.tcap_faults.specs.Kept.{AreFacts, IsSide, dtids_of, otids_of, sent_from, sent_to}
-use Rattle.tcap_faults.specs.Tangled.{guesses, has_used, owns_of}
-use Rattle.tcap_faults.specs.UsedAgain.{has_ended}
+use Rattle.std.proofs.Common.{[]}
+use Rattle.std.proofs.lemmas.Result.{on_ok_weaker}
+use Rattle.tcap_faults.proofs.JoinedLaws.{gets_made, gets_written}
+use Rattle.tcap_faults.proofs.StepLaws.{on_ok_each}
 use Rattle.tcap_faults.proofs.noting.add_at.Goals as goal
 
--- src/noting.rt:45:9
 pub returns-in-Some : goal.returns-in-Some
-returns-in-Some c = ?
+returns-in-Some c =
+    on_ok_weaker c.add.result
+    (gets_written c.args.id.octets.now c.args.key.octets.now c.args.map.now (c.get_mut.follows.lender c.add.new.self)
+    c.in-Some.ids.now c.add.new.self (rw c.to_transaction_id-key.ensures at c.in-Some.ensures.value)
+    (rw c.to_transaction_id-key.ensures at (c.get_mut.follows.holds c.add.new.self)))
+    (on_ok_each c.add.result _ (λ those. on_ok_each c.add.result _ (c.add.ensures those)))
 
--- src/noting.rt:35:1
 pub returns : goal.returns
-returns c = ?
+returns c =
+    gets_made c.args.id.octets.now c.args.key.octets.now c.args.map.now c.insert.new.self c.add-2.new.self
+    (rw c.to_transaction_id-key.ensures at c.in_default.ensures.value)
+    (rw (c.get_mut.follows.holds-at-none, c.to_transaction_id-key.ensures) at c.in_ok-insert.ensures.updates.0)
+    (c.in_ok-add.ensures [] c.new-ids.ensures)

@@ -1,36 +1,26 @@
-use Rattle.std.proofs.Common.{rules, ◌≡◌, ℕ, Bool, List, [], ◌∷◌, ◌++◌, ◌&&◌, ◌||◌, Option, Some, not, option_copied, OnOk, ◌+◌, ◌-◌, ◌*◌, ◌<◌, ◌≤◌, length, ◌/◌, ◌%◌, true, false, nat_eq, nat_lt, slice_index_or, slice_set, bit_and, bit_or, Fits, w8, w32, w64, Bor, MutBor}
-use Rattle.std.specs.List.{list_any}
-use Rattle.std.specs.Str.{bytes_eq}
-use Rattle.tcap_record.specs.declared.entry.End.{End as Side}
-use Rattle.tcap_record.specs.Ends.{other}
-use Rattle.tcap_end.specs.End.{is_id}
-use Rattle.tcap_end.specs.Table.{Table}
-use Rattle.tcap_model.specs.Since.{ended_by}
-use Rattle.tcap_model.specs.World.{Item, Sent}
-use Rattle.tcap_refute.specs.Before.{asked, sent_by}
-use Rattle.tcap_refute.specs.HalfKinds.{all_go_on_to, shows_closed}
-use Rattle.tcap_faults.specs.Joining.{GetsMore, HasMore, IsJoined}
-use Rattle.tcap_faults.specs.Ids.{AreAmong}
-use Rattle.std.specs.BTreeMap.{BTreeMap}
-use Rattle.std.specs.BTreeSet.{BTreeSet}
-use Rattle.tcap_faults.specs.declared.ids.Ids.{Ids}
-use Rattle.tcap_faults.specs.Kept.{AreFacts, IsSide, dtids_of, otids_of, sent_from, sent_to}
-use Rattle.tcap_faults.specs.Tangled.{guesses, has_used, owns_of}
-use Rattle.tcap_faults.specs.UsedAgain.{has_ended}
+use Rattle.std.proofs.Common.{bytes_eq, sym}
+use Rattle.tcap_faults.proofs.JoinedLaws.{any_all, gets_first, gets_next, gets_none, gets_same, none_at_all}
 use Rattle.tcap_faults.proofs.noting.add_at_all.Goals as goal
 
--- src/noting.rt:65:9
 pub loop-key-init : goal.loop-key-init
-loop-key-init c = ?
+loop-key-init c =
+    gets_first c.args.keys.now.first c.in-Some.first c.in-Some.is c.deref-key-items.result.now c.args.id.octets.now
+    c.args.map.now c.add_at.new.map (rw c.view.ensures at c.in_ok-add_at.ensures)
 
--- src/noting.rt:65:9
 pub loop-key-preserved : goal.loop-key-preserved
-loop-key-preserved c = ?
+loop-key-preserved c =
+    gets_next c.args.keys.now.first c.in-Some.first c.in-Some.is c.deref-key-items.result.now c.args.id.octets.now
+    c.args.map.now c.loop-key.key-index c.key-item.result c.loop-key-test.true c.key-item.is c.loop-key.map c.add_at-in-loop-key.new.map
+    c.loop-key.invariant (rw c.view-in-loop-key.ensures at c.in_ok-add_at-2.ensures)
 
--- src/noting.rt:54:1
 pub returns-after-loop-key : goal.returns-after-loop-key
-returns-after-loop-key c = ?
+returns-after-loop-key c = λ those are.
+    gets_same c.args.id.octets.now _ _ c.args.map.now c.loop-key.map
+    (λ key. any_all (bytes_eq key) c.args.keys.now those c.deref-key-items.result.now c.loop-key.key-index
+    c.deref-key-items.ensures.value c.loop-key-test.false are)
+    c.loop-key.invariant
 
--- src/noting.rt:54:1
 pub returns-in_default : goal.returns-in_default
-returns-in_default c = ?
+returns-in_default c = λ those are.
+    gets_none c.args.id.octets.now _ c.args.map.now
+    (λ key. none_at_all (bytes_eq key) c.args.keys.now those (sym c.in_default.is) are)

@@ -1,23 +1,11 @@
-use Rattle.std.proofs.Common.{◌≡◌, ℕ, Bool, List, [], ◌∷◌, ◌++◌, ◌&&◌, ◌||◌, Option, Some, not, option_copied, OnOk, ◌+◌, ◌-◌, ◌*◌, ◌<◌, ◌≤◌, length}
+-- The keys so far got the ID.
+use Rattle.std.proofs.Common.{bytes_eq, take}
 use Rattle.std.specs.List.{list_any}
-use Rattle.std.specs.Str.{bytes_eq}
-use Rattle.tcap_record.specs.declared.entry.End.{End as Side}
-use Rattle.tcap_record.specs.Ends.{other}
-use Rattle.tcap_end.specs.End.{is_id}
-use Rattle.tcap_end.specs.Table.{Table}
-use Rattle.tcap_model.specs.Since.{ended_by}
-use Rattle.tcap_model.specs.World.{Item, Sent}
-use Rattle.tcap_refute.specs.Before.{asked, sent_by}
-use Rattle.tcap_refute.specs.HalfKinds.{all_go_on_to, shows_closed}
-use Rattle.tcap_faults.specs.Joining.{GetsMore, HasMore, IsJoined}
-use Rattle.tcap_faults.specs.Ids.{AreAmong}
-use Rattle.std.specs.BTreeMap.{BTreeMap}
-use Rattle.std.specs.BTreeSet.{BTreeSet}
-use Rattle.tcap_faults.specs.declared.ids.Ids.{Ids}
-use Rattle.tcap_faults.specs.Kept.{AreFacts, IsSide, dtids_of, otids_of, sent_from, sent_to}
-use Rattle.tcap_faults.specs.Tangled.{guesses, has_used, owns_of}
-use Rattle.tcap_faults.specs.UsedAgain.{has_ended}
+use Rattle.tcap_faults.specs.Ids.{ids_kept}
+use Rattle.tcap_faults.specs.Joining.{GetsMore}
 use Rattle.tcap_faults.proofs.noting.add_at_all.Given as goal
 
 abbrev pub invariant-loop-key : goal.invariant-loop-key
-invariant-loop-key l = ?
+invariant-loop-key l =
+    GetsMore (λ key. list_any (bytes_eq key) (ids_kept l.keys.first (take l.key-index l.key-items))) l.id.octets.now
+    l.fn.map l.map

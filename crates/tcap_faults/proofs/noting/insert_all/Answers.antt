@@ -1,36 +1,42 @@
-use Rattle.std.proofs.Common.{rules, ◌≡◌, ℕ, Bool, List, [], ◌∷◌, ◌++◌, ◌&&◌, ◌||◌, Option, Some, not, option_copied, OnOk, ◌+◌, ◌-◌, ◌*◌, ◌<◌, ◌≤◌, length, ◌/◌, ◌%◌, true, false, nat_eq, nat_lt, slice_index_or, slice_set, bit_and, bit_or, Fits, w8, w32, w64, Bor, MutBor}
+use Rattle.std.proofs.Common.{◌≡◌, ℕ, List, ◌||◌, Some, bytes_eq, sym, ap, ◌∙◌, take}
+use Rattle.std.specs.Prelude.{option_copied}
+use Rattle.std.specs.BTreeSet as set
 use Rattle.std.specs.List.{list_any}
-use Rattle.std.specs.Str.{bytes_eq}
-use Rattle.tcap_record.specs.declared.entry.End.{End as Side}
-use Rattle.tcap_record.specs.Ends.{other}
-use Rattle.tcap_end.specs.End.{is_id}
-use Rattle.tcap_end.specs.Table.{Table}
-use Rattle.tcap_model.specs.Since.{ended_by}
-use Rattle.tcap_model.specs.World.{Item, Sent}
-use Rattle.tcap_refute.specs.Before.{asked, sent_by}
-use Rattle.tcap_refute.specs.HalfKinds.{all_go_on_to, shows_closed}
-use Rattle.tcap_faults.specs.Joining.{GetsMore, HasMore, IsJoined}
-use Rattle.tcap_faults.specs.Ids.{AreAmong}
-use Rattle.std.specs.BTreeMap.{BTreeMap}
-use Rattle.std.specs.BTreeSet.{BTreeSet}
-use Rattle.tcap_faults.specs.declared.ids.Ids.{Ids}
-use Rattle.tcap_faults.specs.Kept.{AreFacts, IsSide, dtids_of, otids_of, sent_from, sent_to}
-use Rattle.tcap_faults.specs.Tangled.{guesses, has_used, owns_of}
-use Rattle.tcap_faults.specs.UsedAgain.{has_ended}
+use Rattle.tcap_end.specs.Table.{octets_cmp}
+use Rattle.tcap_model.specs.Run.{then_so}
+use Rattle.tcap_faults.specs.Ids.{AreAmong, ids_kept}
+use Rattle.tcap_faults.specs.Joining.{HasMore}
+use Rattle.tcap_faults.proofs.JoinedLaws.{any_all, has_at_first, has_next, has_none, none_at_all}
+use Rattle.tcap_faults.proofs.KeyLaws.{set_more}
 use Rattle.tcap_faults.proofs.noting.insert_all.Goals as goal
 
--- src/noting.rt:82:9
 pub loop-id-init : goal.loop-id-init
-loop-id-init c = ?
+loop-id-init c =
+    has_at_first (then_so (option_copied c.args.ids) (λ kept. kept.first)) c.in-Some-first.first
+    (rw c.in-Some.is c.in-Some-first.is) c.deref-id-items.result.now c.args.set.now c.insert.new.self
+    (set_more c.in-Some-first.first c.args.set.now c.insert.new.self
+    (rw (c.to_transaction_id.ensures, c.view.ensures) at c.in_ok-insert.ensures.updates.0))
 
--- src/noting.rt:82:9
 pub loop-id-preserved : goal.loop-id-preserved
-loop-id-preserved c = ?
+loop-id-preserved c =
+    has_next (then_so (option_copied c.args.ids) (λ kept. kept.first)) c.in-Some-first.first
+    (rw c.in-Some.is c.in-Some-first.is) c.deref-id-items.result.now c.args.set.now c.loop-id.id-index c.id-item.result
+    c.loop-id-test.true c.id-item.is c.loop-id.set _ c.loop-id.invariant
+    (set_more c.id-item.result c.loop-id.set _
+    (rw (c.to_transaction_id-in-loop-id.ensures, c.view-in-loop-id.ensures) at c.in_ok-insert-2.ensures.updates.0))
 
--- src/noting.rt:73:1
 pub returns-after-loop-id : goal.returns-after-loop-id
-returns-after-loop-id c = ?
+returns-after-loop-id c = λ those are.
+    let among : AreAmong those (Some c.in-Some.ids.now) = rw c.in-Some.is at are in
+    let so_far : HasMore (λ id. list_any (bytes_eq id) (ids_kept c.in-Some.ids.now.first (take c.loop-id.id-index c.deref-id-items.result.now))) c.args.set.now c.loop-id.set =
+    rw c.in-Some.is at c.loop-id.invariant in
+    λ id. so_far id
+    ∙ ap (λ b. set.contains octets_cmp c.args.set.now id || b)
+    (any_all (bytes_eq id) c.in-Some.ids.now those c.deref-id-items.result.now c.loop-id.id-index
+    c.deref-id-items.ensures.value c.loop-id-test.false among)
 
--- src/noting.rt:73:1
 pub returns-in_default-first : goal.returns-in_default-first
-returns-in_default-first c = ?
+returns-in_default-first c = λ those are.
+    let among : AreAmong those (Some c.in-Some.ids.now) = rw c.in-Some.is at are in
+    has_none _ c.args.set.now
+    (λ id. none_at_all (bytes_eq id) c.in-Some.ids.now those (sym c.in_default-first.is) among)

@@ -1,44 +1,38 @@
-use Rattle.std.proofs.Common.{rules, ◌≡◌, ℕ, Bool, List, [], ◌∷◌, ◌++◌, ◌&&◌, ◌||◌, Option, Some, not, option_copied, OnOk, ◌+◌, ◌-◌, ◌*◌, ◌<◌, ◌≤◌, length, ◌/◌, ◌%◌, true, false, nat_eq, nat_lt, slice_index_or, slice_set, bit_and, bit_or, Fits, w8, w32, w64, Bor, MutBor}
-use Rattle.std.specs.List.{list_any}
-use Rattle.std.specs.Str.{bytes_eq}
-use Rattle.tcap_record.specs.declared.entry.End.{End as Side}
-use Rattle.tcap_record.specs.Ends.{other}
-use Rattle.tcap_end.specs.End.{is_id}
-use Rattle.tcap_end.specs.Table.{Table}
-use Rattle.tcap_model.specs.Since.{ended_by}
-use Rattle.tcap_model.specs.World.{Item, Sent}
-use Rattle.tcap_refute.specs.Before.{asked, sent_by}
-use Rattle.tcap_refute.specs.HalfKinds.{all_go_on_to, shows_closed}
-use Rattle.tcap_faults.specs.Joining.{GetsMore, HasMore, IsJoined}
-use Rattle.tcap_faults.specs.Ids.{AreAmong}
-use Rattle.std.specs.BTreeMap.{BTreeMap}
-use Rattle.std.specs.BTreeSet.{BTreeSet}
-use Rattle.tcap_faults.specs.declared.ids.Ids.{Ids}
-use Rattle.tcap_faults.specs.Kept.{AreFacts, IsSide, dtids_of, otids_of, sent_from, sent_to}
-use Rattle.tcap_faults.specs.Tangled.{guesses, has_used, owns_of}
+use Rattle.std.proofs.Common.{sym, ◌∙◌}
+use Rattle.std.proofs.lemmas.Bool.{or_from}
 use Rattle.tcap_faults.specs.UsedAgain.{has_ended}
+use Rattle.tcap_faults.proofs.JoinedLaws.{any_all, any_first, any_next, found_first, found_later, none_at_all}
 use Rattle.tcap_faults.proofs.facts.SideFacts.ended_one.Goals as goal
 
--- src/noting.rt:96:13
 pub returns-in_default : goal.returns-in_default
-returns-in_default c = ?
+returns-in_default c = λ table side items those was are.
+    sym (none_at_all (has_ended side items) c.args.ids.now those (sym c.in_default.is) are)
 
--- src/noting.rt:99:13
 pub returns-then-has_ended : goal.returns-then-has_ended
-returns-then-has_ended c = ?
+returns-then-has_ended c = λ table side items those was are.
+    found_first (has_ended side items) c.args.ids.now those c.in-Some.first c.in-Some.is
+    (sym c.if-has_ended.true ∙ c.has_ended.ensures table side items was) are
 
--- src/noting.rt:101:9
 pub loop-id-init : goal.loop-id-init
-loop-id-init c = ?
+loop-id-init c = λ table side items was.
+    any_first (has_ended side items) c.args.ids.now.first c.in-Some.first c.in-Some.is c.deref-id-items.result.now
+    ∙ sym (c.has_ended.ensures table side items was) ∙ c.if-has_ended.false
 
--- src/noting.rt:103:17
 pub returns-then-has_ended-2 : goal.returns-then-has_ended-2
-returns-then-has_ended-2 c = ?
+returns-then-has_ended-2 c = λ table side items those was are.
+    found_later (has_ended side items) c.args.ids.now those c.in-Some.first c.in-Some.is c.deref-id-items.result.now
+    c.loop-id.id-index c.id-item.result c.deref-id-items.ensures.value c.loop-id-test.true c.id-item.is
+    (sym c.if-has_ended-2.true ∙ c.has_ended-in-loop-id.ensures table side items was) are
 
--- src/noting.rt:101:9
 pub loop-id-preserved : goal.loop-id-preserved
-loop-id-preserved c = ?
+loop-id-preserved c = λ table side items was.
+    any_next (has_ended side items) c.args.ids.now.first c.in-Some.first c.in-Some.is c.deref-id-items.result.now
+    c.loop-id.id-index c.id-item.result c.loop-id-test.true c.id-item.is
+    ∙ or_from _ _ (c.loop-id.invariant table side items was)
+    (sym (c.has_ended-in-loop-id.ensures table side items was) ∙ c.if-has_ended-2.false)
 
--- src/noting.rt:91:5
 pub returns : goal.returns
-returns c = ?
+returns c = λ table side items those was are.
+    sym (c.loop-id.invariant table side items was)
+    ∙ any_all (has_ended side items) c.args.ids.now those c.deref-id-items.result.now c.loop-id.id-index
+    c.deref-id-items.ensures.value c.loop-id-test.false are
