@@ -10,6 +10,7 @@ use Rattle.std.specs.declared.result.Result.{Result}
 use Rattle.std.specs.declared.result.Result.TheVariants.{Ok, Err}
 use Rattle.std.proofs.lemmas.Bool.{and_right}
 use Rattle.std.proofs.lemmas.List.Folds.{list_any-append}
+use Rattle.tcap_msg.specs.declared.message.Message.{Message}
 use Rattle.tcap_msg.specs.Parts.{dtid_in, otid_in}
 use Rattle.tcap_record.specs.declared.entry.End.{End as Side}
 use Rattle.tcap_record.specs.Ends.{other}
@@ -22,7 +23,7 @@ use Rattle.tcap_faults.specs.declared.facts.SideFacts.{SideFacts}
 use Rattle.tcap_faults.specs.declared.sent_to.SentTo.{SentTo}
 use Rattle.tcap_faults.specs.Ids.{AreAmong}
 use Rattle.tcap_faults.specs.Joining.{GetsMore, HasMore}
-use Rattle.tcap_faults.specs.Kept.{IsSide, dtids_of, otids_of, sent_from, sent_to}
+use Rattle.tcap_faults.specs.Kept.{IsSide, IsToAt, dtids_of, otids_of, sent_from, sent_to}
 use Rattle.tcap_faults.specs.Tangled.{goes_on_from, has_used, owns_of}
 use Rattle.tcap_faults.specs.UsedAgain.{has_ended}
 use Rattle.tcap_faults.proofs.JoinedLaws.{bytes_turned, gets_none, gets_same, has_none, same_itself}
@@ -122,6 +123,15 @@ module _ (side : Side) (items : List Item) (id : List ℕ) where
       by true b c = refl
       by false b c = refl
 
-  pub end_none : sent_to side items id ≡ [] → (old : BTreeSet (List ℕ))
-      → HasMore (λ own. list_any (bytes_eq own) (otids_of (sent_to side items id))) old old
-  end_none none old = has_none _ old (λ own. rw none refl)
+-- ---- IDs from which Continues were sent to one
+
+module _ (table : Table) (ms : List Message) where
+  pub from_none : IsToAt table ms None → (old : BTreeSet (List ℕ))
+      → HasMore (λ own. list_any (bytes_eq own) (otids_of ms)) old old
+  from_none none old = has_none _ old none_there
+    where
+      none_there : (own : List ℕ) → list_any (bytes_eq own) (otids_of ms) ≡ false
+      none_there own = rw none refl
+
+  pub from_some : (kept : SentTo) → IsToAt table ms (Some kept) → AreAmong (otids_of ms) (Some kept.from)
+  from_some kept (there, is) = (otids_of ms, is.from, same_itself (otids_of ms))

@@ -5,6 +5,7 @@ ghost use Rattle.std.specs.List.{list_any};
 ghost use Rattle.std.specs.Str.{bytes_eq};
 ghost use Rattle.tcap_record.specs.declared.entry.End.{End as Side};
 ghost use Rattle.tcap_record.specs.Ends.{other};
+ghost use Rattle.tcap_msg.specs.declared.message.Message.{Message};
 ghost use Rattle.tcap_end.specs.End.{is_id};
 ghost use Rattle.tcap_end.specs.Table.{Table};
 ghost use Rattle.tcap_model.specs.Since.{ended_by};
@@ -17,13 +18,14 @@ ghost use Rattle.std.specs.BTreeMap.{BTreeMap};
 ghost use Rattle.std.specs.BTreeSet.{BTreeSet};
 ghost use Rattle.tcap_faults.specs.declared.ids.Ids.{Ids};
 ghost use Rattle.tcap_faults.specs.Kept.{AreFacts, IsSide, dtids_of, otids_of, sent_from, sent_to};
+ghost use Rattle.tcap_faults.specs.Noting.{AreTo};
 ghost use Rattle.tcap_faults.specs.Tangled.{guesses, has_used, owns_of};
 ghost use Rattle.tcap_faults.specs.UsedAgain.{has_ended};
 
 use crate::facts::{Facts, SideFacts};
 use crate::ids::Ids;
 use crate::sent_from::note_from;
-use crate::sent_to::{ends, note_to};
+use crate::sent_to::{SentTo, ends, note_to};
 use crate::tangled::Ends;
 use std::alloc::{AllocError, Global};
 use std::collections::{BTreeMap, BTreeSet};
@@ -267,6 +269,21 @@ fn join_continue(
     add_at(alloc, &mut own.joined, otid, dtid)
 }
 
+/// The IDs from which Continues were sent to an ID.
+fn insert_from(
+    set: &mut BTreeSet<TransactionId>,
+    to: &BTreeMap<TransactionId, SentTo>,
+    id: &TransactionId,
+) -> Result<(), AllocError>
+    ensures { (table : Table) (lists : List ℕ → List Message) → AreTo table lists to.now
+        → OnOk result (HasMore (λ own. list_any (bytes_eq own) (otids_of (lists id.now))) set.old set.new) }
+{
+    let Some(kept) = to.get(id) else {
+        return Ok(());
+    };
+    insert_all(set, Some(&kept.from))
+}
+
 /// An end of the transaction with an ID of the peer: those of the end that are joined with it may be over.
 fn end_all(own: &mut SideFacts, peer: &SideFacts, dtid: TransactionIdView) -> Result<(), AllocError>
     ensures { (table : Table) (side : Side) (items : List Item) → IsSide table side items own.old
@@ -280,11 +297,8 @@ fn end_all(own: &mut SideFacts, peer: &SideFacts, dtid: TransactionIdView) -> Re
     if own.has_ended(&id) {
         return Ok(());
     }
-    let SideFacts { to, over, .. } = own;
-    if let Some(kept) = to.get(&id) {
-        insert_all(over, Some(&kept.from))?;
-    }
-    insert_all(over, peer.joined.get(&id))
+    insert_from(&mut own.over, &own.to, &id)?;
+    insert_all(&mut own.over, peer.joined.get(&id))
 }
 
 /// What a message more does to what is kept of joined IDs.

@@ -1,40 +1,37 @@
-use Rattle.std.proofs.Common.{rules, ◌≡◌, ℕ, Bool, List, [], ◌∷◌, ◌++◌, ◌&&◌, ◌||◌, Option, Some, not, option_copied, OnOk, ◌+◌, ◌-◌, ◌*◌, ◌<◌, ◌≤◌, length, ◌/◌, ◌%◌, true, false, nat_eq, nat_lt, slice_index_or, slice_set, bit_and, bit_or, Fits, w8, w32, w64, Bor, MutBor}
-use Rattle.std.specs.List.{list_any}
-use Rattle.std.specs.Str.{bytes_eq}
-use Rattle.tcap_record.specs.declared.entry.End.{End as Side}
+use Rattle.std.proofs.Common.{sym, ap, ◌∙◌}
 use Rattle.tcap_record.specs.Ends.{other}
-use Rattle.tcap_end.specs.End.{is_id}
-use Rattle.tcap_end.specs.Table.{Table}
-use Rattle.tcap_model.specs.Since.{ended_by}
-use Rattle.tcap_model.specs.World.{Item, Sent}
-use Rattle.tcap_refute.specs.Before.{asked, sent_by}
-use Rattle.tcap_refute.specs.HalfKinds.{all_go_on_to, shows_closed}
-use Rattle.tcap_faults.specs.Joining.{GetsMore, HasMore, IsJoined}
-use Rattle.tcap_faults.specs.Ids.{AreAmong}
-use Rattle.std.specs.BTreeMap.{BTreeMap}
-use Rattle.std.specs.BTreeSet.{BTreeSet}
-use Rattle.tcap_faults.specs.declared.ids.Ids.{Ids}
-use Rattle.tcap_faults.specs.Kept.{AreFacts, IsSide, dtids_of, otids_of, sent_from, sent_to}
-use Rattle.tcap_faults.specs.Tangled.{guesses, has_used, owns_of}
-use Rattle.tcap_faults.specs.UsedAgain.{has_ended}
+use Rattle.tcap_refute.specs.Before.{asked}
+use Rattle.tcap_faults.specs.Tangled.{has_used}
+use Rattle.tcap_faults.proofs.ShownLaws.{closed_first_none, closed_none, closed_several, closed_unused, closed_used}
 use Rattle.tcap_faults.proofs.noting.closed_at.Goals as goal
 
--- src/noting.rt:118:9
 pub returns-in_default : goal.returns-in_default
-returns-in_default c = ?
+returns-in_default c = λ table side items id was their.
+    closed_none id (asked side c.args.dtid.now items) (has_used side items)
+    (c.in_default.ensures table (other side) items their)
 
--- src/noting.rt:121:9
 pub returns-then-differ : goal.returns-then-differ
-returns-then-differ c = ?
+returns-then-differ c = λ table side items id was their.
+    closed_several id (asked side c.args.dtid.now items) (has_used side items) c.in-Some.ids.now
+    (c.in-Some.ensures table (other side) items their) c.if-differ.ensures
 
--- src/noting.rt:123:17
 pub returns-in_err-first : goal.returns-in_err-first
-returns-in_err-first c = ?
+returns-in_err-first c = λ table side items id was their.
+    rw c.from_residual.ensures
+    (closed_first_none id (asked side c.args.dtid.now items) (has_used side items) c.in-Some.ids.now
+    (c.in-Some.ensures table (other side) items their) c.in_err-first.ensures)
 
--- src/noting.rt:112:1
 pub returns-then-has_used : goal.returns-then-has_used
-returns-then-has_used c = ?
+returns-then-has_used c = λ table side items id was their.
+    rw c.to_transaction_id-first.ensures
+    (closed_used id (asked side c.args.dtid.now items) (has_used side items) c.in-Some.ids.now
+    (c.in-Some.ensures table (other side) items their) c.in_ok-first.field-0.octets.now c.if-differ.ensures
+    c.in_ok-first.ensures
+    (rw c.to_transaction_id-first.ensures at (sym c.if-has_used.true ∙ c.has_used.ensures table side items was)))
 
--- src/noting.rt:112:1
 pub returns-else-has_used : goal.returns-else-has_used
-returns-else-has_used c = ?
+returns-else-has_used c = λ table side items id was their.
+    closed_unused id (asked side c.args.dtid.now items) (has_used side items) c.in-Some.ids.now
+    (c.in-Some.ensures table (other side) items their) c.in_ok-first.field-0.octets.now c.if-differ.ensures
+    c.in_ok-first.ensures
+    (rw c.to_transaction_id-first.ensures at (sym c.if-has_used.false ∙ c.has_used.ensures table side items was))

@@ -1,24 +1,22 @@
-use Rattle.std.proofs.Common.{rules, ◌≡◌, ℕ, Bool, List, [], ◌∷◌, ◌++◌, ◌&&◌, ◌||◌, Option, Some, not, option_copied, OnOk, ◌+◌, ◌-◌, ◌*◌, ◌<◌, ◌≤◌, length, ◌/◌, ◌%◌, true, false, nat_eq, nat_lt, slice_index_or, slice_set, bit_and, bit_or, Fits, w8, w32, w64, Bor, MutBor}
-use Rattle.std.specs.List.{list_any}
-use Rattle.std.specs.Str.{bytes_eq}
-use Rattle.tcap_record.specs.declared.entry.End.{End as Side}
+use Rattle.std.proofs.Common.{refl, sym, ◌∙◌}
+use Rattle.std.specs.Prelude.{filter}
+use Rattle.std.proofs.lemmas.Result.{on_ok_weaker}
 use Rattle.tcap_record.specs.Ends.{other}
-use Rattle.tcap_end.specs.End.{is_id}
-use Rattle.tcap_end.specs.Table.{Table}
-use Rattle.tcap_model.specs.Since.{ended_by}
-use Rattle.tcap_model.specs.World.{Item, Sent}
-use Rattle.tcap_refute.specs.Before.{asked, sent_by}
-use Rattle.tcap_refute.specs.HalfKinds.{all_go_on_to, shows_closed}
-use Rattle.tcap_faults.specs.Joining.{GetsMore, HasMore, IsJoined}
-use Rattle.tcap_faults.specs.Ids.{AreAmong}
-use Rattle.std.specs.BTreeMap.{BTreeMap}
-use Rattle.std.specs.BTreeSet.{BTreeSet}
-use Rattle.tcap_faults.specs.declared.ids.Ids.{Ids}
-use Rattle.tcap_faults.specs.Kept.{AreFacts, IsSide, dtids_of, otids_of, sent_from, sent_to}
-use Rattle.tcap_faults.specs.Tangled.{guesses, has_used, owns_of}
-use Rattle.tcap_faults.specs.UsedAgain.{has_ended}
+use Rattle.tcap_faults.specs.Kept.{dtids_of, sent_from, sent_to}
+use Rattle.tcap_faults.specs.Tangled.{has_used}
+use Rattle.tcap_faults.proofs.StepLaws.{end_more}
 use Rattle.tcap_faults.proofs.noting.end_all.Goals as goal
 
--- src/noting.rt:267:1
 pub returns : goal.returns
-returns c = ?
+returns c = λ table side items was their.
+    let id = c.args.dtid.octets.now in
+    let ended_not = sym (c.has_ended.ensures table side items was) ∙ c.if-has_ended.false in
+    let ids = filter (has_used (other (other side)) items) (dtids_of (sent_from (other side) items id)) in
+    on_ok_weaker c.insert_all.result
+    (λ more. (
+      end_more side items id (rw c.to_transaction_id-id.ensures at ended_not) c.args.own.now.over c.insert_from.new.set
+      c.insert_all.new.set
+      (rw c.to_transaction_id-id.ensures at (c.in_ok-insert_from.ensures table (sent_to side items) was.to)) more,
+      refl,
+    ))
+    (c.insert_all.ensures ids (rw (c.get.ensures.value, c.to_transaction_id-id.ensures) (their.joined id)))

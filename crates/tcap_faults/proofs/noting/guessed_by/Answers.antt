@@ -1,28 +1,35 @@
-use Rattle.std.proofs.Common.{rules, ◌≡◌, ℕ, Bool, List, [], ◌∷◌, ◌++◌, ◌&&◌, ◌||◌, Option, Some, not, option_copied, OnOk, ◌+◌, ◌-◌, ◌*◌, ◌<◌, ◌≤◌, length, ◌/◌, ◌%◌, true, false, nat_eq, nat_lt, slice_index_or, slice_set, bit_and, bit_or, Fits, w8, w32, w64, Bor, MutBor}
-use Rattle.std.specs.List.{list_any}
-use Rattle.std.specs.Str.{bytes_eq}
-use Rattle.tcap_record.specs.declared.entry.End.{End as Side}
+use Rattle.std.proofs.Common.{◌≡◌, ◌&&◌, false, not, sym, ap, ◌∙◌}
+use Rattle.std.proofs.lemmas.Bool.{and_left, and_right}
 use Rattle.tcap_record.specs.Ends.{other}
-use Rattle.tcap_end.specs.End.{is_id}
-use Rattle.tcap_end.specs.Table.{Table}
-use Rattle.tcap_model.specs.Since.{ended_by}
-use Rattle.tcap_model.specs.World.{Item, Sent}
-use Rattle.tcap_refute.specs.Before.{asked, sent_by}
-use Rattle.tcap_refute.specs.HalfKinds.{all_go_on_to, shows_closed}
-use Rattle.tcap_faults.specs.Joining.{GetsMore, HasMore, IsJoined}
-use Rattle.tcap_faults.specs.Ids.{AreAmong}
-use Rattle.std.specs.BTreeMap.{BTreeMap}
-use Rattle.std.specs.BTreeSet.{BTreeSet}
-use Rattle.tcap_faults.specs.declared.ids.Ids.{Ids}
-use Rattle.tcap_faults.specs.Kept.{AreFacts, IsSide, dtids_of, otids_of, sent_from, sent_to}
-use Rattle.tcap_faults.specs.Tangled.{guesses, has_used, owns_of}
-use Rattle.tcap_faults.specs.UsedAgain.{has_ended}
+use Rattle.tcap_refute.specs.Speaker.{began}
+use Rattle.tcap_faults.specs.Tangled.{has_used}
+use Rattle.tcap_faults.proofs.ShownLaws.{guessed_not, guessed_so}
+use Rattle.tcap_faults.proofs.noting.guessed_by.Goals.{else-began-via-then-began+else-not-has_used, else-began-via-else-began}
 use Rattle.tcap_faults.proofs.noting.guessed_by.Goals as goal
 
--- src/noting.rt:147:1
 pub returns-then-not-has_used : goal.returns-then-not-has_used
-returns-then-not-has_used g c = ?
+returns-then-not-has_used g c = λ table side items id was their.
+    let begun = sym (c.began.ensures table side items was) ∙ c.if-began.true in
+    let used_not = sym (c.has_used.ensures table (other side) items their) ∙ c.if-not-has_used.true in
+    rw c.to_transaction_id-own_id.ensures
+    (guessed_so side items (g.M.MessageParts.meaning c.args.message.now) c.in_ok-otid.field-0.octets.now
+    c.in_ok-dtid.field-0.octets.now (sym c.in_ok-otid.ensures) (sym c.in_ok-dtid.ensures) id
+    (rw c.to_transaction_id-own_id.ensures at begun) (rw c.to_transaction_id-id.ensures at used_not))
 
--- src/noting.rt:147:1
 pub returns-else-began : goal.returns-else-began
-returns-else-began g c = ?
+returns-else-began g c = λ table side items id was their.
+    let from = c.in_ok-otid.field-0.octets.now in
+    let to = c.in_ok-dtid.field-0.octets.now in
+    let nothing : (began side from items && not (has_used (other side) items to)) ≡ false =
+    elim c.else-began.branch [
+      else-began-via-then-began+else-not-has_used w ↦
+          let used = sym (w.has_used.ensures table (other side) items their) in
+          and_right (began side from items) (not (has_used (other side) items to))
+          (ap not (rw c.to_transaction_id-id.ensures at used) ∙ w.if-not-has_used.false)
+      | else-began-via-else-began w ↦
+          let begun = sym (c.began.ensures table side items was) ∙ w.if-began.false in
+          and_left (began side from items) (not (has_used (other side) items to))
+          (rw c.to_transaction_id-own_id.ensures at begun)
+    ] in
+    guessed_not side items (g.M.MessageParts.meaning c.args.message.now) from to (sym c.in_ok-otid.ensures)
+    (sym c.in_ok-dtid.ensures) id nothing
