@@ -29,3 +29,4 @@ pub mod NotingLaws
 pub mod JoiningLaws
 pub mod ShownLaws
 pub mod StepLaws
+pub mod SentLaws

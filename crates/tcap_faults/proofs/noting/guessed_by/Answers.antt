@@ -23,9 +23,9 @@ returns-else-began g c = λ table side items id was their.
     let nothing : (began side from items && not (has_used (other side) items to)) ≡ false =
     elim c.else-began.branch [
       else-began-via-then-began+else-not-has_used w ↦
-          let used = sym (w.has_used.ensures table (other side) items their) in
+          let used = sym (w.has_used.ensures table (other side) items their) ∙ w.if-not-has_used.false in
           and_right (began side from items) (not (has_used (other side) items to))
-          (ap not (rw c.to_transaction_id-id.ensures at used) ∙ w.if-not-has_used.false)
+          (ap not (rw c.to_transaction_id-id.ensures at used))
       | else-began-via-else-began w ↦
           let begun = sym (c.began.ensures table side items was) ∙ w.if-began.false in
           and_left (began side from items) (not (has_used (other side) items to))

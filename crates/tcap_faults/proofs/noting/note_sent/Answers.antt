@@ -1,24 +1,26 @@
-use Rattle.std.proofs.Common.{rules, ◌≡◌, ℕ, Bool, List, [], ◌∷◌, ◌++◌, ◌&&◌, ◌||◌, Option, Some, not, option_copied, OnOk, ◌+◌, ◌-◌, ◌*◌, ◌<◌, ◌≤◌, length, ◌/◌, ◌%◌, true, false, nat_eq, nat_lt, slice_index_or, slice_set, bit_and, bit_or, Fits, w8, w32, w64, Bor, MutBor}
-use Rattle.std.specs.List.{list_any}
-use Rattle.std.specs.Str.{bytes_eq}
-use Rattle.tcap_record.specs.declared.entry.End.{End as Side}
-use Rattle.tcap_record.specs.Ends.{other}
-use Rattle.tcap_end.specs.End.{is_id}
-use Rattle.tcap_end.specs.Table.{Table}
-use Rattle.tcap_model.specs.Since.{ended_by}
-use Rattle.tcap_model.specs.World.{Item, Sent}
-use Rattle.tcap_refute.specs.Before.{asked, sent_by}
-use Rattle.tcap_refute.specs.HalfKinds.{all_go_on_to, shows_closed}
-use Rattle.tcap_faults.specs.Joining.{GetsMore, HasMore, IsJoined}
-use Rattle.tcap_faults.specs.Ids.{AreAmong}
-use Rattle.std.specs.BTreeMap.{BTreeMap}
-use Rattle.std.specs.BTreeSet.{BTreeSet}
-use Rattle.tcap_faults.specs.declared.ids.Ids.{Ids}
-use Rattle.tcap_faults.specs.Kept.{AreFacts, IsSide, dtids_of, otids_of, sent_from, sent_to}
-use Rattle.tcap_faults.specs.Tangled.{guesses, has_used, owns_of}
-use Rattle.tcap_faults.specs.UsedAgain.{has_ended}
+use Rattle.std.proofs.lemmas.Result.{on_ok_weaker}
+use Rattle.tcap_faults.specs.Kept.{sent_from, sent_to}
+use Rattle.tcap_faults.proofs.SentLaws.{from_was, own_sent, peer_sent, to_was}
 use Rattle.tcap_faults.proofs.noting.note_sent.Goals as goal
 
--- src/noting.rt:314:1
 pub returns : goal.returns
-returns g c = ?
+returns g c = λ side items was their.
+    let m = g.M.MessageParts.meaning c.args.message.now in
+    let table = c.args.table.now in
+    let joined = c.in_ok-note_joined.ensures table side items was their in
+    let own = c.args.own.now in
+    let peer = c.args.peer.now in
+    let one = c.note_joined.new.own in
+    let there = c.note_joined.new.peer in
+    on_ok_weaker c.note_to.result
+    (λ tos. (
+      own_sent table side items m own peer was their one there joined c.note_from.new.from c.note_to.new.to
+      c.insert_some-2.new.set c.insert_some.new.set c.uses_again-again.result c.closed_by-closed.result
+      c.guessed_by-guessed.result
+      (c.in_ok-note_from.ensures (sent_from side items) (from_was table side items m own peer was their one there joined))
+      tos (c.uses_again-again.ensures side items was their)
+      (λ id. c.closed_by-closed.ensures table side items id was their) c.in_ok-insert_some.ensures
+      (λ id. c.guessed_by-guessed.ensures table side items id was their) c.in_ok-insert_some-2.ensures,
+      peer_sent table side items m own peer was their one there joined,
+    ))
+    (c.note_to.ensures (sent_to side items) (to_was table side items m own peer was their one there joined))
