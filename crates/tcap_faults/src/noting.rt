@@ -1,6 +1,6 @@
 //! What is kept behind a message more.
 
-ghost use Rattle.std.specs.Prelude.{◌≡◌, ℕ, Bool, List, [], ◌∷◌, ◌++◌, ◌&&◌, ◌||◌, Option, Some, not, option_copied, OnOk};
+ghost use Rattle.std.specs.Prelude.{◌≡◌, ℕ, List, [], ◌∷◌, ◌++◌, ◌&&◌, Some, not, option_copied, OnOk};
 ghost use Rattle.std.specs.List.{list_any};
 ghost use Rattle.std.specs.Str.{bytes_eq};
 ghost use Rattle.tcap_record.specs.declared.entry.End.{End as Side};
@@ -8,16 +8,12 @@ ghost use Rattle.tcap_record.specs.Ends.{other};
 ghost use Rattle.tcap_msg.specs.declared.message.Message.{Message};
 ghost use Rattle.tcap_end.specs.End.{is_id};
 ghost use Rattle.tcap_end.specs.Table.{Table};
-ghost use Rattle.tcap_model.specs.Since.{ended_by};
 ghost use Rattle.tcap_model.specs.World.{Item, Sent};
-ghost use Rattle.tcap_refute.specs.Before.{asked, sent_by};
+ghost use Rattle.tcap_refute.specs.Before.{asked};
 ghost use Rattle.tcap_refute.specs.HalfKinds.{all_go_on_to, shows_closed};
 ghost use Rattle.tcap_faults.specs.Joining.{GetsMore, HasMore, IsJoined};
 ghost use Rattle.tcap_faults.specs.Ids.{AreAmong};
-ghost use Rattle.std.specs.BTreeMap.{BTreeMap};
-ghost use Rattle.std.specs.BTreeSet.{BTreeSet};
-ghost use Rattle.tcap_faults.specs.declared.ids.Ids.{Ids};
-ghost use Rattle.tcap_faults.specs.Kept.{AreFacts, IsSide, dtids_of, otids_of, sent_from, sent_to};
+ghost use Rattle.tcap_faults.specs.Kept.{AreFacts, IsSide, otids_of, sent_to};
 ghost use Rattle.tcap_faults.specs.Noting.{AreTo};
 ghost use Rattle.tcap_faults.specs.Tangled.{guesses, has_used, owns_of};
 ghost use Rattle.tcap_faults.specs.UsedAgain.{has_ended};
