@@ -1,4 +1,4 @@
-use Rattle.std.proofs.Common.{◌≡◌, ℕ, List, ◌||◌, Some, bytes_eq, sym, ap, ◌∙◌, take}
+use Rattle.std.proofs.Common.{◌||◌, Some, bytes_eq, sym, ap, ◌∙◌, take}
 use Rattle.std.specs.Prelude.{option_copied}
 use Rattle.std.specs.BTreeSet as set
 use Rattle.std.specs.List.{list_any}

@@ -1,5 +1,4 @@
-use Rattle.std.proofs.Common.{Some}
-use Rattle.tcap_faults.specs.Kept.{IsToAt, otids_of}
+use Rattle.tcap_faults.specs.Kept.{otids_of}
 use Rattle.tcap_faults.proofs.StepLaws.{from_none, from_some}
 use Rattle.tcap_faults.proofs.noting.insert_from.Goals as goal
 
