@@ -30,3 +30,6 @@ pub mod JoiningLaws
 pub mod ShownLaws
 pub mod StepLaws
 pub mod SentLaws
+pub mod IdsLaws
+pub mod FromLaws
+pub mod ToLaws

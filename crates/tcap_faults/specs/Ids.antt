@@ -1,5 +1,5 @@
 -- Transaction IDs that are kept, one behind the other, without one that stands behind itself.
-use Rattle.std.specs.Prelude.{◌≡◌, ℕ, Bool, true, false, List, [], ◌∷◌, Contains, Option, Some, None, not}
+use Rattle.std.specs.Prelude.{◌≡◌, ℕ, List, [], ◌∷◌, Contains, Option, Some, None, not}
 use Rattle.tcap_refute.specs.Speaker.{is_nothing}
 use Rattle.tcap_faults.specs.declared.ids.Ids.{Ids}
 use Rattle.tcap_faults.specs.Tangled.{two_differ}

@@ -1,8 +1,8 @@
 -- What is kept of what an end sent since the last quiet mark, by the transaction IDs from which and to which it sent: of which
 -- messages each part is.
-use Rattle.std.specs.Prelude.{◌≡◌, ⊤, ◌≤◌, ℕ, ◌^◌, Bool, true, false, List, [], ◌∷◌, ◌++◌, length, filter, filter_map, Option, Some, None, is_some, is_none, ◌&&◌, ◌||◌, not, nat_le, cond}
+use Rattle.std.specs.Prelude.{◌≡◌, ⊤, ◌≤◌, ℕ, ◌^◌, Bool, false, List, [], ◌∷◌, length, filter, filter_map, Option, Some, None, is_some, is_none, ◌||◌, not, nat_le, cond}
 use Rattle.std.specs.Map.{lookup}
-use Rattle.std.specs.BTreeMap.{BTreeMap, is_at}
+use Rattle.std.specs.BTreeMap.{is_at}
 use Rattle.std.specs.BTreeSet as set
 use Rattle.std.specs.List.{find, list_any}
 use Rattle.tcap_msg.specs.declared.kind.Kind.TheVariants as forms

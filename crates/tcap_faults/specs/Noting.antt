@@ -1,5 +1,5 @@
 -- What is kept behind a message more.
-use Rattle.std.specs.Prelude.{◌≡◌, ℕ, Bool, true, List, [], ◌∷◌, ◌++◌, Option, ◌==◌, ◌||◌, cond}
+use Rattle.std.specs.Prelude.{◌≡◌, ℕ, true, List, [], ◌∷◌, ◌++◌, Option, ◌==◌, ◌||◌, cond}
 use Rattle.std.specs.Map.{lookup}
 use Rattle.std.specs.BTreeMap.{BTreeMap, is_at}
 use Rattle.tcap_msg.specs.declared.message.Message.{Message}
