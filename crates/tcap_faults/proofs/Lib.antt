@@ -1,4 +1,8 @@
 pub mod TangledLaws
+pub mod TwoTests
+pub mod SameLaws
+pub mod SideLaws
+pub mod JoinLaws
 pub mod BackLaws
 pub mod OwnHalfLaws
 pub mod HalfKindsLaws
