@@ -1,7 +1,7 @@
 -- What is kept of IDs that are joined, with one more; and which IDs are joined.
-use Rattle.std.proofs.Common.{◌≡◌, ◌⊎◌, inl, inr, ℕ, Bool, true, false, cond, not, ◌&&◌, ◌||◌, List, [], ◌∷◌, ◌++◌, Option, Some, None, is_some, bytes_eq, refl, sym, ap, ◌∙◌}
+use Rattle.std.proofs.Common.{◌≡◌, ◌⊎◌, inl, inr, ℕ, Bool, true, false, cond, ◌&&◌, ◌||◌, List, [], ◌∷◌, ◌++◌, Option, Some, None, is_some, bytes_eq, refl, sym, ap, ◌∙◌}
 use Rattle.std.specs.Prelude.{Contains, ◌+◌, ◌<◌, ◌≤◌, filter, filter_map, get_or, length, take}
-use Rattle.std.specs.List.{cons_option, list_any}
+use Rattle.std.specs.List.{list_any}
 use Rattle.std.specs.Map.{lookup}
 use Rattle.std.specs.BTreeMap.{BTreeMap, WritesThrough, is_at}
 use Rattle.std.specs.BTreeSet as set
@@ -19,18 +19,20 @@ use Rattle.tcap_record.specs.Ends.{other}
 use Rattle.tcap_end.specs.End.{is_id}
 use Rattle.tcap_end.specs.Table.{octets_cmp}
 use Rattle.tcap_model.specs.World.{Item}
-use Rattle.tcap_model.proofs.ListLaws.{contains_first}
 use Rattle.tcap_refute.specs.Before.{is_a, sent_by}
 use Rattle.tcap_refute.proofs.TestLaws.{or_none}
 use Rattle.tcap_refute.specs.Speaker.{goes_on_to}
 use Rattle.tcap_refute.proofs.HalfLawsFinds.{any_is, filter_is}
-use Rattle.tcap_refute.proofs.Members.{any_has, filter_has, filter_map_has, has_first, has_later, has_not}
+use Rattle.tcap_refute.proofs.Members.{any_has, filter_has, filter_map_has, has_later, has_not}
 use Rattle.tcap_faults.specs.declared.ids.Ids.{Ids}
 use Rattle.tcap_faults.specs.Ids.{AreAmong, AreIds, AreSame, ids_kept}
 use Rattle.tcap_faults.specs.Joining.{GetsMore, HasMore, id_if}
 use Rattle.tcap_faults.specs.Tangled.{goes_on_from, has_used, owns_of, peers_of}
+use Rattle.tcap_faults.proofs.JoinLaws.{joined_back}
 use Rattle.tcap_faults.proofs.KeyLaws.{at_id, set_more}
 use Rattle.tcap_faults.proofs.MapLaws.{Puts}
+use Rattle.tcap_faults.proofs.SameLaws.{none_same}
+use Rattle.tcap_faults.proofs.TwoTests.{filter_map_is}
 
 -- ---- tests
 
@@ -47,14 +49,6 @@ it_is id None is = cc
 it_is id (Some x) is = ap (λ x. Some x) (sym ((bytes_eq-Decides id x).0 is))
 
 module _ {A : Type 0} (p q : A → Bool) where
-  pub any_alike : ((x : A) → p x ≡ q x) → (xs : List A) → list_any p xs ≡ list_any q xs
-  any_alike same [] = refl
-  any_alike same (x ∷ xs) = rw (same x, any_alike same xs) refl
-
-  pub filter_alike : ((x : A) → p x ≡ q x) → (xs : List A) → filter p xs ≡ filter q xs
-  filter_alike same [] = refl
-  filter_alike same (x ∷ xs) = rw (same x, filter_alike same xs) refl
-
   pub any_either : (xs : List A) → list_any (λ x. p x || q x) xs ≡ (list_any p xs || list_any q xs)
   any_either [] = refl
   any_either (x ∷ xs) = rw (any_either xs) (by (p x) (q x) (list_any p xs) (list_any q xs))
@@ -64,39 +58,6 @@ module _ {A : Type 0} (p q : A → Bool) where
       by false true true d = refl
       by false true false d = refl
       by false false c d = refl
-
-  pub filter_twice : (xs : List A) → filter p (filter q xs) ≡ filter (λ x. p x && q x) xs
-  filter_twice [] = refl
-  filter_twice (x ∷ xs) = by (p x) refl (q x) (filter_twice xs)
-    where
-      by : (a : Bool) → p x ≡ a → (b : Bool) → filter p (filter q xs) ≡ filter (λ x. p x && q x) xs
-          → filter p (cond b (x ∷ filter q xs) (filter q xs))
-          ≡ cond (a && b) (x ∷ filter (λ x. p x && q x) xs) (filter (λ x. p x && q x) xs)
-      by true is true rest = rw (is, rest) refl
-      by true is false rest = rest
-      by false is true rest = rw (is, rest) refl
-      by false is false rest = rest
-
--- What is made of the items of a list is made of one of them.
-pub filter_map_is : {A B : Type 0} (f : A → Option B) (xs : List A) (y : B) → Contains (filter_map f xs) y
-    → (x : A) × Contains xs x × (f x ≡ Some y)
-filter_map_is f [] y has = has_not y has
-filter_map_is {A} {B} f (x ∷ xs) y has = by (f x) refl has (filter_map_is f xs y)
-  where
-    later : (z : A) × Contains xs z × (f z ≡ Some y) → (z : A) × Contains (x ∷ xs) z × (f z ≡ Some y)
-    later (z, there, made) = (z, has_later x xs z there, made)
-
-    first : (w : B) → f x ≡ Some w → (w ≡ y) ⊎ Contains (filter_map f xs) y
-        → (Contains (filter_map f xs) y → (z : A) × Contains xs z × (f z ≡ Some y))
-        → (z : A) × Contains (x ∷ xs) z × (f z ≡ Some y)
-    first w is (inl same) rest = (x, has_first x xs, is ∙ ap (λ v. Some v) same)
-    first w is (inr more) rest = later (rest more)
-
-    by : (o : Option B) → f x ≡ o → Contains (cons_option o (filter_map f xs)) y
-        → (Contains (filter_map f xs) y → (z : A) × Contains xs z × (f z ≡ Some y))
-        → (z : A) × Contains (x ∷ xs) z × (f z ≡ Some y)
-    by None is has rest = later (rest has)
-    by (Some w) is has rest = first w is (contains_first w (filter_map f xs) y has) rest
 
 -- ---- the same IDs
 
@@ -124,10 +85,6 @@ pub any_same : (p : List ℕ → Bool) (xs ys : List (List ℕ)) → AreSame xs 
 any_same p xs ys same =
     both_so _ _ (λ is. let (x, has, passes) = any_is p xs is in any_has p ys x (same.there x has) passes)
     (λ is. let (x, has, passes) = any_is p ys is in any_has p xs x (same.back x has) passes)
-
-none_same : (ys : List (List ℕ)) → AreSame [] ys → ys ≡ []
-none_same [] same = refl
-none_same (y ∷ ys) same = has_not y (same.back y (has_first y ys))
 
 -- What is kept of IDs is kept of the same in another order.
 pub among_same : (xs ys : List (List ℕ)) (o : Option Ids) → AreSame xs ys → AreAmong xs o → AreAmong ys o
@@ -380,25 +337,6 @@ module _ (side : Side) (items : List Item) (own id : List ℕ) where
           (from_goes (sent_by side items) own id (goes_to (sent_by side items) own id front))
       by (inr there) = back (has_used side items own) refl there
 
-  peers : Contains (owns_of side items id) own → Contains (peers_of side items own) id
-  peers has =
-      by (Contains-append_cases (filter_map otid_in (filter (goes_on_to id) (sent_by side items)))
-      (filter (has_used side items) (filter_map dtid_in (filter (goes_on_from id) (sent_by (other side) items)))) own has)
-    where
-      by : Contains (filter_map otid_in (filter (goes_on_to id) (sent_by side items))) own
-          ⊎ Contains (filter (has_used side items)
-          (filter_map dtid_in (filter (goes_on_from id) (sent_by (other side) items)))) own
-          → Contains (peers_of side items own) id
-      by (inl front) =
-          Contains-append_left (filter_map dtid_in (filter (goes_on_from own) (sent_by side items))) _ id
-          (to_goes (sent_by side items) own id (goes_from (sent_by side items) own id front))
-      by (inr there) =
-          let (has_it, used) = filter_is (has_used side items)
-          (filter_map dtid_in (filter (goes_on_from id) (sent_by (other side) items))) own there in
-          Contains-append_right (filter_map dtid_in (filter (goes_on_from own) (sent_by side items))) _ id
-          (rw used
-          (from_goes (sent_by (other side) items) id own (goes_to (sent_by (other side) items) id own has_it)))
-
   pub joined_both : list_any (λ x. bytes_eq x id) (peers_of side items own)
       ≡ list_any (bytes_eq own) (owns_of side items id)
   joined_both = both_so _ _ there back
@@ -415,4 +353,4 @@ module _ (side : Side) (items : List Item) (own id : List ℕ) where
       back is =
           let (x, has, passes) = any_is (bytes_eq own) (owns_of side items id) is in
           let same : own ≡ x = (bytes_eq-Decides own x).0 passes in
-          any_has (λ x. bytes_eq x id) (peers_of side items own) id (peers (rw (← same) at has)) (is_it id)
+          any_has (λ x. bytes_eq x id) (peers_of side items own) id (joined_back side items own id (rw (← same) at has)) (is_it id)

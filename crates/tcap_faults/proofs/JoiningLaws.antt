@@ -1,5 +1,5 @@
 -- What is kept of an end and of its peer is of a message more too.
-use Rattle.std.proofs.Common.{◌≡◌, ◌⊎◌, inl, inr, ℕ, Bool, true, false, cond, not, ◌&&◌, ◌||◌, List, [], ◌∷◌, ◌++◌, Option, Some, None, bytes_eq, refl, sym, ap, ◌∙◌}
+use Rattle.std.proofs.Common.{◌≡◌, ◌⊎◌, inl, inr, ℕ, Bool, true, false, cond, not, ◌&&◌, ◌||◌, List, [], ◌∷◌, ◌++◌, Some, None, bytes_eq, refl, sym, ap, ◌∙◌}
 use Rattle.std.specs.Prelude.{Contains, filter}
 use Rattle.std.specs.List.{list_any}
 use Rattle.std.specs.Map.{lookup}
@@ -8,7 +8,7 @@ use Rattle.std.specs.BTreeSet as set
 use Rattle.std.specs.BTreeSet.{BTreeSet}
 use Rattle.std.proofs.lemmas.Bool.{and_from, and_parts, or_left, or_right}
 use Rattle.std.proofs.lemmas.List.{append-nil}
-use Rattle.std.proofs.lemmas.List.Elements.{Contains-append_cases, Contains-append_left, Contains-append_right, filter-append}
+use Rattle.std.proofs.lemmas.List.Elements.{Contains-append_cases, Contains-append_left, Contains-append_right, filter-append, filter_agree}
 use Rattle.std.proofs.lemmas.Slice.Eq.{bytes_eq-Decides}
 use Rattle.tcap_msg.specs.declared.kind.Kind.TheVariants as forms
 use Rattle.tcap_msg.specs.declared.message.Message.{Message}
@@ -16,7 +16,7 @@ use Rattle.tcap_msg.specs.Parts.{dtid_in, otid_in}
 use Rattle.tcap_record.specs.declared.entry.End.{End as Side}
 use Rattle.tcap_record.specs.Ends.{other}
 use Rattle.tcap_end.specs.End.{is_id}
-use Rattle.tcap_end.specs.Table.{Table, octets_cmp}
+use Rattle.tcap_end.specs.Table.{octets_cmp}
 use Rattle.tcap_model.specs.World.{Item, Sent}
 use Rattle.tcap_model.specs.Since.{ended_by}
 use Rattle.tcap_refute.specs.Before.{is_a, sent_by}
@@ -31,8 +31,10 @@ use Rattle.tcap_faults.specs.Joining.{GetsMore, HasMore, id_if}
 use Rattle.tcap_faults.specs.Kept.{dtids_of, otids_of, sent_from, sent_to}
 use Rattle.tcap_faults.specs.Tangled.{goes_on_from, has_used, owns_of, peers_of}
 use Rattle.tcap_faults.specs.UsedAgain.{has_ended}
-use Rattle.tcap_faults.proofs.JoinedLaws.{Goes, among_same, any_alike, any_either, filter_alike, from_goes, goes_from, goes_to, is_it, it_is, joined_both, to_goes}
-use Rattle.tcap_faults.proofs.NotingLaws.{backs, dtids_is, dtids_own, ended_own, ended_theirs, fronts, otids_is, passes_of, peers_any, peers_own, peers_theirs, used_own}
+use Rattle.tcap_faults.proofs.JoinLaws.{dtids_are, otids_are}
+use Rattle.tcap_faults.proofs.JoinedLaws.{among_same, any_either, from_goes, goes_from, goes_to, is_it, joined_both, to_goes}
+use Rattle.tcap_faults.proofs.NotingLaws.{backs, dtids_own, ended_own, ended_theirs, fronts, passes_of, peers_any, peers_own, peers_theirs, used_own}
+use Rattle.tcap_faults.proofs.TwoTests.{any_agree}
 
 -- ---- tests
 
@@ -96,7 +98,7 @@ module _ (side : Side) (items : List Item) (m : Message) where
       ∙ ap (λ b. b || first id) (was id ∙ peers_any (has_ended side items) side items id))
       ∙ over_bools (e id) (list_any (has_ended side items) (fronts side items id)) (has_used side items id)
       (list_any (has_ended side items) (backs side items id)) (first id) g (on id) (off id)
-      ∙ sym (any_alike _ _ same (peers_of side (items ++ Sent side m ∷ []) id)
+      ∙ sym (any_agree _ _ (peers_of side (items ++ Sent side m ∷ []) id) same
       ∙ peers_own side items m (has_ended side items) id
       ∙ rw (goes id, at id) refl)
     where
@@ -122,7 +124,7 @@ module _ (side : Side) (items : List Item) (m : Message) where
       more id
       ∙ ap (λ b. b || (not (has_ended side items to) && list_any (bytes_eq id) (owns_of side items to))) (was id)
       ∙ by (has_ended side items to) refl (list_any (bytes_eq id) (owns_of side items to)) refl
-      ∙ sym (any_alike _ _ same (peers_of side (items ++ Sent side m ∷ []) id)
+      ∙ sym (any_agree _ _ (peers_of side (items ++ Sent side m ∷ []) id) same
       ∙ peers_stay none stays (λ x. has_ended side items x || bytes_eq x to) id
       ∙ any_either (has_ended side items) (λ x. bytes_eq x to) (peers_of side items id)
       ∙ ap (λ b. list_any (has_ended side items) (peers_of side items id) || b) (joined_both side items id to))
@@ -165,7 +167,7 @@ module _ (side : Side) (items : List Item) (m : Message) where
       ∙ peer_bools (e id) (list_any (has_ended (other side) items) (fronts (other side) items id))
       (has_used (other side) items id) (list_any (has_ended (other side) items) (backs (other side) items id)) r
       (passes_of (has_ended (other side) items) (otid_in m)) (on id)
-      ∙ sym (any_alike _ _ (ended_theirs side items m) (peers_of (other side) (items ++ Sent side m ∷ []) id)
+      ∙ sym (any_agree _ _ (peers_of (other side) (items ++ Sent side m ∷ []) id) (ended_theirs side items m)
       ∙ peers_theirs side items m (has_ended (other side) items) id
       ∙ rw (goes id) refl)
 
@@ -216,16 +218,16 @@ module _ (side : Side) (items : List Item) (m : Message) where
         let (x, has, passes) = any_is (bytes_eq id) (otids_of (sent_to (other side) items from)) is in
         let one : id ≡ x = (bytes_eq-Decides id x).0 passes in
         let there : Contains (otids_of (sent_to (other side) items from)) id = rw one has in
-        rw (dtids_is (other side) items id)
+        rw (dtids_are (other side) items id)
         (to_goes (sent_by (other side) items) id from
-        (goes_from (sent_by (other side) items) id from (rw (otids_is (other side) items from) at there)))
+        (goes_from (sent_by (other side) items) id from (rw (otids_are (other side) items from) at there)))
 
     came : Contains gone from → list_any (bytes_eq id) (otids_of (sent_to (other side) items from)) ≡ true
     came has =
         any_has (bytes_eq id) (otids_of (sent_to (other side) items from)) id
-        (rw (otids_is (other side) items from)
+        (rw (otids_are (other side) items from)
         (from_goes (sent_by (other side) items) id from
-        (goes_to (sent_by (other side) items) id from (rw (dtids_is (other side) items id) at has))))
+        (goes_to (sent_by (other side) items) id from (rw (dtids_are (other side) items id) at has))))
         (is_it id)
 
     one_there : (b : Bool) → joins_now ≡ b → (x : List ℕ) → Contains (id_if b from) x
@@ -291,4 +293,4 @@ module _ (side : Side) (items : List Item) (m : Message) where
   pub peer_joined_same : otid_in m ≡ None → (ids : List (List ℕ))
       → filter (has_used side (items ++ Sent side m ∷ [])) ids ≡ filter (has_used side items) ids
   peer_joined_same none ids =
-      filter_alike _ _ (λ x. used_own side items m x ∙ rw none (sym (or_none (has_used side items x)))) ids
+      filter_agree _ _ (λ x. used_own side items m x ∙ rw none (sym (or_none (has_used side items x)))) ids

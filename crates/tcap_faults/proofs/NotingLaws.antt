@@ -1,15 +1,10 @@
 -- What a message more does to what was sent, to which IDs are joined, and to what is kept of an end and of its peer.
-use Rattle.std.proofs.Common.{◌≡◌, ◌⊎◌, inl, inr, ℕ, Bool, true, false, cond, not, ◌&&◌, ◌||◌, List, [], ◌∷◌, ◌++◌, Option, Some, None, is_some, bytes_eq, refl, sym, ap, ◌∙◌}
-use Rattle.std.specs.Prelude.{Contains, filter, filter_map, is_none}
+use Rattle.std.proofs.Common.{◌≡◌, ℕ, Bool, true, false, cond, ◌&&◌, ◌||◌, List, [], ◌∷◌, ◌++◌, Option, Some, None, is_some, refl, sym, ap, ◌∙◌}
+use Rattle.std.specs.Prelude.{filter, filter_map, is_none}
 use Rattle.std.specs.List.{list_any}
-use Rattle.std.specs.Map.{lookup}
-use Rattle.std.specs.BTreeMap.{BTreeMap, is_at}
-use Rattle.std.specs.BTreeSet as set
-use Rattle.std.specs.BTreeSet.{BTreeSet}
 use Rattle.std.proofs.lemmas.List.{append-nil, append_assoc}
-use Rattle.std.proofs.lemmas.List.Elements.{Contains-append_cases, Contains-append_left, Contains-append_right, filter-append, filter_map-append}
+use Rattle.std.proofs.lemmas.List.Elements.{filter-append, filter_map-append}
 use Rattle.std.proofs.lemmas.List.Folds.{list_any-append}
-use Rattle.std.proofs.lemmas.Slice.Eq.{bytes_eq-Decides}
 use Rattle.tcap_msg.specs.declared.kind.Kind.TheVariants as forms
 use Rattle.tcap_msg.specs.declared.message.Message.{Message}
 use Rattle.tcap_msg.specs.declared.message.Message.TheVariants.{Unidirectional, Begin, Continue, End as EndMessage, Abort}
@@ -18,28 +13,19 @@ use Rattle.tcap_record.specs.declared.entry.End.{End as Side}
 use Rattle.tcap_record.specs.declared.entry.End.TheVariants as sides
 use Rattle.tcap_record.specs.Ends.{other}
 use Rattle.tcap_end.specs.End.{is_id}
-use Rattle.tcap_end.specs.Table.{Table, octets_cmp}
 use Rattle.tcap_model.specs.World.{Item, Sent}
 use Rattle.tcap_model.specs.Since.{ended_by}
 use Rattle.tcap_refute.specs.Before.{is_a, sent_by}
 use Rattle.tcap_refute.specs.HalfKinds.{shows_closed, was_closed_behind}
 use Rattle.tcap_refute.specs.Speaker.{goes_on_to}
-use Rattle.tcap_refute.proofs.HalfLawsLists.{own_same, their_same}
-use Rattle.tcap_refute.proofs.HalfLawsFinds.{any_is, filter_is}
+use Rattle.tcap_refute.proofs.HalfLawsLists.{their_same}
 use Rattle.tcap_refute.proofs.LifeLawsItems.{sent_own}
-use Rattle.tcap_refute.proofs.Members.{any_has, filter_has, has_not}
-use Rattle.tcap_model.proofs.ListLaws.{contains_first}
 use Rattle.tcap_refute.proofs.TestLaws.{or_none}
-use Rattle.tcap_faults.specs.declared.ids.Ids.{Ids}
-use Rattle.tcap_faults.specs.declared.facts.SideFacts.{SideFacts}
-use Rattle.tcap_faults.specs.Ids.{AreAmong, AreSame}
-use Rattle.tcap_faults.specs.Joining.{GetsMore, HasMore, id_if}
-use Rattle.tcap_faults.specs.Kept.{dtids_of, otids_of, sent_from, sent_to}
+use Rattle.tcap_faults.specs.Kept.{dtids_of, sent_from, sent_to}
 use Rattle.tcap_faults.specs.Noting.{with_more}
-use Rattle.tcap_faults.specs.Tangled.{goes_on_from, has_used, one_passes, owns_of, peers_of}
+use Rattle.tcap_faults.specs.Tangled.{goes_on_from, has_used, one_passes, peers_of}
 use Rattle.tcap_faults.specs.UsedAgain.{has_ended}
 use Rattle.tcap_faults.proofs.NotedLists.{any_more, filter_more}
-use Rattle.tcap_faults.proofs.JoinedLaws.{Goes, among_same, any_alike, any_either, both_so, filter_alike, filter_twice, from_goes, goes_from, goes_to, is_it, it_is, joined_both, to_goes}
 
 -- ---- an item more
 
@@ -56,19 +42,18 @@ one_more passes seen (x ∷ items) item =
     by true = refl
     by false = refl
 
+closed_is : (side : Side) (own : List ℕ) (seen items : List Item)
+    → was_closed_behind side own seen items ≡ one_passes (shows_closed side own) seen items
+closed_is side own seen [] = refl
+closed_is side own seen (x ∷ items) =
+    ap (λ b. shows_closed side own seen x || b) (closed_is side own (seen ++ x ∷ []) items)
+
 pub closed_more : (side : Side) (own : List ℕ) (seen items : List Item) (item : Item)
     → was_closed_behind side own seen (items ++ item ∷ [])
     ≡ (was_closed_behind side own seen items || shows_closed side own (seen ++ items) item)
-closed_more side own seen [] item = rw (append-nil seen) (sym (or_none _))
-closed_more side own seen (x ∷ items) item =
-    rw (closed_more side own (seen ++ x ∷ []) items item, append_assoc seen (x ∷ []) items)
-    (by (shows_closed side own seen x))
-  where
-    by : (b : Bool)
-        → (b || (was_closed_behind side own (seen ++ x ∷ []) items || shows_closed side own (seen ++ x ∷ items) item))
-        ≡ ((b || was_closed_behind side own (seen ++ x ∷ []) items) || shows_closed side own (seen ++ x ∷ items) item)
-    by true = refl
-    by false = refl
+closed_more side own seen items item =
+    closed_is side own seen (items ++ item ∷ []) ∙ one_more (shows_closed side own) seen items item
+    ∙ ap (λ b. b || shows_closed side own (seen ++ items) item) (sym (closed_is side own seen items))
 
 -- ---- messages
 
@@ -149,16 +134,6 @@ any_mapped {A} {B} p f q xs x =
     by true None is = rw is refl
     by true (Some y) is = rw is (sym (or_none (p y)))
 
-pub dtids_is : (side : Side) (items : List Item) (id : List ℕ)
-    → dtids_of (sent_from side items id) ≡ filter_map dtid_in (filter (goes_on_from id) (sent_by side items))
-dtids_is side items id =
-    ap (filter_map dtid_in) (filter_twice (is_a forms.Continue) (λ m. is_id id (otid_in m)) (sent_by side items))
-
-pub otids_is : (side : Side) (items : List Item) (id : List ℕ)
-    → otids_of (sent_to side items id) ≡ filter_map otid_in (filter (goes_on_to id) (sent_by side items))
-otids_is side items id =
-    ap (filter_map otid_in) (filter_twice (is_a forms.Continue) (λ m. is_id id (dtid_in m)) (sent_by side items))
-
 -- the IDs of the peer that are joined with an own one by Continues of the end, and those by Continues of the peer
 abbrev pub fronts : Side → List Item → List ℕ → List (List ℕ)
 fronts side items own = filter_map dtid_in (filter (goes_on_from own) (sent_by side items))
@@ -178,10 +153,6 @@ peers_any p side items own =
     by false = refl
 
 -- ---- what was sent
-
-pub other_twice : (side : Side) → other (other side) ≡ side
-other_twice sides.A = refl
-other_twice sides.B = refl
 
 -- the peer of the peer is the end
 pub twice_own : (side : Side) (m : Message) (items : List Item)

@@ -1,11 +1,12 @@
 -- What is kept of both ends is of a message more too, which one of them sent.
-use Rattle.std.proofs.Common.{◌≡◌, ℕ, Bool, true, false, not, ◌&&◌, ◌||◌, List, [], ◌∷◌, ◌++◌, Option, Some, None, is_some, bytes_eq, refl, sym, ap, ◌∙◌}
+use Rattle.std.proofs.Common.{◌≡◌, ℕ, Bool, true, false, not, ◌&&◌, ◌||◌, List, [], ◌∷◌, ◌++◌, Option, Some, None, bytes_eq, refl, sym, ap, ◌∙◌}
 use Rattle.std.specs.Prelude.{filter}
 use Rattle.std.specs.List.{list_any}
 use Rattle.std.specs.Map.{lookup}
 use Rattle.std.specs.BTreeMap.{BTreeMap, is_at}
 use Rattle.std.specs.BTreeSet as set
 use Rattle.std.specs.BTreeSet.{BTreeSet}
+use Rattle.std.proofs.lemmas.List.Elements.{filter_agree}
 use Rattle.std.proofs.lemmas.Slice.Eq.{bytes_eq-Decides}
 use Rattle.tcap_msg.specs.declared.kind.Kind.TheVariants as forms
 use Rattle.tcap_msg.specs.declared.message.Message.{Message}
@@ -31,8 +32,10 @@ use Rattle.tcap_faults.specs.Kept.{IsSide, dtids_of, ends, otids_of, sent_from, 
 use Rattle.tcap_faults.specs.Noting.{AreFrom, AreTo, with_more}
 use Rattle.tcap_faults.specs.Tangled.{guesses, has_used, one_passes, owns_of}
 use Rattle.tcap_faults.specs.UsedAgain.{has_ended, has_used_again, is_used_again, uses_again}
-use Rattle.tcap_faults.proofs.JoinedLaws.{filter_alike, has_none, is_it}
-use Rattle.tcap_faults.proofs.NotingLaws.{backs, begin_only, closed_more, end_only, ends_it, ends_none, from_own, from_theirs, goes_both, one_more, other_twice, otids_is, passes_of, to_own, to_theirs, used_theirs}
+use Rattle.tcap_faults.proofs.JoinLaws.{otids_are}
+use Rattle.tcap_faults.proofs.JoinedLaws.{has_none, is_it}
+use Rattle.tcap_faults.proofs.NotingLaws.{backs, begin_only, closed_more, end_only, ends_it, ends_none, from_own, from_theirs, goes_both, one_more, passes_of, to_own, to_theirs, used_theirs}
+use Rattle.tcap_faults.proofs.SideLaws.{other_twice}
 use Rattle.tcap_faults.proofs.JoiningLaws.{own_joined_more, own_joined_same, own_over_ended, own_over_more, peer_joined_more, peer_joined_same, peer_over_more}
 
 peer_not : (side : Side) → is_side (other side) side ≡ false
@@ -100,7 +103,7 @@ module _ (table : Table) (side : Side) (items : List Item) (m : Message) (own pe
         → first id ≡ (not (has_used side items id) && list_any (has_ended side items) (backs side items id))
     first_on id same =
         let one : id ≡ from = (bytes_eq-Decides id from).0 same in
-        rw (one, is_it from, otids_is (other side) items from) refl
+        rw (one, is_it from, otids_are (other side) items from) refl
 
     first_off : (id : List ℕ) → bytes_eq id from ≡ false → first id ≡ false
     first_off id apart = rw apart refl
@@ -146,25 +149,25 @@ module _ (table : Table) (side : Side) (items : List Item) (m : Message) (own pe
           → IsJoined side items m own two peer then
       joined_continue to dtid over used peer_over over_is used_is peer_is two then gets_now has_now their_has rest_now
           their_rest_now = record {
-        own_joined =
-            own_joined_more side items m from to used goes otid dtid used_is own.joined two.joined
-            (rw (ap (λ (s : SideFacts). s.joined) rest) at gets_now) was.joined;
-        peer_joined = λ id.
-            rw (ap (λ (s : SideFacts). s.joined) their_rest_now)
-            (peer_joined_more side items m from otid id peer.joined there.joined gets (their_joined id));
-        own_over =
-            own_over_more side items m (ends_none m from otid) (λ id. bytes_eq id from) first over
-            (λ id. rw otid refl) first_on first_off (λ id. rw (goes, otid, dtid, over_is) refl) own.over one.over
-            two.over was.over has has_now;
-        peer_over =
-            peer_over_more side items m (λ id. bytes_eq id to) peer_over (λ id. rw (goes, dtid) refl) their_on peer.over
-            then.over their.over (rw (ap (λ (s : SideFacts). s.over) their_rest) at their_has);
-        own_rest = rest_now ∙ ap (λ (s : SideFacts). record s { over = two.over; joined = two.joined }) rest;
-        peer_rest = their_rest_now
-            ∙ ap (λ (s : SideFacts). record s { over = then.over }) their_rest
-            ∙ ap (λ (j : BTreeMap (List ℕ) Ids). record peer { over = then.over; joined = j })
-            (sym (ap (λ (s : SideFacts). s.joined) their_rest_now));
-      }
+            own_joined =
+                own_joined_more side items m from to used goes otid dtid used_is own.joined two.joined
+                (rw (ap (λ (s : SideFacts). s.joined) rest) at gets_now) was.joined;
+            peer_joined = λ id.
+                rw (ap (λ (s : SideFacts). s.joined) their_rest_now)
+                (peer_joined_more side items m from otid id peer.joined there.joined gets (their_joined id));
+            own_over =
+                own_over_more side items m (ends_none m from otid) (λ id. bytes_eq id from) first over
+                (λ id. rw otid refl) first_on first_off (λ id. rw (goes, otid, dtid, over_is) refl) own.over one.over
+                two.over was.over has has_now;
+            peer_over =
+                peer_over_more side items m (λ id. bytes_eq id to) peer_over (λ id. rw (goes, dtid) refl) their_on peer.over
+                then.over their.over (rw (ap (λ (s : SideFacts). s.over) their_rest) at their_has);
+            own_rest = rest_now ∙ ap (λ (s : SideFacts). record s { over = two.over; joined = two.joined }) rest;
+            peer_rest = their_rest_now
+                ∙ ap (λ (s : SideFacts). record s { over = then.over }) their_rest
+                ∙ ap (λ (j : BTreeMap (List ℕ) Ids). record peer { over = then.over; joined = j })
+                (sym (ap (λ (s : SideFacts). s.joined) their_rest_now));
+          }
         where
           goes : is_a forms.Continue m ≡ true
           goes = goes_both m from to otid dtid
@@ -205,29 +208,29 @@ module _ (table : Table) (side : Side) (items : List Item) (m : Message) (own pe
         })
     own_sent froms tos guessed_now closed_now again closed guessed are_from are_to again_is closed_is closes guessed_is
         guess_more = record {
-      from = λ id. rw (from_own side items m id) (are_from id);
-      to = λ id. rw (to_own side items m id) (are_to id);
-      joined = λ id.
-          rw (filter_alike (has_used (other side) (items ++ Sent side m ∷ [])) (has_used (other side) items)
-          (used_theirs side items m) (dtids_of (sent_from side (items ++ Sent side m ∷ []) id))) (j.own_joined id);
-      guessed = λ id.
-          guess_more id
-          ∙ ap (λ b. b || is_id id guessed)
-          (ap (λ (s : SideFacts). set.contains octets_cmp s.guessed id) j.own_rest ∙ was.guessed id)
-          ∙ ap (λ b. one_passes (guesses (other side) id) [] items || b) (guessed_is id)
-          ∙ sym (one_more (guesses (other side) id) [] items (Sent side m));
-      closed = λ id.
-          closes id
-          ∙ ap (λ b. b || is_id id closed)
-          (ap (λ (s : SideFacts). set.contains octets_cmp s.closed id) j.own_rest ∙ was.closed id)
-          ∙ ap (λ b. was_closed_behind side id [] items || b) (closed_is id)
-          ∙ sym (closed_more side id [] items (Sent side m));
-      over = j.own_over;
-      again =
-          ap (λ b. b || again) (ap (λ (s : SideFacts). s.again) j.own_rest ∙ was.again)
-          ∙ ap (λ b. has_used_again table side items || b) (again_is ∙ here)
-          ∙ sym (one_more (is_used_again table side) [] items (Sent side m));
-    }
+          from = λ id. rw (from_own side items m id) (are_from id);
+          to = λ id. rw (to_own side items m id) (are_to id);
+          joined = λ id.
+              rw (filter_agree (has_used (other side) (items ++ Sent side m ∷ [])) (has_used (other side) items)
+              (used_theirs side items m) (dtids_of (sent_from side (items ++ Sent side m ∷ []) id))) (j.own_joined id);
+          guessed = λ id.
+              guess_more id
+              ∙ ap (λ b. b || is_id id guessed)
+              (ap (λ (s : SideFacts). set.contains octets_cmp s.guessed id) j.own_rest ∙ was.guessed id)
+              ∙ ap (λ b. one_passes (guesses (other side) id) [] items || b) (guessed_is id)
+              ∙ sym (one_more (guesses (other side) id) [] items (Sent side m));
+          closed = λ id.
+              closes id
+              ∙ ap (λ b. b || is_id id closed)
+              (ap (λ (s : SideFacts). set.contains octets_cmp s.closed id) j.own_rest ∙ was.closed id)
+              ∙ ap (λ b. was_closed_behind side id [] items || b) (closed_is id)
+              ∙ sym (closed_more side id [] items (Sent side m));
+          over = j.own_over;
+          again =
+              ap (λ b. b || again) (ap (λ (s : SideFacts). s.again) j.own_rest ∙ was.again)
+              ∙ ap (λ b. has_used_again table side items || b) (again_is ∙ here)
+              ∙ sym (one_more (is_used_again table side) [] items (Sent side m));
+        }
       where
         here : uses_again table side items m ≡ is_used_again table side items (Sent side m)
         here = rw (is_itself side) refl

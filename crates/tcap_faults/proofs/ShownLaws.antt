@@ -1,19 +1,17 @@
 -- What a message shows to be closed, and what it guesses, by what is kept.
-use Rattle.std.proofs.Common.{◌≡◌, ℕ, Bool, true, false, cond, not, ◌&&◌, ◌||◌, List, [], ◌∷◌, Option, Some, None, is_some, bytes_eq, refl, sym, ap, ◌∙◌}
-use Rattle.std.specs.Prelude.{filter}
-use Rattle.std.specs.List.{find, list_any}
+use Rattle.std.proofs.Common.{◌≡◌, ℕ, Bool, true, false, not, ◌&&◌, ◌||◌, List, [], ◌∷◌, Some, None, bytes_eq, refl, sym, ap, ◌∙◌}
+use Rattle.std.specs.List.{list_any}
 use Rattle.std.proofs.lemmas.Bool.{and_from, and_left, and_right}
 use Rattle.std.proofs.lemmas.Slice.Eq.{bytes_eq-Decides}
 use Rattle.tcap_msg.specs.declared.kind.Kind.TheVariants as forms
 use Rattle.tcap_msg.specs.declared.message.Message.{Message}
 use Rattle.tcap_msg.specs.declared.message.Message.TheVariants.{Unidirectional, Begin, Continue, End as EndMessage, Abort}
-use Rattle.tcap_msg.specs.Parts.{cause_in, dtid_in, otid_in}
+use Rattle.tcap_msg.specs.Parts.{dtid_in, otid_in}
 use Rattle.tcap_record.specs.declared.entry.End.{End as Side}
 use Rattle.tcap_record.specs.Ends.{other}
-use Rattle.tcap_end.specs.End.{is_id}
 use Rattle.tcap_model.specs.World.{Item, Sent}
-use Rattle.tcap_refute.specs.Before.{asked, has_a, is_a, sent_by}
-use Rattle.tcap_refute.specs.HalfKinds.{all_go_on_to, shows_closed}
+use Rattle.tcap_refute.specs.Before.{asked, has_a, is_a}
+use Rattle.tcap_refute.specs.HalfKinds.{all_go_on_to}
 use Rattle.tcap_refute.specs.Speaker.{began, goes_on_to, is_nothing}
 use Rattle.tcap_refute.proofs.BeforeLaws.{is_itself}
 use Rattle.tcap_faults.specs.declared.ids.Ids.{Ids}
@@ -21,7 +19,8 @@ use Rattle.tcap_faults.specs.Ids.{AreAmong, AreIds, AreSame, ids_first}
 use Rattle.tcap_faults.specs.Kept.{dtids_of}
 use Rattle.tcap_faults.specs.Tangled.{guesses, has_used, two_differ}
 use Rattle.tcap_faults.proofs.JoinedLaws.{any_same}
-use Rattle.tcap_faults.proofs.NotingLaws.{goes_both, other_twice}
+use Rattle.tcap_faults.proofs.NotingLaws.{goes_both}
+use Rattle.tcap_faults.proofs.SideLaws.{began_asked, other_twice}
 
 -- ---- messages that all go to one ID
 
@@ -127,24 +126,9 @@ module _ (own : List ℕ) (ms : List Message) (used : List ℕ → Bool) where
 
 -- ---- what a message guesses
 
--- A Begin from an ID is found where there is one.
-found_where : {A : Type 0} (p q : A → Bool) (xs : List A)
-    → list_any p (filter q xs) ≡ is_some (find (λ x. p x && q x) xs)
-found_where p q [] = refl
-found_where {A} p q (x ∷ xs) = by (p x) refl (q x) (found_where p q xs)
-  where
-    by : (a : Bool) → p x ≡ a → (b : Bool) → list_any p (filter q xs) ≡ is_some (find (λ x. p x && q x) xs)
-        → list_any p (cond b (x ∷ filter q xs) (filter q xs))
-        ≡ is_some (cond (a && b) (Some x) (find (λ x. p x && q x) xs))
-    by true is true rest = rw is refl
-    by true is false rest = rest
-    by false is true rest = rw is rest
-    by false is false rest = rest
-
 begun_there : (side : Side) (items : List Item) (id : List ℕ)
     → has_a forms.Begin (asked (other side) id items) ≡ began side id items
-begun_there side items id =
-    rw (other_twice side) (found_where (is_a forms.Begin) (λ m. is_id id (otid_in m)) (sent_by side items))
+begun_there side items id = sym (began_asked (other side) items id) ∙ rw (other_twice side) refl
 
 module _ (side : Side) (items : List Item) (m : Message) (from to : List ℕ) (otid : otid_in m ≡ Some from)
     (dtid : dtid_in m ≡ Some to) (id : List ℕ) where

@@ -1,5 +1,5 @@
 -- What is kept of joined IDs, step by step.
-use Rattle.std.proofs.Common.{◌≡◌, ℕ, Bool, true, false, not, ◌&&◌, ◌||◌, List, [], ◌∷◌, ◌++◌, Option, Some, None, bytes_eq, refl, sym, ap, ◌∙◌}
+use Rattle.std.proofs.Common.{◌≡◌, ℕ, Bool, true, false, not, ◌&&◌, ◌||◌, List, [], Some, None, bytes_eq, refl, ap, ◌∙◌}
 use Rattle.std.specs.Prelude.{OnOk, filter, filter_map}
 use Rattle.std.specs.List.{list_any}
 use Rattle.std.specs.Map.{lookup}
@@ -26,8 +26,9 @@ use Rattle.tcap_faults.specs.Joining.{GetsMore, HasMore}
 use Rattle.tcap_faults.specs.Kept.{IsSide, IsToAt, dtids_of, otids_of, sent_from, sent_to}
 use Rattle.tcap_faults.specs.Tangled.{goes_on_from, has_used, owns_of}
 use Rattle.tcap_faults.specs.UsedAgain.{has_ended}
+use Rattle.tcap_faults.proofs.JoinLaws.{dtids_are, otids_are}
 use Rattle.tcap_faults.proofs.JoinedLaws.{bytes_turned, gets_none, gets_same, has_none, same_itself}
-use Rattle.tcap_faults.proofs.NotingLaws.{dtids_is, other_twice, otids_is}
+use Rattle.tcap_faults.proofs.SideLaws.{other_twice}
 
 -- What holds of each where a call succeeds.
 pub on_ok_each : {A E X : Type 0} (r : Result A E) (P : X → Type 0) → ((x : X) → OnOk r (P x))
@@ -116,7 +117,7 @@ module _ (side : Side) (items : List Item) (id : List ℕ) where
   end_more ended_not old mid new one two = λ own.
       two own
       ∙ ap (λ b. b || list_any (bytes_eq own) (filter (has_used (other (other side)) items) (dtids_of (sent_from (other side) items id)))) (one own)
-      ∙ rw (ended_not, other_twice side, otids_is side items id, dtids_is (other side) items id, list_any-append (bytes_eq own) (filter_map otid_in (filter (goes_on_to id) (sent_by side items))) (filter (has_used side items) (filter_map dtid_in (filter (goes_on_from id) (sent_by (other side) items)))))
+      ∙ rw (ended_not, other_twice side, otids_are side items id, dtids_are (other side) items id, list_any-append (bytes_eq own) (filter_map otid_in (filter (goes_on_to id) (sent_by side items))) (filter (has_used side items) (filter_map dtid_in (filter (goes_on_from id) (sent_by (other side) items)))))
       (by (set.contains octets_cmp old own) _ _)
     where
       by : (a b c : Bool) → ((a || b) || c) ≡ (a || (b || c))

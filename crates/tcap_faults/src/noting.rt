@@ -127,7 +127,11 @@ fn closed_at(own: &SideFacts, peer: &SideFacts, dtid: &TransactionId) -> Option<
 }
 
 /// The own ID that a message shows to be closed, where the end sends it now.
-fn closed_by<M: MessageParts>(own: &SideFacts, peer: &SideFacts, message: &M) -> Option<TransactionId>
+fn closed_by<M: MessageParts>(
+    own: &SideFacts,
+    peer: &SideFacts,
+    message: &M,
+) -> Option<TransactionId>
     ensures { (table : Table) (side : Side) (items : List Item) (id : List ℕ) → IsSide table side items own.now
         → IsSide table (other side) items peer.now
         → is_id id result ≡ shows_closed side id items (Sent side (M.meaning message.now)) }
@@ -142,7 +146,11 @@ fn closed_by<M: MessageParts>(own: &SideFacts, peer: &SideFacts, message: &M) ->
 
 /// The ID from which a message goes on, where its end guesses the other: it began that ID, and the other end has not used the
 /// one that it goes to.
-fn guessed_by<M: MessageParts>(own: &SideFacts, peer: &SideFacts, message: &M) -> Option<TransactionId>
+fn guessed_by<M: MessageParts>(
+    own: &SideFacts,
+    peer: &SideFacts,
+    message: &M,
+) -> Option<TransactionId>
     ensures { (table : Table) (side : Side) (items : List Item) (id : List ℕ) → IsSide table side items own.now
         → IsSide table (other side) items peer.now
         → is_id id result ≡ guesses (other side) id items (Sent side (M.meaning message.now)) }
@@ -160,7 +168,10 @@ fn guessed_by<M: MessageParts>(own: &SideFacts, peer: &SideFacts, message: &M) -
 }
 
 /// An ID more, where there is one.
-fn insert_some(set: &mut BTreeSet<TransactionId>, id: Option<TransactionId>) -> Result<(), AllocError>
+fn insert_some(
+    set: &mut BTreeSet<TransactionId>,
+    id: Option<TransactionId>,
+) -> Result<(), AllocError>
     ensures { OnOk result (HasMore (λ other. is_id other id) set.old set.new) }
 {
     if let Some(id) = id {
@@ -170,7 +181,11 @@ fn insert_some(set: &mut BTreeSet<TransactionId>, id: Option<TransactionId>) -> 
 }
 
 /// An ID more, where that is so.
-fn insert_if(set: &mut BTreeSet<TransactionId>, so: bool, id: TransactionIdView) -> Result<(), AllocError>
+fn insert_if(
+    set: &mut BTreeSet<TransactionId>,
+    so: bool,
+    id: TransactionIdView,
+) -> Result<(), AllocError>
     ensures { OnOk result (HasMore (λ other. bytes_eq other id.entry.octets.now && so) set.old set.new) }
 {
     if so {
@@ -190,11 +205,11 @@ fn join_first(
         → IsSide table (other side) items peer.old
         → OnOk result (
         GetsMore (λ key. not (has_used side items otid.entry.octets.now)
-            && list_any (bytes_eq key) (otids_of (sent_to (other side) items otid.entry.octets.now)))
-            otid.entry.octets.now peer.old.joined peer.new.joined
+        && list_any (bytes_eq key) (otids_of (sent_to (other side) items otid.entry.octets.now)))
+        otid.entry.octets.now peer.old.joined peer.new.joined
         × HasMore (λ id. bytes_eq id otid.entry.octets.now && not (has_used side items otid.entry.octets.now)
-            && list_any (has_ended side items) (otids_of (sent_to (other side) items otid.entry.octets.now)))
-            own.old.over own.new.over
+        && list_any (has_ended side items) (otids_of (sent_to (other side) items otid.entry.octets.now)))
+        own.old.over own.new.over
         × (own.new ≡ record own.old { over = own.new.over })
         × (peer.new ≡ record peer.old { joined = peer.new.joined })) }
 {
@@ -222,7 +237,13 @@ struct Joins {
 }
 
 impl Joins {
-    fn of(own: &SideFacts, peer: &SideFacts, otid: TransactionIdView, dtid: TransactionIdView) -> Joins
+    /// That of a Continue which is not noted yet.
+    fn of(
+        own: &SideFacts,
+        peer: &SideFacts,
+        otid: TransactionIdView,
+        dtid: TransactionIdView,
+    ) -> Joins
         ensures { (table : Table) (side : Side) (items : List Item) → IsSide table side items own.now
             → IsSide table (other side) items peer.now
             → (result.over ≡ has_ended side items dtid.entry.octets.now)
@@ -251,7 +272,7 @@ fn join_continue(
 ) -> Result<(), AllocError>
     ensures { OnOk result (
         GetsMore (λ key. bytes_eq key otid.entry.octets.now && joins.used)
-            dtid.entry.octets.now own.old.joined own.new.joined
+        dtid.entry.octets.now own.old.joined own.new.joined
         × HasMore (λ id. bytes_eq id otid.entry.octets.now && joins.over) own.old.over own.new.over
         × HasMore (λ id. bytes_eq id dtid.entry.octets.now && joins.peer_over) peer.old.over peer.new.over
         × (own.new ≡ record own.old { over = own.new.over; joined = own.new.joined })
@@ -286,7 +307,7 @@ fn end_all(own: &mut SideFacts, peer: &SideFacts, dtid: TransactionIdView) -> Re
         → IsSide table (other side) items peer.now
         → OnOk result (
         HasMore (λ id. not (has_ended side items dtid.entry.octets.now)
-            && list_any (bytes_eq id) (owns_of side items dtid.entry.octets.now)) own.old.over own.new.over
+        && list_any (bytes_eq id) (owns_of side items dtid.entry.octets.now)) own.old.over own.new.over
         × (own.new ≡ record own.old { over = own.new.over })) }
 {
     let id = dtid.to_transaction_id();

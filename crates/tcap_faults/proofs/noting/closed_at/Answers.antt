@@ -1,4 +1,4 @@
-use Rattle.std.proofs.Common.{sym, ap, ◌∙◌}
+use Rattle.std.proofs.Common.{sym, ◌∙◌}
 use Rattle.tcap_record.specs.Ends.{other}
 use Rattle.tcap_refute.specs.Before.{asked}
 use Rattle.tcap_faults.specs.Tangled.{has_used}

@@ -15,8 +15,8 @@ returns c = λ table side items was their.
     on_ok_weaker c.insert_all.result
     (λ more. (
       end_more side items id (rw c.to_transaction_id-id.ensures at ended_not) c.args.own.now.over c.insert_from.new.set
-      c.insert_all.new.set
-      (rw c.to_transaction_id-id.ensures at (c.in_ok-insert_from.ensures table (sent_to side items) was.to)) more,
+          c.insert_all.new.set
+          (rw c.to_transaction_id-id.ensures at (c.in_ok-insert_from.ensures table (sent_to side items) was.to)) more,
       refl,
     ))
     (c.insert_all.ensures ids (rw (c.get.ensures.value, c.to_transaction_id-id.ensures) (their.joined id)))

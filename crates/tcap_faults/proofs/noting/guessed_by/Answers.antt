@@ -22,7 +22,7 @@ returns-else-began g c = λ table side items id was their.
     let to = c.in_ok-dtid.field-0.octets.now in
     let nothing : (began side from items && not (has_used (other side) items to)) ≡ false =
     elim c.else-began.branch [
-      else-began-via-then-began+else-not-has_used w ↦
+      | else-began-via-then-began+else-not-has_used w ↦
           let used = sym (w.has_used.ensures table (other side) items their) ∙ w.if-not-has_used.false in
           and_right (began side from items) (not (has_used (other side) items to))
           (ap not (rw c.to_transaction_id-id.ensures at used))

@@ -12,7 +12,7 @@ returns c =
     on_ok_weaker c.add_at.result
     (λ gets. (
       continue_gets c.args.otid.octets.now c.args.dtid.octets.now c.args.joins.used
-      (turned c.args.joins.used c.if-not-joins.false) c.args.own.now.joined c.add_at.new.map gets,
+          (turned c.args.joins.used c.if-not-joins.false) c.args.own.now.joined c.add_at.new.map gets,
       c.in_ok-insert_if.ensures,
       c.in_ok-insert_if-2.ensures,
       refl,

@@ -9,8 +9,7 @@ pub returns-in_default : goal.returns-in_default
 returns-in_default c = λ table side items was their.
     let id = c.args.otid.octets.now in
     let none = sent_none table (other side) items c.args.peer.now id their
-    (rw c.to_transaction_id-id.ensures at c.in_default.ensures.value) in
-    (
+    (rw c.to_transaction_id-id.ensures at c.in_default.ensures.value) in (
       first_gets_none side items id none c.args.peer.now.joined,
       first_has_none side items id none c.args.own.now.over,
       refl,
@@ -28,9 +27,9 @@ returns c = λ table side items was their.
     on_ok_weaker c.insert_if.result
     (λ more. (
       first_gets side items id fresh c.args.peer.now.joined c.add_at_all.new.map
-      (c.in_ok-add_at_all.ensures ids among),
+          (c.in_ok-add_at_all.ensures ids among),
       first_has side items id fresh c.ended_one-ended.result (c.ended_one-ended.ensures table side items ids was among)
-      c.args.own.now.over c.insert_if.new.set more,
+          c.args.own.now.over c.insert_if.new.set more,
       refl,
       refl,
     ))

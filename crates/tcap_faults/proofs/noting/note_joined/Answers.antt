@@ -1,4 +1,4 @@
-use Rattle.std.proofs.Common.{sym, ◌∙◌}
+use Rattle.std.proofs.Common.{sym}
 use Rattle.std.proofs.lemmas.Result.{on_ok_weaker}
 use Rattle.tcap_faults.proofs.NotingLaws.{ends_not, ends_nowhere}
 use Rattle.tcap_faults.proofs.SentLaws.{joined_begin, joined_continue, joined_end, joined_nothing}
