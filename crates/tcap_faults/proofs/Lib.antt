@@ -30,7 +30,14 @@ pub mod RejectSums
 pub mod ComponentFinds
 pub mod KeyLaws
 pub mod NotedLists
+pub mod KeyLaws
 pub mod MapLaws
+pub mod JoinedLaws
+pub mod NotingLaws
+pub mod JoiningLaws
+pub mod ShownLaws
+pub mod StepLaws
+pub mod SentLaws
 pub mod IdsLaws
 pub mod FromLaws
 pub mod ToLaws

@@ -1,29 +1,27 @@
 //! What is kept behind a message more.
 
-ghost use Rattle.std.specs.Prelude.{◌≡◌, ℕ, Bool, List, [], ◌∷◌, ◌++◌, ◌&&◌, ◌||◌, Option, Some, not, option_copied, OnOk};
+ghost use Rattle.std.specs.Prelude.{◌≡◌, ℕ, List, [], ◌∷◌, ◌++◌, ◌&&◌, Some, not, option_copied, OnOk};
 ghost use Rattle.std.specs.List.{list_any};
 ghost use Rattle.std.specs.Str.{bytes_eq};
 ghost use Rattle.tcap_record.specs.declared.entry.End.{End as Side};
 ghost use Rattle.tcap_record.specs.Ends.{other};
+ghost use Rattle.tcap_msg.specs.declared.message.Message.{Message};
 ghost use Rattle.tcap_end.specs.End.{is_id};
 ghost use Rattle.tcap_end.specs.Table.{Table};
-ghost use Rattle.tcap_model.specs.Since.{ended_by};
 ghost use Rattle.tcap_model.specs.World.{Item, Sent};
-ghost use Rattle.tcap_refute.specs.Before.{asked, sent_by};
+ghost use Rattle.tcap_refute.specs.Before.{asked};
 ghost use Rattle.tcap_refute.specs.HalfKinds.{all_go_on_to, shows_closed};
 ghost use Rattle.tcap_faults.specs.Joining.{GetsMore, HasMore, IsJoined};
 ghost use Rattle.tcap_faults.specs.Ids.{AreAmong};
-ghost use Rattle.std.specs.BTreeMap.{BTreeMap};
-ghost use Rattle.std.specs.BTreeSet.{BTreeSet};
-ghost use Rattle.tcap_faults.specs.declared.ids.Ids.{Ids};
-ghost use Rattle.tcap_faults.specs.Kept.{AreFacts, IsSide, dtids_of, otids_of, sent_from, sent_to};
+ghost use Rattle.tcap_faults.specs.Kept.{AreFacts, IsSide, otids_of, sent_to};
+ghost use Rattle.tcap_faults.specs.Noting.{AreTo};
 ghost use Rattle.tcap_faults.specs.Tangled.{guesses, has_used, owns_of};
 ghost use Rattle.tcap_faults.specs.UsedAgain.{has_ended};
 
 use crate::facts::{Facts, SideFacts};
 use crate::ids::Ids;
 use crate::sent_from::note_from;
-use crate::sent_to::{ends, note_to};
+use crate::sent_to::{SentTo, ends, note_to};
 use crate::tangled::Ends;
 use std::alloc::{AllocError, Global};
 use std::collections::{BTreeMap, BTreeSet};
@@ -129,7 +127,11 @@ fn closed_at(own: &SideFacts, peer: &SideFacts, dtid: &TransactionId) -> Option<
 }
 
 /// The own ID that a message shows to be closed, where the end sends it now.
-fn closed_by<M: MessageParts>(own: &SideFacts, peer: &SideFacts, message: &M) -> Option<TransactionId>
+fn closed_by<M: MessageParts>(
+    own: &SideFacts,
+    peer: &SideFacts,
+    message: &M,
+) -> Option<TransactionId>
     ensures { (table : Table) (side : Side) (items : List Item) (id : List ℕ) → IsSide table side items own.now
         → IsSide table (other side) items peer.now
         → is_id id result ≡ shows_closed side id items (Sent side (M.meaning message.now)) }
@@ -144,7 +146,11 @@ fn closed_by<M: MessageParts>(own: &SideFacts, peer: &SideFacts, message: &M) ->
 
 /// The ID from which a message goes on, where its end guesses the other: it began that ID, and the other end has not used the
 /// one that it goes to.
-fn guessed_by<M: MessageParts>(own: &SideFacts, peer: &SideFacts, message: &M) -> Option<TransactionId>
+fn guessed_by<M: MessageParts>(
+    own: &SideFacts,
+    peer: &SideFacts,
+    message: &M,
+) -> Option<TransactionId>
     ensures { (table : Table) (side : Side) (items : List Item) (id : List ℕ) → IsSide table side items own.now
         → IsSide table (other side) items peer.now
         → is_id id result ≡ guesses (other side) id items (Sent side (M.meaning message.now)) }
@@ -162,11 +168,28 @@ fn guessed_by<M: MessageParts>(own: &SideFacts, peer: &SideFacts, message: &M) -
 }
 
 /// An ID more, where there is one.
-fn insert_some(set: &mut BTreeSet<TransactionId>, id: Option<TransactionId>) -> Result<(), AllocError>
+fn insert_some(
+    set: &mut BTreeSet<TransactionId>,
+    id: Option<TransactionId>,
+) -> Result<(), AllocError>
     ensures { OnOk result (HasMore (λ other. is_id other id) set.old set.new) }
 {
     if let Some(id) = id {
         set.insert(id)?;
+    }
+    Ok(())
+}
+
+/// An ID more, where that is so.
+fn insert_if(
+    set: &mut BTreeSet<TransactionId>,
+    so: bool,
+    id: TransactionIdView,
+) -> Result<(), AllocError>
+    ensures { OnOk result (HasMore (λ other. bytes_eq other id.entry.octets.now && so) set.old set.new) }
+{
+    if so {
+        set.insert(id.to_transaction_id())?;
     }
     Ok(())
 }
@@ -182,11 +205,11 @@ fn join_first(
         → IsSide table (other side) items peer.old
         → OnOk result (
         GetsMore (λ key. not (has_used side items otid.entry.octets.now)
-            && list_any (bytes_eq key) (otids_of (sent_to (other side) items otid.entry.octets.now)))
-            otid.entry.octets.now peer.old.joined peer.new.joined
+        && list_any (bytes_eq key) (otids_of (sent_to (other side) items otid.entry.octets.now)))
+        otid.entry.octets.now peer.old.joined peer.new.joined
         × HasMore (λ id. bytes_eq id otid.entry.octets.now && not (has_used side items otid.entry.octets.now)
-            && list_any (has_ended side items) (otids_of (sent_to (other side) items otid.entry.octets.now)))
-            own.old.over own.new.over
+        && list_any (has_ended side items) (otids_of (sent_to (other side) items otid.entry.octets.now)))
+        own.old.over own.new.over
         × (own.new ≡ record own.old { over = own.new.over })
         × (peer.new ≡ record peer.old { joined = peer.new.joined })) }
 {
@@ -198,10 +221,44 @@ fn join_first(
         return Ok(());
     };
     add_at_all(alloc, &mut peer.joined, &kept.from, otid)?;
-    if own.ended_one(&kept.from) {
-        own.over.insert(id)?;
+    let ended = own.ended_one(&kept.from);
+    insert_if(&mut own.over, ended, otid)
+}
+
+/// What a Continue from an own ID to one of the peer joins, by what was sent before.
+#[derive(Clone, Copy, Debug)]
+struct Joins {
+    /// Whether the end sent an End, or an Abort without cause, to the ID of the peer.
+    over: bool,
+    /// Whether the peer used its ID.
+    used: bool,
+    /// Whether it did, and sent an End, or an Abort without cause, to the own ID.
+    peer_over: bool,
+}
+
+impl Joins {
+    /// That of a Continue which is not noted yet.
+    fn of(
+        own: &SideFacts,
+        peer: &SideFacts,
+        otid: TransactionIdView,
+        dtid: TransactionIdView,
+    ) -> Joins
+        ensures { (table : Table) (side : Side) (items : List Item) → IsSide table side items own.now
+            → IsSide table (other side) items peer.now
+            → (result.over ≡ has_ended side items dtid.entry.octets.now)
+            × (result.used ≡ has_used (other side) items dtid.entry.octets.now)
+            × (result.peer_over ≡ has_used (other side) items dtid.entry.octets.now
+            && has_ended (other side) items otid.entry.octets.now) }
+    {
+        let id = dtid.to_transaction_id();
+        let used = peer.has_used(&id);
+        Joins {
+            over: own.has_ended(&id),
+            used,
+            peer_over: used && peer.has_ended(&otid.to_transaction_id()),
+        }
     }
-    Ok(())
 }
 
 /// A Continue from an own ID to one of the peer: they are joined.
@@ -211,32 +268,37 @@ fn join_continue(
     peer: &mut SideFacts,
     otid: TransactionIdView,
     dtid: TransactionIdView,
+    joins: Joins,
 ) -> Result<(), AllocError>
-    ensures { (table : Table) (side : Side) (items : List Item) (over : BTreeSet (List ℕ)) (joined : BTreeMap (List ℕ) Ids)
-        → IsSide table side items (record own.old { over = over })
-        → IsSide table (other side) items (record peer.old { joined = joined })
-        → OnOk result (
-        GetsMore (λ key. bytes_eq key otid.entry.octets.now && has_used (other side) items dtid.entry.octets.now)
-            dtid.entry.octets.now own.old.joined own.new.joined
-        × HasMore (λ id. bytes_eq id otid.entry.octets.now && has_ended side items dtid.entry.octets.now)
-            own.old.over own.new.over
-        × HasMore (λ id. bytes_eq id dtid.entry.octets.now && has_used (other side) items dtid.entry.octets.now
-            && has_ended (other side) items otid.entry.octets.now) peer.old.over peer.new.over
+    ensures { OnOk result (
+        GetsMore (λ key. bytes_eq key otid.entry.octets.now && joins.used)
+        dtid.entry.octets.now own.old.joined own.new.joined
+        × HasMore (λ id. bytes_eq id otid.entry.octets.now && joins.over) own.old.over own.new.over
+        × HasMore (λ id. bytes_eq id dtid.entry.octets.now && joins.peer_over) peer.old.over peer.new.over
         × (own.new ≡ record own.old { over = own.new.over; joined = own.new.joined })
         × (peer.new ≡ record peer.old { over = peer.new.over })) }
 {
-    let (own_id, id) = (otid.to_transaction_id(), dtid.to_transaction_id());
-    if own.has_ended(&id) {
-        own.over.insert(otid.to_transaction_id())?;
-    }
-    if !peer.has_used(&id) {
+    insert_if(&mut own.over, joins.over, otid)?;
+    insert_if(&mut peer.over, joins.peer_over, dtid)?;
+    if !joins.used {
         return Ok(());
     }
-    add_at(alloc, &mut own.joined, otid, dtid)?;
-    if peer.has_ended(&own_id) {
-        peer.over.insert(id)?;
-    }
-    Ok(())
+    add_at(alloc, &mut own.joined, otid, dtid)
+}
+
+/// The IDs from which Continues were sent to an ID.
+fn insert_from(
+    set: &mut BTreeSet<TransactionId>,
+    to: &BTreeMap<TransactionId, SentTo>,
+    id: &TransactionId,
+) -> Result<(), AllocError>
+    ensures { (table : Table) (lists : List ℕ → List Message) → AreTo table lists to.now
+        → OnOk result (HasMore (λ own. list_any (bytes_eq own) (otids_of (lists id.now))) set.old set.new) }
+{
+    let Some(kept) = to.get(id) else {
+        return Ok(());
+    };
+    insert_all(set, Some(&kept.from))
 }
 
 /// An end of the transaction with an ID of the peer: those of the end that are joined with it may be over.
@@ -245,18 +307,15 @@ fn end_all(own: &mut SideFacts, peer: &SideFacts, dtid: TransactionIdView) -> Re
         → IsSide table (other side) items peer.now
         → OnOk result (
         HasMore (λ id. not (has_ended side items dtid.entry.octets.now)
-            && list_any (bytes_eq id) (owns_of side items dtid.entry.octets.now)) own.old.over own.new.over
+        && list_any (bytes_eq id) (owns_of side items dtid.entry.octets.now)) own.old.over own.new.over
         × (own.new ≡ record own.old { over = own.new.over })) }
 {
     let id = dtid.to_transaction_id();
     if own.has_ended(&id) {
         return Ok(());
     }
-    let SideFacts { to, over, .. } = own;
-    if let Some(kept) = to.get(&id) {
-        insert_all(over, Some(&kept.from))?;
-    }
-    insert_all(over, peer.joined.get(&id))
+    insert_from(&mut own.over, &own.to, &id)?;
+    insert_all(&mut own.over, peer.joined.get(&id))
 }
 
 /// What a message more does to what is kept of joined IDs.
@@ -273,8 +332,9 @@ fn note_joined<M: MessageParts>(
     match (message.otid(), message.dtid()) {
         (Some(otid), None) => join_first(alloc, own, peer, otid),
         (Some(otid), Some(dtid)) => {
+            let joins = Joins::of(own, peer, otid, dtid);
             join_first(alloc, own, peer, otid)?;
-            join_continue(alloc, own, peer, otid, dtid)
+            join_continue(alloc, own, peer, otid, dtid, joins)
         }
         (None, Some(dtid)) if ends(message) => end_all(own, peer, dtid),
         _ => Ok(()),

@@ -1,0 +1,26 @@
+use Rattle.std.proofs.lemmas.Result.{on_ok_weaker}
+use Rattle.tcap_faults.specs.Kept.{sent_from, sent_to}
+use Rattle.tcap_faults.proofs.SentLaws.{from_was, own_sent, peer_sent, to_was}
+use Rattle.tcap_faults.proofs.noting.note_sent.Goals as goal
+
+pub returns : goal.returns
+returns g c = λ side items was their.
+    let m = g.M.MessageParts.meaning c.args.message.now in
+    let table = c.args.table.now in
+    let joined = c.in_ok-note_joined.ensures table side items was their in
+    let own = c.args.own.now in
+    let peer = c.args.peer.now in
+    let one = c.note_joined.new.own in
+    let there = c.note_joined.new.peer in
+    on_ok_weaker c.note_to.result
+    (λ tos. (
+      own_sent table side items m own peer was their one there joined c.note_from.new.from c.note_to.new.to
+          c.insert_some-2.new.set c.insert_some.new.set c.uses_again-again.result c.closed_by-closed.result
+          c.guessed_by-guessed.result
+          (c.in_ok-note_from.ensures (sent_from side items) (from_was table side items m own peer was their one there joined))
+          tos (c.uses_again-again.ensures side items was their)
+          (λ id. c.closed_by-closed.ensures table side items id was their) c.in_ok-insert_some.ensures
+          (λ id. c.guessed_by-guessed.ensures table side items id was their) c.in_ok-insert_some-2.ensures,
+      peer_sent table side items m own peer was their one there joined,
+    ))
+    (c.note_to.ensures (sent_to side items) (to_was table side items m own peer was their one there joined))
