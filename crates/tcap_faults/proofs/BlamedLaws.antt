@@ -1,11 +1,13 @@
 -- What is blamed on an end says of all runs.
-use Rattle.std.proofs.Common.{◌≡◌, inl, inr, Bool, true, false, cond, ℕ, zero, suc, ◌+◌, ◌-◌, List, [], ◌∷◌, ◌++◌, map, length, slice_get, Option, Some, None, Result, Ok, Err, not, refl, sym, ap, subst, ◌∙◌}
+use Rattle.std.proofs.Common.{◌≡◌, inl, inr, Bool, true, false, cond, ℕ, zero, suc, ◌+◌, ◌-◌, arith, List, [], ◌∷◌, ◌++◌, map, length, slice_get, Option, Some, None, Result, Ok, Err, not, refl, sym, ap, subst, ◌∙◌}
 use Rattle.std.specs.Prelude.{◌&&◌}
 use Rattle.std.specs.List.{find}
 use Rattle.std.proofs.lemmas.Bool.{and_parts}
 use Rattle.std.proofs.lemmas.List.{append_assoc, length-append, map-append}
 use Rattle.tcap_ber.specs.declared.fault.Fault.{Fault}
+use Rattle.tcap_ber.specs.Element.{IsRaw}
 use Rattle.tcap_msg.specs.declared.message.Message.{Message}
+use Rattle.tcap_msg.specs.Message.{Spells}
 use Rattle.tcap_record.specs.declared.entry.Body.{Body}
 use Rattle.tcap_record.specs.declared.entry.Body.TheVariants.{Good, Bad, Quiet}
 use Rattle.tcap_record.specs.declared.entry.End.{End as Side}
@@ -129,6 +131,9 @@ module _ (table : Table) (side : Side) (r : Refutation) (front : List Entry) (e 
             more = map item_of more;
             are = joined (Ok (Sent side message)) (read ∙ rw same refl);
             counted = counted kind is;
+            has_kind =
+                subst (λ (k : Kind). is_fault table side (since_quiet before) message k ≡ true)
+                (made_by (length before) kind r is).1 so;
             unsendable = λ events w behind runs keeps sent.
                 none_at_fault table events w before behind side message kind runs keeps sent so;
           }))
@@ -162,6 +167,10 @@ module _ (table : Table) (side : Side) (r : Refutation) (front : List Entry) (e 
             more = map item_of more;
             are = joined (Ok Item.Quiet) read;
             counted = counted kinds.OpenAtMark is;
+            has_kind = (
+              sym (made_by (length before) kinds.OpenAtMark r is).1,
+              (and_parts (not (has_used_again table side (since_quiet before))) _ so).1,
+            );
             none = λ events w behind runs keeps sent.
                 let never : true ≡ false =
                 sym open_there ∙ no_open_mark table events w before behind side runs keeps sent in cc;
@@ -206,13 +215,26 @@ blamed_at_fault table side entries r is = of_behind table side r [] entries [] r
 
 -- ---- octets that are no message
 
+-- what stands there, where the octets begin at that place of the record
+record StandsFrom (start : ℕ) (side : Side) (place : ℕ) (octets : List ℕ) : Type 0 where
+  front : List ℕ
+  element : List ℕ
+  behind : List ℕ
+  joined : octets ≡ front ++ (octet_of side ∷ (element ++ behind))
+  at : place ≡ start + length front + 1
+  raw : IsRaw element
+  none : (m : Message) → Spells m element → ⊥
+
 module _ (side : Side) (fault : Fault) (entry : Entry) (side_is : entry.side ≡ Some side) (body_is : entry.body ≡ Bad fault) where
-  first_none : (place : ℕ) (octets others : List ℕ) → IsEntry place entry octets others → HasNoMessage side octets
+  first_none : (place : ℕ) (octets others : List ℕ) → IsEntry place entry octets others
+      → StandsFrom place side entry.place octets
   first_none place octets others (inl sent) = record {
     front = [];
     element = sent.element;
     behind = others;
     joined = sent.joined ∙ ap (λ (s : Side). octet_of s ∷ (sent.element ++ others)) mine;
+    at = let there = sent.place_is in omega arith;
+    raw = sent.raw;
     none = (rw body_is at sent.body).0;
   }
     where
@@ -221,14 +243,19 @@ module _ (side : Side) (fault : Fault) (entry : Entry) (side_is : entry.side ≡
   first_none place octets others (inr mark) = let bad = sym mark.side_is ∙ side_is in cc
 
 -- what stands before others
-put_before : (side : Side) (front octets others : List ℕ) → octets ≡ front ++ others → HasNoMessage side others
-    → HasNoMessage side octets
-put_before side front octets others is it = record {
+put_before : (start : ℕ) (side : Side) (place : ℕ) (front octets others : List ℕ) → octets ≡ front ++ others
+    → StandsFrom (start + (length octets - length others)) side place others → StandsFrom start side place octets
+put_before start side place front octets others is it = record {
   front = front ++ it.front;
   element = it.element;
   behind = it.behind;
   joined = is ∙ ap (λ more. front ++ more) it.joined
       ∙ sym (append_assoc front it.front (octet_of side ∷ (it.element ++ it.behind)));
+  at =
+      let long = ap length is ∙ length-append front others in
+      let both = length-append front it.front in
+      let there = it.at in omega arith;
+  raw = it.raw;
   none = it.none;
 }
 
@@ -239,17 +266,26 @@ entry_before place entry octets others (inr mark) = (quiet_octet ∷ [], mark.jo
 
 none_from : (side : Side) (fault : Fault) (entry : Entry) (entries : List Entry) (place : ℕ) (octets rest : List ℕ)
     (number : ℕ) → FramedFrom place entries octets rest → slice_get entries number ≡ Some entry
-    → entry.side ≡ Some side → entry.body ≡ Bad fault → HasNoMessage side octets
+    → entry.side ≡ Some side → entry.body ≡ Bad fault → StandsFrom place side entry.place octets
 none_from side fault entry [] place octets rest number framed there side_is body_is = cc
 none_from side fault entry (e ∷ entries) place octets rest zero (others, is_entry, more) there side_is body_is =
     let same : e ≡ entry = cc in
     first_none side fault entry side_is body_is place octets others (rw (← same) is_entry)
 none_from side fault entry (e ∷ entries) place octets rest (suc n) (others, is_entry, more) there side_is body_is =
     let (front, joined) = entry_before place e octets others is_entry in
-    put_before side front octets others joined
+    put_before place side entry.place front octets others joined
     (none_from side fault entry entries (place + (length octets - length others)) others rest n more there side_is body_is)
 
 pub bad_has_none : (side : Side) (entries : List Entry) (octets rest : List ℕ) (number : ℕ)
-    → Framed entries octets rest → IsBadEntryOf side entries number → HasNoMessage side octets
+    → Framed entries octets rest → (bad : IsBadEntryOf side entries number) → HasNoMessage side bad.entry.place octets
 bad_has_none side entries octets rest number framed bad =
-    none_from side bad.fault bad.entry entries 0 octets rest number framed bad.there bad.side_is bad.body_is
+    let it = none_from side bad.fault bad.entry entries 0 octets rest number framed bad.there bad.side_is bad.body_is in
+    record {
+      front = it.front;
+      element = it.element;
+      behind = it.behind;
+      joined = it.joined;
+      at = let there = it.at in omega arith;
+      raw = it.raw;
+      none = it.none;
+    }

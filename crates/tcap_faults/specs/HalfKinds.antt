@@ -9,7 +9,7 @@ use Rattle.tcap_record.specs.declared.entry.End.{End as Side}
 use Rattle.tcap_end.specs.Dialogue.{is_response, is_user_abort}
 use Rattle.tcap_end.specs.End.{is_id}
 use Rattle.tcap_model.specs.World.{Item}
-use Rattle.tcap_refute.specs.Before.{has_a}
+use Rattle.tcap_refute.specs.Before.{has_a, is_a}
 use Rattle.tcap_refute.specs.HalfKinds.{is_provider_abort, is_request_of, was_closed}
 use Rattle.tcap_refute.specs.Speaker.{began, told}
 use Rattle.tcap_faults.specs.declared.how.How.{How}
@@ -36,7 +36,7 @@ goes_from_other side items how own m = false
 abbrev pub may_not_speak : How → Message → Bool
 may_not_speak Accepted m = false
 may_not_speak Begun m = false
-may_not_speak Unanswered m = not (is_provider_abort (dialogue_in m))
+may_not_speak Unanswered m = not (is_a forms.Abort m && is_provider_abort (dialogue_in m))
 may_not_speak Refused m = true
 may_not_speak Nowhere m = true
 

@@ -1,5 +1,5 @@
-//! What is blamed on an end says of all runs. Each function says by its contract alone what holds of every run in which that end
-//! keeps the rules, whatever its peer does.
+//! What it says of all runs that an entry is blamed on an end. Each function says by its contract alone what holds of every run in
+//! which that end keeps the rules of this profile, whatever its peer does.
 
 ghost use Rattle.std.specs.Prelude.{◌≡◌, ℕ, List, ◌∷◌, ◌++◌, true, Some};
 ghost use Rattle.tcap_msg.specs.declared.message.Message.{Message};
@@ -32,9 +32,10 @@ pub fn blamed_is_at_fault()
         → blamed table side entries ≡ Some r → IsAtFaultOf table side entries r }
 {}
 
-/// Where that is an entry whose octets are no message, the octets of the record have it: behind the octet of this end an element
-/// that spells no message.
+/// Where that is an entry whose octets are no message, the octets of the record have it at the entry's place: behind the octet of
+/// this end one element that spells no message.
 pub fn bad_entry_spells_nothing()
     ensures { (side : Side) (entries : List Entry) (octets rest : List ℕ) (number : ℕ)
-        → Framed entries octets rest → IsBadEntryOf side entries number → HasNoMessage side octets }
+        → Framed entries octets rest → (bad : IsBadEntryOf side entries number)
+        → HasNoMessage side bad.entry.place octets }
 {}

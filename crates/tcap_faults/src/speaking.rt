@@ -1,9 +1,12 @@
 //! The half of an end with an ID of its peer, read off what is kept, and messages that do not fit it (Q.774 3.2, 3.3).
 
-ghost use Rattle.std.specs.Prelude.{◌≡◌, ℕ, Bool, List, [], ◌∷◌, ◌++◌, Option, Some, None, false, map, IfOk, OnOk, option_copied, option_map};
+ghost use Rattle.std.specs.Prelude.{◌≡◌, ◌&&◌, ℕ, Bool, List, [], ◌∷◌, ◌++◌, Option, Some, None, false, map, IfOk, OnOk, option_copied, option_map};
 ghost use Rattle.std.specs.Option.{option_to_list};
 ghost use Rattle.tcap_parts.specs.DialogueMeaning.{dialogue_of};
+ghost use Rattle.tcap_msg.specs.declared.kind.Kind.TheVariants as forms;
 ghost use Rattle.tcap_msg.specs.declared.message.Message.{Message};
+ghost use Rattle.tcap_msg.specs.Parts.{dialogue_in};
+ghost use Rattle.tcap_refute.specs.Before.{is_a};
 ghost use Rattle.tcap_record.specs.declared.entry.End.{End as Side};
 ghost use Rattle.tcap_record.specs.Ends.{other};
 ghost use Rattle.tcap_end.specs.Table.{Table};
@@ -31,6 +34,13 @@ fn is_provider_abort(dialogue: Option<DialogueView>) -> bool
     ensures { result ≡ is_provider_abort (option_map dialogue_of dialogue.entry) }
 {
     matches!(dialogue, Some(DialogueView::Abort { source, .. }) if source.number == 1)
+}
+
+/// Whether a message is an Abort with such an ABRT.
+fn is_abort_of_provider<M: MessageParts>(message: &M) -> bool
+    ensures { result ≡ (is_a forms.Abort (M.meaning message.now) && is_provider_abort (dialogue_in (M.meaning message.now))) }
+{
+    matches!(message.kind(), Form::Abort) && is_provider_abort(message.dialogue())
 }
 
 /// The components of all Continues.
@@ -251,7 +261,7 @@ impl<'a> Ends<'a> {
     {
         let may_not_speak = match half.how {
             How::Accepted | How::Begun => false,
-            How::Unanswered => !is_provider_abort(message.dialogue()),
+            How::Unanswered => !is_abort_of_provider(message),
             How::Refused | How::Nowhere => true,
         };
         may_not_speak || self.goes_from_other(message, half) || self.was_closed(half.own.as_ref())
