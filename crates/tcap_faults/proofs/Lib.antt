@@ -34,3 +34,7 @@ pub mod MapLaws
 pub mod IdsLaws
 pub mod FromLaws
 pub mod ToLaws
+pub mod KindFinds
+pub mod FewLaws
+pub mod KeptLaws
+pub mod SearchLaws
