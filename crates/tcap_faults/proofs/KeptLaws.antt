@@ -93,10 +93,25 @@ either_fault table side items m is =
     by false true same so = cc
     by false false same so = fault_found table side items m same
 
-pub plain_so : (a b over : Bool) → (a || b || over) ≡ false → over ≡ false
-plain_so false false over is = is
-plain_so true b over is = cc
-plain_so false true over is = cc
+-- one of three, or none
+pub first_so : (a b c : Bool) → a ≡ true → (a || b || c) ≡ true
+first_so true b c is = refl
+first_so false b c is = cc
+
+pub second_so : (a b c : Bool) → b ≡ true → (a || b || c) ≡ true
+second_so true b c is = refl
+second_so false true c is = refl
+second_so false false c is = cc
+
+pub third_so : (a b c : Bool) → c ≡ true → (a || b || c) ≡ true
+third_so true b c is = refl
+third_so false true c is = refl
+third_so false false c is = is
+
+pub none_so : (a b c : Bool) → a ≡ false → b ≡ false → c ≡ false → (a || b || c) ≡ false
+none_so true b c is_a is_b is_c = cc
+none_so false true c is_a is_b is_c = cc
+none_so false false c is_a is_b is_c = is_c
 
 pub first_fault : (table : Table) (side : Side) (items : List Item) (m : Message) (kind : Kind)
     → (has_used_again table side items || uses_again table side items m || goes_over_tangled side items m) ≡ false

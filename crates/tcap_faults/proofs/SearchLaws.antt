@@ -3,7 +3,7 @@ use Rattle.std.proofs.Common.{◌≡◌, ℕ, suc, ◌+◌, ◌*◌, ◌≤◌, 
 use Rattle.std.specs.Prelude.{get_or}
 use Rattle.std.proofs.Math.Numerals.{suc-eq-add-one}
 use Rattle.std.proofs.Math.Seq.{drop-cons}
-use Rattle.std.proofs.lemmas.List.{length-append}
+use Rattle.std.proofs.lemmas.List.{drop_all, length-append}
 use Rattle.tcap_msg.specs.declared.message.Message.{Message}
 use Rattle.tcap_msg.specs.Parts.{components_in}
 use Rattle.tcap_record.specs.declared.entry.End.{End as Side}
@@ -55,39 +55,90 @@ pub peer_still : (table : Table) (items : List Item) (number : ℕ) (sender : Si
 peer_still table items number sender m side looking is =
     still number _ looking.is_over looking.found (peer_alone table side sender (since_quiet items) m is)
 
--- A message of an end is looked at: what was found of the sender is as it should be, and that of the other as it was.
-pub taken_so : (table : Table) (items : List Item) (number : ℕ) (sender : Side) (m : Message) (old new : SearchState)
-    → IsKept table (items ++ Sent sender m ∷ []) new.kept
-    → looking_at sender new ≡ looking_behind table items number (Sent sender m) sender (looking_at sender old)
-    → ((side : Side) → is_side side sender ≡ false → looking_at side new ≡ looking_at side old)
-    → IsTaken table items number (Sent sender m) old new
-taken_so table items number sides.A m old new are own peer = record {
-  are = are;
-  looking = by;
-}
-  where
-    by : (side : Side) → looking_at side new ≡ looking_behind table items number (Sent sides.A m) side (looking_at side old)
-    by sides.A = own
-    by sides.B = peer sides.B refl ∙ sym (peer_still table items number sides.A m sides.B old.b refl)
-taken_so table items number sides.B m old new are own peer = record {
-  are = are;
-  looking = by;
-}
-  where
-    by : (side : Side) → looking_at side new ≡ looking_behind table items number (Sent sides.B m) side (looking_at side old)
-    by sides.A = peer sides.A refl ∙ sym (peer_still table items number sides.B m sides.A old.a refl)
-    by sides.B = own
+-- ---- a message of an end
 
-pub put_own : (side : Side) (looking : Looking) (old : SearchState) → looking_at side (looking_put side looking old) ≡ looking
+-- What was found of its sender is as it should be, and what was found of the other is as it was.
+pub record IsLookedAt (table : Table) (items : List Item) (number : ℕ) (sender : Side) (m : Message) (old new : SearchState) : Type 0 where
+  pub kept : new.kept ≡ old.kept
+  pub own : looking_at sender new ≡ looking_behind table items number (Sent sender m) sender (looking_at sender old)
+  pub peer : (side : Side) → is_side side sender ≡ false → looking_at side new ≡ looking_at side old
+
+put_kept : (side : Side) (looking : Looking) (old : SearchState) → (looking_put side looking old).kept ≡ old.kept
+put_kept sides.A looking old = refl
+put_kept sides.B looking old = refl
+
+put_own : (side : Side) (looking : Looking) (old : SearchState) → looking_at side (looking_put side looking old) ≡ looking
 put_own sides.A looking old = refl
 put_own sides.B looking old = refl
 
-pub put_peer : (side sender : Side) (looking : Looking) (old : SearchState) → is_side side sender ≡ false
+put_peer : (side sender : Side) (looking : Looking) (old : SearchState) → is_side side sender ≡ false
     → looking_at side (looking_put sender looking old) ≡ looking_at side old
 put_peer sides.A sides.A looking old is = cc
 put_peer sides.A sides.B looking old is = refl
 put_peer sides.B sides.A looking old is = refl
 put_peer sides.B sides.B looking old is = cc
+
+-- Where the search for the sender is not over.
+pub looked_put : (table : Table) (items : List Item) (number : ℕ) (sender : Side) (m : Message) (old : SearchState)
+    (looking with_it : Looking) (kind : Option Kind) → looking ≡ looking_at sender old → looking.is_over ≡ false
+    → kind ≡ fault_since table sender (since_quiet items) (Sent sender m) → with_it ≡ looking_with number kind looking
+    → IsLookedAt table items number sender m old (looking_put sender with_it old)
+looked_put table items number sender m old looking with_it kind same over is put = record {
+  kept = put_kept sender with_it old;
+  own =
+      put_own sender with_it old
+      ∙ put
+      ∙ sym (looked_on table items number (Sent sender m) sender looking kind over is)
+      ∙ ap (looking_behind table items number (Sent sender m) sender) same;
+  peer = λ side apart. put_peer side sender with_it old apart;
+}
+
+-- Where it is.
+pub looked_over : (table : Table) (items : List Item) (number : ℕ) (sender : Side) (m : Message) (old : SearchState)
+    (looking : Looking) → looking ≡ looking_at sender old → looking.is_over ≡ true
+    → IsLookedAt table items number sender m old old
+looked_over table items number sender m old looking same over = record {
+  kept = refl;
+  own =
+      sym (over_still table items number (Sent sender m) sender (looking_at sender old) (sym (ap (λ l. l.is_over) same) ∙ over));
+  peer = λ side apart. refl;
+}
+
+pub message_taken : (table : Table) (items : List Item) (number : ℕ) (sender : Side) (m : Message) (old new : SearchState)
+    (kept : Kept) → IsLookedAt table items number sender m old new → IsKept table (items ++ Sent sender m ∷ []) kept
+    → IsTaken table items number (Sent sender m) old (record { kept = kept; a = new.a; b = new.b })
+message_taken table items number sides.A m old new kept looked are = record {
+  are = are;
+  looking = by;
+}
+  where
+    by : (side : Side) → looking_at side (record { kept = kept; a = new.a; b = new.b })
+        ≡ looking_behind table items number (Sent sides.A m) side (looking_at side old)
+    by sides.A = looked.own
+    by sides.B = looked.peer sides.B refl ∙ sym (peer_still table items number sides.A m sides.B old.b refl)
+message_taken table items number sides.B m old new kept looked are = record {
+  are = are;
+  looking = by;
+}
+  where
+    by : (side : Side) → looking_at side (record { kept = kept; a = new.a; b = new.b })
+        ≡ looking_behind table items number (Sent sides.B m) side (looking_at side old)
+    by sides.A = looked.peer sides.A refl ∙ sym (peer_still table items number sides.B m sides.A old.a refl)
+    by sides.B = looked.own
+
+pub mark_taken : (table : Table) (items : List Item) (number : ℕ) (old : SearchState) (kept : Kept) (a b : Looking)
+    → IsKept table (items ++ Item.Quiet ∷ []) kept → a ≡ looking_behind table items number Item.Quiet sides.A old.a
+    → b ≡ looking_behind table items number Item.Quiet sides.B old.b
+    → IsTaken table items number Item.Quiet old (record { kept = kept; a = a; b = b })
+mark_taken table items number old kept a b are is_a is_b = record {
+  are = are;
+  looking = by;
+}
+  where
+    by : (side : Side) → looking_at side (record { kept = kept; a = a; b = b })
+        ≡ looking_behind table items number Item.Quiet side (looking_at side old)
+    by sides.A = is_a
+    by sides.B = is_b
 
 -- ---- the entries
 
@@ -178,15 +229,18 @@ pub record IsSearched (table : Table) (entries : List Entry) (a b : Bool) (numbe
   pub of_a : a ≡ true → IsFound table sides.A entries items number state.a
   pub of_b : b ≡ true → IsFound table sides.B entries items number state.b
 
-pub started : (table : Table) (entries : List Entry) (a b : Bool) (kept : Kept) → IsKept table [] kept
-    → IsSearched table entries a b 0 (record { kept = kept; a = looking_first a; b = looking_first b })
-started table entries a b kept are = record {
+pub started : (table : Table) (entries : List Entry) (asked_a asked_b : Bool) (kept : Kept) (a b : Looking)
+    → IsKept table [] kept → a ≡ looking_first asked_a → b ≡ looking_first asked_b
+    → IsSearched table entries asked_a asked_b 0 (record { kept = kept; a = a; b = b })
+started table entries asked_a asked_b kept a b are is_a is_b = record {
   items = [];
   are = are;
   counted = refl;
   components = omega arith;
-  of_a = first_found table sides.A entries a;
-  of_b = first_found table sides.B entries b;
+  of_a = λ asked. subst (λ (l : Looking). IsFound table sides.A entries [] 0 l) (sym is_a)
+      (first_found table sides.A entries asked_a asked);
+  of_b = λ asked. subst (λ (l : Looking). IsFound table sides.B entries [] 0 l) (sym is_b)
+      (first_found table sides.B entries asked_b asked);
 }
 
 in_all : (items : List Item) (item : Item)
@@ -222,11 +276,13 @@ module _ (table : Table) (entries : List Entry) (a b : Bool) (number : ℕ) (sta
       roomy_more few item (let a = counted item is in omega (arith, a, small))
 
   -- There is none.
-  pub all_searched : drop number entries ≡ []
+  pub all_searched : length entries ≤ number
       → (a ≡ true → state.a.found ≡ blamed table sides.A entries) × (b ≡ true → state.b.found ≡ blamed table sides.B entries)
-  all_searched nothing = (
-    λ is. end_found table sides.A entries so_far.items number state.a.is_over state.a.found (so_far.of_a is) nothing,
-    λ is. end_found table sides.B entries so_far.items number state.b.is_over state.b.found (so_far.of_b is) nothing,
+  all_searched up = (
+    λ is. end_found table sides.A entries so_far.items number state.a.is_over state.a.found (so_far.of_a is)
+        (drop_all number entries up),
+    λ is. end_found table sides.B entries so_far.items number state.b.is_over state.b.found (so_far.of_b is)
+        (drop_all number entries up),
   )
 
   module _ (entry : Entry) (there : number < length entries) (is : entry ≡ get_or entries number entry) (new : SearchState)

@@ -1,23 +1,42 @@
-use Rattle.std.proofs.Common.{rules, ◌≡◌, ◌≤◌, ◌<◌, ◌^◌, ℕ, Bool, true, List, [], ◌∷◌, ◌++◌, Option, Some, Ok, length, IfOk, OnOk, ◌+◌, ◌-◌, ◌*◌, ◌/◌, ◌%◌, false, nat_eq, nat_lt, slice_index_or, slice_set, bit_and, bit_or, Fits, w8, w32, w64, Bor, MutBor}
-use Rattle.tcap_ber.specs.declared.fault.Fault.{Fault}
-use Rattle.tcap_msg.specs.Parts.{components_in}
-use Rattle.tcap_record.specs.declared.entry.End.{End as Side}
-use Rattle.tcap_record.specs.declared.entry.End.TheVariants as sides
-use Rattle.tcap_model.specs.declared.reason.Reason.TheVariants.{BadMessage}
-use Rattle.tcap_model.specs.Entries.{item_of}
-use Rattle.tcap_model.specs.World.{Item, Sent}
-use Rattle.tcap_faults.specs.Fault.{blamed}
-use Rattle.tcap_faults.specs.Searching.{AreRoomy, IsKept, IsTaken, Takes, components_in_all, looking_at, looking_bad, looking_behind, looking_first, looking_put, looking_with}
+use Rattle.std.proofs.Common.{arith}
+use Rattle.std.proofs.lemmas.Result.{IfOk-at_ok}
+use Rattle.tcap_faults.proofs.SearchLaws.{all_searched, roomy_next, searched_on, searched_up, started}
+use Rattle.tcap_faults.proofs.blaming.search.Goals.{else-loop-number-test, then-loop-number-test+in_ok-take+then-not-branch}
 use Rattle.tcap_faults.proofs.blaming.search.Goals as goal
 
--- src/blaming.rt:215:5
 pub loop-number-init : goal.loop-number-init
-loop-number-init c = ?
+loop-number-init c =
+    started c.args.table.now c.args.record.now.entries.items c.args.a c.args.b c.new.result c.new-2.result c.new-3.result
+    (c.new.ensures c.args.table.now) c.new-2.ensures c.new-3.ensures
 
--- src/blaming.rt:215:5
 pub loop-number-preserved : goal.loop-number-preserved
-loop-number-preserved c = ?
+loop-number-preserved c =
+    let known = c.loop-number.invariant in
+    searched_on c.args.table.now c.args.record.now.entries.items c.args.a c.args.b c.loop-number.number c.loop-number.state known
+    c.entry-item.result (rw c.deref-entry-items.ensures.value at c.loop-number-test.true)
+    (rw c.deref-entry-items.ensures.value at c.entry-item.is) c.take.new.self c.entry_count-count.result
+    c.entry_count-count.ensures.count c.entry_count-count.ensures.small
+    (rw c.if-not-branch.false at (c.in_ok-take.ensures known.items known.are
+    (roomy_next c.args.table.now c.args.record.now.entries.items c.args.a c.args.b c.loop-number.number c.loop-number.state known
+    (omega (arith, c.loop-number-test.true, c.deref-entry-items.ensures.len)) c.entry_count-count.result
+    c.entry_count-count.ensures.small c.entry-item.result c.entry_count-count.ensures.count)))
 
--- src/blaming.rt:200:1
 pub returns : goal.returns
-returns c = ?
+returns c =
+    let known = c.loop-number.invariant in
+    elim c.loop-number-test.branch [
+      | else-loop-number-test w ↦ rw w.state-is
+          (all_searched c.args.table.now c.args.record.now.entries.items c.args.a c.args.b c.loop-number.number
+          c.loop-number.state known (rw c.deref-entry-items.ensures.value at w.loop-number-test.false))
+      | then-loop-number-test+in_ok-take+then-not-branch w ↦ rw w.state-is
+          (searched_up c.args.table.now c.args.record.now.entries.items c.args.a c.args.b c.loop-number.number
+          c.loop-number.state known w.entry-item.result
+          (rw c.deref-entry-items.ensures.value at w.loop-number-test.true)
+          (rw c.deref-entry-items.ensures.value at w.entry-item.is) w.take.new.self w.entry_count-count.result
+          w.entry_count-count.ensures.count w.entry_count-count.ensures.small
+          (rw w.if-not-branch.true at (w.in_ok-take.ensures known.items known.are
+          (roomy_next c.args.table.now c.args.record.now.entries.items c.args.a c.args.b c.loop-number.number
+          c.loop-number.state known (omega (arith, w.loop-number-test.true, c.deref-entry-items.ensures.len))
+          w.entry_count-count.result w.entry_count-count.ensures.small w.entry-item.result
+          w.entry_count-count.ensures.count))))
+    ]

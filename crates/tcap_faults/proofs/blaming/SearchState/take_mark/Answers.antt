@@ -1,15 +1,7 @@
-use Rattle.std.proofs.Common.{rules, ◌≡◌, ◌≤◌, ◌<◌, ◌^◌, ℕ, Bool, true, List, [], ◌∷◌, ◌++◌, Option, Some, Ok, length, IfOk, OnOk, ◌+◌, ◌-◌, ◌*◌, ◌/◌, ◌%◌, false, nat_eq, nat_lt, slice_index_or, slice_set, bit_and, bit_or, Fits, w8, w32, w64, Bor, MutBor}
-use Rattle.tcap_ber.specs.declared.fault.Fault.{Fault}
-use Rattle.tcap_msg.specs.Parts.{components_in}
-use Rattle.tcap_record.specs.declared.entry.End.{End as Side}
-use Rattle.tcap_record.specs.declared.entry.End.TheVariants as sides
-use Rattle.tcap_model.specs.declared.reason.Reason.TheVariants.{BadMessage}
-use Rattle.tcap_model.specs.Entries.{item_of}
-use Rattle.tcap_model.specs.World.{Item, Sent}
-use Rattle.tcap_faults.specs.Fault.{blamed}
-use Rattle.tcap_faults.specs.Searching.{AreRoomy, IsKept, IsTaken, Takes, components_in_all, looking_at, looking_bad, looking_behind, looking_first, looking_put, looking_with}
+use Rattle.tcap_faults.proofs.SearchLaws.{mark_taken}
 use Rattle.tcap_faults.proofs.blaming.SearchState.take_mark.Goals as goal
 
--- src/blaming.rt:156:5
 pub returns : goal.returns
-returns c = ?
+returns c = λ items are.
+    mark_taken c.args.table.now items c.args.number c.args.self.now _ c.at_mark-a.result c.at_mark-b.result
+    (c.note_mark.ensures c.args.table.now items) (c.at_mark-a.ensures items are) (c.at_mark-b.ensures items are)

@@ -1,15 +1,25 @@
-use Rattle.std.proofs.Common.{rules, ◌≡◌, ◌≤◌, ◌<◌, ◌^◌, ℕ, Bool, true, List, [], ◌∷◌, ◌++◌, Option, Some, Ok, length, IfOk, OnOk, ◌+◌, ◌-◌, ◌*◌, ◌/◌, ◌%◌, false, nat_eq, nat_lt, slice_index_or, slice_set, bit_and, bit_or, Fits, w8, w32, w64, Bor, MutBor}
-use Rattle.tcap_ber.specs.declared.fault.Fault.{Fault}
-use Rattle.tcap_msg.specs.Parts.{components_in}
-use Rattle.tcap_record.specs.declared.entry.End.{End as Side}
-use Rattle.tcap_record.specs.declared.entry.End.TheVariants as sides
-use Rattle.tcap_model.specs.declared.reason.Reason.TheVariants.{BadMessage}
-use Rattle.tcap_model.specs.Entries.{item_of}
-use Rattle.tcap_model.specs.World.{Item, Sent}
-use Rattle.tcap_faults.specs.Fault.{blamed}
-use Rattle.tcap_faults.specs.Searching.{AreRoomy, IsKept, IsTaken, Takes, components_in_all, looking_at, looking_bad, looking_behind, looking_first, looking_put, looking_with}
+use Rattle.std.proofs.Common.{◌≡◌, sym, subst}
+use Rattle.std.proofs.lemmas.Result.{IfOk-at_ok, on_ok_weaker}
+use Rattle.tcap_faults.specs.declared.kept.Kept.{Kept}
+use Rattle.tcap_faults.specs.Searching.{IsKept}
+use Rattle.tcap_faults.proofs.SearchLaws.{IsLookedAt, looked_over, looked_put, message_taken}
+use Rattle.tcap_faults.proofs.blaming.SearchState.take_message.Goals.{then-not-looking+in_ok-kind, else-not-looking}
 use Rattle.tcap_faults.proofs.blaming.SearchState.take_message.Goals as goal
 
--- src/blaming.rt:123:5
 pub returns : goal.returns
-returns g c = ?
+returns g c = λ items are roomy.
+    let m = g.M.MessageParts.meaning c.args.message.now in
+    let table = c.args.table.now in
+    let old = c.args.self.now in
+    let looked : IsLookedAt table items c.args.number c.args.sender m old c.if-not-looking.self = elim c.if-not-looking.branch [
+      | then-not-looking+in_ok-kind w ↦ rw (w.self-is, w.put.ensures)
+          (looked_put table items c.args.number c.args.sender m old c.of-looking.result w.with.result w.in_ok-kind.kind
+          c.of-looking.ensures w.if-not-looking.true
+          (IfOk-at_ok _ w.in_ok-kind.was (w.fault_of.ensures items are roomy)) w.with.ensures)
+      | else-not-looking w ↦ rw w.self-is
+          (looked_over table items c.args.number c.args.sender m old c.of-looking.result
+          c.of-looking.ensures w.if-not-looking.false)
+    ] in
+    on_ok_weaker c.note.result
+    (message_taken table items c.args.number c.args.sender m old c.if-not-looking.self c.note.new.self looked)
+    (c.note.ensures items (subst (λ (k : Kept). IsKept table items k) (sym looked.kept) are))

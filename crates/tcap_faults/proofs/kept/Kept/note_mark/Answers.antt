@@ -1,13 +1,5 @@
-use Rattle.std.proofs.Common.{rules, ◌≡◌, List, [], ◌∷◌, ◌++◌, IfOk, OnOk, ℕ, ◌+◌, ◌-◌, ◌*◌, ◌<◌, ◌≤◌, length, ◌/◌, ◌%◌, Bool, true, false, nat_eq, nat_lt, slice_index_or, slice_set, bit_and, bit_or, Fits, w8, w32, w64, Bor, MutBor}
-use Rattle.tcap_end.specs.Table.{Table}
-use Rattle.tcap_model.specs.World.{Item, Sent}
-use Rattle.tcap_refute.specs.Before.{since_quiet}
-use Rattle.tcap_faults.specs.Fault.{fault_since}
-use Rattle.tcap_record.specs.Ends.{other}
-use Rattle.tcap_faults.specs.Kept.{IsSide}
-use Rattle.tcap_faults.specs.Searching.{AreRoomy, IsKept}
+use Rattle.tcap_faults.proofs.KeptLaws.{kept_mark}
 use Rattle.tcap_faults.proofs.kept.Kept.note_mark.Goals as goal
 
--- src/kept.rt:102:5
 pub returns : goal.returns
-returns c = ?
+returns c = λ table items. kept_mark table items _ (c.add_mark.ensures table items) (c.new.ensures table)
