@@ -16,11 +16,11 @@ returns-then-ends g c = λ items are roomy.
     let (own, peer) = c.ends-ends.ensures table items are in
     let so : (has_used_again table side xs || uses_again table side xs m || goes_over_tangled side xs m) ≡ true =
     elim c.then-ends.branch [
-      | then-ends-via-then-ends w ↦ first_so _ _ _ (sym own.again ∙ w.if-ends.true)
+      | then-ends-via-then-ends w ↦ first_so (has_used_again table side xs) (uses_again table side xs m) _ (sym own.again ∙ w.if-ends.true)
       | then-ends-via-else-ends+then-uses_again w ↦
-          second_so _ _ _ (sym (w.uses_again.ensures side xs own peer) ∙ w.if-uses_again.true)
+          second_so (has_used_again table side xs) (uses_again table side xs m) _ (sym (w.uses_again.ensures side xs own peer) ∙ w.if-uses_again.true)
       | then-ends-via-else-ends+else-uses_again+then-goes_over_tangled w ↦
-          third_so _ _ _ (sym (w.goes_over_tangled.ensures table side xs own peer) ∙ w.if-goes_over_tangled.true)
+          third_so (has_used_again table side xs) (uses_again table side xs m) _ (sym (w.goes_over_tangled.ensures table side xs own peer) ∙ w.if-goes_over_tangled.true)
     ] in
     no_fault table side xs m so
 
@@ -32,7 +32,7 @@ returns-in-Some g c = λ items are roomy.
     let xs = since_quiet items in
     let (own, peer) = c.ends-ends.ensures table items are in
     first_fault table side xs m c.in-Some.kind
-    (none_so _ _ _ (sym own.again ∙ c.if-ends.false)
+    (none_so (has_used_again table side xs) (uses_again table side xs m) _ (sym own.again ∙ c.if-ends.false)
     (sym (c.uses_again.ensures side xs own peer) ∙ c.if-uses_again.false)
     (sym (c.goes_over_tangled.ensures table side xs own peer) ∙ c.if-goes_over_tangled.false))
     (c.in-Some.ensures items are.notes)
@@ -46,7 +46,7 @@ returns-in-None g c = λ items are roomy.
     let (own, peer) = c.ends-ends.ensures table items are in
     let plain = sym (c.goes_over_tangled.ensures table side xs own peer) ∙ c.if-goes_over_tangled.false in
     further_fault table side xs m c.further_kind.result
-    (none_so _ _ _ (sym own.again ∙ c.if-ends.false)
+    (none_so (has_used_again table side xs) (uses_again table side xs m) _ (sym own.again ∙ c.if-ends.false)
     (sym (c.uses_again.ensures side xs own peer) ∙ c.if-uses_again.false) plain)
     (c.in-None.ensures items are.notes)
     (c.further_kind.ensures side xs own peer plain (still_roomy side items m roomy))
