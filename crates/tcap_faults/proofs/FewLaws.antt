@@ -1,5 +1,5 @@
 -- What a half heard, told and invoked are no more components than the items have.
-use Rattle.std.proofs.Common.{◌≡◌, ℕ, ◌+◌, ◌≤◌, ◌^◌, arith, Bool, true, false, cond, ◌&&◌, List, [], ◌∷◌, ◌++◌, length, filter, Option, Some, None, refl, sym, ap, ◌∙◌}
+use Rattle.std.proofs.Common.{◌≡◌, ℕ, ◌+◌, ◌≤◌, ◌^◌, arith, Bool, true, false, cond, ◌&&◌, List, [], ◌∷◌, ◌++◌, length, filter, Option, Some, None, refl}
 use Rattle.std.specs.Prelude.{is_none}
 use Rattle.std.specs.List.{find}
 use Rattle.std.specs.Option.{option_to_list}

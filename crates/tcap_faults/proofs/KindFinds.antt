@@ -18,7 +18,7 @@ use Rattle.tcap_faults.specs.Fault.{further_kinds, is_fault, is_of_further_kind,
 use Rattle.tcap_faults.specs.HalfKinds.{is_wrong_dialogue, is_wrong_half}
 use Rattle.tcap_faults.specs.HalfOf.{HalfOf, half_of}
 use Rattle.tcap_faults.specs.Searching.{kind_of_components}
-use Rattle.tcap_faults.specs.Tangled.{are_tangled, far, goes_over_tangled, is_own_tangled, is_peer_tangled, near, own_of_continue}
+use Rattle.tcap_faults.specs.Tangled.{are_tangled, goes_over_tangled, is_own_tangled, is_peer_tangled, near, own_of_continue}
 
 -- ---- the further kinds
 

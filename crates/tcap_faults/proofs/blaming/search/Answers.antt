@@ -1,5 +1,4 @@
 use Rattle.std.proofs.Common.{arith}
-use Rattle.std.proofs.lemmas.Result.{IfOk-at_ok}
 use Rattle.tcap_faults.proofs.SearchLaws.{all_searched, roomy_next, searched_on, searched_up, started}
 use Rattle.tcap_faults.proofs.blaming.search.Goals.{else-loop-number-test, then-loop-number-test+in_ok-take+then-not-branch}
 use Rattle.tcap_faults.proofs.blaming.search.Goals as goal
