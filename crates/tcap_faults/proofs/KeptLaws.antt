@@ -2,12 +2,11 @@
 use Rattle.std.proofs.Common.{◌≡◌, Bool, true, false, cond, not, ◌&&◌, ◌||◌, List, [], ◌∷◌, ◌++◌, Option, Some, None, Result, Ok, Err, refl, sym, ap, ap₂, subst, ◌∙◌}
 use Rattle.std.specs.Prelude.{IfOk}
 use Rattle.std.specs.List.{find}
-use Rattle.std.proofs.Math.Bool.{or_assoc}
+use Rattle.std.proofs.Math.Bool.{or-false, or_assoc}
 use Rattle.std.proofs.lemmas.List.{append-nil, append_assoc}
 use Rattle.tcap_msg.specs.declared.message.Message.{Message}
 use Rattle.tcap_msg.specs.Parts.{dtid_in}
 use Rattle.tcap_record.specs.declared.entry.End.{End as Side}
-use Rattle.tcap_record.specs.declared.entry.End.TheVariants as sides
 use Rattle.tcap_end.specs.Table.{Table}
 use Rattle.tcap_model.specs.World.{Item, Sent, is_side}
 use Rattle.tcap_refute.specs.declared.kind.Kind.{Kind}
@@ -15,6 +14,7 @@ use Rattle.tcap_refute.specs.Before.{since_quiet}
 use Rattle.tcap_refute.specs.FirstKinds.{first_kinds, is_of_first_kind}
 use Rattle.tcap_refute.specs.Kept.{AreNotesOf}
 use Rattle.tcap_refute.specs.Kind.{or_else}
+use Rattle.tcap_refute.proofs.BeforeLaws.{is_itself}
 use Rattle.tcap_refute.proofs.ItemLaws.{since_mark, since_more}
 use Rattle.tcap_faults.specs.declared.kept.Kept.{Kept}
 use Rattle.tcap_faults.specs.Fault.{fault_since, further_kinds, is_fault, is_of_further_kind}
@@ -26,30 +26,22 @@ use Rattle.tcap_faults.proofs.KindFinds.{fault_found, none_found}
 
 -- ---- own IDs that are used again
 
-or_false : (b : Bool) → (b || false) ≡ b
-or_false true = refl
-or_false false = refl
-
 -- Whether one passes of these items and one more.
-pub passes_more : (p : List Item → Item → Bool) (seen xs : List Item) (item : Item)
+passes_more : (p : List Item → Item → Bool) (seen xs : List Item) (item : Item)
     → one_passes p seen (xs ++ item ∷ []) ≡ (one_passes p seen xs || p (seen ++ xs) item)
-passes_more p seen [] item = or_false (p seen item) ∙ ap (λ ys. p ys item) (sym (append-nil seen))
+passes_more p seen [] item = or-false (p seen item) ∙ ap (λ ys. p ys item) (sym (append-nil seen))
 passes_more p seen (x ∷ xs) item =
     ap (λ b. p seen x || b)
     (passes_more p (seen ++ x ∷ []) xs item
     ∙ ap (λ ys. one_passes p (seen ++ x ∷ []) xs || p ys item) (append_assoc seen (x ∷ []) xs))
     ∙ sym (or_assoc (p seen x) (one_passes p (seen ++ x ∷ []) xs) (p (seen ++ (x ∷ xs)) item))
 
-is_itself_side : (side : Side) → is_side side side ≡ true
-is_itself_side sides.A = refl
-is_itself_side sides.B = refl
-
-pub again_more : (table : Table) (side : Side) (items : List Item) (m : Message)
+again_more : (table : Table) (side : Side) (items : List Item) (m : Message)
     → has_used_again table side (items ++ Sent side m ∷ [])
     ≡ (has_used_again table side items || uses_again table side items m)
 again_more table side items m =
     passes_more (is_used_again table side) [] items (Sent side m)
-    ∙ ap (λ b. has_used_again table side items || (b && uses_again table side items m)) (is_itself_side side)
+    ∙ ap (λ b. has_used_again table side items || (b && uses_again table side items m)) (is_itself side)
 
 -- ---- the lowest kind of an own message
 
@@ -59,7 +51,7 @@ fault_is : (table : Table) (side : Side) (items : List Item) (m : Message)
     (find (is_fault table side items m) (first_kinds ++ further_kinds)) None
 fault_is table side items m =
     ap₂ (λ b c. cond (b && not c) (find (is_fault table side items m) (first_kinds ++ further_kinds)) None)
-    (is_itself_side side) (again_more table side items m)
+    (is_itself side) (again_more table side items m)
 
 -- Where an own ID is used again, or the message goes over tangled IDs, there is none.
 pub no_fault : (table : Table) (side : Side) (items : List Item) (m : Message)

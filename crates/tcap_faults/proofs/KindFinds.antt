@@ -1,7 +1,7 @@
--- The lowest of all kinds of a message, by the first ones and the further ones; and the lowest further kind, by its destination
--- ID and its cause.
+-- The lowest of all kinds of a message, by the first ones and the further ones; and the lowest further kind over a half.
 use Rattle.std.proofs.Common.{◌≡◌, ℕ, Bool, true, false, cond, not, ◌&&◌, ◌||◌, List, [], ◌∷◌, ◌++◌, Option, Some, None, refl, sym, ap, ap₂, ◌∙◌}
 use Rattle.std.specs.List.{find, list_any}
+use Rattle.std.proofs.Math.Bool.{or-false}
 use Rattle.std.proofs.lemmas.Bool.{or_parts}
 use Rattle.tcap_msg.specs.declared.message.Message.{Message}
 use Rattle.tcap_msg.specs.Parts.{cause_in, components_in, dtid_in}
@@ -10,32 +10,17 @@ use Rattle.tcap_end.specs.Table.{Table}
 use Rattle.tcap_model.specs.World.{Item}
 use Rattle.tcap_refute.specs.declared.kind.Kind.{Kind}
 use Rattle.tcap_refute.specs.declared.kind.Kind.TheVariants as kinds
-use Rattle.tcap_refute.specs.ComponentKinds.{has_component, invokes_again, is_linked}
+use Rattle.tcap_refute.specs.ComponentKinds.{has_component}
 use Rattle.tcap_refute.specs.FirstKinds.{first_kinds, is_of_first_kind}
 use Rattle.tcap_refute.specs.Kind.{or_else}
 use Rattle.tcap_faults.specs.ComponentKinds.{answers_again, invokes_busy, links_badly, rejects_wrongly}
-use Rattle.tcap_faults.specs.Fault.{further_kinds, is_fault, is_of_further_kind, is_of_half_kind, is_of_kind_to, is_wrong_reply}
+use Rattle.tcap_faults.specs.Fault.{further_kinds, is_fault, is_of_further_kind, is_of_half_kind, is_of_kind_to}
 use Rattle.tcap_faults.specs.HalfKinds.{is_wrong_dialogue, is_wrong_half}
 use Rattle.tcap_faults.specs.HalfOf.{HalfOf, half_of}
 use Rattle.tcap_faults.specs.Searching.{kind_of_components}
 use Rattle.tcap_faults.specs.Tangled.{are_tangled, goes_over_tangled, is_own_tangled, is_peer_tangled, near, own_of_continue}
 
 -- ---- the further kinds
-
--- Without a destination ID.
-pub alone_found : (table : Table) (side : Side) (items : List Item) (m : Message) → dtid_in m ≡ None
-    → find (is_of_further_kind table side items m (dtid_in m)) further_kinds
-    ≡ kind_of_components (has_component invokes_again [] [] (components_in m)) (list_any is_linked (components_in m)) false false
-alone_found table side items m none = ap (λ o. find (is_of_further_kind table side items m o) further_kinds) none
-
--- An Abort of the provider.
-pub reply_found : (table : Table) (side : Side) (items : List Item) (m : Message) (id : List ℕ) (n : ℕ)
-    → dtid_in m ≡ Some id → cause_in m ≡ Some n
-    → find (is_of_further_kind table side items m (dtid_in m)) further_kinds
-    ≡ cond (is_wrong_reply table side id items (half_of side items id) n) (Some kinds.WrongReply) None
-reply_found table side items m id n there is =
-    ap (λ o. find (is_of_further_kind table side items m o) further_kinds) there
-    ∙ ap (λ o. find (is_of_kind_to table side id items m o) further_kinds) is
 
 -- A message that goes over a half.
 pub half_found : (table : Table) (side : Side) (items : List Item) (m : Message) (id : List ℕ)
@@ -107,10 +92,6 @@ find_two p (x ∷ xs) ys = by (p x) (find_two p xs ys)
     by true rest = refl
     by false rest = rest
 
-or_false : (b : Bool) → (b || false) ≡ b
-or_false true = refl
-or_false false = refl
-
 -- the kinds of a message that goes over no tangled IDs
 abbrev either_kind : Table → Side → List Item → Message → Option (List ℕ) → Kind → Bool
 either_kind table side items m id kind =
@@ -136,7 +117,7 @@ first_alone : (table : Table) (side : Side) (items : List Item) (m : Message)
     → find (either_kind table side items m (dtid_in m)) first_kinds ≡ find (is_of_first_kind table side items m) first_kinds
 first_alone table side items m =
     no_further table side items m (dtid_in m) (cause_in m) refl
-    ∙ same_find _ _ first_kinds (λ kind. or_false (is_of_first_kind table side items m kind))
+    ∙ same_find _ _ first_kinds (λ kind. or-false (is_of_first_kind table side items m kind))
 
 -- None of the further kinds is a first one.
 further_alone : (table : Table) (side : Side) (items : List Item) (m : Message) (id : Option (List ℕ))

@@ -36,20 +36,20 @@ still number kind true found none = refl
 still number kind false found none = ap (λ k. looking_with number k (look false found)) none
 
 -- Where its search is over, nothing becomes another.
-pub over_still : (table : Table) (items : List Item) (number : ℕ) (item : Item) (side : Side) (looking : Looking)
+over_still : (table : Table) (items : List Item) (number : ℕ) (item : Item) (side : Side) (looking : Looking)
     → looking.is_over ≡ true → looking_behind table items number item side looking ≡ looking
 over_still table items number item side looking over =
     ap (λ b. cond b looking (looking_with number (fault_since table side (since_quiet items) item) looking)) over
 
 -- Else what was found is in the item.
-pub looked_on : (table : Table) (items : List Item) (number : ℕ) (item : Item) (side : Side) (looking : Looking)
+looked_on : (table : Table) (items : List Item) (number : ℕ) (item : Item) (side : Side) (looking : Looking)
     (kind : Option Kind) → looking.is_over ≡ false → kind ≡ fault_since table side (since_quiet items) item
     → looking_behind table items number item side looking ≡ looking_with number kind looking
 looked_on table items number item side looking kind over is =
     ap (λ b. cond b looking (looking_with number (fault_since table side (since_quiet items) item) looking)) over
     ∙ ap (λ k. looking_with number k looking) (sym is)
 
-pub peer_still : (table : Table) (items : List Item) (number : ℕ) (sender : Side) (m : Message) (side : Side) (looking : Looking)
+peer_still : (table : Table) (items : List Item) (number : ℕ) (sender : Side) (m : Message) (side : Side) (looking : Looking)
     → is_side side sender ≡ false → looking_behind table items number (Sent sender m) side looking ≡ looking
 peer_still table items number sender m side looking is =
     still number _ looking.is_over looking.found (peer_alone table side sender (since_quiet items) m is)
