@@ -336,8 +336,7 @@ module _ (table : Table) (entries : List Entry) (a b : Bool) (number : ℕ) (sta
             let so : IsTaken table so_far.items number item state new × (false ≡ (not new.a.is_over || not new.b.is_over))
             = rw good at takes in
             let next = item_taken item good so.0 in
-            let (a_over, b_over) = both_over new.a.is_over new.b.is_over so.1 in
-            (
+            let (a_over, b_over) = both_over new.a.is_over new.b.is_over so.1 in (
               λ asked. over_found table sides.A entries next.items (number + 1) new.a.is_over new.a.found
                   (next.of_a asked) a_over,
               λ asked. over_found table sides.B entries next.items (number + 1) new.b.is_over new.b.found
@@ -345,8 +344,7 @@ module _ (table : Table) (entries : List Entry) (a b : Bool) (number : ℕ) (sta
             )
         by (Err reason) bad =
             let so : (false ≡ false) × ((side : Side)
-            → looking_at side new ≡ looking_bad number entry.side reason side (looking_at side state)) = rw bad at takes in
-            (
+            → looking_at side new ≡ looking_bad number entry.side reason side (looking_at side state)) = rw bad at takes in (
               λ asked. bad_found table sides.A entries so_far.items number entry there is reason bad state.a.is_over
                   state.a.found new.a (so_far.of_a asked) (so.1 sides.A),
               λ asked. bad_found table sides.B entries so_far.items number entry there is reason bad state.b.is_over
