@@ -41,3 +41,7 @@ pub mod SentLaws
 pub mod IdsLaws
 pub mod FromLaws
 pub mod ToLaws
+pub mod KindFinds
+pub mod FewLaws
+pub mod KeptLaws
+pub mod SearchLaws

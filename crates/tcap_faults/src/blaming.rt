@@ -176,7 +176,13 @@ impl SearchState {
     }
 
     /// Takes the next entry, of that number: whether one behind it is looked at.
-    fn take(&mut self, alloc: Global, table: &Table, number: u64, entry: &Entry) -> Result<bool, AllocError>
+    fn take(
+        &mut self,
+        alloc: Global,
+        table: &Table,
+        number: u64,
+        entry: &Entry,
+    ) -> Result<bool, AllocError>
         ensures { (items : List Item) → IsKept table.now items self.old.kept
             → ((item : Item) → item_of entry.now ≡ Ok item → AreRoomy (items ++ item ∷ []))
             → IfOk result (λ more. Takes table.now items number entry.now more self.old self.new) }

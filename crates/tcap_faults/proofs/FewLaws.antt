@@ -1,0 +1,248 @@
+-- What a half heard, told and invoked are no more components than the items have.
+use Rattle.std.proofs.Common.{◌≡◌, ℕ, ◌+◌, ◌≤◌, ◌^◌, arith, Bool, true, false, cond, ◌&&◌, List, [], ◌∷◌, ◌++◌, length, filter, Option, Some, None, refl}
+use Rattle.std.specs.Prelude.{is_none}
+use Rattle.std.specs.List.{find}
+use Rattle.std.specs.Option.{option_to_list}
+use Rattle.std.proofs.lemmas.List.{length-append}
+use Rattle.tcap_msg.specs.declared.kind.Kind.TheVariants as forms
+use Rattle.tcap_msg.specs.declared.message.Message.{Message}
+use Rattle.tcap_msg.specs.declared.message.Message.TheVariants.{Unidirectional, Begin, Continue, End as EndMessage, Abort}
+use Rattle.tcap_msg.specs.Parts.{cause_in, components_in, dtid_in, otid_in}
+use Rattle.tcap_record.specs.declared.entry.End.{End as Side}
+use Rattle.tcap_record.specs.declared.entry.End.TheVariants as sides
+use Rattle.tcap_end.specs.End.{is_id}
+use Rattle.tcap_record.specs.Ends.{other}
+use Rattle.tcap_model.specs.World.{Item, Sent, has_quiet}
+use Rattle.tcap_refute.specs.Before.{asked, components_of, has_a, is_a, sent_by, since_quiet}
+use Rattle.tcap_refute.specs.HalfKinds.{is_request_of}
+use Rattle.tcap_refute.specs.Speaker.{begin_from, goes_on_to, told}
+use Rattle.tcap_faults.specs.HalfOf.{answered_from, begun_from, continued_to, from_first, half_by, half_of, heard_of, responds}
+use Rattle.tcap_faults.specs.Searching.{AreRoomy, components_in_all}
+use Rattle.tcap_faults.specs.Tallied.{AreFew}
+
+-- how many components messages have
+abbrev weight : List Message → ℕ
+weight ms = length (components_of ms)
+
+weight_more : (m : Message) (ms : List Message) → weight (m ∷ ms) ≡ length (components_in m) + weight ms
+weight_more m ms = length-append (components_in m) (components_of ms)
+
+weight_both : (xs ys : List Message) → weight (xs ++ ys) ≡ weight xs + weight ys
+weight_both [] ys = omega arith
+weight_both (x ∷ xs) ys =
+    let e = weight_more x (xs ++ ys) in let f = weight_both xs ys in let g = weight_more x xs in omega arith
+
+-- Two parts of messages that have nothing in common.
+apart : (p q : Message → Bool) (xs : List Message) → ((m : Message) → p m ≡ true → q m ≡ true → ⊥)
+    → weight (filter p xs) + weight (filter q xs) ≤ weight xs
+apart p q [] never = omega arith
+apart p q (x ∷ xs) never = by (p x) (q x) refl refl (apart p q xs never)
+  where
+    by : (a b : Bool) → p x ≡ a → q x ≡ b → weight (filter p xs) + weight (filter q xs) ≤ weight xs
+        → weight (cond a (x ∷ filter p xs) (filter p xs)) + weight (cond b (x ∷ filter q xs) (filter q xs)) ≤ weight (x ∷ xs)
+    by true true is_p is_q rest = absurd (never x is_p is_q)
+    by true false is_p is_q rest =
+        let e = weight_more x (filter p xs) in let f = weight_more x xs in omega (arith, rest)
+    by false true is_p is_q rest =
+        let e = weight_more x (filter q xs) in let f = weight_more x xs in omega (arith, rest)
+    by false false is_p is_q rest = let f = weight_more x xs in omega (arith, rest)
+
+part : (p : Message → Bool) (xs : List Message) → weight (filter p xs) ≤ weight xs
+part p xs = let e = apart p (λ m. false) xs (λ m is other. cc) in omega (arith, e)
+
+first_part : (p : Message → Bool) (xs : List Message) → weight (option_to_list (find p xs)) ≤ weight (filter p xs)
+first_part p [] = omega arith
+first_part p (x ∷ xs) = by (p x) (first_part p xs)
+  where
+    by : (b : Bool) → weight (option_to_list (find p xs)) ≤ weight (filter p xs)
+        → weight (option_to_list (cond b (Some x) (find p xs))) ≤ weight (cond b (x ∷ filter p xs) (filter p xs))
+    by true rest = let e = weight_more x (filter p xs) in let f = weight_more x [] in omega arith
+    by false rest = rest
+
+-- ---- what an end sent
+
+sent_items : (side : Side) (items : List Item) → weight (sent_by side items) + weight (sent_by (other side) items) ≤ components_in_all items
+sent_items side [] = omega arith
+sent_items sides.A (Sent sides.A m ∷ items) =
+    let e = weight_more m (sent_by sides.A items) in let f = sent_items sides.A items in omega arith
+sent_items sides.A (Sent sides.B m ∷ items) =
+    let e = weight_more m (sent_by sides.B items) in let f = sent_items sides.A items in omega arith
+sent_items sides.B (Sent sides.A m ∷ items) =
+    let e = weight_more m (sent_by sides.A items) in let f = sent_items sides.B items in omega arith
+sent_items sides.B (Sent sides.B m ∷ items) =
+    let e = weight_more m (sent_by sides.B items) in let f = sent_items sides.B items in omega arith
+sent_items sides.A (Item.Quiet ∷ items) = sent_items sides.A items
+sent_items sides.B (Item.Quiet ∷ items) = sent_items sides.B items
+
+sent_few : (side : Side) (items : List Item) → weight (sent_by side items) ≤ components_in_all items
+sent_few side items = let e = sent_items side items in omega arith
+
+asked_few : (side : Side) (id : List ℕ) (items : List Item) → weight (asked side id items) ≤ components_in_all items
+asked_few side id items =
+    let e = part (λ m. is_id id (otid_in m)) (sent_by (other side) items) in
+    let f = sent_few (other side) items in omega arith
+
+told_few : (side : Side) (id : List ℕ) (items : List Item) → weight (told side id items) ≤ components_in_all items
+told_few side id items =
+    let e = part (λ m. is_id id (dtid_in m) && is_none (cause_in m)) (sent_by side items) in
+    let f = sent_few side items in omega arith
+
+-- ---- what was invoked
+
+-- the Begin of the own ID is none of what was told
+abbrev begins_from : List ℕ → Message → Bool
+begins_from own m = is_a forms.Begin m && is_id own (otid_in m)
+
+abbrev tells_to : List ℕ → Message → Bool
+tells_to id m = is_id id (dtid_in m) && is_none (cause_in m)
+
+no_both : (own id : List ℕ) (m : Message) → begins_from own m ≡ true → tells_to id m ≡ true → ⊥
+no_both own id (Unidirectional dialogue components) is told = cc
+no_both own id (Begin otid dialogue components) is told = cc
+no_both own id (Continue otid dtid dialogue components) is told = cc
+no_both own id (EndMessage dtid dialogue components) is told = cc
+no_both own id (Abort dtid reason) is told = cc
+
+begun_invoked : (side : Side) (id : List ℕ) (items : List Item) (own : List ℕ)
+    → weight (option_to_list (begin_from side own items) ++ told side id items) ≤ components_in_all items
+begun_invoked side id items own =
+    let a = weight_both (option_to_list (begin_from side own items)) (told side id items) in
+    let c = first_part (begins_from own) (sent_by side items) in
+    let d = apart (begins_from own) (tells_to id) (sent_by side items) (no_both own id) in
+    let e = sent_few side items in
+    omega arith
+
+-- ---- what was heard
+
+begin_or_on : (own : List ℕ) (m : Message) → is_a forms.Begin m ≡ true → goes_on_to own m ≡ true → ⊥
+begin_or_on own (Unidirectional dialogue components) is goes = cc
+begin_or_on own (Begin otid dialogue components) is goes = cc
+begin_or_on own (Continue otid dtid dialogue components) is goes = cc
+begin_or_on own (EndMessage dtid dialogue components) is goes = cc
+begin_or_on own (Abort dtid reason) is goes = cc
+
+accepted_heard : (side : Side) (id : List ℕ) (items : List Item) (own : Option (List ℕ))
+    → weight (option_to_list (find (is_a forms.Begin) (asked side id items)) ++ continued_to side items id own)
+    ≤ components_in_all items
+accepted_heard side id items None =
+    let a = weight_both (option_to_list (find (is_a forms.Begin) (asked side id items))) [] in
+    let b = first_part (is_a forms.Begin) (asked side id items) in
+    let c = part (is_a forms.Begin) (asked side id items) in
+    let d = asked_few side id items in
+    omega arith
+accepted_heard side id items (Some own) =
+    let a = weight_both (option_to_list (find (is_a forms.Begin) (asked side id items)))
+    (filter (goes_on_to own) (asked side id items)) in
+    let b = first_part (is_a forms.Begin) (asked side id items) in
+    let c = apart (is_a forms.Begin) (goes_on_to own) (asked side id items) (begin_or_on own) in
+    let d = asked_few side id items in
+    omega arith
+
+from_part : (p : Message → Bool) (xs : List Message) → weight (from_first p xs) ≤ weight xs
+from_part p [] = omega arith
+from_part p (x ∷ xs) = by (p x) (from_part p xs)
+  where
+    by : (b : Bool) → weight (from_first p xs) ≤ weight xs → weight (cond b (x ∷ xs) (from_first p xs)) ≤ weight (x ∷ xs)
+    by true rest = omega arith
+    by false rest = let e = weight_more x xs in omega (arith, rest)
+
+heard_part : (begin : Option Message) (xs : List Message) → weight (heard_of begin xs) ≤ weight xs
+heard_part begin xs = by (is_request_of begin)
+  where
+    by : (b : Bool) → weight (cond b (from_first responds xs) xs) ≤ weight xs
+    by true = from_part responds xs
+    by false = omega arith
+
+begun_heard : (side : Side) (id : List ℕ) (items : List Item) (own : List ℕ)
+    → weight (heard_of (begin_from side own items) (continued_to side items id (Some own))) ≤ components_in_all items
+begun_heard side id items own =
+    let a = heard_part (begin_from side own items) (filter (goes_on_to own) (asked side id items)) in
+    let b = part (goes_on_to own) (asked side id items) in
+    let c = asked_few side id items in
+    omega arith
+
+-- ---- a half
+
+module _ (side : Side) (items : List Item) (id : List ℕ) where
+  heard_by : (begun : Bool) (own : Option (List ℕ)) → length (half_by side items id begun own).heard ≤ components_in_all items
+  heard_by true own = accepted_heard side id items (answered_from side items id)
+  heard_by false None = omega arith
+  heard_by false (Some own) = begun_heard side id items own
+
+  told_by : (begun : Bool) (own : Option (List ℕ)) → length (half_by side items id begun own).told ≤ components_in_all items
+  told_by true own = told_few side id items
+  told_by false None = omega arith
+  told_by false (Some own) = told_few side id items
+
+  invoked_by : (begun : Bool) (own : Option (List ℕ))
+      → length (half_by side items id begun own).invoked ≤ components_in_all items
+  invoked_by true own = told_few side id items
+  invoked_by false None = omega arith
+  invoked_by false (Some own) = begun_invoked side id items own
+
+  heard_few : length (half_of side items id).heard ≤ components_in_all items
+  heard_few = heard_by (has_a forms.Begin (asked side id items)) (begun_from side items id)
+
+  half_told : length (half_of side items id).told ≤ components_in_all items
+  half_told = told_by (has_a forms.Begin (asked side id items)) (begun_from side items id)
+
+  invoked_few : length (half_of side items id).invoked ≤ components_in_all items
+  invoked_few = invoked_by (has_a forms.Begin (asked side id items)) (begun_from side items id)
+
+pub all_more : (items : List Item) (side : Side) (m : Message)
+    → components_in_all (items ++ Sent side m ∷ []) ≡ components_in_all items + length (components_in m)
+all_more [] side m = omega arith
+all_more (Sent sender x ∷ items) side m = let e = all_more items side m in omega arith
+all_more (Item.Quiet ∷ items) side m = all_more items side m
+
+module _ (side : Side) (id : List ℕ) (items : List Item) (m : Message) (roomy : AreRoomy (items ++ Sent side m ∷ [])) where
+  all_items : components_in_all items + length (components_in m) ≤ 2 ^ 126
+  all_items = let a = roomy.components in let b = all_more items side m in omega (arith, a, b)
+
+  pub heard_are_few : AreFew (half_of side items id).heard
+  heard_are_few = let a = all_items in let b = heard_few side items id in omega (arith, a, b)
+
+  pub invoked_are_few : AreFew (half_of side items id).invoked
+  invoked_are_few = let a = all_items in let b = invoked_few side items id in omega (arith, a, b)
+
+  pub told_are_few : AreFew ((half_of side items id).told ++ components_in m)
+  told_are_few =
+      let a = all_items in
+      let b = half_told side items id in
+      let c = length-append (half_of side items id).told (components_in m) in
+      omega (arith, a, b, c)
+
+-- ---- since the last quiet mark
+
+since_few : (items : List Item) → components_in_all (since_quiet items) ≤ components_in_all items
+since_few [] = omega arith
+since_few (item ∷ items) = by item (has_quiet (item ∷ items)) (since_few items)
+  where
+    by : (item : Item) (b : Bool) → components_in_all (since_quiet items) ≤ components_in_all items
+        → components_in_all (cond b (since_quiet items) (item ∷ items)) ≤ components_in_all (item ∷ items)
+    by item false rest = omega arith
+    by (Sent side m) true rest = omega (arith, rest)
+    by Item.Quiet true rest = rest
+
+since_short : (items : List Item) → length (since_quiet items) ≤ length items
+since_short [] = omega arith
+since_short (item ∷ items) = by (has_quiet (item ∷ items)) (since_short items)
+  where
+    by : (b : Bool) → length (since_quiet items) ≤ length items
+        → length (cond b (since_quiet items) (item ∷ items)) ≤ length (item ∷ items)
+    by true rest = omega (arith, rest)
+    by false rest = omega arith
+
+-- what is few is few since the last quiet mark
+pub still_roomy : (side : Side) (items : List Item) (m : Message) → AreRoomy (items ++ Sent side m ∷ [])
+    → AreRoomy (since_quiet items ++ Sent side m ∷ [])
+still_roomy side items m roomy =
+    let a = since_few items in
+    let b = since_short items in
+    let c = all_more items side m in
+    let d = all_more (since_quiet items) side m in
+    let e = length-append items (Sent side m ∷ []) in
+    let f = length-append (since_quiet items) (Sent side m ∷ []) in
+    let g = roomy.few in
+    let h = roomy.components in
+    record { few = omega (arith, a, b, e, f, g); components = omega (arith, a, c, d, h) }

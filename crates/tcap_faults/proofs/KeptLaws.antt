@@ -1,0 +1,151 @@
+-- What the next item is to an end, by what is kept; and what is kept behind it.
+use Rattle.std.proofs.Common.{◌≡◌, Bool, true, false, cond, not, ◌&&◌, ◌||◌, List, [], ◌∷◌, ◌++◌, Option, Some, None, Result, Ok, Err, refl, sym, ap, ap₂, subst, ◌∙◌}
+use Rattle.std.specs.Prelude.{IfOk}
+use Rattle.std.specs.List.{find}
+use Rattle.std.proofs.Math.Bool.{or-false, or_assoc}
+use Rattle.std.proofs.lemmas.List.{append-nil, append_assoc}
+use Rattle.tcap_msg.specs.declared.message.Message.{Message}
+use Rattle.tcap_msg.specs.Parts.{dtid_in}
+use Rattle.tcap_record.specs.declared.entry.End.{End as Side}
+use Rattle.tcap_end.specs.Table.{Table}
+use Rattle.tcap_model.specs.World.{Item, Sent, is_side}
+use Rattle.tcap_refute.specs.declared.kind.Kind.{Kind}
+use Rattle.tcap_refute.specs.Before.{since_quiet}
+use Rattle.tcap_refute.specs.FirstKinds.{first_kinds, is_of_first_kind}
+use Rattle.tcap_refute.specs.Kept.{AreNotesOf}
+use Rattle.tcap_refute.specs.Kind.{or_else}
+use Rattle.tcap_refute.proofs.BeforeLaws.{is_itself}
+use Rattle.tcap_refute.proofs.ItemLaws.{since_mark, since_more}
+use Rattle.tcap_faults.specs.declared.kept.Kept.{Kept}
+use Rattle.tcap_faults.specs.Fault.{fault_since, further_kinds, is_fault, is_of_further_kind}
+use Rattle.tcap_faults.specs.Kept.{AreFacts}
+use Rattle.tcap_faults.specs.Searching.{IsKept}
+use Rattle.tcap_faults.specs.Tangled.{goes_over_tangled, one_passes}
+use Rattle.tcap_faults.specs.UsedAgain.{has_used_again, is_used_again, uses_again}
+use Rattle.tcap_faults.proofs.KindFinds.{fault_found, none_found}
+
+-- ---- own IDs that are used again
+
+-- Whether one passes of these items and one more.
+passes_more : (p : List Item → Item → Bool) (seen xs : List Item) (item : Item)
+    → one_passes p seen (xs ++ item ∷ []) ≡ (one_passes p seen xs || p (seen ++ xs) item)
+passes_more p seen [] item = or-false (p seen item) ∙ ap (λ ys. p ys item) (sym (append-nil seen))
+passes_more p seen (x ∷ xs) item =
+    ap (λ b. p seen x || b)
+    (passes_more p (seen ++ x ∷ []) xs item
+    ∙ ap (λ ys. one_passes p (seen ++ x ∷ []) xs || p ys item) (append_assoc seen (x ∷ []) xs))
+    ∙ sym (or_assoc (p seen x) (one_passes p (seen ++ x ∷ []) xs) (p (seen ++ (x ∷ xs)) item))
+
+again_more : (table : Table) (side : Side) (items : List Item) (m : Message)
+    → has_used_again table side (items ++ Sent side m ∷ [])
+    ≡ (has_used_again table side items || uses_again table side items m)
+again_more table side items m =
+    passes_more (is_used_again table side) [] items (Sent side m)
+    ∙ ap (λ b. has_used_again table side items || (b && uses_again table side items m)) (is_itself side)
+
+-- ---- the lowest kind of an own message
+
+fault_is : (table : Table) (side : Side) (items : List Item) (m : Message)
+    → fault_since table side items (Sent side m)
+    ≡ cond (not (has_used_again table side items || uses_again table side items m))
+    (find (is_fault table side items m) (first_kinds ++ further_kinds)) None
+fault_is table side items m =
+    ap₂ (λ b c. cond (b && not c) (find (is_fault table side items m) (first_kinds ++ further_kinds)) None)
+    (is_itself side) (again_more table side items m)
+
+-- Where an own ID is used again, or the message goes over tangled IDs, there is none.
+pub no_fault : (table : Table) (side : Side) (items : List Item) (m : Message)
+    → (has_used_again table side items || uses_again table side items m || goes_over_tangled side items m) ≡ true
+    → None ≡ fault_since table side items (Sent side m)
+no_fault table side items m is =
+    sym (fault_is table side items m
+    ∙ by (has_used_again table side items || uses_again table side items m) (goes_over_tangled side items m) refl is)
+  where
+    by : (again over : Bool) → goes_over_tangled side items m ≡ over → (again || over) ≡ true
+        → cond (not again) (find (is_fault table side items m) (first_kinds ++ further_kinds)) None ≡ None
+    by true over same so = refl
+    by false true same so = none_found table side items m same
+    by false false same so = cc
+
+-- Else it is the lowest of the first ones, or else of the further ones.
+either_fault : (table : Table) (side : Side) (items : List Item) (m : Message)
+    → (has_used_again table side items || uses_again table side items m || goes_over_tangled side items m) ≡ false
+    → fault_since table side items (Sent side m)
+    ≡ or_else (find (is_of_first_kind table side items m) first_kinds)
+    (find (is_of_further_kind table side items m (dtid_in m)) further_kinds)
+either_fault table side items m is =
+    fault_is table side items m
+    ∙ by (has_used_again table side items || uses_again table side items m) (goes_over_tangled side items m) refl is
+  where
+    by : (again over : Bool) → goes_over_tangled side items m ≡ over → (again || over) ≡ false
+        → cond (not again) (find (is_fault table side items m) (first_kinds ++ further_kinds)) None
+        ≡ or_else (find (is_of_first_kind table side items m) first_kinds)
+        (find (is_of_further_kind table side items m (dtid_in m)) further_kinds)
+    by true over same so = cc
+    by false true same so = cc
+    by false false same so = fault_found table side items m same
+
+-- one of three, or none
+pub first_so : (a b c : Bool) → a ≡ true → (a || b || c) ≡ true
+first_so true b c is = refl
+first_so false b c is = cc
+
+pub second_so : (a b c : Bool) → b ≡ true → (a || b || c) ≡ true
+second_so true b c is = refl
+second_so false true c is = refl
+second_so false false c is = cc
+
+pub third_so : (a b c : Bool) → c ≡ true → (a || b || c) ≡ true
+third_so true b c is = refl
+third_so false true c is = refl
+third_so false false c is = is
+
+pub none_so : (a b c : Bool) → a ≡ false → b ≡ false → c ≡ false → (a || b || c) ≡ false
+none_so true b c is_a is_b is_c = cc
+none_so false true c is_a is_b is_c = cc
+none_so false false c is_a is_b is_c = is_c
+
+pub first_fault : (table : Table) (side : Side) (items : List Item) (m : Message) (kind : Kind)
+    → (has_used_again table side items || uses_again table side items m || goes_over_tangled side items m) ≡ false
+    → Some kind ≡ find (is_of_first_kind table side items m) first_kinds
+    → Some kind ≡ fault_since table side items (Sent side m)
+first_fault table side items m kind is first =
+    sym (either_fault table side items m is
+    ∙ ap (λ o. or_else o (find (is_of_further_kind table side items m (dtid_in m)) further_kinds)) (sym first))
+
+pub further_fault : {E : Type 0} (table : Table) (side : Side) (items : List Item) (m : Message)
+    (result : Result (Option Kind) E)
+    → (has_used_again table side items || uses_again table side items m || goes_over_tangled side items m) ≡ false
+    → None ≡ find (is_of_first_kind table side items m) first_kinds
+    → IfOk result (λ kind. kind ≡ find (is_of_further_kind table side items m (dtid_in m)) further_kinds)
+    → IfOk result (λ kind. kind ≡ fault_since table side items (Sent side m))
+further_fault {E} table side items m (Err e) is none found = tt
+further_fault {E} table side items m (Ok kind) is none found =
+    found ∙ sym (either_fault table side items m is
+    ∙ ap (λ o. or_else o (find (is_of_further_kind table side items m (dtid_in m)) further_kinds)) (sym none))
+
+-- A message of the other end is no fault.
+pub peer_alone : (table : Table) (side sender : Side) (items : List Item) (m : Message) → is_side side sender ≡ false
+    → fault_since table side items (Sent sender m) ≡ None
+peer_alone table side sender items m is =
+    ap (λ b. cond (b && not (has_used_again table side (items ++ Sent sender m ∷ [])))
+    (find (is_fault table side items m) (first_kinds ++ further_kinds)) None) is
+
+-- ---- what is kept behind one item more
+
+pub kept_more : (table : Table) (sender : Side) (items : List Item) (m : Message) (kept : Kept)
+    → AreNotesOf table (items ++ Sent sender m ∷ []) kept.notes
+    → AreFacts table (since_quiet items ++ Sent sender m ∷ []) kept.facts
+    → IsKept table (items ++ Sent sender m ∷ []) kept
+kept_more table sender items m kept notes facts = record {
+  notes = notes;
+  facts = subst (λ (xs : List Item). AreFacts table xs kept.facts) (sym (since_more sender m items)) facts;
+}
+
+pub kept_mark : (table : Table) (items : List Item) (kept : Kept)
+    → AreNotesOf table (items ++ Item.Quiet ∷ []) kept.notes → AreFacts table [] kept.facts
+    → IsKept table (items ++ Item.Quiet ∷ []) kept
+kept_mark table items kept notes facts = record {
+  notes = notes;
+  facts = subst (λ (xs : List Item). AreFacts table xs kept.facts) (sym (since_mark items)) facts;
+}
