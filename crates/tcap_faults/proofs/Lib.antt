@@ -30,7 +30,6 @@ pub mod RejectSums
 pub mod ComponentFinds
 pub mod KeyLaws
 pub mod NotedLists
-pub mod KeyLaws
 pub mod MapLaws
 pub mod JoinedLaws
 pub mod NotingLaws

@@ -1,10 +1,7 @@
 -- What an end did wrong, whatever its peer did: all kinds of a message, by what stood before it since the last quiet mark
 -- (Q.771, Q.773, Q.774), and what is blamed on an end of a record.
-use Rattle.std.specs.Prelude.{ℕ, ℤ, ◌+◌, Bool, false, List, [], ◌∷◌, ◌++◌, map, Option, Some, None, Result, Ok, Err, ◌==◌, ◌&&◌, ◌||◌, not, nat_lt, cond}
+use Rattle.std.specs.Prelude.{ℕ, ◌+◌, Bool, false, List, [], ◌∷◌, ◌++◌, map, Option, Some, None, Result, Ok, Err, ◌==◌, ◌&&◌, ◌||◌, not, nat_lt, cond}
 use Rattle.std.specs.List.{find, list_any}
-use Rattle.tcap_parts.specs.declared.component.Component.{Component}
-use Rattle.tcap_parts.specs.declared.component.Component.TheVariants.{Invoke, ReturnResult, ReturnError, Reject}
-use Rattle.tcap_parts.specs.declared.problem.Problem.TheVariants as problems
 use Rattle.tcap_msg.specs.declared.kind.Kind.TheVariants as forms
 use Rattle.tcap_msg.specs.declared.message.Message.{Message}
 use Rattle.tcap_msg.specs.Parts.{cause_in, components_in, dtid_in, otid_in}
@@ -17,7 +14,7 @@ use Rattle.tcap_model.specs.Entries.{item_of}
 use Rattle.tcap_refute.specs.declared.kind.Kind.{Kind}
 use Rattle.tcap_refute.specs.declared.kind.Kind.TheVariants as kinds
 use Rattle.tcap_refute.specs.declared.kind.Refutation.{Refutation}
-use Rattle.tcap_refute.specs.Before.{asked, components_of, is_a, is_invoke_id, sent_by, since_quiet}
+use Rattle.tcap_refute.specs.Before.{asked, is_a, sent_by, since_quiet}
 use Rattle.tcap_refute.specs.Blame.{all_go_to_open, bad_entry_of, is_abort_with}
 use Rattle.tcap_refute.specs.ComponentKinds.{has_component, invokes_again, is_linked}
 use Rattle.tcap_refute.specs.Counts.{count}

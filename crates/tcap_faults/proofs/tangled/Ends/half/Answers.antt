@@ -1,4 +1,3 @@
-use Rattle.std.proofs.Common.{Some, sym}
 use Rattle.tcap_faults.proofs.SpeakingLaws.{begun_it, half_unasked}
 use Rattle.tcap_faults.proofs.tangled.Ends.half.Goals as goal
 

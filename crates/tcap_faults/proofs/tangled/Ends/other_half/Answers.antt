@@ -1,4 +1,4 @@
-use Rattle.std.proofs.Common.{◌≡◌, option_copied, refl, sym, ◌∙◌}
+use Rattle.std.proofs.Common.{◌≡◌, option_copied, refl}
 use Rattle.tcap_faults.proofs.SpeakingLaws.{begin_is, begin_kept, half_goes, half_not_begun, half_not_come, half_unjoined}
 use Rattle.tcap_faults.proofs.tangled.Ends.other_half.Goals as goal
 use Rattle.tcap_faults.proofs.tangled.Ends.other_half.Goals.{in-Some-get-2, in-None}
