@@ -15,8 +15,8 @@ use Rattle.tcap_refute.specs.ComponentKinds.{count_suited, is_linked_to, is_of_l
 use Rattle.tcap_refute.specs.Counts.{any_problem, count, count_class, count_lasting, has_class, invokes_linked, invokes_so, is_error, is_last_result, is_not_last, is_result, is_result_of, rejects_error, rejects_invoke, rejects_result, takes}
 use Rattle.tcap_faults.specs.HalfOf.{HalfOf}
 
--- A component stands behind those of its message, and behind those that the end told that ID before, these of the message
--- counted: both are given, the first one first.
+-- A component stands behind those of its message, `own`, and behind all that the end told that ID, `before`: those of earlier
+-- messages, and `own`.
 
 -- ---- F10: an invoke ID that is in use
 
@@ -33,9 +33,9 @@ may_reject_invoke id c = rejects_invoke id any_problem c || rejects_generally id
 abbrev pub may_reject_answer : ℤ → Component → Bool
 may_reject_answer id c = rejects_result id any_problem c || rejects_generally id c
 
--- More own invocations of an ID do not expire than can have ended. One of class 1 or 3 is ended by what the peer sent, a last
--- Return Result, a Return Error or a Reject, or by an own Reject of an answer; any of these, or an answer that is not the last
--- but is rejected, ends one. What the end told counts whole, this message too.
+-- More own invocations of an ID do not expire than can have ended: of class 1 and 3 more than last Return Results, Return Errors
+-- and Rejects were heard, and own Rejects of answers sent, this message counted whole; or of all more than answers, last or
+-- not, and Rejects were heard.
 abbrev pub is_busy : Table → HalfOf → List Component → ℤ → Bool
 is_busy table h all id =
     nat_lt (ends + count (may_reject_answer id) all) (of_class 1 + of_class 3)
@@ -103,7 +103,7 @@ answers_again table h own before c = false
 -- ---- F13: a Reject with a problem that nothing has; the components are those up to it
 
 -- by problem 6: no Invoke of the ID names an own invocation of an operation that lists nothing; by 7: none names one of an
--- operation that lists others
+-- operation that lists something, but not the Invoke's
 abbrev pub is_link_fine : Table → HalfOf → ℤ → ℕ → Bool
 is_link_fine table h id problem =
     (problem == 6 && not (list_any (is_linked_to (λ to code. lists_nothing table to) h.invoked id) h.heard))

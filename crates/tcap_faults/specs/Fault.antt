@@ -60,7 +60,7 @@ is_open_at_mark table side items = list_any (is_left_open table side items) (sen
 
 -- ---- all kinds of a message
 
--- F8 to F13, of a message to that ID that is no Abort of the provider. What no half may send is measured by nothing else.
+-- F8 to F13, of a message to that ID that is no Abort of the provider. Where F8 stands, the others are not asked.
 abbrev pub is_of_half_kind : Table → Side → List ℕ → List Item → Message → HalfOf → Kind → Bool
 is_of_half_kind table side id items m h kinds.WrongHalf = is_wrong_half side items m h
 is_of_half_kind table side id items m h kinds.WrongDialogue =
@@ -81,7 +81,7 @@ abbrev pub is_of_reply_kind : Table → Side → List ℕ → List Item → Half
 is_of_reply_kind table side id items h cause kinds.WrongReply = is_wrong_reply table side id items h cause
 is_of_reply_kind table side id items h cause kind = false
 
--- of a message without destination ID: nothing came before what it invokes
+-- of a message without destination ID: two Invokes of one ID, or a linked one
 abbrev pub is_of_alone_kind : Message → Kind → Bool
 is_of_alone_kind m kinds.InvokeIdBusy = has_component invokes_again [] [] (components_in m)
 is_of_alone_kind m kinds.BadLink = list_any is_linked (components_in m)
@@ -105,7 +105,7 @@ is_fault table side items m kind =
     not (goes_over_tangled side items m)
     && (is_of_first_kind table side items m kind || is_of_further_kind table side items m (dtid_in m) kind)
 
--- the further kinds, the lowest first
+-- F8 to F14, the lowest first
 abbrev pub further_kinds : List Kind
 further_kinds = kinds.WrongHalf ∷ kinds.WrongDialogue ∷ kinds.InvokeIdBusy ∷ kinds.BadLink ∷ kinds.AnsweredAlready
     ∷ kinds.RejectNotAllowed ∷ kinds.WrongReply ∷ []

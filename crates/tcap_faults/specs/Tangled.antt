@@ -1,5 +1,5 @@
--- Tangled transaction IDs: one transaction that was given two IDs, two transactions that were given one, or an ID that was
--- begun twice. Q.774 3.3 looks at no originating ID of a Continue to an active transaction, and says nothing of a peer that
+-- Tangled transaction IDs: one transaction that was given two IDs, two transactions that were given one, an ID that was begun
+-- twice, or one whose peer guesses the other. Q.774 3.3 looks at no originating ID of a Continue to an active transaction, and says nothing of a peer that
 -- does any of this. So what an end does over such IDs is no fault, whatever this profile chooses.
 use Rattle.std.specs.Prelude.{ℕ, Bool, false, List, [], ◌∷◌, ◌++◌, filter, filter_map, flat_map, Option, Some, None, ◌&&◌, ◌||◌, not, nat_le, cond}
 use Rattle.std.specs.List.{list_any}

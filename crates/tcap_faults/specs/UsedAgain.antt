@@ -28,7 +28,7 @@ may_be_over table side items own =
     || list_any (has_ended side items) (peers_of side items own)
 
 -- whether a message uses an own ID again: a Begin of it; or a Continue of it that answers a Begin of the peer, to which
--- nothing was told before
+-- nothing was told before, and with whose ID it is not joined
 abbrev pub uses_again : Table → Side → List Item → Message → Bool
 uses_again table side items (Begin otid dialogue components) =
     has_used side items otid && may_be_over table side items otid

@@ -3,13 +3,13 @@
 /// How the half of an end began that has an ID of the peer (Q.774 3.3), as a list of messages tells.
 #[derive(Clone, Copy, Debug, PartialEq, Eq)]
 pub enum How {
-    /// The end accepted a Begin of the peer.
+    /// The peer sent a Begin, and the end's provider did not refuse it.
     Accepted,
     /// Its provider refused the peer's Begin (P-Abort cause 4).
     Refused,
     /// The end sent a Begin, and the peer answered it by a Continue.
     Begun,
-    /// The end sent a Begin, and no Continue of the peer can be received as an answer to it.
+    /// The end sent a Begin, and of the Continues that the peer sent to it none can be received as an answer.
     Unanswered,
     /// There is no such half.
     Nowhere,

@@ -23,7 +23,8 @@ is_of_id id (ReturnError other code parameter) = is_invoke_id id other
 is_of_id id (Reject other problem) = false
 
 -- Whether a component answers or rejects what none of these is. A Reject with mistypedComponent (1) or
--- badlyStructuredComponent (2) of an ID that one of these has may be of that one: this profile takes parameters as they are.
+-- badlyStructuredComponent (2) of an ID of which one of these is an Invoke or an answer may be of that one: this profile takes
+-- parameters as they are.
 abbrev pub answers_none : List Component → Component → Bool
 answers_none components (Reject (Some id) (problems.General n)) =
     not ((n == 1 || n == 2) && list_any (is_of_id id) components)
