@@ -36,8 +36,8 @@ enum {
 /* What a call returns: the exit status of tcapjudge. */
 enum {
     TCAPJUDGE_STATUS_LAWFUL = 0,    /* by blame: both ends are, or the record is and no end is blamed */
-    TCAPJUDGE_STATUS_REFUTED = 1,   /* refuted, or an end is blamed */
-    TCAPJUDGE_STATUS_UNDECIDED = 2, /* undecided, not shown */
+    TCAPJUDGE_STATUS_REFUTED = 1,   /* by judge: refuted; by blame: an end is blamed */
+    TCAPJUDGE_STATUS_UNDECIDED = 2, /* undecided, not shown; by blame also refuted, where nobody is blamed */
     TCAPJUDGE_STATUS_FAULT = 3,     /* of the table, the certificate or the record; or memory ran out */
     TCAPJUDGE_STATUS_WRONG_CALL = 4 /* end is none of 0, 'A' and 'B' */
 };

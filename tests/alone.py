@@ -1,17 +1,15 @@
 """Records, with what is said of one end alone, by the certificate that is proposed for it (`judge --end`) and by a certificate that
 is given (`check --end`): `tests/program.py` runs them. They are written as in judged.py."""
 
-import json
-
 import blamed
 import judged
+from blamed import BEGIN_2, END_1
 from judged import BACK, BEGIN, CLOSED, CONTINUE, END, INVOKE, NO_MESSAGE, OTHER, REFUSED, REQUEST, RESULT, TABLE, TO_NINE
 
 # The same table, where transactions may end by prearrangement.
 PREARRANGED = TABLE[:-1] + ',"prearranged":true}'
 
-END_1, CONTINUE_3, BEGIN_2, BEGIN_4 = "6403490101", "6506480103490101", "6203480102", "6203480104"
-CLOSED_1, LINKED_TO_NINE = "67064901014A0101", "6506480102490109"
+CONTINUE_3, BEGIN_4, CLOSED_1, LINKED_TO_NINE = "6506480103490101", "6203480104", "67064901014A0101", "6506480102490109"
 
 # The entries, what `judge --end A` prints, what `judge --end B` prints, and, where it is not TABLE, the table.
 JUDGED = [
@@ -117,10 +115,7 @@ def later(line, count):
 def known():
     """Of each record of faults.json, and of it behind a quiet mark, its name, its octets, those of its table, and for each end what
     is said of it alone."""
-    with open(blamed.FAULTS, encoding="utf-8") as file:
-        faults = json.load(file)
-    for row in faults["records"]:
-        record, table = bytes.fromhex(row["record"]), json.dumps(faults["tables"][row["table"]]).encode()
-        yield row["name"], record, table, row["alone"]
+    for name, record, table, row in blamed.known_rows():
+        yield name, record, table, row["alone"]
         behind = {end: later(line, 4) for end, line in row["alone"].items()}
-        yield f"{row['name']}, behind a mark", blamed.BEFORE + record, table, behind
+        yield f"{name}, behind a mark", blamed.BEFORE + record, table, behind

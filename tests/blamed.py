@@ -30,6 +30,10 @@ FAULTS = "tests/faults.json"
 
 BACK, OTHER_OWN, UNHEARD = "6506480101490102", "6506480103490102", "6506480101490107"
 BEGIN_7, TWO_RESULTS, DUPLICATE = "6203480107", "640F4901016C0AA203020101A203020101", "640D4901016C08A406020101810100"
+END_1, BEGIN_2, FROM_7 = "6403490101", "6203480102", "6506480107490101"
+INVOKE_FROM_5, WITH_RESULT_TO_5 = "65104801054901016C08A10602010102012D", "650D4801014901056C05A203020101"
+# An End with a Reject of an invocation with a general problem.
+UNREADABLE, MISTYPED, BADLY_STRUCTURED = (f"640D4901016C08A40602010180010{problem}" for problem in range(3))
 
 # The entries, what is printed, and, where it is not TABLE, the table.
 ROWS = [
@@ -76,6 +80,28 @@ ROWS = [
         f"B {BEGIN} A {CONTINUE} B {END} B {BACK} A 6506480103490101",
         ["REFUTED 3 F4", "BLAMED B 3 F4", "BLAMED A 4 F8"],
     ),
+    # IDs that B tangles: it goes on from another ID, and A, which answers there, is not at fault.
+    (
+        f"B {BEGIN_2} A {BACK} B {INVOKE_FROM_5} A {WITH_RESULT_TO_5}",
+        ["REFUTED 3 F3", "BLAMED B 2 F8", "NOT BLAMED A 4"],
+    ),
+    # An own ID that is used again once its transaction may be over: that end has no fault from there to the mark but octets that
+    # are no message. Where the transaction goes on, it is a fault.
+    (f"A {BEGIN} B {END_1} A {BEGIN}", ["REFUTED 2 F3", "NOT BLAMED A 3", "LAWFUL B 3 unheard 1"]),
+    (f"A {BEGIN} B {CONTINUE} A {END} A {BEGIN}", ["REFUTED 3 F3", "NOT BLAMED A 4", "LAWFUL B 4 unheard 1"]),
+    (f"A {BEGIN} B {CONTINUE} A {BEGIN}", ["REFUTED 2 F3", "BLAMED A 2 F3", "LAWFUL B 3 unheard 1"]),
+    (f"A {BEGIN} B {END_1} A {BEGIN} A {TO_NINE}", ["REFUTED 2 F3", "NOT BLAMED A 4", "LAWFUL B 4 unheard 1"]),
+    (f"A {BEGIN} B {END_1} A {BEGIN} Q A {TO_NINE}", ["REFUTED 2 F3", "BLAMED A 4 F2", "LAWFUL B 5 unheard 1"]),
+    (f"A {BEGIN} B {END_1} A {BEGIN} A {NO_MESSAGE}", ["REFUTED 2 F3", "BLAMED A 3 F1", "NOT BLAMED B 3"]),
+    # An own ID given to the peer's next dialogue tangles what the peer sends there, behind its End to that ID.
+    (
+        f"A {BEGIN} B {END_1} B {BEGIN_7} A {UNHEARD} B {FROM_7}",
+        ["REFUTED 4 F4", "NOT BLAMED A 5", "NOT BLAMED B 5"],
+    ),
+    # A stack may call a component mistyped or badly structured that this profile takes; each is of a known type.
+    (f"A {INVOKE} B {MISTYPED}", ["REFUTED 1 F5", "LAWFUL A 2 unheard 0", "NOT BLAMED B 2"]),
+    (f"A {INVOKE} B {BADLY_STRUCTURED}", ["REFUTED 1 F5", "LAWFUL A 2 unheard 0", "NOT BLAMED B 2"]),
+    (f"A {INVOKE} B {UNREADABLE}", ["REFUTED 1 F5", "BLAMED B 1 F5", "LAWFUL A 2 unheard 0"]),
     # Octets that are no message: what is behind them is not looked at, of either end, and is not counted.
     (f"A {BEGIN} A {NO_MESSAGE} B {TO_NINE}", ["REFUTED 1 F1", "BLAMED A 1 F1", "NOT BLAMED B 1"]),
     (f"A {BEGIN} B {NO_MESSAGE} B {TO_NINE}", ["REFUTED 1 F1", "BLAMED B 1 F1", "NOT BLAMED A 1"]),
@@ -84,12 +110,12 @@ ROWS = [
 
 
 def status_of(lines):
-    """The exit status, by the lines that are printed."""
+    """The exit status, by the lines that are printed: that of REFUTED only where an end is blamed."""
     if any(line.startswith("BLAMED") for line in lines):
-        return 1
+        return judged.STATUSES["REFUTED"]
     if all(line.startswith("LAWFUL") for line in lines[1:]):
-        return 0
-    return judged.STATUSES[lines[0].split()[0]]
+        return judged.STATUSES["LAWFUL"]
+    return judged.STATUSES["UNDECIDED"]
 
 
 def rows():
@@ -169,13 +195,19 @@ def moved(faults, entry):
 BEFORE = bytes.fromhex("41" + BEGIN + "42" + CONTINUE + "41" + END + "51")
 
 
-def known_faults():
-    """Of each record of faults.json its name, its octets, those of its table, and what is blamed on its ends."""
+def known_rows():
+    """Of each record of faults.json its number and name, its octets, those of its table, and its row."""
     with open(FAULTS, encoding="utf-8") as file:
         known = json.load(file)
-    for row in known["records"]:
+    for number, row in enumerate(known["records"]):
         table = json.dumps(known["tables"][row["table"]]).encode()
-        yield row["name"], bytes.fromhex(row["record"]), table, {"A": row["A"], "B": row["B"]}
+        yield f"record {number} of faults.json, {row['name']}", bytes.fromhex(row["record"]), table, row
+
+
+def known_faults():
+    """Of each record of faults.json its number and name, its octets, those of its table, and what is blamed on its ends."""
+    for name, record, table, row in known_rows():
+        yield name, record, table, {"A": row["A"], "B": row["B"]}
 
 
 def faults():

@@ -1,5 +1,5 @@
 """Runs the built program's word `explain`, and looks at what it says. The texts of explained.py are printed of the records there,
-octet for octet. Of these and of further records, those of judged.py, blamed.py and alone.py and the 200 of faults.json: the first
+octet for octet. Of these and of further records, those of judged.py, blamed.py and alone.py and those of faults.json: the first
 line and the status are those of `judge`, of `judge --end`, or of `check` with the certificate that `judge` proposes; behind a line
 that is not LAWFUL stand the lines of `blame`; each line else begins with two blanks; under what is refuted or blamed that entry
 is named, and no entry that is not there; a run names each entry where it is sent, once and in order; and a chart is an SVG whose

@@ -4,15 +4,15 @@ not that of judged.py, the table."""
 
 import judged
 from alone import (
-    BEGIN_2,
     BEGIN_4,
     CLOSED_1,
     CONTINUE_3,
-    END_1,
 )
 from blamed import (
+    BEGIN_2,
     BEGIN_7,
     DUPLICATE,
+    END_1,
     UNHEARD,
 )
 from judged import (
@@ -220,8 +220,10 @@ UNDECIDED 0 65/45
     Invoke id=1 op=45
   another certificate may show more: this says nothing of an end
 BLAMED A 0 F10
-  entry 0 of A, component 1: Invoke 1 of operation 45
-  component 0 of this entry is an Invoke of that ID too
+  entry 0 of A, component 1: it invokes an ID that is in use
+    Begin otid=01
+      Invoke id=1 op=45
+  A: Invokes of 1 before it: entry 0
 LAWFUL B 1 unheard 0
 """,
     ),
@@ -262,9 +264,11 @@ UNDECIDED 1 65/49
       before this message, under 1: no own invocation; invocations received and not answered 1 op=45; results received 0, errors 0
   another certificate may show more: this says nothing of an end
 BLAMED B 1 F11
-  entry 1 of B, component 0: Invoke 5 of operation 48, linked to 1
-  in this transaction A invoked 1: operation 45 of class 1 (entry 0)
-  the table lets operation 48 be linked to none of these
+  entry 1 of B, component 0: it is linked to an invocation that its end did not receive, has answered, or may not link it to
+    Continue otid=02 dtid=01
+      Invoke id=5 linked=1 op=48
+  the transaction of B: began by the peer's Begin
+  A: Invokes of 1 in this transaction: entry 0
 LAWFUL A 2 unheard 0
 """,
     ),
@@ -340,8 +344,8 @@ LAWFUL B 3 unheard 0
         1,
         """\
 REFUTED 0 F1
-  entry 0 of A is no message: FAULT 11 6, reason 11 at place 6 of the record
-  `tcapjudge show --why RECORD` says the reason in words and shows the octet there
+  entry 0 of A: its octets are no message
+  `tcapjudge show --why RECORD` says what is wrong with its octets
 BLAMED A 0 F1
 NOT BLAMED B 0
   entry 0 is no message, and nothing from there on is looked at
@@ -354,8 +358,11 @@ NOT BLAMED B 0
         1,
         """\
 REFUTED 1 F2
-  entry 1 of B is an End to 09, but A sent no Begin and no Continue from 09 before it
-  the messages of A come from 01 (entry 0)
+  entry 1 of B: its peer sent nothing from the destination ID that it could answer
+    End dtid=09
+  A: Begins from its destination ID: none
+  A: Continues from its destination ID: none
+  it may be, too, that a message of the peer is missing from the record
 BLAMED B 1 F2
 LAWFUL A 2 unheard 0
 """,
@@ -367,8 +374,11 @@ LAWFUL A 2 unheard 0
         1,
         """\
 REFUTED 1 F2
-  entry 1 of B aborts 01 with cause 1, which answers a Continue
-  A sent no Continue from 01 before it, but a Begin (entry 0)
+  entry 1 of B: its peer sent nothing from the destination ID that it could answer
+    Abort dtid=01 cause=1
+  A: Begins from its destination ID: entry 0
+  A: Continues from its destination ID: none
+  it may be, too, that a message of the peer is missing from the record
 BLAMED B 1 F2
 LAWFUL A 2 unheard 0
 """,
@@ -380,8 +390,11 @@ LAWFUL A 2 unheard 0
         1,
         """\
 REFUTED 2 F2
-  entry 2 of B is an End to 01, but A sent no Begin and no Continue from 01 since the quiet mark, entry 1
-  entry 0 of A comes from 01, but stands before the quiet mark
+  entry 2 of B: its peer sent nothing from the destination ID that it could answer
+    End dtid=01
+  A: Begins from its destination ID: none
+  A: Continues from its destination ID: none
+  it may be, too, that a message of the peer is missing from the record
 BLAMED B 2 F2
 LAWFUL A 3 unheard 0
 """,
@@ -393,7 +406,10 @@ LAWFUL A 3 unheard 0
         1,
         """\
 REFUTED 3 F3
-  entry 3 of B continues from 02 to 03, but entry 2 of B continued from there to 01
+  entry 3 of B: its end has used the originating ID
+    Continue otid=02 dtid=03
+  B: Continues from its originating ID to another ID before it: entry 2
+  it may be, too, that a quiet mark is missing, behind which IDs are free again, or a message
 BLAMED B 3 F3
 LAWFUL A 4 unheard 1
 """,
@@ -405,8 +421,9 @@ LAWFUL A 4 unheard 1
         1,
         """\
 REFUTED 2 F5
-  entry 2 of A, component 0: Reject without invoke ID with general problem 0 (unrecognizedComponent)
-  such a Reject is of what can't be read as a component, and all that B sent before can be read
+  entry 2 of A, component 0: it answers or rejects what its peer never sent
+    Continue otid=01 dtid=02
+      Reject id=null general=0
 BLAMED A 2 F5
 LAWFUL B 3 unheard 0
 """,
@@ -418,9 +435,11 @@ LAWFUL B 3 unheard 0
         1,
         """\
 REFUTED 1 F6
-  entry 1 of B, component 0: Return Error of invocation 1
-  A invoked 1 from 01: operation 47 of class 3 (entry 0)
-  none of these has class 1 or 2, which allow a Return Error
+  entry 1 of B, component 0: it invokes or answers an operation as the table does not allow
+    End dtid=01
+      ReturnError id=1 error=1
+  A: Invokes of 1 from its destination ID: entry 0
+  A: Invokes of 1 of class 3 from its destination ID: entry 0
 BLAMED B 1 F6
 LAWFUL A 2 unheard 0
 """,
@@ -432,8 +451,10 @@ LAWFUL A 2 unheard 0
         1,
         """\
 REFUTED 0 F6
-  entry 0 of A, component 0: Invoke 1 of operation 99
-  the table has no operation 99
+  entry 0 of A, component 0: it invokes or answers an operation as the table does not allow
+    Begin otid=01
+      Invoke id=1 op=99
+  the table lacks this operation
 BLAMED A 0 F6
 LAWFUL B 1 unheard 0
 """,
@@ -450,8 +471,12 @@ UNDECIDED 2 65/42
   A: the half with otid=01: it sent its Begin, no dialogue
   another certificate may show more: this says nothing of an end
 BLAMED A 2 F8
-  entry 2 of A is a Continue from 01 to 07, but no half of A has both IDs
-  entry 0 of A began 01, and B sent no Continue from 07 to it before it
+  entry 2 of A: its end has no transaction over which it may send it
+    Continue otid=01 dtid=07
+  the transaction of A: began by the peer's Begin
+  B: Begins from its destination ID: entry 1
+  B: Continues from its destination ID: none
+  A: Begins from the own ID: entry 0
 LAWFUL B 3 unheard 1
 """,
     ),
@@ -467,8 +492,11 @@ UNDECIDED 1 65/43
   B: the half with peer 01: it received the Begin, a dialogue is asked for
   another certificate may show more: this says nothing of an end
 BLAMED B 1 F9
-  entry 1 of B is the first answer, a Continue, to entry 0 of A, a Begin with an AARQ
-  so it has to carry an AARE, and it carries none
+  entry 1 of B: its dialogue portion does not fit how the dialogue stands
+    Continue otid=02 dtid=01
+  the transaction of B: began by the peer's Begin
+  A: Begins from its destination ID: entry 0
+  A: Begins with AARQ from its destination ID: entry 0
 LAWFUL A 2 unheard 1
 """,
     ),
@@ -488,8 +516,11 @@ UNDECIDED 1 65/50
       before this message, under 1: no own invocation; invocations received and not answered 1 op=45; results received 0, errors 0
   another certificate may show more: this says nothing of an end
 BLAMED B 1 F13
-  entry 1 of B, component 0: Reject of 1 with invoke problem 0 (duplicateInvokeID)
-  it rejects an Invoke that is not the first with ID 1; in this transaction A sent: Invoke once (entry 0)
+  entry 1 of B, component 0: it rejects with a problem that nothing received has
+    End dtid=01
+      Reject id=1 invoke=0
+  the transaction of B: began by the peer's Begin
+  A: Invokes of 1 in this transaction: entry 0
 LAWFUL A 2 unheard 0
 """,
     ),
@@ -505,8 +536,11 @@ UNDECIDED 1 64
   it is a provider's answer, and the messages that the certificate says it answers are none
   another certificate may show more: this says nothing of an end
 BLAMED B 2 F14
-  entry 2 of B aborts 01 with cause 4, which refuses a Begin
-  B has refused it before, in entry 1
+  entry 2 of B: it is an Abort of the provider that answers nothing which is left
+    Abort dtid=01 cause=4
+  A: Begins from its destination ID: entry 0
+  A: Continues from its destination ID: none
+  B: Aborts with cause 4 to its destination ID before it: entry 1
 LAWFUL A 3 unheard 0
 """,
     ),
@@ -540,15 +574,13 @@ UNDECIDED 3 67
   B: the half with otid=02 peer 01: active, no dialogue
   another certificate may show more: this says nothing of an end
 BLAMED A 3 F15
-  entry 3 is a quiet mark, but 01 of A is still open
-  entry 2 of A continued from 01 to 02; A sent no End to 02 and no Abort of its user, B no End and no Abort to 01
-  and the table does not allow closing by prearrangement
-  so the mark was set too early, or an End was not sent, or is missing in the record
+  entry 3: a transaction of A is open at this quiet mark
+  A: Continues of transactions that are open: entry 2
+  it may be, too, that the mark was set too early, or that an End is missing from the record
 BLAMED B 3 F15
-  entry 3 is a quiet mark, but 02 of B is still open
-  entry 1 of B continued from 02 to 01; B sent no End to 01 and no Abort of its user, A no End and no Abort to 02
-  and the table does not allow closing by prearrangement
-  so the mark was set too early, or an End was not sent, or is missing in the record
+  entry 3: a transaction of B is open at this quiet mark
+  B: Continues of transactions that are open: entry 1
+  it may be, too, that the mark was set too early, or that an End is missing from the record
 """,
     ),
     (
@@ -558,7 +590,9 @@ BLAMED B 3 F15
         1,
         """\
 REFUTED 3 F4
-  entry 3 of B is a Continue to 02, but entry 2 of B, an End to 02, has ended that dialogue
+  entry 3 of B: its end has ended this dialogue
+    Continue otid=01 dtid=02
+  B: Ends and user Aborts to its destination ID before it: entry 2
 BLAMED B 3 F4
 LAWFUL A 5 unheard 0
 """,
@@ -605,7 +639,13 @@ LAWFUL 5 unheard 1
         1,
         """\
 REFUTED 4 F8
-  entry 4 of A is a Continue from 03 to 01, but entry 1 of A went on to there from 02
+  entry 4 of A: its end has no transaction over which it may send it
+    Continue otid=03 dtid=01
+  the transaction of A: began by the peer's Begin, own ID 02
+  B: Begins from its destination ID: entry 0
+  B: Continues from its destination ID: entry 3
+  A: Begins from the own ID: none
+  A: Continues to its destination ID before it: entry 1
 """,
     ),
     (
@@ -733,8 +773,8 @@ NOT SHOWN 1 68/11
   1 B FAULT 11 12
   `tcapjudge show --why RECORD` says what is wrong with them
 BLAMED B 1 F1
-  entry 1 of B is no message: FAULT 11 12, reason 11 at place 12 of the record
-  `tcapjudge show --why RECORD` says the reason in words and shows the octet there
+  entry 1 of B: its octets are no message
+  `tcapjudge show --why RECORD` says what is wrong with its octets
 NOT BLAMED A 1
   entry 1 is no message, and nothing from there on is looked at
 """,

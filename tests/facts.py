@@ -1,21 +1,29 @@
-"""Runs the built program's word `explain` over records in which an entry is blamed, and looks at what it says of that
-entry in words. Those of facts.json have most forms of words at least once; what is wanted of some of them was worked out by hand
-first, that of the others was printed, and then read against what `show` prints. Of those of faults.json each entry that is blamed, or quiet mark, has some words, which name
-it."""
+"""Runs the built program's word `explain` over records in which an entry is at fault, and looks at the lines behind
+REFUTED and BLAMED, which say what the fault rests on. Those of facts.json are written out, to be read beside what
+`show` prints: of each kind one at least, and each form of words. Those of the records of faults.json, each as it is,
+behind a mark, and twice, and of random records are those that tests/evidence.py has, of both ends and of each end
+alone."""
 
 import json
 import os
+import random
 import re
 import subprocess
 import sys
 import tempfile
 
 import blamed
+import evidence
+import fuzz
+import judged
+import random_dialogues
+import runs
+from shown import Table, entries_in, printed
 from tested import PROGRAM
 
 FACTS = "tests/facts.json"
-# So many lines of words stand behind a line at most.
-LINES = 6
+# How many random records, and the seed.
+RANDOM, SEED = 400, "facts"
 
 
 class Rows:
@@ -29,68 +37,111 @@ class Rows:
             self.passed += 1
         else:
             self.failed += 1
-            print(f"{name}: {str(found)[:900]}, not {str(wanted)[:900]}")
+            print(f"{name}: {str(found)[:1500]}, not {str(wanted)[:1500]}")
 
 
-def explained(folder, record, table, *options):
-    """What `explain` prints of a record, by lines."""
-    paths = [os.path.join(folder, name) for name in ("record", "table")]
-    for path, octets in zip(paths, (record, table)):
-        with open(path, "wb") as file:
-            file.write(octets)
-    done = subprocess.run([PROGRAM, "explain", *options, *paths], capture_output=True, check=False)
-    return done.stdout.decode().splitlines()
+class Files:
+    """The files of a record and of a table."""
+
+    def __init__(self, folder):
+        self.paths = [os.path.join(folder, name) for name in ("record", "table")]
+
+    def fill(self, record, table):
+        for path, octets in zip(self.paths, (record, table)):
+            with open(path, "wb") as file:
+                file.write(octets)
+
+    def explained(self, *options):
+        """What `explain` prints, by lines."""
+        done = subprocess.run([PROGRAM, "explain", *options, *self.paths], capture_output=True, check=False)
+        return done.stdout.decode().splitlines()
 
 
-def words_behind(lines, line):
-    """The lines of words that stand right behind a line."""
-    if line not in lines:
-        return None
-    words = []
-    for behind in lines[lines.index(line) + 1 :]:
-        if not behind.startswith("  "):
-            break
-        words.append(behind[2:])
-    return words
+def told(lines):
+    """Of each line that says REFUTED or BLAMED the lines that stand behind it, without their blanks."""
+    found = {}
+    for number, line in enumerate(lines):
+        if re.match("REFUTED|BLAMED", line):
+            others = [behind for behind, other in enumerate(lines) if behind > number and not other.startswith("  ")]
+            found[line] = [behind[2:] for behind in lines[number + 1 : (others or [len(lines)])[0]]]
+    return found
 
 
-def words_of(lines, line):
-    """What is said of an entry that is blamed: behind its line, or, where the record is refuted by it, behind the first
-    line."""
-    words = words_behind(lines, line)
-    refuted = "REFUTED " + " ".join(line.split()[2:])
-    return words_behind(lines, refuted) if words == [] else words
-
-
-def of_each_form(rows, folder):
+def written_out(rows, files):
     with open(blamed.FAULTS, encoding="utf-8") as file:
         tables = json.load(file)["tables"]
     with open(FACTS, encoding="utf-8") as file:
         records = json.load(file)["records"]
     for row in records:
-        record, table = bytes.fromhex(row["record"]), json.dumps(tables[row["table"]]).encode()
-        line = row["line"]
-        rows.row(f"{row['record']}, {line}", words_of(explained(folder, record, table), line), row["words"])
-        _, end, entry, kind = line.split()
-        alone = explained(folder, record, table, "--end", end)
-        rows.row(f"{row['record']}, {line} alone", words_behind(alone, f"REFUTED {entry} {kind}"), row["words"])
+        files.fill(judged.octets_of(row["record"]), json.dumps(tables[row["table"]]).encode())
+        found, (_, *end, entry, kind) = told(files.explained()), row["line"].split()
+        # What is blamed, and refutes the record, stands behind the first line alone.
+        words = found.get(f"REFUTED {entry} {kind}", found.get(row["line"]))
+        rows.row(f"{row['record']}, {row['line']}", (row["line"] in found, words), (True, row["words"]))
+        if end:
+            alone = told(files.explained("--end", *end))
+            rows.row(f"{row['record']}, {row['line']} alone", alone, {f"REFUTED {entry} {kind}": row["words"]})
 
 
-def of_each_fault(rows, folder):
-    for name, record, table, ends in blamed.faults():
-        lines = explained(folder, record, table)
-        for end, fault in ends.items():
-            if fault:
-                words = words_of(lines, f"BLAMED {end} {fault[0]} {fault[1][0]}") or []
-                is_named = bool(words) and re.match(rf"entry {fault[0]}\b(?!.*: it )", words[0]) is not None
-                rows.row(f"{name}, {words}", (is_named, len(words) <= LINES), (True, True))
+def wanted(entries, table, lines, end):
+    """The lines that have to stand behind each that says REFUTED or BLAMED, of one end alone or of both."""
+    found = {}
+    for line in lines:
+        verdict, *_, entry, kind = line.split()
+        if verdict == "REFUTED" and end is None:
+            found[line] = evidence.refuted_lines(entries, table, int(entry), kind)
+        elif f"REFUTED {entry} {kind}" in lines and end is None:
+            # What was said above is not said again.
+            found[line] = []
+        else:
+            found[line] = evidence.lines(entries, table, end or line.split()[1], int(entry), kind)
+    return found
+
+
+def compared(rows, files, name, record, table, read):
+    """The lines of a record are those of tests/evidence.py; `read` is the table as that has it."""
+    files.fill(record, table)
+    entries = entries_in(record)
+    found = told(files.explained())
+    rows.row(name, found, wanted(entries, read, found, None))
+    for end in {line.split()[1] for line in found if line.startswith("BLAMED")}:
+        found = told(files.explained("--end", end))
+        rows.row(f"{name}, {end} alone", found, wanted(entries, read, found, end))
+
+
+def of_known(rows, files):
+    tables = {}
+    for name, record, table, _ in blamed.faults():
+        if table not in tables:
+            tables[table] = Table(printed("table", table))
+        compared(rows, files, name, record, table, tables[table])
+
+
+def random_record(rng):
+    """A record of tests/random_dialogues.py, some with entries changed, or one of tests/fuzz.py; and its table."""
+    if rng.random() < 0.25:
+        case = fuzz.Case(rng)
+        return case.record, case.table
+    table = random_dialogues.any_table(rng)
+    entries = random_dialogues.entries(rng, table)
+    if rng.random() < 0.25:
+        entries = fuzz.changed_entries(rng, entries)
+    return b"".join(entries), runs.table_text(table)
+
+
+def of_random(rows, files):
+    for number in range(RANDOM):
+        record, table = random_record(random.Random(f"{SEED}/{number}"))
+        compared(rows, files, f"{record.hex()}, {table}", record, table, Table(printed("table", table)))
 
 
 def main():
     rows = Rows()
     with tempfile.TemporaryDirectory() as folder:
-        of_each_form(rows, folder)
-        of_each_fault(rows, folder)
+        files = Files(folder)
+        written_out(rows, files)
+        of_known(rows, files)
+        of_random(rows, files)
     print(f"{rows.passed} passed, {rows.failed} failed")
     return int(rows.failed != 0)
 

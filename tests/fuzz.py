@@ -3,7 +3,8 @@
 which is named, with the words that show it.
 
 Most records are those of a run that tests/runs.py plays by the rules of docs/MODEL.md, written there anew: of two ends
-that keep them, or of one, whose peer sends what it likes. Others are such records with octets, entries or ends changed.
+that keep them, or of one, whose peer sends what it likes. Others are such records with octets, entries or ends changed, or
+those of tests/random_dialogues.py.
 Of each it is looked at that
 
 - each run ends within a second, with a status and lines that docs/FORMAT.md and docs/VERDICTS.md define;
@@ -11,7 +12,8 @@ Of each it is looked at that
   no end that kept the rules is BLAMED, whatever its peer sent;
 - what is LAWFUL under `judge --cert` is LAWFUL under `check` with that certificate;
 - what is REFUTED or BLAMED is not LAWFUL under any certificate that is tried;
-- the end of a REFUTED entry is BLAMED at that entry or before, and the words agree on faults and on the first line;
+- what is REFUTED, and what is BLAMED on each end, is what tests/kinds.py finds, and nothing else;
+- the words agree on faults and on the first line;
 - the ends' letters turned round turn the lines of `blame` round, and change no other line;
 - standard input in pieces of any size gives the same as a file;
 - where the program has `--end`: what is LAWFUL of two ends is LAWFUL of each with the same certificate, the
@@ -30,9 +32,11 @@ import tempfile
 import time
 from collections import Counter
 
+import kinds
+import random_dialogues
 import random_messages
 import runs
-from ends import Table
+import shown
 from tested import PROGRAM
 
 # The processor seconds that a run may take, and the seconds behind which it is stopped.
@@ -110,6 +114,9 @@ class Program:
             wanted = 1
         elif word == "blame" and text.count("LAWFUL") - text.startswith("LAWFUL") == 2:
             wanted = 0
+        elif word == "blame" and first == "REFUTED":
+            # It is blamed on nobody.
+            wanted = 2
         else:
             wanted = STATUSES[first]
         must(status == wanted, f"{word} {words} ends with {status} behind {text!r}")
@@ -253,8 +260,11 @@ class Case:
         table = runs.usual_table(rng) if rng.random() < 0.6 else runs.any_table(rng)
         self.keepers, self.given, self.is_whole = "", None, True
         kind = rng.random()
-        if kind < 0.08:
-            self.entries, self.keepers = self.random_entries(table), ""
+        if kind < 0.05:
+            self.entries = self.random_entries(table)
+        elif kind < 0.15:
+            table = random_dialogues.any_table(rng)
+            self.entries = random_dialogues.entries(rng, table)
         else:
             keepers = rng.choices(["AB", "A", "B"], [2, 1, 1])[0]
             play = runs.Play(rng, table, keepers, rng.random() < 0.5)
@@ -301,10 +311,16 @@ def is_lawful(text):
     return text.startswith("LAWFUL")
 
 
-def sender_of(show, entry):
-    """The end that sent an entry, as `show` has it."""
-    found = re.search(rf"^{entry} ([AB]) ", show, re.M)
-    return found and found[1]
+def look_at_kinds(program, paths, show, line, blame):
+    """What is refuted and what is blamed is what tests/kinds.py finds."""
+    if line.startswith("FAULT"):
+        return
+    entries, table = shown.entries_of(show), shown.Table(program.run("table", paths[1])[0].decode())
+    refuted, faults = kinds.refuted_in(table, entries), kinds.faults_in(table, entries)
+    wanted = [f"REFUTED {refuted[0]} {refuted[1]}"] if refuted else []
+    wanted += [f"BLAMED {end} {fault[0]} {fault[1][0]}" for end, fault in faults.items() if fault]
+    found = re.findall(r"^(?:REFUTED|BLAMED [AB]) \d+ F\d+$", blame, re.M)
+    must(sorted(found) == sorted(wanted), f"{found}, and tests/kinds.py has {wanted}")
 
 
 def look_at_case(program, case):
@@ -317,10 +333,7 @@ def look_at_case(program, case):
     must(blame.startswith(line), f"blame begins with another line than {line!r}: {blame!r}")
     blamed = verdicts_of(blame)
     look_at_faults(program, case, paths, show, line)
-    if line.startswith("REFUTED"):
-        entry = int(line.split()[1])
-        end = sender_of(show, entry)
-        must(end in blamed and blamed[end] <= entry, f"{line!r} of {end}, and {blame!r}")
+    look_at_kinds(program, paths, show, line, blame)
     if is_lawful(line):
         must(not blamed, f"{line!r} and {blame!r}")
     for end in case.keepers:

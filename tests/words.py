@@ -451,8 +451,8 @@ WRONG = [
 
 STATUSES = """Exit statuses:
   0  nothing is wrong: LAWFUL, or all was printed or packed
-  1  REFUTED, or what `blame` says is BLAMED
-  2  NOT SHOWN, or UNDECIDED
+  1  REFUTED; of `blame` only BLAMED
+  2  NOT SHOWN, UNDECIDED, or refuted where `blame` blames nobody
   3  a line of fault was printed, or the output could not be written
   4  the words of the command are wrong
 """

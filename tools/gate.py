@@ -31,7 +31,8 @@ TESTS = {
     "program": "runs of the program",
     "words": "faults in words",
     "explain": "verdicts in words",
-    "facts": "facts in words",
+    "kinds": "faults that are read anew",
+    "facts": "faults at entries in words",
     "pages": "examples and commands of pages",
     "captures": "tests of captures",
 }

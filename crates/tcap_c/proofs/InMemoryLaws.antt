@@ -13,9 +13,10 @@ use Rattle.tcap_model.specs.declared.reason.Reason.{Reason}
 use Rattle.tcap_model.specs.Entries.{item_of}
 use Rattle.tcap_model.specs.World.{Item}
 use Rattle.tcap_refute.specs.declared.kind.Refutation.{Refutation}
-use Rattle.tcap_refute.specs.Blame.{blamed}
 use Rattle.tcap_refute.specs.Kind.{kind_number, refuted}
-use Rattle.tcap_refute.specs.Unsendable.{IsAtFault, IsAtFaultOf}
+use Rattle.tcap_refute.specs.Unsendable.{IsAtFault}
+use Rattle.tcap_faults.specs.AtFault.{IsAtFaultOf}
+use Rattle.tcap_faults.specs.Fault.{blamed}
 use Rattle.tcap_judge.specs.declared.finding.Ends.{Ends}
 use Rattle.tcap_judge.specs.declared.finding.Finding.{Finding}
 use Rattle.tcap_judge.specs.declared.finding.Finding.TheVariants as findings
@@ -125,7 +126,7 @@ right_of judged octets text (Faulty number place) lawful refuted =
 pub names_all : ((table : Table) (entries : List (Result Item Reason)) (r : Refutation)
     → refuted table entries ≡ Some r → IsAtFault table entries r)
     → ((table : Table) (side : Side) (entries : List Entry) (r : Refutation)
-    → blamed table side entries ≡ Some r → IsAtFaultOf table side (map item_of entries) r)
+    → blamed table side entries ≡ Some r → IsAtFaultOf table side entries r)
     → (judged : Option Side) → NamesRightly judged
 names_all refutes blames None = names_rightly refutes
 names_all refutes blames (Some side) = blames_rightly side blames

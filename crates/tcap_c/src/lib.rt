@@ -16,7 +16,6 @@ use crate::outcomes::{blamed, checked, judged};
 pub use answer::{Answer, Answers};
 use std::alloc::Global;
 use tcap_record::End;
-use tcap_refute::laws;
 
 /// The answer to a call that names neither both ends nor one.
 const WRONG_CALL: u8 = 4;
@@ -38,8 +37,8 @@ fn judge(alloc: Global, octets: &[u8], table: &[u8], who: Option<End>, answer: &
     ensures gives { Gives (SaysJudged who octets.now table.now) answer.new result }
     ensures right { IsRight who octets.now table.now answer.new }
 {
-    laws::refuted_is_at_fault();
-    laws::blamed_is_at_fault();
+    tcap_refute::laws::refuted_is_at_fault();
+    tcap_faults::laws::blamed_is_at_fault();
     answer.put(judged(alloc, octets, table, who))
 }
 
@@ -114,9 +113,8 @@ pub extern "C" fn tcapjudge_check(
 }
 
 /// Judges a record and each of its ends, as `tcapjudge blame` does. Puts what is said into `answers`, and answers the exit
-/// status: 1 where the record is REFUTED or an end BLAMED, 0 where both ends are LAWFUL, else that of the record: 0 LAWFUL,
-/// 2 UNDECIDED, 3 a fault of the table or the record, or memory ran out (the reason is then 99); then nothing is said of
-/// the ends.
+/// status: 1 where an end is BLAMED, 0 where both ends are LAWFUL, else by the record: 0 LAWFUL, 2 REFUTED or UNDECIDED, 3 a
+/// fault of the table or the record, or memory ran out (the reason is then 99); then nothing is said of the ends.
 #[unsafe(no_mangle)]
 pub extern "C" fn tcapjudge_blame(
     alloc: Global,
@@ -127,7 +125,7 @@ pub extern "C" fn tcapjudge_blame(
     ensures gives { GivesBlame octets.now table.now answers.new result }
     ensures right { AreRight octets.now table.now answers.new }
 {
-    laws::refuted_is_at_fault();
-    laws::blamed_is_at_fault();
+    tcap_refute::laws::refuted_is_at_fault();
+    tcap_faults::laws::blamed_is_at_fault();
     answers.put(blamed(alloc, octets, table))
 }

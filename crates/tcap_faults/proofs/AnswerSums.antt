@@ -1,14 +1,12 @@
 -- Answers to invocations that were answered already, where few components are counted (Q.774 3.2, Q.771 3.1.2).
-use Rattle.std.proofs.Common.{◌≡◌, ℕ, ℤ, ◌+◌, ◌^◌, ◌≤◌, ◌<◌, arith, Bool, true, false, ltb, List, [], ◌∷◌, ◌++◌, Option, Some, None, refl, ap, ap₂, ◌∙◌}
+use Rattle.std.proofs.Common.{◌≡◌, ℕ, ℤ, ◌+◌, ◌^◌, ◌≤◌, ◌<◌, arith, Bool, true, false, ltb, List, [], ◌∷◌, ◌++◌, Option, Some, None, refl, ap, ◌∙◌, ap₂}
 use Rattle.std.specs.Prelude.{◌||◌, ◌&&◌}
 use Rattle.tcap_parts.specs.declared.problem.Problem.TheVariants as problems
 use Rattle.tcap_parts.specs.declared.component.ResultBody.{ResultBody}
 use Rattle.tcap_parts.specs.declared.component.Component.{Component}
 use Rattle.tcap_parts.specs.declared.component.Component.TheVariants.{Invoke, ReturnResult, ReturnError, Reject}
 use Rattle.tcap_end.specs.Table.{Table}
-use Rattle.tcap_refute.specs.Counts.{any_problem, count, is_error, is_last_result, rejects_invoke}
-use Rattle.tcap_refute.proofs.LedLawsCounts.{count_last, one}
-use Rattle.tcap_refute.proofs.LedLawsLists.{id_itself}
+use Rattle.tcap_faults.specs.Counts.{any_problem, count, is_error, is_last_result, rejects_invoke}
 use Rattle.tcap_faults.specs.ComponentKinds.{answers_again, is_operation_overspent, is_overspent, more_answered}
 use Rattle.tcap_faults.specs.HalfOf.{HalfOf}
 use Rattle.tcap_faults.specs.declared.sort.Class.{Class}
@@ -16,6 +14,8 @@ use Rattle.tcap_faults.specs.declared.sort.Class.TheVariants as classes
 use Rattle.tcap_faults.specs.declared.sort.Sort.TheVariants as sorts
 use Rattle.tcap_faults.specs.Tallied.{AreFew, is_sort, sum, tallied}
 use Rattle.tcap_faults.specs.ByTallies.{answers_again_by, is_operation_overspent_by, is_overspent_by, more_answered_by}
+use Rattle.tcap_faults.proofs.LedLawsCounts.{count_last, one}
+use Rattle.tcap_faults.proofs.LedLawsLists.{id_itself}
 use Rattle.tcap_faults.proofs.FewSums.{count_invokes, count_within, sum_exact}
 use Rattle.tcap_faults.proofs.InvokeSums.{counted_of}
 

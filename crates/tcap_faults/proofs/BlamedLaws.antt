@@ -23,16 +23,14 @@ use Rattle.tcap_refute.specs.declared.kind.Kind.{Kind}
 use Rattle.tcap_refute.specs.declared.kind.Kind.TheVariants as kinds
 use Rattle.tcap_refute.specs.declared.kind.Refutation.{Refutation}
 use Rattle.tcap_refute.specs.Before.{since_quiet}
-use Rattle.tcap_refute.specs.Blame.{bad_entry_of, is_entry_of}
 use Rattle.tcap_refute.specs.Kind.{kind_of_reason, or_else, refutation_at}
-use Rattle.tcap_refute.proofs.MarkKinds.{no_open_mark}
+use Rattle.tcap_refute.specs.FirstKinds.{first_kinds}
 use Rattle.tcap_refute.proofs.RefutedLaws.{bad_reason, found_so, oks}
 use Rattle.tcap_faults.specs.AtFault.{HasNoMessage, IsAtFaultOf, IsBadEntryOf}
-use Rattle.tcap_refute.specs.FirstKinds.{first_kinds}
-use Rattle.tcap_faults.specs.Fault.{blamed, blamed_behind, fault_since, further_kinds, is_fault, is_open_at_mark}
+use Rattle.tcap_faults.specs.Fault.{bad_entry_of, blamed, blamed_behind, fault_since, further_kinds, is_entry_of, is_fault, is_open_at_mark}
 use Rattle.tcap_faults.specs.UsedAgain.{has_used_again}
+use Rattle.tcap_faults.proofs.MarkKinds.{no_open_mark}
 use Rattle.tcap_faults.proofs.FaultLaws.{none_at_fault}
-use Rattle.tcap_faults.proofs.ReplyLaws.{open_known}
 
 abbrev pairs : List Entry → List (Option Side × Result Item Reason)
 pairs entries = map (λ e. (e.side, item_of e)) entries
@@ -160,20 +158,15 @@ module _ (table : Table) (side : Side) (r : Refutation) (front : List Entry) (e 
           → or_else (refutation_at (length before) (cond b (Some kinds.OpenAtMark) None)) later ≡ Some r
           → IsAtFaultOf table side (front ++ e ∷ more) r
       by true so is =
-          let open_there = open_known table side (since_quiet before)
-          (and_parts (not (has_used_again table side (since_quiet before))) _ so).1 in
+          let left = (and_parts (not (has_used_again table side (since_quiet before))) _ so).1 in
           inr (inr (record {
             before = before;
             more = map item_of more;
             are = joined (Ok Item.Quiet) read;
             counted = counted kinds.OpenAtMark is;
-            has_kind = (
-              sym (made_by (length before) kinds.OpenAtMark r is).1,
-              (and_parts (not (has_used_again table side (since_quiet before))) _ so).1,
-            );
+            has_kind = (sym (made_by (length before) kinds.OpenAtMark r is).1, left);
             none = λ events w behind runs keeps sent.
-                let never : true ≡ false =
-                sym open_there ∙ no_open_mark table events w before behind side runs keeps sent in cc;
+                no_open_mark table events w before behind side runs keeps sent left;
           }))
       by false so is = on is
 

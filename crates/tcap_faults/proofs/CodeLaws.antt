@@ -9,7 +9,7 @@ use Rattle.tcap_parts.specs.declared.code.Code.TheVariants.{Local, Global}
 use Rattle.tcap_end.specs.Component.{is_code}
 
 -- It is that code.
-code_same : (a b : Code) → is_code a b ≡ true → a ≡ b
+pub code_same : (a b : Code) → is_code a b ≡ true → a ≡ b
 code_same (Local m) (Local n) is = ap Local (tells_apart exact_signed m n is)
 code_same (Local m) (Global octets) is = cc
 code_same (Global octets) (Local n) is = cc

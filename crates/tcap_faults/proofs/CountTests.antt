@@ -2,7 +2,7 @@
 use Rattle.std.proofs.Common.{◌≡◌, ℕ, ◌≤◌, ◌<◌, arith, Bool, true, false, not, refl, ap, ◌∙◌}
 use Rattle.std.specs.Prelude.{◌||◌, ◌&&◌, ◌==◌, nat_lt}
 use Rattle.std.proofs.lemmas.Bool.{le-leb, le-ltb, lt-ltb, ne_eqb}
-use Rattle.tcap_refute.specs.ComponentKinds.{is_of_link}
+use Rattle.tcap_faults.specs.Components.{is_of_link}
 use Rattle.tcap_faults.specs.ByTallies.{more_last_by}
 
 -- Where an invocation lasts.

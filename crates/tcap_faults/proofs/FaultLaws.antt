@@ -10,35 +10,35 @@ use Rattle.tcap_msg.specs.declared.message.Message.{Message}
 use Rattle.tcap_msg.specs.declared.message.Message.TheVariants.{Unidirectional, Begin, Continue, End as EndMessage, Abort}
 use Rattle.tcap_msg.specs.Parts.{cause_in, components_in, dtid_in, items_of}
 use Rattle.tcap_record.specs.declared.entry.End.{End as Side}
+use Rattle.tcap_record.specs.Ends.{other}
 use Rattle.tcap_end.specs.Table.{Table}
 use Rattle.tcap_end.specs.End.{End}
 use Rattle.tcap_model.specs.World.{Item, Sent, World, end_at}
 use Rattle.tcap_model.specs.Run.{Event, KeepsRules, Runs, provider_abort}
 use Rattle.tcap_refute.specs.declared.kind.Kind.{Kind}
 use Rattle.tcap_refute.specs.declared.kind.Kind.TheVariants as kinds
-use Rattle.tcap_refute.specs.Before.{asked, components_of, since_quiet}
+use Rattle.tcap_refute.specs.Before.{asked, components_of, sent_by, since_quiet}
 use Rattle.tcap_refute.specs.Kind.{answers_none_of, answers_nothing, is_of_kind}
-use Rattle.tcap_refute.proofs.Lives.{Bounds, IsLed, Life, got_in, sent_in}
-use Rattle.tcap_refute.proofs.HalfLawsAdvance.{Refuses, refuses}
-use Rattle.tcap_refute.proofs.HalfLawsViews.{View, coming_to, messages_of, view_of}
+use Rattle.tcap_refute.specs.FirstKinds.{answers_none, answers_nothing_there, is_of_first_kind}
 use Rattle.tcap_refute.proofs.KindLaws.{none_of_kind}
-use Rattle.tcap_refute.proofs.LedLawsFirst.{begin_none_again, begin_none_linked, uni_none_again, uni_none_linked}
-use Rattle.tcap_refute.proofs.LifeLaws.{lives}
-use Rattle.tcap_refute.proofs.LifeLawsHalves.{led_same}
 use Rattle.tcap_refute.proofs.MomentLaws.{IsMoment, RepliesIt, SendsIt, sent_at}
 use Rattle.tcap_refute.proofs.OverLaws.{IsOver}
-use Rattle.tcap_refute.proofs.ReplyKinds.{begin_left, continue_left}
 use Rattle.tcap_refute.proofs.SentLaws.{IsSent, half_over}
-use Rattle.tcap_refute.specs.FirstKinds.{answers_none, answers_nothing_there, is_of_first_kind}
 use Rattle.tcap_faults.specs.Fault.{is_fault, is_of_alone_kind, is_of_further_kind, is_of_half_kind, is_of_kind_to, is_of_reply_kind}
 use Rattle.tcap_faults.specs.HalfKinds.{is_wrong_half}
 use Rattle.tcap_faults.specs.HalfOf.{HalfOf, half_of}
 use Rattle.tcap_faults.specs.Tangled.{goes_over_tangled}
-use Rattle.tcap_faults.proofs.ComponentLaws.{none_again, none_badly, none_busy, none_wrongly}
+use Rattle.tcap_faults.proofs.Lives.{Bounds, IsLed, got_in, sent_in}
+use Rattle.tcap_faults.proofs.HalfLawsAdvance.{Refuses, refuses}
+use Rattle.tcap_faults.proofs.HalfLawsViews.{View, coming_to, messages_of, view_of}
+use Rattle.tcap_faults.proofs.LedLawsFirst.{begin_none_again, begin_none_linked, uni_none_again, uni_none_linked}
+use Rattle.tcap_faults.proofs.LifeLaws.{lives}
+use Rattle.tcap_faults.proofs.LifeLawsHalves.{Story, led_same}
+use Rattle.tcap_faults.proofs.ComponentLaws.{answers_none_again, invokes_none_busy, links_none_badly, rejects_none_wrongly}
 use Rattle.tcap_faults.proofs.DialogueLaws.{right_dialogue}
 use Rattle.tcap_faults.proofs.HalfKindsLaws.{right_half}
-use Rattle.tcap_faults.proofs.OwnHalfLaws.{bounds, speaker_of}
-use Rattle.tcap_faults.proofs.ReplyLaws.{wrong_known}
+use Rattle.tcap_faults.proofs.OwnHalfLaws.{bounds}
+use Rattle.tcap_faults.proofs.ReplyLaws.{begin_left, continue_left}
 use Rattle.tcap_faults.proofs.TangledLaws.{IsPlain, plain_to}
 
 -- ---- F2 to F7
@@ -113,10 +113,10 @@ module _ {table : Table} {events : List Event} {w : World} {side : Side} {messag
     abbrev h : HalfOf
     h = half_of side items id
 
-    life : Life table side items half.kept
-    life = lives table events w side half.kept it.runs it.keeps half.had half.is_open
+    life : Story table side items (sent_by (other side) items) half.kept.slot half.kept.key half.kept.half
+    life = lives view half.kept half.had half.is_open
 
-    bound : Bounds (speaker_of h) (sent_in life.past) (got_in life.past)
+    bound : Bounds h (sent_in life.past) (got_in life.past)
     bound = bounds view message id half plain life
 
     led : IsLed table life.past half.start
@@ -138,17 +138,17 @@ module _ {table : Table} {events : List Event} {w : World} {side : Side} {messag
     half_kind kinds.WrongDialogue is =
         right_dialogue view message id half plain (behind (is_wrong_half side items message h) _ is)
     half_kind kinds.InvokeIdBusy is =
-        none_busy table h life.past half.start bound led (components_in message) half.behind half.sends
+        invokes_none_busy table h life.past half.start bound led (components_in message) half.behind half.sends
         (h.told ++ components_in message)
         (behind (is_wrong_half side items message h) _ is)
     half_kind kinds.BadLink is =
-        none_badly table h life.past half.start bound led (components_in message) half.behind half.sends
+        links_none_badly table h life.past half.start bound led (components_in message) half.behind half.sends
         (behind (is_wrong_half side items message h) _ is)
     half_kind kinds.AnsweredAlready is =
-        none_again table h life.past half.start bound led (components_in message) half.behind half.sends
+        answers_none_again table h life.past half.start bound led (components_in message) half.behind half.sends
         (behind (is_wrong_half side items message h) _ is)
     half_kind kinds.RejectNotAllowed is =
-        none_wrongly table h life.past half.start bound led (components_in message) half.behind half.sends
+        rejects_none_wrongly table h life.past half.start bound led (components_in message) half.behind half.sends
         (behind (is_wrong_half side items message h) _ is)
     half_kind kinds.WrongReply is = cc
     half_kind kinds.OpenAtMark is = cc
@@ -227,15 +227,14 @@ module _ {table : Table} {side : Side} {e : End} {coming : List Message} {items 
       rw (it.0) at is in
       let plain = plain_to side items (provider_abort otid 4) otid refl (rw (it.0) at over) in
       let only = reply_kind table side otid items (half_of side items otid) 4 kind there in
-      begin_left (Begin otid dialogue components) view otid refl refl it.1 plain.few
-      (wrong_known table side otid items 4 (rw only at there))
+      begin_left (Begin otid dialogue components) view otid refl refl it.1 plain.few (rw only at there)
   further_refused (Continue otid dtid dialogue components) message kind view it over is =
       let there : is_of_further_kind table side items (provider_abort otid 1) (Some otid) kind ≡ true =
       rw (it.0) at is in
       let plain = plain_to side items (provider_abort otid 1) otid refl (rw (it.0) at over) in
       let only = reply_kind table side otid items (half_of side items otid) 1 kind there in
       continue_left (Continue otid dtid dialogue components) view otid dtid refl refl refl it.1 plain.few
-      (wrong_known table side otid items 1 (rw only at there))
+      (rw only at there)
   further_refused (EndMessage dtid dialogue components) message kind view it over is = absurd it
   further_refused (Abort dtid reason) message kind view it over is = absurd it
 

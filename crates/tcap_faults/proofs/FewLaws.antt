@@ -1,5 +1,5 @@
 -- What a half heard, told and invoked are no more components than the items have.
-use Rattle.std.proofs.Common.{◌≡◌, ℕ, ◌+◌, ◌≤◌, ◌^◌, arith, Bool, true, false, cond, ◌&&◌, List, [], ◌∷◌, ◌++◌, length, filter, Option, Some, None, refl}
+use Rattle.std.proofs.Common.{◌≡◌, ℕ, ◌+◌, ◌*◌, ◌≤◌, ◌<◌, ◌^◌, arith, Bool, true, false, cond, ◌&&◌, List, [], ◌∷◌, ◌++◌, length, filter, Option, Some, None, refl}
 use Rattle.std.specs.Prelude.{is_none}
 use Rattle.std.specs.List.{find}
 use Rattle.std.specs.Option.{option_to_list}
@@ -14,10 +14,9 @@ use Rattle.tcap_end.specs.End.{is_id}
 use Rattle.tcap_record.specs.Ends.{other}
 use Rattle.tcap_model.specs.World.{Item, Sent, has_quiet}
 use Rattle.tcap_refute.specs.Before.{asked, components_of, has_a, is_a, sent_by, since_quiet}
-use Rattle.tcap_refute.specs.HalfKinds.{is_request_of}
-use Rattle.tcap_refute.specs.Speaker.{begin_from, goes_on_to, told}
+use Rattle.tcap_faults.specs.Told.{begin_from, goes_on_to, is_request_of, tells_to, told}
 use Rattle.tcap_faults.specs.HalfOf.{answered_from, begun_from, continued_to, from_first, half_by, half_of, heard_of, responds}
-use Rattle.tcap_faults.specs.Searching.{AreRoomy, components_in_all}
+use Rattle.tcap_faults.specs.Searching.{AreCounted, AreRoomy, components_in_all}
 use Rattle.tcap_faults.specs.Tallied.{AreFew}
 
 -- how many components messages have
@@ -92,9 +91,6 @@ told_few side id items =
 -- the Begin of the own ID is none of what was told
 abbrev begins_from : List ℕ → Message → Bool
 begins_from own m = is_a forms.Begin m && is_id own (otid_in m)
-
-abbrev tells_to : List ℕ → Message → Bool
-tells_to id m = is_id id (dtid_in m) && is_none (cause_in m)
 
 no_both : (own id : List ℕ) (m : Message) → begins_from own m ≡ true → tells_to id m ≡ true → ⊥
 no_both own id (Unidirectional dialogue components) is told = cc
@@ -189,11 +185,54 @@ module _ (side : Side) (items : List Item) (id : List ℕ) where
   invoked_few : length (half_of side items id).invoked ≤ components_in_all items
   invoked_few = invoked_by (has_a forms.Begin (asked side id items)) (begun_from side items id)
 
+-- ---- items, one after the other
+
+in_all : (items : List Item) (item : Item)
+    → components_in_all (items ++ item ∷ []) ≡ components_in_all items + components_in_all (item ∷ [])
+in_all [] item = omega arith
+in_all (Sent side m ∷ items) item = let e = in_all items item in omega (arith, e)
+in_all (Item.Quiet ∷ items) item = in_all items item
+
 pub all_more : (items : List Item) (side : Side) (m : Message)
     → components_in_all (items ++ Sent side m ∷ []) ≡ components_in_all items + length (components_in m)
-all_more [] side m = omega arith
-all_more (Sent sender x ∷ items) side m = let e = all_more items side m in omega arith
-all_more (Item.Quiet ∷ items) side m = all_more items side m
+all_more items side m = let e = in_all items (Sent side m) in omega (arith, e)
+
+pub none_counted : AreCounted [] 0
+none_counted = record { few = omega arith; components = omega arith }
+
+-- no item more
+pub still_counted : (items : List Item) (number : ℕ) → AreCounted items number → AreCounted items (number + 1)
+still_counted items number are =
+    let a = are.few in
+    let b = are.components in
+    record { few = omega (arith, a); components = omega (arith, b) }
+
+module _ (items : List Item) (number : ℕ) (are : AreCounted items number) (item : Item) (count : ℕ)
+    (counted : components_in_all (item ∷ []) ≤ count) (small : count < 2 ^ 63) where
+  pub more_counted : AreCounted (items ++ item ∷ []) (number + 1)
+  more_counted =
+      let a = are.few in
+      let b = are.components in
+      let c = length-append items (item ∷ []) in
+      let d = in_all items item in
+      record { few = omega (arith, a, c); components = omega (arith, b, d, counted, small) }
+
+  pub counted_roomy : number < 2 ^ 63 → AreRoomy (items ++ item ∷ [])
+  counted_roomy few =
+      let a = are.few in
+      let b = are.components in
+      let c = length-append items (item ∷ []) in
+      let d = in_all items item in
+      record {
+        few = omega (arith, a, c, few);
+        components = bound number (components_in_all items) (components_in_all (item ∷ [])) _ few b
+            (omega (arith, counted, small)) d;
+      }
+    where
+      bound : (number a b all : ℕ) → number < 2 ^ 63 → a ≤ number * 2 ^ 63 → b < 2 ^ 63 → all ≡ a + b → all ≤ 2 ^ 126
+      bound number a b all few is_a is_b is = omega (arith, few, is_a, is_b, is)
+
+-- ---- what a half has
 
 module _ (side : Side) (id : List ℕ) (items : List Item) (m : Message) (roomy : AreRoomy (items ++ Sent side m ∷ [])) where
   all_items : components_in_all items + length (components_in m) ≤ 2 ^ 126

@@ -10,11 +10,11 @@ use Rattle.tcap_parts.specs.declared.component.Component.TheVariants.{Invoke, Re
 use Rattle.tcap_end.specs.Component.{is_code}
 use Rattle.tcap_end.specs.Table.{Table}
 use Rattle.tcap_refute.specs.Before.{invokes, is_invoke_id}
-use Rattle.tcap_refute.specs.Counts.{count, invokes_so, is_result_of}
-use Rattle.tcap_refute.proofs.LedLawsCounts.{any_counts, count_both, count_more, counts_any, one}
+use Rattle.tcap_faults.specs.Counts.{count, invokes_so, is_result_of}
 use Rattle.tcap_faults.specs.declared.sort.Class.TheVariants as classes
 use Rattle.tcap_faults.specs.declared.sort.Sort.TheVariants as sorts
 use Rattle.tcap_faults.specs.Tallied.{AreFew, both_tallied, greatest, invokes_link, is_sort, results_so, sum, tallied}
+use Rattle.tcap_faults.proofs.LedLawsCounts.{any_counts, count_both, count_more, counts_any, one}
 
 -- ---- sums
 

@@ -16,9 +16,9 @@ use Rattle.tcap_msg.specs.Parts.{components_in, dialogue_in, dtid_in, kind_in}
 use Rattle.tcap_end.specs.Dialogue.{is_request}
 use Rattle.tcap_end.specs.Table.{Table, octets_cmp}
 use Rattle.tcap_refute.specs.Before.{components_of, is_a}
-use Rattle.tcap_refute.specs.Counts.{count}
 use Rattle.tcap_refute.specs.Kind.{is_begin_with_request, or_else}
-use Rattle.tcap_refute.specs.Speaker.{goes_on_to}
+use Rattle.tcap_faults.specs.Counts.{count}
+use Rattle.tcap_faults.specs.Told.{goes_on_to}
 use Rattle.tcap_faults.specs.declared.ids.Ids.{Ids}
 use Rattle.tcap_faults.specs.declared.sent_from.Came.{Came}
 use Rattle.tcap_faults.specs.declared.sent_from.FirstBegin.{FirstBegin}

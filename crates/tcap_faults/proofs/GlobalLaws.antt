@@ -39,10 +39,6 @@ one octets others is = tells_apart exact_bytes octets others is
 abbrev pub IsPut : List ℕ → ℕ → List (Vec ℕ × ℕ) → List (Vec ℕ × ℕ) → Type 0
 IsPut octets n old new = (q : List ℕ) → lookup (at q) new ≡ cond (same q octets) (Some n) (lookup (at q) old)
 
-passed : (octets q : List ℕ) → same octets q ≡ false → same q octets ≡ true → ⊥
-passed octets q apart is =
-    let e : q ≡ octets = one q octets is in let f : same octets q ≡ true = rw e (itself octets) in cc
-
 swapped : {A : Type 0} (a b : Bool) (x y : A) (rest : Option A) → (a ≡ true → b ≡ true → ⊥)
     → cond a (Some x) (cond b (Some y) rest) ≡ cond b (Some y) (cond a (Some x) rest)
 swapped true true x y rest not_both = absurd (not_both refl refl)

@@ -1,5 +1,5 @@
 -- A message that is sent fits the half over which it goes: its IDs, and how it began (Q.774 3.3).
-use Rattle.std.proofs.Common.{◌≡◌, ◌⊎◌, inl, inr, ℕ, true, List, Option, Some, None, refl, sym, subst, ◌∙◌}
+use Rattle.std.proofs.Common.{◌≡◌, ◌⊎◌, inl, inr, ℕ, true, List, Option, Some, None, is_some, refl, sym, subst, ◌∙◌}
 use Rattle.std.specs.Prelude.{◌||◌}
 use Rattle.std.proofs.lemmas.Bool.{both_ways, not-true, or_cases}
 use Rattle.tcap_msg.specs.declared.message.Message.{Message}
@@ -12,19 +12,23 @@ use Rattle.tcap_end.specs.Half.{is_closed}
 use Rattle.tcap_end.specs.End.{End, KeptHalf, is_id, with_own}
 use Rattle.tcap_end.specs.Sound.{IsEnd}
 use Rattle.tcap_model.specs.World.{Item}
-use Rattle.tcap_refute.specs.HalfKinds.{was_closed}
-use Rattle.tcap_refute.specs.Speaker.{began}
+use Rattle.tcap_model.proofs.TurnLaws.{id_is}
+use Rattle.tcap_refute.specs.Before.{sent_by}
 use Rattle.tcap_refute.proofs.BeforeLaws.{is_that_id}
-use Rattle.tcap_refute.proofs.HalfLawsClosed.{all_closed_at}
-use Rattle.tcap_refute.proofs.HalfLawsViews.{View, view_sound}
-use Rattle.tcap_refute.proofs.LifeLawsSent.{one_half}
+use Rattle.tcap_refute.proofs.TransactionKinds.{one_half}
 use Rattle.tcap_refute.proofs.OverLaws.{IsOver, Speaks}
-use Rattle.tcap_refute.proofs.SpeakerFacts.{either_slot}
-use Rattle.tcap_refute.proofs.SpeakerLaws.{begun_so, waits_so}
+use Rattle.tcap_faults.specs.Closed.{was_closed}
+use Rattle.tcap_faults.specs.Told.{began, begin_from, begins_from}
 use Rattle.tcap_faults.specs.HalfKinds.{goes_from_other, is_another, is_wrong_half, may_not_speak}
 use Rattle.tcap_faults.specs.declared.how.How.{How}
 use Rattle.tcap_faults.specs.declared.how.How.TheVariants.{Accepted, Begun}
 use Rattle.tcap_faults.specs.HalfOf.{HalfOf, half_of}
+use Rattle.tcap_faults.proofs.HalfLawsClosed.{all_closed_at}
+use Rattle.tcap_faults.proofs.HalfLawsViews.{View, view_sound}
+use Rattle.tcap_faults.proofs.HalfFacts.{either_slot, waits_so}
+use Rattle.tcap_faults.proofs.HalfLawsActs.{Uses}
+use Rattle.tcap_faults.proofs.HalfLawsFinds.{find_has}
+use Rattle.tcap_faults.proofs.HalfLawsIds.{all_use, begin_used}
 use Rattle.tcap_faults.proofs.OwnHalfLaws.{how_accepted, how_begun_half, own_is}
 use Rattle.tcap_faults.proofs.TangledLaws.{IsPlain}
 
@@ -69,7 +73,36 @@ module _ {table : Table} {side : Side} {e : End} {coming : List Message} {items 
   none_other : (otid : List ℕ) → ((f.half.phase ≡ phases.Active) × (f.half.own ≡ Some otid))
       ⊎ ((f.half.phase ≡ phases.Received) × (with_own e otid ≡ None)) → is_another otid h.own ≡ true → ⊥
   none_other otid (inl (active, mine)) so = not_another otid h.own (own ∙ mine) so
-  none_other otid (inr (received, none)) so = none_another otid h.own (own ∙ waits_so view m id half plain.few received) so
+  none_other otid (inr (received, none)) so = none_another otid h.own (own ∙ waits_so e f is_end half.had received) so
+
+  -- From an ID that the end began it goes over the half that began so.
+  begun_mine : (otid : List ℕ) (b : Message) → begins_from otid b ≡ true → Uses e b → f.half.own ≡ Some otid
+      → f.slot ≡ slots.Begun
+  begun_mine otid (Unidirectional dialogue components) begins uses mine = cc
+  begun_mine otid (Begin id dialogue components) begins (h, there) mine =
+      let g : KeptHalf = record { slot = slots.Begun; key = id; half = h } in
+      let same : Some id ≡ Some otid = id_is otid (Some id) begins in
+      (is_end.one_own f g otid half.had there mine (is_end.kept g there ∙ same)).0
+  begun_mine otid (Continue id dtid dialogue components) begins uses mine = cc
+  begun_mine otid (EndMessage dtid dialogue components) begins uses mine = cc
+  begun_mine otid (Abort dtid reason) begins uses mine = cc
+
+  begun_is : (otid : List ℕ) (b : Message) → begins_from otid b ≡ true → Uses e b
+      → ((f.half.phase ≡ phases.Active) × (f.half.own ≡ Some otid))
+      ⊎ ((f.half.phase ≡ phases.Received) × (with_own e otid ≡ None)) → f.slot ≡ slots.Begun
+  begun_is otid b begins uses (inl (active, mine)) = begun_mine otid b begins uses mine
+  begun_is otid b begins uses (inr (received, none)) = begin_used e otid b is_end none begins uses
+
+  begun_speaks : (otid : List ℕ) → began side otid items ≡ true
+      → ((f.half.phase ≡ phases.Active) × (f.half.own ≡ Some otid))
+      ⊎ ((f.half.phase ≡ phases.Received) × (with_own e otid ≡ None)) → f.slot ≡ slots.Begun
+  begun_speaks otid begun speaks = by (begin_from side otid items) refl begun
+    where
+      by : (o : Option Message) → begin_from side otid items ≡ o → is_some o ≡ true → f.slot ≡ slots.Begun
+      by None none is = cc
+      by (Some b) found is =
+          let (has, begins) = find_has (begins_from otid) (sent_by side items) b found in
+          begun_is otid b begins (all_use view b has) speaks
 
   -- Over one that began by receiving it is from no ID that the end began.
   accepted_other : f.slot ≡ slots.Accepted → (n : Message) → n ≡ m
@@ -82,12 +115,8 @@ module _ {table : Table} {side : Side} {e : End} {coming : List Message} {items 
       speaks : Speaks e (Continue otid dtid dialogue components) f.half
       speaks = subst (λ (x : Message). Speaks e x f.half) (sym is) half.speaks
 
-      begun : began side otid items ≡ true → f.slot ≡ slots.Begun
-      begun it =
-          begun_so view m id half plain.few (rw (← is) it)
-
       by : (began side otid items ≡ true) ⊎ (is_another otid h.own ≡ true) → ⊥
-      by (inl it) = let bad = sym slot ∙ begun it in cc
+      by (inl begun) = let bad = sym slot ∙ begun_speaks otid begun speaks in cc
       by (inr other) = none_other otid speaks other
   accepted_other slot (EndMessage dtid dialogue components) is so = cc
   accepted_other slot (Abort dtid reason) is so = cc

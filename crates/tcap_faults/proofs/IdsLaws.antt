@@ -1,10 +1,15 @@
 -- Transaction IDs that are kept, with one more.
-use Rattle.std.proofs.Common.{◌≡◌, ◌⊎◌, inl, inr, ℕ, ◌-◌, Bool, true, false, ◌||◌, not, List, [], ◌∷◌, ◌++◌, length, Some, bytes_eq, refl, sym, ◌∙◌, arith}
+use Rattle.std.proofs.Common.{◌≡◌, ◌⊎◌, inl, inr, ℕ, ◌+◌, ◌-◌, ◌≤◌, ◌<◌, Bool, true, false, cond, ◌||◌, not, List, [], ◌∷◌, ◌++◌, length, drop, get_or, Option, Some, None, bytes_eq, refl, sym, ap, ◌∙◌, arith}
 use Rattle.std.specs.Prelude.{Contains, slice_get}
+use Rattle.std.specs.Option.{option_or}
+use Rattle.std.specs.List.{find}
+use Rattle.std.proofs.lemmas.List.Folds.{find-append}
+use Rattle.std.proofs.lemmas.List.{at_drop_all, at_drop_more}
 use Rattle.std.proofs.lemmas.List.Elements.{Contains-append_left, Contains-append_right, Contains-push, Contains-push_cases}
 use Rattle.std.proofs.lemmas.Option.{get_or_from_slice_get, slice_get_within}
 use Rattle.std.proofs.lemmas.Slice.Eq.{bytes_eq-Decides}
-use Rattle.tcap_refute.specs.Speaker.{is_nothing}
+use Rattle.tcap_faults.specs.Counts.{is_nothing}
+use Rattle.tcap_faults.proofs.HalfLawsFinds.{find_none}
 use Rattle.tcap_faults.specs.declared.ids.Ids.{Ids}
 use Rattle.tcap_faults.specs.Ids.{AreIds, ids_first, ids_kept}
 use Rattle.tcap_faults.specs.Tangled.{two_differ}
@@ -32,6 +37,16 @@ last_of_more first (id ∷ more) last is = record {
 }
 
 -- ---- one more
+
+-- One that is there already is not the first that passes.
+found_again : (p : List ℕ → Bool) (ids : List (List ℕ)) (id : List ℕ) → Contains ids id
+    → find p (ids ++ id ∷ []) ≡ find p ids
+found_again p ids id has = find-append p ids (id ∷ []) ∙ by (find p ids) (p id) refl refl
+  where
+    by : (o : Option (List ℕ)) (b : Bool) → find p ids ≡ o → p id ≡ b → option_or o (cond b (Some id) None) ≡ o
+    by (Some x) b is passes = refl
+    by None true is passes = find_none p ids id is has passes
+    by None false is passes = refl
 
 same_octets : (a b : List ℕ) → not (bytes_eq a b) ≡ false → a ≡ b
 same_octets a b is = by (bytes_eq a b) refl is
@@ -65,6 +80,7 @@ module _ (id : List ℕ) (ids : List (List ℕ)) (old : Ids) (was : AreIds ids o
     first = first_stays;
     there = λ x has. there x (Contains-push_cases ids id x has);
     back = λ x has. Contains-append_left ids (id ∷ []) x (was.back x has);
+    found = λ p. was.found p ∙ sym (found_again p ids id (rw same at (was.back last (rw is at_last.among))));
     several = rw (differ_more, ← was.several) (several old.more.items at_last.only);
   }
     where
@@ -87,6 +103,10 @@ module _ (id : List ℕ) (ids : List (List ℕ)) (old : Ids) (was : AreIds ids o
     first = stays ∙ first_stays;
     there = λ x has. rw (stays, grows, is) (there x (Contains-push_cases ids id x has));
     back = λ x has. back x (Contains-push_cases (first ∷ old.more.items) id x (rw (stays, grows, is) at has));
+    found = λ p. rw (stays, grows, is)
+        (find-append p (first ∷ old.more.items) (id ∷ [])
+        ∙ ap (λ o. option_or o (find p (id ∷ []))) (rw is at was.found p)
+        ∙ sym (find-append p ids (id ∷ [])));
     several = rw (grows, something old.more.items id, differ_more, ← was.several)
         (several old.more.items at_last.only);
   }
@@ -104,3 +124,39 @@ module _ (id : List ℕ) (ids : List (List ℕ)) (old : Ids) (was : AreIds ids o
           → true ≡ (not (is_nothing more) || not (bytes_eq first id))
       several [] only = rw (← only refl, differs) refl
       several (x ∷ more) only = refl
+
+-- ---- the first that passes
+
+module _ (p : List ℕ → Bool) (xs : List (List ℕ)) (i : ℕ) where
+  -- It is the first of what is left, or behind it;
+  left_is : (x : List ℕ) → i < length xs → x ≡ get_or xs i x
+      → find p (drop i xs) ≡ cond (p x) (Some x) (find p (drop (i + 1) xs))
+  left_is x within at =
+      at_drop_more (find p) xs i x within ∙ ap (λ y. cond (p y) (Some y) (find p (drop (i + 1) xs))) (sym at)
+
+  pub left_here : (x : List ℕ) → i < length xs → x ≡ get_or xs i x → p x ≡ true → find p (drop i xs) ≡ Some x
+  left_here x within at passes = left_is x within at ∙ rw passes refl
+
+  pub left_on : (x : List ℕ) → i < length xs → x ≡ get_or xs i x → p x ≡ false
+      → find p (drop i xs) ≡ find p (drop (i + 1) xs)
+  left_on x within at passes = left_is x within at ∙ rw passes refl
+
+  -- nothing is left at the end.
+  pub left_nothing : length xs ≤ i → find p (drop i xs) ≡ None
+  left_nothing long = at_drop_all (find p) xs i long
+
+module _ (p : List ℕ → Bool) (ids : List (List ℕ)) (kept : Ids) (are : AreIds ids kept) where
+  -- Where none are kept, there is none;
+  pub found_nothing : None ≡ kept.first → None ≡ find p ids
+  found_nothing none = ap (λ o. find p (ids_kept o kept.more.items)) none ∙ are.found p
+
+  module _ (first : List ℕ) (is : kept.first ≡ Some first) where
+    with_first : find p (first ∷ kept.more.items) ≡ find p ids
+    with_first = ap (λ o. find p (ids_kept o kept.more.items)) (sym is) ∙ are.found p
+
+    -- else it is the first that is kept, or it is behind that.
+    pub found_first : p first ≡ true → Some first ≡ find p ids
+    found_first passes = sym (ap (λ b. cond b (Some first) (find p kept.more.items)) passes) ∙ with_first
+
+    pub found_later : p first ≡ false → find p kept.more.items ≡ find p ids
+    found_later passes = sym (ap (λ b. cond b (Some first) (find p kept.more.items)) passes) ∙ with_first

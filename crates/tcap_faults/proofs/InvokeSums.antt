@@ -1,5 +1,5 @@
 -- Invokes that a half does not allow, where few components are counted (Q.774 3.2, Q.771 3.1.2).
-use Rattle.std.proofs.Common.{◌≡◌, ℕ, ℤ, ◌+◌, ◌^◌, ◌≤◌, arith, Bool, true, false, ltb, List, Some, None, not, refl, sym, ap, ap₂, ◌∙◌}
+use Rattle.std.proofs.Common.{◌≡◌, ℕ, ℤ, ◌+◌, ◌^◌, ◌≤◌, arith, Bool, true, false, ltb, List, Some, None, not, refl, sym, ap, ◌∙◌, ap₂}
 use Rattle.std.specs.Prelude.{◌||◌, ◌&&◌, ◌==◌, nat_le}
 use Rattle.std.specs.List.{list_any}
 use Rattle.std.proofs.lemmas.Bool.{eqb-true, le-ltb, or_from, or_left, or_right}
@@ -9,9 +9,7 @@ use Rattle.tcap_parts.specs.declared.component.Component.TheVariants.{Invoke, Re
 use Rattle.tcap_end.specs.Component.{links}
 use Rattle.tcap_end.specs.Table.{Table, expires_of}
 use Rattle.tcap_refute.specs.Before.{invokes, is_invoke_id}
-use Rattle.tcap_refute.specs.Counts.{any_problem, count, invokes_so, is_error, is_last_result, is_not_last, rejects_invoke, rejects_result, takes}
-use Rattle.tcap_refute.proofs.LedLawsAnswered.{count_takes, count_takes_all}
-use Rattle.tcap_refute.proofs.LedLawsCounts.{count_apart, count_covered, count_weaker}
+use Rattle.tcap_faults.specs.Counts.{any_problem, count, invokes_so, is_error, is_last_result, is_not_last, rejects_invoke, rejects_result, takes}
 use Rattle.tcap_faults.specs.ComponentKinds.{invokes_busy, is_busy, links_badly, may_reject_answer, may_reject_invoke, rejects_generally}
 use Rattle.tcap_faults.specs.HalfOf.{HalfOf}
 use Rattle.tcap_faults.specs.declared.sort.Class.{Class}
@@ -19,11 +17,13 @@ use Rattle.tcap_faults.specs.declared.sort.Class.TheVariants as classes
 use Rattle.tcap_faults.specs.declared.sort.Sort.TheVariants as sorts
 use Rattle.tcap_faults.specs.Tallied.{AreFew, is_of_class, is_sort, sum, tallied}
 use Rattle.tcap_faults.specs.ByTallies.{Counted, invokes_busy_by, is_busy_by, links_badly_by, more_last_by, taken_by}
+use Rattle.tcap_faults.proofs.LedLawsAnswered.{count_takes, count_takes_all}
+use Rattle.tcap_faults.proofs.LedLawsCounts.{count_apart, count_covered, count_weaker}
 use Rattle.tcap_faults.proofs.FewSums.{any_counted, count_invokes, count_within, sum_exact, sum_three}
 use Rattle.tcap_faults.proofs.SumLaws.{above_sum, sum_more}
 
 -- what is counted of what a half heard and invoked, of what it told before, of the components of the message before that one,
--- and of what it told with all of the message
+-- and of what it told with what else of the message ends an own invocation
 abbrev pub counted_of : Table → HalfOf → List Component → List Component → List Component → Counted
 counted_of table h all before own = record {
   heard = tallied table h.heard;

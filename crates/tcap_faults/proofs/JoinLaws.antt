@@ -1,5 +1,5 @@
 -- Which IDs are joined, and whether those that a message goes over are tangled, by what is kept of both ends.
-use Rattle.std.proofs.Common.{◌≡◌, ◌⊎◌, inl, inr, ℕ, Bool, true, false, cond, ◌&&◌, ◌||◌, List, [], ◌∷◌, ◌++◌, Option, Some, None, bytes_eq, filter, refl, sym, ap, ap₂, subst, ◌∙◌}
+use Rattle.std.proofs.Common.{◌≡◌, ◌⊎◌, inl, inr, ℕ, Bool, true, false, cond, ◌&&◌, ◌||◌, List, [], ◌∷◌, ◌++◌, Option, Some, None, bytes_eq, filter, refl, sym, ap, subst, ◌∙◌, ap₂}
 use Rattle.std.specs.Prelude.{Contains, filter_map, nat_le}
 use Rattle.std.specs.List.{flat_map, list_any}
 use Rattle.std.proofs.lemmas.Bool.{and_from, and_parts, or_from, or_parts}
@@ -18,15 +18,15 @@ use Rattle.tcap_end.specs.End.{is_id}
 use Rattle.tcap_model.specs.World.{Item}
 use Rattle.tcap_model.proofs.TurnLaws.{id_is}
 use Rattle.tcap_refute.specs.Before.{asked, has_a, is_a, sent_by}
-use Rattle.tcap_refute.specs.Counts.{count}
-use Rattle.tcap_refute.specs.Speaker.{began, goes_on_to}
-use Rattle.tcap_refute.proofs.HalfLawsFinds.{filter_is}
 use Rattle.tcap_refute.proofs.TestLaws.{and_false, or_none}
 use Rattle.tcap_refute.proofs.Members.{filter_has, filter_map_has}
+use Rattle.tcap_faults.specs.Counts.{count}
+use Rattle.tcap_faults.specs.Told.{began, goes_on_from, goes_on_to, has_used}
 use Rattle.tcap_faults.specs.declared.ids.Ids.{Ids}
 use Rattle.tcap_faults.specs.Ids.{AreAmong, IsOneOf}
 use Rattle.tcap_faults.specs.Kept.{dtids_of, otids_of, sent_from, sent_to}
-use Rattle.tcap_faults.specs.Tangled.{are_tangled, goes_on_from, goes_to_begun, has_used, is_own_tangled, is_peer_tangled, owns_of, peers_of, two_differ}
+use Rattle.tcap_faults.specs.Tangled.{are_tangled, goes_to_begun, is_own_tangled, is_peer_tangled, owns_of, peers_of, two_differ}
+use Rattle.tcap_faults.proofs.HalfLawsFinds.{filter_is}
 use Rattle.tcap_faults.proofs.SameLaws.{any_one, differ_so}
 use Rattle.tcap_faults.proofs.SideLaws.{other_twice}
 use Rattle.tcap_faults.proofs.TangledLaws.{all_same, began_used}

@@ -21,13 +21,13 @@ use Rattle.tcap_end.specs.Table.{octets_cmp}
 use Rattle.tcap_model.specs.World.{Item}
 use Rattle.tcap_refute.specs.Before.{is_a, sent_by}
 use Rattle.tcap_refute.proofs.TestLaws.{or_none}
-use Rattle.tcap_refute.specs.Speaker.{goes_on_to}
-use Rattle.tcap_refute.proofs.HalfLawsFinds.{any_is, filter_is}
 use Rattle.tcap_refute.proofs.Members.{any_has, filter_has, filter_map_has, has_later, has_not}
+use Rattle.tcap_faults.specs.Told.{goes_on_from, goes_on_to, has_used}
 use Rattle.tcap_faults.specs.declared.ids.Ids.{Ids}
 use Rattle.tcap_faults.specs.Ids.{AreAmong, AreIds, AreSame, ids_kept}
 use Rattle.tcap_faults.specs.Joining.{GetsMore, HasMore, id_if}
-use Rattle.tcap_faults.specs.Tangled.{goes_on_from, has_used, owns_of, peers_of}
+use Rattle.tcap_faults.specs.Tangled.{owns_of, peers_of}
+use Rattle.tcap_faults.proofs.HalfLawsFinds.{any_is, filter_is}
 use Rattle.tcap_faults.proofs.JoinLaws.{joined_back}
 use Rattle.tcap_faults.proofs.KeyLaws.{at_id, set_more}
 use Rattle.tcap_faults.proofs.MapLaws.{Puts}

@@ -19,18 +19,17 @@ use Rattle.tcap_end.specs.End.{is_id}
 use Rattle.tcap_end.specs.Table.{octets_cmp}
 use Rattle.tcap_model.specs.World.{Item, Sent}
 use Rattle.tcap_model.specs.Since.{ended_by}
-use Rattle.tcap_refute.specs.Before.{is_a, sent_by}
-use Rattle.tcap_refute.specs.Speaker.{goes_on_to}
-use Rattle.tcap_refute.proofs.HalfLawsFinds.{any_is, filter_is}
-use Rattle.tcap_refute.proofs.Members.{any_has, filter_has, has_first, has_not}
 use Rattle.tcap_model.proofs.ListLaws.{contains_first}
+use Rattle.tcap_refute.specs.Before.{is_a, sent_by}
+use Rattle.tcap_refute.proofs.Members.{any_has, filter_has, has_first, has_not}
 use Rattle.tcap_refute.proofs.TestLaws.{or_none}
+use Rattle.tcap_faults.specs.Told.{goes_on_from, goes_on_to, has_ended, has_used}
 use Rattle.tcap_faults.specs.declared.ids.Ids.{Ids}
 use Rattle.tcap_faults.specs.Ids.{AreAmong, AreSame}
 use Rattle.tcap_faults.specs.Joining.{GetsMore, HasMore, id_if}
 use Rattle.tcap_faults.specs.Kept.{dtids_of, otids_of, sent_from, sent_to}
-use Rattle.tcap_faults.specs.Tangled.{goes_on_from, has_used, owns_of, peers_of}
-use Rattle.tcap_faults.specs.UsedAgain.{has_ended}
+use Rattle.tcap_faults.specs.Tangled.{owns_of, peers_of}
+use Rattle.tcap_faults.proofs.HalfLawsFinds.{any_is, filter_is}
 use Rattle.tcap_faults.proofs.JoinLaws.{dtids_are, otids_are}
 use Rattle.tcap_faults.proofs.JoinedLaws.{among_same, any_either, from_goes, goes_from, goes_to, is_it, joined_both, to_goes}
 use Rattle.tcap_faults.proofs.NotingLaws.{backs, dtids_own, ended_own, ended_theirs, fronts, passes_of, peers_any, peers_own, peers_theirs, used_own}

@@ -1,9 +1,7 @@
 -- What the next item is to an end, by what is kept; and what is kept behind it.
-use Rattle.std.proofs.Common.{◌≡◌, Bool, true, false, cond, not, ◌&&◌, ◌||◌, List, [], ◌∷◌, ◌++◌, Option, Some, None, Result, Ok, Err, refl, sym, ap, ap₂, subst, ◌∙◌}
+use Rattle.std.proofs.Common.{◌≡◌, Bool, true, false, cond, not, ◌&&◌, ◌||◌, List, [], ◌∷◌, ◌++◌, Option, Some, None, Result, Ok, Err, refl, sym, ap, subst, ◌∙◌, ap₂}
 use Rattle.std.specs.Prelude.{IfOk}
 use Rattle.std.specs.List.{find}
-use Rattle.std.proofs.Math.Bool.{or-false, or_assoc}
-use Rattle.std.proofs.lemmas.List.{append-nil, append_assoc}
 use Rattle.tcap_msg.specs.declared.message.Message.{Message}
 use Rattle.tcap_msg.specs.Parts.{dtid_in}
 use Rattle.tcap_record.specs.declared.entry.End.{End as Side}
@@ -20,27 +18,18 @@ use Rattle.tcap_faults.specs.declared.kept.Kept.{Kept}
 use Rattle.tcap_faults.specs.Fault.{fault_since, further_kinds, is_fault, is_of_further_kind}
 use Rattle.tcap_faults.specs.Kept.{AreFacts}
 use Rattle.tcap_faults.specs.Searching.{IsKept}
-use Rattle.tcap_faults.specs.Tangled.{goes_over_tangled, one_passes}
+use Rattle.tcap_faults.specs.Tangled.{goes_over_tangled}
 use Rattle.tcap_faults.specs.UsedAgain.{has_used_again, is_used_again, uses_again}
+use Rattle.tcap_faults.proofs.HalfLawsFinds.{one_more}
 use Rattle.tcap_faults.proofs.KindFinds.{fault_found, none_found}
 
 -- ---- own IDs that are used again
-
--- Whether one passes of these items and one more.
-passes_more : (p : List Item → Item → Bool) (seen xs : List Item) (item : Item)
-    → one_passes p seen (xs ++ item ∷ []) ≡ (one_passes p seen xs || p (seen ++ xs) item)
-passes_more p seen [] item = or-false (p seen item) ∙ ap (λ ys. p ys item) (sym (append-nil seen))
-passes_more p seen (x ∷ xs) item =
-    ap (λ b. p seen x || b)
-    (passes_more p (seen ++ x ∷ []) xs item
-    ∙ ap (λ ys. one_passes p (seen ++ x ∷ []) xs || p ys item) (append_assoc seen (x ∷ []) xs))
-    ∙ sym (or_assoc (p seen x) (one_passes p (seen ++ x ∷ []) xs) (p (seen ++ (x ∷ xs)) item))
 
 again_more : (table : Table) (side : Side) (items : List Item) (m : Message)
     → has_used_again table side (items ++ Sent side m ∷ [])
     ≡ (has_used_again table side items || uses_again table side items m)
 again_more table side items m =
-    passes_more (is_used_again table side) [] items (Sent side m)
+    one_more (is_used_again table side) [] items (Sent side m)
     ∙ ap (λ b. has_used_again table side items || (b && uses_again table side items m)) (is_itself side)
 
 -- ---- the lowest kind of an own message

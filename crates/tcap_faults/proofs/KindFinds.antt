@@ -1,8 +1,9 @@
 -- The lowest of all kinds of a message, by the first ones and the further ones; and the lowest further kind over a half.
-use Rattle.std.proofs.Common.{◌≡◌, ℕ, Bool, true, false, cond, not, ◌&&◌, ◌||◌, List, [], ◌∷◌, ◌++◌, Option, Some, None, refl, sym, ap, ap₂, ◌∙◌}
+use Rattle.std.proofs.Common.{◌≡◌, ℕ, Bool, true, false, cond, not, ◌&&◌, ◌||◌, List, [], ◌∷◌, ◌++◌, Option, Some, None, is_some, refl, sym, ap, ap₂, ◌∙◌}
 use Rattle.std.specs.List.{find, list_any}
 use Rattle.std.proofs.Math.Bool.{or-false}
 use Rattle.std.proofs.lemmas.Bool.{or_parts}
+use Rattle.tcap_parts.specs.declared.component.Component.{Component}
 use Rattle.tcap_msg.specs.declared.message.Message.{Message}
 use Rattle.tcap_msg.specs.Parts.{cause_in, components_in, dtid_in}
 use Rattle.tcap_record.specs.declared.entry.End.{End as Side}
@@ -10,15 +11,20 @@ use Rattle.tcap_end.specs.Table.{Table}
 use Rattle.tcap_model.specs.World.{Item}
 use Rattle.tcap_refute.specs.declared.kind.Kind.{Kind}
 use Rattle.tcap_refute.specs.declared.kind.Kind.TheVariants as kinds
-use Rattle.tcap_refute.specs.ComponentKinds.{has_component}
+use Rattle.tcap_faults.specs.Components.{has_component, invokes_again, is_linked}
 use Rattle.tcap_refute.specs.FirstKinds.{first_kinds, is_of_first_kind}
 use Rattle.tcap_refute.specs.Kind.{or_else}
+use Rattle.tcap_refute.proofs.TestLaws.{some_first}
+use Rattle.tcap_faults.specs.declared.components.ComponentFaults.{ComponentFaults}
 use Rattle.tcap_faults.specs.ComponentKinds.{answers_again, invokes_busy, links_badly, rejects_wrongly}
+use Rattle.tcap_faults.specs.Faults.{component_at}
 use Rattle.tcap_faults.specs.Fault.{further_kinds, is_fault, is_of_further_kind, is_of_half_kind, is_of_kind_to}
 use Rattle.tcap_faults.specs.HalfKinds.{is_wrong_dialogue, is_wrong_half}
 use Rattle.tcap_faults.specs.HalfOf.{HalfOf, half_of}
 use Rattle.tcap_faults.specs.Searching.{kind_of_components}
+use Rattle.tcap_faults.specs.Subject.{alone_component, half_component}
 use Rattle.tcap_faults.specs.Tangled.{are_tangled, goes_over_tangled, is_own_tangled, is_peer_tangled, near, own_of_continue}
+use Rattle.tcap_faults.proofs.ComponentFinds.{some_component}
 
 -- ---- the further kinds
 
@@ -75,6 +81,54 @@ kind_last table side id items m h k half dialogue is =
 
     rejected : Bool
     rejected = has_component (rejects_wrongly table h) [] h.told (components_in m)
+
+-- ---- the components
+
+-- A message over a half has a kind where one of its components was found to be so;
+pub kinds_found : (table : Table) (h : HalfOf) (cs : List Component) (found : ComponentFaults)
+    → ((kind : Kind) → component_at kind found ≡ half_component table h cs kind)
+    → kind_of_components (is_some found.busy) (is_some found.badly_linked) (is_some found.answered_already)
+    (is_some found.wrongly_rejected)
+    ≡ kind_of_components
+    (has_component (invokes_busy table h (h.told ++ cs)) [] h.told cs)
+    (has_component (links_badly table h) [] h.told cs)
+    (has_component (answers_again table h) [] h.told cs)
+    (has_component (rejects_wrongly table h) [] h.told cs)
+kinds_found table h cs found are = λ i. kind_of_components (busy i) (linked i) (answered i) (rejected i)
+  where
+    busy : is_some found.busy ≡ has_component (invokes_busy table h (h.told ++ cs)) [] h.told cs
+    busy = ap is_some (are kinds.InvokeIdBusy) ∙ some_component (invokes_busy table h (h.told ++ cs)) 0 [] h.told cs
+
+    linked : is_some found.badly_linked ≡ has_component (links_badly table h) [] h.told cs
+    linked = ap is_some (are kinds.BadLink) ∙ some_component (links_badly table h) 0 [] h.told cs
+
+    answered : is_some found.answered_already ≡ has_component (answers_again table h) [] h.told cs
+    answered = ap is_some (are kinds.AnsweredAlready) ∙ some_component (answers_again table h) 0 [] h.told cs
+
+    rejected : is_some found.wrongly_rejected ≡ has_component (rejects_wrongly table h) [] h.told cs
+    rejected = ap is_some (are kinds.RejectNotAllowed) ∙ some_component (rejects_wrongly table h) 0 [] h.told cs
+
+-- and one without destination ID.
+pub alone_found : (table : Table) (side : Side) (items : List Item) (m : Message) (found : ComponentFaults)
+    → None ≡ dtid_in m → ((kind : Kind) → component_at kind found ≡ alone_component (components_in m) kind)
+    → kind_of_components (is_some found.busy) (is_some found.badly_linked) (is_some found.answered_already)
+    (is_some found.wrongly_rejected)
+    ≡ find (is_of_further_kind table side items m (dtid_in m)) further_kinds
+alone_found table side items m found none are =
+    (λ i. kind_of_components (busy i) (linked i) (answered i) (rejected i))
+    ∙ ap (λ o. find (is_of_further_kind table side items m o) further_kinds) none
+  where
+    busy : is_some found.busy ≡ has_component invokes_again [] [] (components_in m)
+    busy = ap is_some (are kinds.InvokeIdBusy) ∙ some_component invokes_again 0 [] [] (components_in m)
+
+    linked : is_some found.badly_linked ≡ list_any is_linked (components_in m)
+    linked = ap is_some (are kinds.BadLink) ∙ some_first is_linked 0 (components_in m)
+
+    answered : is_some found.answered_already ≡ false
+    answered = ap is_some (are kinds.AnsweredAlready)
+
+    rejected : is_some found.wrongly_rejected ≡ false
+    rejected = ap is_some (are kinds.RejectNotAllowed)
 
 -- ---- all kinds
 

@@ -7,7 +7,7 @@ use Rattle.std.proofs.lemmas.Map.Lookups.{exact_bytes}
 use Rattle.std.proofs.lemmas.Map.Views.{tells_apart}
 use Rattle.tcap_msg.specs.declared.message.Message.{Message}
 use Rattle.tcap_end.specs.Table.{Table, octets_cmp}
-use Rattle.tcap_refute.specs.Speaker.{is_nothing}
+use Rattle.tcap_faults.specs.Counts.{is_nothing}
 use Rattle.tcap_faults.specs.Kept.{IsCame, IsCameAt, IsFrom, IsFromAt, IsTo, IsToAt}
 use Rattle.tcap_faults.specs.Noting.{with_more}
 use Rattle.tcap_faults.proofs.KeyLaws.{at_other}
@@ -27,12 +27,6 @@ pub record IsFamily {X : Type 0} (At : List Message → Option X → Type 0) (Is
 
 module _ {X : Type 0} {At : List Message → Option X → Type 0} {Is : List Message → X → Type 0} (family : IsFamily At Is)
     (id_in : Message → Option (List ℕ)) (m : Message) (lists : List ℕ → List Message) where
-  -- A message that has no such ID changes no list.
-  pub noted_nowhere : (old : List (List ℕ × X)) → id_in m ≡ None
-      → ((id : List ℕ) → At (lists id) (lookup (is_at (octets_cmp id)) old))
-      → (id : List ℕ) → At (with_more id_in m lists id) (lookup (is_at (octets_cmp id)) old)
-  noted_nowhere old without are id = rw (without, append-nil (lists id)) (are id)
-
   module _ (to : List ℕ) (it : id_in m ≡ Some to) where
     -- The lists of other IDs stay as they are.
     put : (old new : List (List ℕ × X)) (s : X) → Puts old new to s

@@ -1,5 +1,5 @@
 -- Aborts of a provider, and halves that are open at a quiet mark, by what is kept of both ends.
-use Rattle.std.proofs.Common.{◌≡◌, ◌⊎◌, inl, inr, ℕ, ◌+◌, ◌-◌, ◌<◌, ◌≤◌, ◌^◌, arith, Bool, true, false, cond, not, ◌&&◌, ◌||◌, List, [], ◌∷◌, Option, Some, None, is_some, bytes_eq, drop, filter, get_or, length, refl, sym, ap, ap₂, ◌∙◌}
+use Rattle.std.proofs.Common.{◌≡◌, ◌⊎◌, inl, inr, ℕ, ◌+◌, ◌-◌, ◌<◌, ◌≤◌, ◌^◌, arith, Bool, true, false, cond, not, ◌&&◌, ◌||◌, List, [], ◌∷◌, Option, Some, None, is_some, bytes_eq, drop, filter, get_or, length, refl, sym, ap, ◌∙◌, ap₂}
 use Rattle.std.specs.Prelude.{Contains, filter_map, nat_le, nat_lt}
 use Rattle.std.specs.Cmp as tests
 use Rattle.std.specs.List.{cons_option, find, list_any}
@@ -22,16 +22,14 @@ use Rattle.tcap_end.specs.End.{is_id}
 use Rattle.tcap_end.specs.Table.{Table, octets_cmp}
 use Rattle.tcap_model.specs.World.{Item}
 use Rattle.tcap_model.specs.Run.{then_so}
-use Rattle.tcap_refute.specs.Before.{asked, has_a, is_a, message_of, sent_by}
-use Rattle.tcap_refute.specs.Blame.{all_go_to_open, is_abort_with}
-use Rattle.tcap_refute.specs.Counts.{count}
+use Rattle.tcap_refute.specs.Before.{asked, ends_to, has_a, is_a, message_of, sent_by}
 use Rattle.tcap_refute.specs.Kept.{holds}
-use Rattle.tcap_refute.specs.Speaker.{ends_to, goes_on_to, is_cause, is_nothing, is_surely_open, told}
 use Rattle.tcap_refute.proofs.BeforeLaws.{is_that_id}
-use Rattle.tcap_refute.proofs.HalfLawsFinds.{any_is, filter_is}
-use Rattle.tcap_refute.proofs.LedLawsCounts.{count_more, one}
 use Rattle.tcap_refute.proofs.Members.{any_has, filter_has, has_first, has_not}
 use Rattle.tcap_refute.proofs.TestLaws.{and_false}
+use Rattle.tcap_faults.specs.Closed.{all_go_to_open, is_surely_open}
+use Rattle.tcap_faults.specs.Told.{goes_on_from, goes_on_to, has_ended, has_used, is_abort_with, is_cause, told}
+use Rattle.tcap_faults.specs.Counts.{count, is_nothing}
 use Rattle.tcap_faults.specs.declared.facts.SideFacts.{SideFacts}
 use Rattle.tcap_faults.specs.declared.ids.Ids.{Ids}
 use Rattle.tcap_faults.specs.declared.sent_from.SentFrom.{SentFrom}
@@ -40,8 +38,9 @@ use Rattle.tcap_faults.specs.HalfKinds.{is_accepted}
 use Rattle.tcap_faults.specs.HalfOf.{half_of}
 use Rattle.tcap_faults.specs.Ids.{AreAmong, AreIds, ids_first, ids_kept}
 use Rattle.tcap_faults.specs.Kept.{IsFrom, IsFromAt, IsSide, dtids_of, sent_from, sent_to}
-use Rattle.tcap_faults.specs.Tangled.{are_tangled, goes_on_from, has_used, is_own_tangled, near, owns_of, two_differ}
-use Rattle.tcap_faults.specs.UsedAgain.{has_ended}
+use Rattle.tcap_faults.specs.Tangled.{are_tangled, is_own_tangled, near, owns_of, two_differ}
+use Rattle.tcap_faults.proofs.HalfLawsFinds.{any_is, filter_is}
+use Rattle.tcap_faults.proofs.LedLawsCounts.{count_more, one}
 use Rattle.tcap_faults.proofs.JoinLaws.{dtids_are}
 use Rattle.tcap_faults.proofs.ReplyLaws.{accepted_stands}
 use Rattle.tcap_faults.proofs.SameLaws.{any_one, first_has, left_differ}
@@ -66,7 +65,7 @@ module _ (table : Table) (side : Side) (items : List Item) (own : List ℕ) wher
       && not (list_any (ends_to own) (sent_by (other side) items))
 
   surely_so : (to : Option (List ℕ))
-      → then_so (find (λ m. is_a forms.Continue m && is_id own (otid_in m)) (sent_by side items)) dtid_in ≡ to
+      → then_so (find (goes_on_from own) (sent_by side items)) dtid_in ≡ to
       → open_to to ≡ is_surely_open table side items own
   surely_so None goes = rw goes refl
   surely_so (Some to) goes = rw goes refl

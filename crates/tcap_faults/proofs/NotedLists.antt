@@ -9,14 +9,10 @@ use Rattle.std.proofs.lemmas.List.Folds.{list_any-append}
 use Rattle.std.proofs.lemmas.Grind.{flat_map-append}
 use Rattle.tcap_msg.specs.declared.message.Message.{Message}
 use Rattle.tcap_msg.specs.Parts.{components_in}
-use Rattle.tcap_end.specs.Table.{Table}
 use Rattle.tcap_refute.specs.Before.{components_of}
-use Rattle.tcap_refute.specs.Counts.{count}
-use Rattle.tcap_refute.specs.Speaker.{is_nothing}
 use Rattle.tcap_refute.proofs.TestLaws.{or_none}
-use Rattle.tcap_faults.specs.declared.tally.Tally.{Tally}
+use Rattle.tcap_faults.specs.Counts.{count, is_nothing}
 use Rattle.tcap_faults.specs.Tallied.{more_if}
-use Rattle.tcap_faults.specs.Tallies.{IsTally}
 
 module _ {A : Type 0} where
   pub something : (xs : List A) (x : A) → is_nothing (xs ++ x ∷ []) ≡ false
@@ -95,13 +91,3 @@ pub components_more : (ms : List Message) (m : Message)
     → components_of (ms ++ m ∷ []) ≡ components_of ms ++ components_in m
 components_more ms m =
     flat_map-append components_in ms (m ∷ []) ∙ ap (λ cs. components_of ms ++ cs) (append-nil (components_in m))
-
--- A tally of the components of those that pass, with those of one that passes, and beside one that does not.
-module _ (table : Table) (p : Message → Bool) (ms : List Message) (m : Message) (tally : Tally) where
-  pub tally_more : p m ≡ true → IsTally table (components_of (filter p ms) ++ components_in m) tally
-      → IsTally table (components_of (filter p (ms ++ m ∷ []))) tally
-  tally_more passes is = rw (filter_more p ms m, passes, components_more (filter p ms) m) is
-
-  pub tally_same : p m ≡ false → IsTally table (components_of (filter p ms)) tally
-      → IsTally table (components_of (filter p (ms ++ m ∷ []))) tally
-  tally_same passes_not is = rw (filter_more p ms m, passes_not, append-nil (filter p ms)) is

@@ -2,7 +2,6 @@
 use Rattle.std.proofs.Common.{◌≡◌, ℕ, Bool, true, false, cond, ◌&&◌, ◌||◌, List, [], ◌∷◌, ◌++◌, Option, Some, None, is_some, refl, sym, ap, ◌∙◌}
 use Rattle.std.specs.Prelude.{filter, filter_map, is_none}
 use Rattle.std.specs.List.{list_any}
-use Rattle.std.proofs.lemmas.List.{append-nil, append_assoc}
 use Rattle.std.proofs.lemmas.List.Elements.{filter-append, filter_map-append}
 use Rattle.std.proofs.lemmas.List.Folds.{list_any-append}
 use Rattle.tcap_msg.specs.declared.kind.Kind.TheVariants as forms
@@ -16,44 +15,14 @@ use Rattle.tcap_end.specs.End.{is_id}
 use Rattle.tcap_model.specs.World.{Item, Sent}
 use Rattle.tcap_model.specs.Since.{ended_by}
 use Rattle.tcap_refute.specs.Before.{is_a, sent_by}
-use Rattle.tcap_refute.specs.HalfKinds.{shows_closed, was_closed_behind}
-use Rattle.tcap_refute.specs.Speaker.{goes_on_to}
-use Rattle.tcap_refute.proofs.HalfLawsLists.{their_same}
-use Rattle.tcap_refute.proofs.LifeLawsItems.{sent_own}
 use Rattle.tcap_refute.proofs.TestLaws.{or_none}
+use Rattle.tcap_faults.specs.Told.{goes_on_from, goes_on_to, has_ended, has_used}
 use Rattle.tcap_faults.specs.Kept.{dtids_of, sent_from, sent_to}
 use Rattle.tcap_faults.specs.Noting.{with_more}
-use Rattle.tcap_faults.specs.Tangled.{goes_on_from, has_used, one_passes, peers_of}
-use Rattle.tcap_faults.specs.UsedAgain.{has_ended}
+use Rattle.tcap_faults.specs.Tangled.{peers_of}
+use Rattle.tcap_faults.proofs.HalfLawsLists.{their_same}
+use Rattle.tcap_faults.proofs.LifeLawsItems.{sent_own}
 use Rattle.tcap_faults.proofs.NotedLists.{any_more, filter_more}
-
--- ---- an item more
-
-pub one_more : (passes : List Item → Item → Bool) (seen items : List Item) (item : Item)
-    → one_passes passes seen (items ++ item ∷ [])
-    ≡ (one_passes passes seen items || passes (seen ++ items) item)
-one_more passes seen [] item = rw (append-nil seen) (sym (or_none _))
-one_more passes seen (x ∷ items) item =
-    rw (one_more passes (seen ++ x ∷ []) items item, append_assoc seen (x ∷ []) items) (by (passes seen x))
-  where
-    by : (b : Bool)
-        → (b || (one_passes passes (seen ++ x ∷ []) items || passes (seen ++ x ∷ items) item))
-        ≡ ((b || one_passes passes (seen ++ x ∷ []) items) || passes (seen ++ x ∷ items) item)
-    by true = refl
-    by false = refl
-
-closed_is : (side : Side) (own : List ℕ) (seen items : List Item)
-    → was_closed_behind side own seen items ≡ one_passes (shows_closed side own) seen items
-closed_is side own seen [] = refl
-closed_is side own seen (x ∷ items) =
-    ap (λ b. shows_closed side own seen x || b) (closed_is side own (seen ++ x ∷ []) items)
-
-pub closed_more : (side : Side) (own : List ℕ) (seen items : List Item) (item : Item)
-    → was_closed_behind side own seen (items ++ item ∷ [])
-    ≡ (was_closed_behind side own seen items || shows_closed side own (seen ++ items) item)
-closed_more side own seen items item =
-    closed_is side own seen (items ++ item ∷ []) ∙ one_more (shows_closed side own) seen items item
-    ∙ ap (λ b. b || shows_closed side own (seen ++ items) item) (sym (closed_is side own seen items))
 
 -- ---- messages
 

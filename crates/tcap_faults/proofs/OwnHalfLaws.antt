@@ -1,15 +1,16 @@
 -- The half over which a message is sent is the one that the list tells, where the message goes over no tangled IDs; and what
 -- is told of it bounds what was sent and received over it.
-use Rattle.std.proofs.Common.{◌≡◌, ◌⊎◌, inl, inr, ℕ, ◌+◌, ◌<◌, arith, Bool, true, false, cond, List, [], ◌∷◌, ◌++◌, Option, Some, None, not, is_some, refl, sym, ap, subst, ◌∙◌}
+use Rattle.std.proofs.Common.{◌≡◌, ◌⊎◌, inl, inr, ℕ, ◌+◌, ◌<◌, arith, Bool, true, false, cond, List, [], ◌∷◌, ◌++◌, Option, Some, None, is_some, refl, sym, ap, subst, ◌∙◌}
 use Rattle.std.specs.Prelude.{Contains, filter, length, ◌&&◌}
 use Rattle.std.specs.List.{find}
 use Rattle.std.specs.Option.{option_to_list}
-use Rattle.std.proofs.lemmas.Bool.{and_from, and_parts, not-true}
+use Rattle.std.proofs.lemmas.Bool.{and_from, and_parts}
 use Rattle.tcap_parts.specs.declared.component.Component.{Component}
 use Rattle.tcap_msg.specs.declared.kind.Kind.TheVariants as forms
 use Rattle.tcap_msg.specs.declared.message.Message.{Message}
 use Rattle.tcap_msg.specs.Parts.{dtid_in, otid_in}
 use Rattle.tcap_record.specs.declared.entry.End.{End as Side}
+use Rattle.tcap_record.specs.Ends.{other}
 use Rattle.tcap_end.specs.declared.half.Phase.{Phase}
 use Rattle.tcap_end.specs.declared.half.Phase.TheVariants as phases
 use Rattle.tcap_end.specs.declared.half.Slot.TheVariants as slots
@@ -19,26 +20,24 @@ use Rattle.tcap_end.specs.End.{End, KeptHalf}
 use Rattle.tcap_end.specs.Sound.{FitsPhase, IsEnd}
 use Rattle.tcap_model.specs.World.{Item}
 use Rattle.tcap_model.specs.Run.{then_so}
-use Rattle.tcap_refute.specs.Before.{asked, has_a, is_a}
-use Rattle.tcap_refute.specs.Counts.{count}
-use Rattle.tcap_refute.specs.Speaker.{Speaker, back, began, begin_from, goes_on_to, is_nothing, told, was_refused}
-use Rattle.tcap_refute.proofs.BeforeLaws.{is_that_id}
-use Rattle.tcap_refute.proofs.Lives.{Bounds, Life, got_in, later_to, may_have_come, sent_in, told_to}
-use Rattle.tcap_refute.proofs.LedLawsCounts.{count_more, one}
-use Rattle.tcap_refute.proofs.LifeLawsCome.{count_in, count_in_first}
-use Rattle.tcap_refute.proofs.Members.{filter_has}
+use Rattle.tcap_model.proofs.TurnLaws.{id_is}
+use Rattle.tcap_refute.specs.Before.{asked, has_a, is_a, sent_by}
 use Rattle.tcap_refute.proofs.OverLaws.{IsOver}
-use Rattle.tcap_refute.proofs.HalfLawsAccepted.{all_told}
-use Rattle.tcap_refute.proofs.HalfLawsFinds.{filter_is, find_has, find_none}
-use Rattle.tcap_refute.proofs.HalfLawsIds.{all_back, all_begun}
-use Rattle.tcap_refute.proofs.HalfLawsViews.{View, view_sound}
-use Rattle.tcap_refute.proofs.SpeakerFacts.{either_slot, goes_from, keyed, not_nothing, stands_so, told_own}
-use Rattle.tcap_refute.proofs.SpeakerLaws.{come_accepted, come_begun, kept_own, over_accepted, over_begun, waits_so}
-use Rattle.tcap_faults.specs.HalfKinds.{is_accepted}
+use Rattle.tcap_faults.specs.Counts.{count, is_nothing}
 use Rattle.tcap_faults.specs.declared.how.How.TheVariants.{Accepted, Begun, Refused, Unanswered}
 use Rattle.tcap_faults.specs.HalfOf.{HalfOf, accepted_half, answered_from, begun_from, begun_half, continued_to, half_of, heard_of}
 use Rattle.tcap_faults.specs.Tangled.{goes_to_begun}
-use Rattle.tcap_faults.proofs.BackLaws.{back_is_heard, heard_has}
+use Rattle.tcap_faults.specs.Told.{began, begin_from, goes_on_to, told, was_refused}
+use Rattle.tcap_faults.proofs.Lives.{Bounds, got_in, may_have_heard, sent_in, told_to}
+use Rattle.tcap_faults.proofs.LedLawsCounts.{count_more, one}
+use Rattle.tcap_faults.proofs.LifeLawsHalves.{Story}
+use Rattle.tcap_faults.proofs.LifeLawsCome.{count_in, count_in_first}
+use Rattle.tcap_faults.proofs.HalfLawsAccepted.{all_told}
+use Rattle.tcap_faults.proofs.HalfLawsFinds.{filter_is, find_has, find_none}
+use Rattle.tcap_faults.proofs.HalfLawsIds.{all_back, all_begun}
+use Rattle.tcap_faults.proofs.HalfLawsLists.{heard_among}
+use Rattle.tcap_faults.proofs.HalfLawsViews.{View, view_sound}
+use Rattle.tcap_faults.proofs.HalfFacts.{behind_is, come_accepted, come_begun, either_slot, goes_from, kept_own, keyed, not_nothing, over_accepted, over_begun, stands_so, told_own, waits_so}
 use Rattle.tcap_faults.proofs.TangledLaws.{IsPlain, began_used, joins}
 
 -- Where there is something, the half answered.
@@ -66,20 +65,8 @@ pub to_begun : (side : Side) (items : List Item) (m : Message) (own : List ℕ) 
     → is_a forms.Continue m ≡ true → began side own items ≡ true → goes_to_begun side items m ≡ true
 to_begun side items m own to goes_on begun = rw to (and_from (is_a forms.Continue m) _ goes_on begun)
 
--- What is known of a half, in the words of the older kinds.
-abbrev pub speaker_of : HalfOf → Speaker
-speaker_of h = record {
-  own = h.own;
-  begun = not (is_accepted h.how);
-  accepted = is_accepted h.how;
-  heard = h.heard;
-  sent = h.told;
-  invoked = h.invoked;
-  is_all = true;
-}
-
 -- Where fewer than two pass, they are the first.
-only_first : (p : Message → Bool) (xs : List Message) → count p xs < 2 → filter p xs ≡ option_to_list (find p xs)
+pub only_first : (p : Message → Bool) (xs : List Message) → count p xs < 2 → filter p xs ≡ option_to_list (find p xs)
 only_first p [] few = refl
 only_first p (x ∷ xs) few = by (p x) (count_more p x xs) (only_first p xs)
   where
@@ -95,12 +82,6 @@ only_first p (x ∷ xs) few = by (p x) (count_more p x xs) (only_first p xs)
         ap (λ (ys : List Message). x ∷ ys) (none_left (filter p xs) (omega (arith, few)))
     by false more rest =
         let none : one false ≡ 0 = refl in rest (omega (arith, few))
-
--- the Continues to its own ID
-later_is : (side : Side) (items : List Item) (id : List ℕ) (own : Option (List ℕ))
-    → later_to side id items own ≡ continued_to side items id own
-later_is side items id None = refl
-later_is side items id (Some own) = refl
 
 -- A message that is sent over a half, whose peer's ID is plain.
 module _ {table : Table} {side : Side} {e : End} {coming : List Message} {items : List Item}
@@ -118,20 +99,16 @@ module _ {table : Table} {side : Side} {e : End} {coming : List Message} {items 
   -- ---- a half that began by receiving
 
   module _ (slot : f.slot ≡ slots.Accepted) where
-    stands : (has_a forms.Begin (asked side id items) && not (was_refused side id items)) ≡ true
+    stands : (has_a forms.Begin (asked side id items) ≡ true) × (was_refused side id items ≡ false)
     stands = stands_so view id f half.had half.peer plain.few slot
 
-    begun_there_too : has_a forms.Begin (asked side id items) ≡ true
-    begun_there_too = (and_parts (has_a forms.Begin (asked side id items)) _ stands).0
-
     pub is_accepted_half : h ≡ accepted_half side items id
-    is_accepted_half = rw begun_there_too refl
+    is_accepted_half = rw (stands.0) refl
 
     pub how_accepted : h.how ≡ Accepted
     how_accepted =
         ap (λ (x : HalfOf). x.how) is_accepted_half
-        ∙ ap (λ (b : Bool). cond b Refused Accepted)
-        (not-true _ (and_parts (has_a forms.Begin (asked side id items)) _ stands).1)
+        ∙ ap (λ (b : Bool). cond b Refused Accepted) stands.1
 
     -- Its own ID is that of the first Continue that it told its peer.
     answered_own : answered_from side items id ≡ f.half.own
@@ -142,7 +119,7 @@ module _ {table : Table} {side : Side} {e : End} {coming : List Message} {items 
         unknown none phases.Sent at still =
             let no_peer = (subst (λ (p : Phase). FitsPhase p f.half) at (is_end.halves f half.had).phase).1 in
             let bad = sym no_peer ∙ half.peer in cc
-        unknown none phases.Received at still = sym (waits_so view m id half plain.few at)
+        unknown none phases.Received at still = sym (waits_so e f is_end half.had at)
         unknown none phases.Active at still =
             let it = all_told view f half.had slot at in
             let there : Contains (told side id items) it.message =
@@ -175,26 +152,23 @@ module _ {table : Table} {side : Side} {e : End} {coming : List Message} {items 
     abbrev answer : Message
     answer = (all_back view f id half.had slot half.peer).message
 
-    answer_to : dtid_in answer ≡ Some f.key
-    answer_to = (all_back view f id half.had slot half.peer).to ∙ kept
-
-    answer_back : Contains (filter (goes_on_to f.key) (back side id items)) answer
-    answer_back =
-        let came = all_back view f id half.had slot half.peer in
-        filter_has (goes_on_to f.key) (back side id items) answer came.is_back
-        (and_from (is_a forms.Continue answer) _ came.goes_on (is_that_id f.key (dtid_in answer) answer_to))
-
     heard_it : Contains (heard_of (begin_from side f.key items) (continued_to side items id (Some f.key))) answer
     heard_it =
         subst (λ (ms : List Message). Contains ms answer)
-        (back_is_heard side items f.key (all_begun view f half.had slot).begin
-        (all_begun view f half.had slot).is_begun id)
-        answer_back
+        (behind_is (begin_from side f.key items) (continued_to side items id (Some f.key)) begun_it)
+        (all_back view f id half.had slot half.peer).was_heard
 
-    answer_asked : Contains (asked side id items) answer
-    answer_asked =
-        (filter_is (goes_on_to f.key) (asked side id items) answer
-        (heard_has (begin_from side f.key items) (continued_to side items id (Some f.key)) answer heard_it)).0
+    answered : Contains (asked side id items) answer × (goes_on_to f.key answer ≡ true)
+    answered =
+        filter_is (goes_on_to f.key) (asked side id items) answer
+        (heard_among (begin_from side f.key items) (continued_to side items id (Some f.key)) answer
+        (all_back view f id half.had slot half.peer).was_heard)
+
+    answer_on : is_a forms.Continue answer ≡ true
+    answer_on = (and_parts (is_a forms.Continue answer) _ answered.1).0
+
+    answer_to : dtid_in answer ≡ Some f.key
+    answer_to = id_is f.key (dtid_in answer) (and_parts (is_a forms.Continue answer) _ answered.1).1
 
     -- So the peer did not begin that ID,
     none_began : has_a forms.Begin (asked side id items) ≡ false
@@ -202,8 +176,8 @@ module _ {table : Table} {side : Side} {e : End} {coming : List Message} {items 
       where
         by : (b : Bool) → has_a forms.Begin (asked side id items) ≡ b → b ≡ false
         by true begun =
-            absurd (plain.none_begun begun answer answer_asked
-            (to_begun side items answer f.key answer_to (all_back view f id half.had slot half.peer).goes_on begun_it))
+            absurd (plain.none_begun begun answer answered.0
+            (to_begun side items answer f.key answer_to answer_on begun_it))
         by false none = refl
 
     -- and what it sent first to an ID that the end began goes to this one.
@@ -213,14 +187,14 @@ module _ {table : Table} {side : Side} {e : End} {coming : List Message} {items 
         by : (o : Option Message) → find (goes_to_begun side items) (asked side id items) ≡ o
             → then_so o dtid_in ≡ Some f.key
         by None none =
-            find_none (goes_to_begun side items) (asked side id items) answer none answer_asked
-            (to_begun side items answer f.key answer_to (all_back view f id half.had slot half.peer).goes_on begun_it)
+            find_none (goes_to_begun side items) (asked side id items) answer none answered.0
+            (to_begun side items answer f.key answer_to answer_on begun_it)
         by (Some n) found =
             let (has, goes) = find_has (goes_to_begun side items) (asked side id items) n found in
             let (own, to, goes_on, begun) = begun_there side items n goes in
             let here = joins side items id own n has goes_on to (began_used side items own begun) in
-            let there = joins side items id f.key answer answer_asked
-            (all_back view f id half.had slot half.peer).goes_on answer_to (began_used side items f.key begun_it) in
+            let there = joins side items id f.key answer answered.0 answer_on answer_to
+            (began_used side items f.key begun_it) in
             to ∙ ap Some (plain.one_own own f.key here there)
 
     pub is_begun_half : h ≡ begun_half side items id f.key
@@ -246,38 +220,38 @@ module _ {table : Table} {side : Side} {e : End} {coming : List Message} {items 
 
   -- ---- what was sent and received over it
 
-  module _ (life : Life table side items f) where
+  module _ (life : Story table side items (sent_by (other side) items) f.slot f.key f.half) where
     abbrev sent : List Component
     sent = sent_in life.past
 
     abbrev got : List Component
     got = got_in life.past
 
-    bounds_accepted : f.slot ≡ slots.Accepted → Bounds (speaker_of (accepted_half side items id)) sent got
+    bounds_accepted : f.slot ≡ slots.Accepted → Bounds (accepted_half side items id) sent got
     bounds_accepted slot = record {
       heard = λ p.
           let come = ap (count_in p) (came slot) in
           let fewer = life.got p in omega arith;
-      told = λ p. let all = ap (count_in p) over in let more = life.sent_all p in omega arith;
-      invoked = λ p. let all = ap (count_in p) over in let more = life.sent_all p in omega arith;
-      all = λ known p. let all = ap (count_in p) over in let fewer = life.sent_fewer p in omega arith;
+      told = λ p. let all = ap (count_in p) over in let more = life.sent p in omega arith;
+      invoked = λ p. let all = ap (count_in p) over in let more = life.sent p in omega arith;
+      all = λ p. let all = ap (count_in p) over in let fewer = life.sent p in omega arith;
     }
       where
         over : life.told_over ≡ told side id items
         over = over_accepted side items f life.told_over life.is_told slot ∙ ap (told_to side items) half.peer
 
         came : f.slot ≡ slots.Accepted
-            → may_have_come side items f.slot f.half.own f.half.peer
+            → may_have_heard side items (sent_by (other side) items) f.slot f.half.own f.half.peer
             ≡ option_to_list (find (is_a forms.Begin) (asked side id items))
             ++ continued_to side items id (answered_from side items id)
         came slot =
             come_accepted side items f.slot f.half.own f.half.peer id slot half.peer
-            ∙ ap (λ ms. filter (is_a forms.Begin) (asked side id items) ++ ms)
-            (later_is side items id f.half.own ∙ ap (continued_to side items id) (sym (answered_own slot)))
+            ∙ ap (λ (o : Option (List ℕ)). filter (is_a forms.Begin) (asked side id items) ++ continued_to side items id o)
+            (sym (answered_own slot))
             ∙ ap (λ ms. ms ++ continued_to side items id (answered_from side items id))
             (only_first (is_a forms.Begin) (asked side id items) plain.few)
 
-    bounds_begun : (slot : f.slot ≡ slots.Begun) → Bounds (speaker_of (begun_half side items id f.key)) sent got
+    bounds_begun : (slot : f.slot ≡ slots.Begun) → Bounds (begun_half side items id f.key) sent got
     bounds_begun slot = record {
       heard = λ p.
           let come = ap (count_in p) came in
@@ -285,9 +259,9 @@ module _ {table : Table} {side : Side} {e : End} {coming : List Message} {items 
       told = λ p.
           let all = ap (count_in p) over in
           let first = count_in_first p begin (told side id items) in
-          let more = life.sent_all p in omega arith;
-      invoked = λ p. let all = ap (count_in p) whole in let more = life.sent_all p in omega arith;
-      all = λ known p. let all = ap (count_in p) whole in let fewer = life.sent_fewer p in omega arith;
+          let more = life.sent p in omega arith;
+      invoked = λ p. let all = ap (count_in p) whole in let more = life.sent p in omega arith;
+      all = λ p. let all = ap (count_in p) whole in let fewer = life.sent p in omega arith;
     }
       where
         begin : Message
@@ -304,17 +278,17 @@ module _ {table : Table} {side : Side} {e : End} {coming : List Message} {items 
         whole : life.told_over ≡ option_to_list (begin_from side f.key items) ++ told side id items
         whole = over ∙ ap (λ (o : Option Message). option_to_list o ++ told side id items) (sym began_so)
 
-        came : may_have_come side items f.slot f.half.own f.half.peer
+        came : may_have_heard side items (sent_by (other side) items) f.slot f.half.own f.half.peer
             ≡ heard_of (begin_from side f.key items) (continued_to side items id (Some f.key))
         came =
             come_begun side items f.slot f.half.own f.half.peer f.key id slot (kept slot) half.peer
-            ∙ back_is_heard side items f.key begin began_so id
+            (ap is_some began_so)
 
-    pub bounds : Bounds (speaker_of h) sent got
+    pub bounds : Bounds h sent got
     bounds = by (either_slot f.slot)
       where
-        by : (f.slot ≡ slots.Begun) ⊎ (f.slot ≡ slots.Accepted) → Bounds (speaker_of h) sent got
+        by : (f.slot ≡ slots.Begun) ⊎ (f.slot ≡ slots.Accepted) → Bounds h sent got
         by (inl slot) =
-            subst (λ (x : HalfOf). Bounds (speaker_of x) sent got) (sym (is_begun_half slot)) (bounds_begun slot)
+            subst (λ (x : HalfOf). Bounds x sent got) (sym (is_begun_half slot)) (bounds_begun slot)
         by (inr slot) =
-            subst (λ (x : HalfOf). Bounds (speaker_of x) sent got) (sym (is_accepted_half slot)) (bounds_accepted slot)
+            subst (λ (x : HalfOf). Bounds x sent got) (sym (is_accepted_half slot)) (bounds_accepted slot)

@@ -1,5 +1,5 @@
 -- Rejects with a problem that nothing has, where few components are counted (Q.774 3.2, Q.773 4.2.2).
-use Rattle.std.proofs.Common.{◌≡◌, ℕ, ℤ, ◌+◌, ◌≤◌, arith, Bool, true, false, List, [], ◌∷◌, ◌++◌, length, Some, None, not, refl, sym, ap, ap₂, ◌∙◌}
+use Rattle.std.proofs.Common.{◌≡◌, ℕ, ℤ, ◌+◌, ◌≤◌, arith, Bool, true, false, List, [], ◌∷◌, ◌++◌, length, Some, None, not, refl, sym, ap, ◌∙◌, ap₂}
 use Rattle.std.specs.Prelude.{◌||◌, ◌&&◌, ◌==◌, nat_le, nat_lt}
 use Rattle.std.specs.List.{list_any}
 use Rattle.std.proofs.lemmas.Bool.Decides.{nat_tests}
@@ -10,16 +10,16 @@ use Rattle.tcap_parts.specs.declared.component.Component.TheVariants.{Invoke, Re
 use Rattle.tcap_end.specs.Component.{is_code, links}
 use Rattle.tcap_end.specs.Table.{Table}
 use Rattle.tcap_refute.specs.Before.{invokes, is_invoke_id}
-use Rattle.tcap_refute.specs.Counts.{any_problem, count, count_class, has_class, invokes_linked, invokes_so, is_error, is_result, rejects_error, rejects_invoke, rejects_result}
-use Rattle.tcap_refute.specs.ComponentKinds.{count_suited, is_linked_to, is_of_link, is_problem, lists_nothing}
-use Rattle.tcap_refute.proofs.LedLawsCounts.{count_last, one}
-use Rattle.tcap_refute.proofs.LedLawsLists.{id_itself}
+use Rattle.tcap_faults.specs.Counts.{any_problem, count, count_class, count_suited, has_class, invokes_linked, invokes_so, is_error, is_result, rejects_error, rejects_invoke, rejects_result}
+use Rattle.tcap_faults.specs.Components.{is_linked_to, is_of_link, is_problem, lists_nothing}
 use Rattle.tcap_faults.specs.ComponentKinds.{is_expected, is_invoke_reject_wrong, is_link_fine, is_of_no_operation, is_reject_wrong, rejects_wrongly}
 use Rattle.tcap_faults.specs.HalfOf.{HalfOf}
 use Rattle.tcap_faults.specs.declared.sort.Class.TheVariants as classes
 use Rattle.tcap_faults.specs.declared.sort.Sort.TheVariants as sorts
 use Rattle.tcap_faults.specs.Tallied.{AreFew, invokes_link, is_sort, results_so, sum, tallied}
 use Rattle.tcap_faults.specs.ByTallies.{is_answer_reject_wrong_by, is_expected_by, is_invoke_reject_wrong_by, is_link_fine_by, rejects_wrongly_by, suited_by}
+use Rattle.tcap_faults.proofs.LedLawsCounts.{count_last, one}
+use Rattle.tcap_faults.proofs.LedLawsLists.{id_itself}
 use Rattle.tcap_faults.proofs.FewSums.{any_counted, any_same, count_invokes, count_within, sum_exact}
 use Rattle.tcap_faults.proofs.InvokeSums.{counted_of}
 

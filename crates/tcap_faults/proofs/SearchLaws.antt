@@ -1,9 +1,9 @@
 -- A search over the entries, one entry more.
-use Rattle.std.proofs.Common.{◌≡◌, ℕ, suc, ◌+◌, ◌*◌, ◌≤◌, ◌<◌, ◌^◌, arith, Bool, true, false, cond, not, ◌||◌, List, [], ◌∷◌, ◌++◌, length, map, drop, Option, Some, None, Result, Ok, Err, refl, sym, ap, subst, ◌∙◌}
+use Rattle.std.proofs.Common.{◌≡◌, ℕ, suc, ◌+◌, ◌≤◌, ◌<◌, ◌^◌, Bool, true, false, cond, not, ◌||◌, List, [], ◌∷◌, ◌++◌, length, map, drop, Option, Some, None, Result, Ok, Err, refl, sym, ap, subst, ◌∙◌}
 use Rattle.std.specs.Prelude.{get_or}
 use Rattle.std.proofs.Math.Numerals.{suc-eq-add-one}
 use Rattle.std.proofs.Math.Seq.{drop-cons}
-use Rattle.std.proofs.lemmas.List.{drop_all, length-append}
+use Rattle.std.proofs.lemmas.List.{drop_all}
 use Rattle.tcap_msg.specs.declared.message.Message.{Message}
 use Rattle.tcap_record.specs.declared.entry.End.{End as Side}
 use Rattle.tcap_record.specs.declared.entry.End.TheVariants as sides
@@ -15,13 +15,13 @@ use Rattle.tcap_model.specs.declared.reason.Reason.{Reason}
 use Rattle.tcap_refute.specs.declared.kind.Kind.{Kind}
 use Rattle.tcap_refute.specs.declared.kind.Refutation.{Refutation}
 use Rattle.tcap_refute.specs.Before.{since_quiet}
-use Rattle.tcap_refute.specs.Blame.{bad_entry_of}
 use Rattle.tcap_refute.specs.Kind.{or_else, refutation_at}
 use Rattle.tcap_faults.specs.declared.blaming.Looking.{Looking}
 use Rattle.tcap_faults.specs.declared.blaming.SearchState.{SearchState}
 use Rattle.tcap_faults.specs.declared.kept.Kept.{Kept}
-use Rattle.tcap_faults.specs.Fault.{blamed, blamed_behind, fault_since}
-use Rattle.tcap_faults.specs.Searching.{AreRoomy, IsFound, IsKept, IsTaken, Takes, components_in_all, looking_at, looking_bad, looking_behind, looking_first, looking_on, looking_put, looking_with}
+use Rattle.tcap_faults.specs.Fault.{bad_entry_of, blamed, blamed_behind, fault_since}
+use Rattle.tcap_faults.specs.Searching.{AreCounted, AreRoomy, IsFound, IsKept, IsTaken, Takes, components_in_all, looking_at, looking_bad, looking_behind, looking_first, looking_on, looking_put, looking_with}
+use Rattle.tcap_faults.proofs.FewLaws.{counted_roomy, more_counted, none_counted}
 use Rattle.tcap_faults.proofs.KeptLaws.{peer_alone}
 
 abbrev look : Bool → Option Refutation → Looking
@@ -223,8 +223,7 @@ module _ (table : Table) (side : Side) (entries : List Entry) (items : List Item
 pub record IsSearched (table : Table) (entries : List Entry) (a b : Bool) (number : ℕ) (state : SearchState) : Type 0 where
   pub items : List Item
   pub are : IsKept table items state.kept
-  pub counted : length items ≡ number
-  pub components : components_in_all items ≤ number * 2 ^ 63
+  pub counted : AreCounted items number
   pub of_a : a ≡ true → IsFound table sides.A entries items number state.a
   pub of_b : b ≡ true → IsFound table sides.B entries items number state.b
 
@@ -234,45 +233,21 @@ pub started : (table : Table) (entries : List Entry) (asked_a asked_b : Bool) (k
 started table entries asked_a asked_b kept a b are is_a is_b = record {
   items = [];
   are = are;
-  counted = refl;
-  components = omega arith;
+  counted = none_counted;
   of_a = λ asked. subst (λ (l : Looking). IsFound table sides.A entries [] 0 l) (sym is_a)
       (first_found table sides.A entries asked_a asked);
   of_b = λ asked. subst (λ (l : Looking). IsFound table sides.B entries [] 0 l) (sym is_b)
       (first_found table sides.B entries asked_b asked);
 }
 
-in_all : (items : List Item) (item : Item)
-    → components_in_all (items ++ item ∷ []) ≡ components_in_all items + components_in_all (item ∷ [])
-in_all [] item = omega arith
-in_all (Sent s m ∷ items) item = let e = in_all items item in omega (arith, e)
-in_all (Item.Quiet ∷ items) item = in_all items item
-
 module _ (table : Table) (entries : List Entry) (a b : Bool) (number : ℕ) (state : SearchState)
     (so_far : IsSearched table entries a b number state) where
-  -- one item more, of few components, is few
-  roomy_more : number < 2 ^ 63 → (item : Item) → components_in_all (item ∷ []) < 2 ^ 63
-      → AreRoomy (so_far.items ++ item ∷ [])
-  roomy_more few item small =
-      let a = length-append so_far.items (item ∷ []) in
-      let b = so_far.counted in
-      let c = so_far.components in
-      let d = in_all so_far.items item in
-      record {
-        few = omega (arith, a, b, few);
-        components = bound number (components_in_all so_far.items)
-            (components_in_all (item ∷ [])) _ few c small d;
-      }
-    where
-      bound : (number a b all : ℕ) → number < 2 ^ 63 → a ≤ number * 2 ^ 63 → b < 2 ^ 63 → all ≡ a + b → all ≤ 2 ^ 126
-      bound number a b all few is_a is_b is = omega (arith, few, is_a, is_b, is)
-
   -- what is said of the next entry
   pub roomy_next : number < 2 ^ 63 → (count : ℕ) → count < 2 ^ 63 → (entry : Entry)
       → ((item : Item) → item_of entry ≡ Ok item → components_in_all (item ∷ []) ≤ count)
       → (item : Item) → item_of entry ≡ Ok item → AreRoomy (so_far.items ++ item ∷ [])
   roomy_next few count small entry counted item is =
-      roomy_more few item (let a = counted item is in omega (arith, a, small))
+      counted_roomy so_far.items number so_far.counted item count (counted item is) small few
 
   -- There is none.
   pub all_searched : length entries ≤ number
@@ -293,12 +268,7 @@ module _ (table : Table) (entries : List Entry) (a b : Bool) (number : ℕ) (sta
     item_taken item good taken = record {
       items = so_far.items ++ item ∷ [];
       are = taken.are;
-      counted = let a = length-append so_far.items (item ∷ []) in let b = so_far.counted in omega (arith, a, b);
-      components =
-          let a = so_far.components in
-          let b = counted item good in
-          let c = in_all so_far.items item in
-          omega (arith, a, b, c, small);
+      counted = more_counted so_far.items number so_far.counted item count (counted item good) small;
       of_a = λ asked. next_found table sides.A entries so_far.items number entry there is item good state.a.is_over
           state.a.found new.a (so_far.of_a asked) (taken.looking sides.A);
       of_b = λ asked. next_found table sides.B entries so_far.items number entry there is item good state.b.is_over

@@ -18,7 +18,6 @@ use Rattle.tcap_end.specs.End.{is_id}
 use Rattle.tcap_end.specs.Table.{Table, octets_cmp}
 use Rattle.tcap_model.specs.World.{Item, Sent, is_side}
 use Rattle.tcap_model.specs.Since.{ended_by}
-use Rattle.tcap_refute.specs.HalfKinds.{shows_closed, was_closed_behind}
 use Rattle.tcap_refute.specs.Before.{is_a}
 use Rattle.tcap_refute.proofs.BeforeLaws.{is_itself}
 use Rattle.tcap_refute.proofs.TestLaws.{and_false, or_none}
@@ -30,17 +29,17 @@ use Rattle.tcap_faults.specs.Ids.{AreAmong}
 use Rattle.tcap_faults.specs.Joining.{GetsMore, HasMore, IsJoined}
 use Rattle.tcap_faults.specs.Kept.{IsSide, dtids_of, ends, otids_of, sent_from, sent_to}
 use Rattle.tcap_faults.specs.Noting.{AreFrom, AreTo, with_more}
-use Rattle.tcap_faults.specs.Tangled.{guesses, has_used, one_passes, owns_of}
-use Rattle.tcap_faults.specs.UsedAgain.{has_ended, has_used_again, is_used_again, uses_again}
+use Rattle.tcap_faults.specs.Tangled.{guesses, owns_of}
+use Rattle.tcap_faults.specs.UsedAgain.{has_used_again, is_used_again, uses_again}
+use Rattle.tcap_faults.specs.Closed.{shows_closed}
+use Rattle.tcap_faults.specs.Told.{has_ended, has_used, one_passes}
 use Rattle.tcap_faults.proofs.JoinLaws.{otids_are}
 use Rattle.tcap_faults.proofs.JoinedLaws.{has_none, is_it}
-use Rattle.tcap_faults.proofs.NotingLaws.{backs, begin_only, closed_more, end_only, ends_it, ends_none, from_own, from_theirs, goes_both, one_more, passes_of, to_own, to_theirs, used_theirs}
+use Rattle.tcap_faults.proofs.HalfLawsFinds.{one_more}
+use Rattle.tcap_faults.proofs.NotingLaws.{backs, begin_only, end_only, ends_it, ends_none, from_own, from_theirs, goes_both, passes_of, to_own, to_theirs, used_theirs}
 use Rattle.tcap_faults.proofs.SideLaws.{other_twice}
 use Rattle.tcap_faults.proofs.JoiningLaws.{own_joined_more, own_joined_same, own_over_ended, own_over_more, peer_joined_more, peer_joined_same, peer_over_more}
-
-peer_not : (side : Side) → is_side (other side) side ≡ false
-peer_not sides.A = refl
-peer_not sides.B = refl
+use Rattle.tcap_faults.proofs.HalfLawsLists.{not_other}
 
 thrice_not : (side : Side) → is_side (other (other (other side))) side ≡ false
 thrice_not sides.A = refl
@@ -223,8 +222,8 @@ module _ (table : Table) (side : Side) (items : List Item) (m : Message) (own pe
               closes id
               ∙ ap (λ b. b || is_id id closed)
               (ap (λ (s : SideFacts). set.contains octets_cmp s.closed id) j.own_rest ∙ was.closed id)
-              ∙ ap (λ b. was_closed_behind side id [] items || b) (closed_is id)
-              ∙ sym (closed_more side id [] items (Sent side m));
+              ∙ ap (λ b. one_passes (shows_closed side id) [] items || b) (closed_is id)
+              ∙ sym (one_more (shows_closed side id) [] items (Sent side m));
           over = j.own_over;
           again =
               ap (λ b. b || again) (ap (λ (s : SideFacts). s.again) j.own_rest ∙ was.again)
@@ -248,9 +247,9 @@ module _ (table : Table) (side : Side) (items : List Item) (m : Message) (own pe
           ∙ sym (one_more (guesses (other (other side)) id) [] items (Sent side m));
       closed = λ id.
           ap (λ (s : SideFacts). set.contains octets_cmp s.closed id) j.peer_rest ∙ their.closed id
-          ∙ or_none (was_closed_behind (other side) id [] items)
-          ∙ ap (λ b. was_closed_behind (other side) id [] items || b) (no_close id)
-          ∙ sym (closed_more (other side) id [] items (Sent side m));
+          ∙ or_none (one_passes (shows_closed (other side) id) [] items)
+          ∙ ap (λ b. one_passes (shows_closed (other side) id) [] items || b) (no_close id)
+          ∙ sym (one_more (shows_closed (other side) id) [] items (Sent side m));
       over = j.peer_over;
       again =
           ap (λ (s : SideFacts). s.again) j.peer_rest ∙ their.again
@@ -263,7 +262,7 @@ module _ (table : Table) (side : Side) (items : List Item) (m : Message) (own pe
         no_guess id = rw (thrice_not side) refl
 
         no_close : (id : List ℕ) → false ≡ shows_closed (other side) id items (Sent side m)
-        no_close id = rw (peer_not side) refl
+        no_close id = rw (not_other side) refl
 
         no_use : false ≡ is_used_again table (other side) items (Sent side m)
-        no_use = rw (peer_not side) refl
+        no_use = rw (not_other side) refl

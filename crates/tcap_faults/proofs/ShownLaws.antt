@@ -11,13 +11,14 @@ use Rattle.tcap_record.specs.declared.entry.End.{End as Side}
 use Rattle.tcap_record.specs.Ends.{other}
 use Rattle.tcap_model.specs.World.{Item, Sent}
 use Rattle.tcap_refute.specs.Before.{asked, has_a, is_a}
-use Rattle.tcap_refute.specs.HalfKinds.{all_go_on_to}
-use Rattle.tcap_refute.specs.Speaker.{began, goes_on_to, is_nothing}
 use Rattle.tcap_refute.proofs.BeforeLaws.{is_itself}
+use Rattle.tcap_faults.specs.Closed.{all_go_on_to}
+use Rattle.tcap_faults.specs.Counts.{is_nothing}
+use Rattle.tcap_faults.specs.Told.{began, goes_on_to, has_used}
 use Rattle.tcap_faults.specs.declared.ids.Ids.{Ids}
 use Rattle.tcap_faults.specs.Ids.{AreAmong, AreIds, AreSame, ids_first}
 use Rattle.tcap_faults.specs.Kept.{dtids_of}
-use Rattle.tcap_faults.specs.Tangled.{guesses, has_used, two_differ}
+use Rattle.tcap_faults.specs.Tangled.{guesses, two_differ}
 use Rattle.tcap_faults.proofs.JoinedLaws.{any_same}
 use Rattle.tcap_faults.proofs.NotingLaws.{goes_both}
 use Rattle.tcap_faults.proofs.SideLaws.{began_asked, other_twice}

@@ -15,17 +15,16 @@ use Rattle.tcap_end.specs.End.{is_id}
 use Rattle.tcap_end.specs.Table.{Table, octets_cmp}
 use Rattle.tcap_model.specs.World.{Item}
 use Rattle.tcap_model.specs.Since.{ended_by}
-use Rattle.tcap_refute.specs.Before.{asked, has_a, is_a, sent_by}
-use Rattle.tcap_refute.specs.Speaker.{began, begin_from, ends_to, goes_on_to, is_nothing, told}
+use Rattle.tcap_refute.specs.Before.{asked, ends_to, has_a, is_a, sent_by}
 use Rattle.tcap_refute.proofs.TestLaws.{and_false}
+use Rattle.tcap_faults.specs.Counts.{is_nothing}
+use Rattle.tcap_faults.specs.Told.{began, begin_from, goes_on_to, has_ended, has_used, told}
 use Rattle.tcap_faults.specs.declared.facts.SideFacts.{SideFacts}
 use Rattle.tcap_faults.specs.declared.sent_from.Came.{Came}
 use Rattle.tcap_faults.specs.declared.sent_from.FirstBegin.{FirstBegin}
 use Rattle.tcap_faults.specs.declared.sent_from.SentFrom.{SentFrom}
 use Rattle.tcap_faults.specs.declared.sent_to.SentTo.{SentTo}
 use Rattle.tcap_faults.specs.Kept.{IsCameAt, IsFirstBegin, IsFrom, IsFromAt, IsSide, IsTo, ends, of_user, sent_from, sent_to, silences}
-use Rattle.tcap_faults.specs.Tangled.{has_used}
-use Rattle.tcap_faults.specs.UsedAgain.{has_ended}
 use Rattle.tcap_faults.proofs.TwoTests.{any_agree, any_both, any_found, any_kept, any_turned, filter_both, found_both}
 
 -- The peer's peer is the end.

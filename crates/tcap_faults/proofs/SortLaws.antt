@@ -8,8 +8,8 @@ use Rattle.tcap_parts.specs.declared.component.Component.{Component}
 use Rattle.tcap_parts.specs.declared.component.Component.TheVariants.{Invoke, ReturnResult, ReturnError, Reject}
 use Rattle.tcap_end.specs.Table.{Table}
 use Rattle.tcap_refute.specs.Before.{is_invoke_id}
-use Rattle.tcap_refute.specs.Counts.{invokes_so, is_result_of}
 use Rattle.tcap_refute.proofs.TestLaws.{and_false}
+use Rattle.tcap_faults.specs.Counts.{invokes_so, is_result_of}
 use Rattle.tcap_faults.specs.declared.sort.Sort.{Sort}
 use Rattle.tcap_faults.specs.declared.sort.Sort.TheVariants as sorts
 use Rattle.tcap_faults.specs.Tallied.{invokes_link, is_sort, results_so}

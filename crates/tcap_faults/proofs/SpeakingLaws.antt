@@ -1,11 +1,10 @@
 -- The half with an ID of the peer is the one that is read off what is kept.
 use Rattle.std.proofs.Common.{◌≡◌, Bor, ℕ, Bool, true, false, cond, not, ◌&&◌, ◌||◌, List, [], ◌∷◌, ◌++◌, Option, Some, None, is_some, filter, map, option_copied, refl, sym, ap, subst, ◌∙◌}
-use Rattle.std.specs.Prelude.{Contains, is_none}
+use Rattle.std.specs.Prelude.{is_none}
 use Rattle.std.specs.Map.{lookup}
 use Rattle.std.specs.BTreeMap.{is_at}
 use Rattle.std.specs.List.{find, list_any}
 use Rattle.std.specs.Option.{option_to_list}
-use Rattle.std.proofs.lemmas.Bool.{and_from, and_parts, both_ways}
 use Rattle.std.proofs.lemmas.Grind.{flat_map-append}
 use Rattle.tcap_parts.specs.declared.component.Component.{Component}
 use Rattle.tcap_msg.specs.declared.kind.Kind.TheVariants as forms
@@ -18,13 +17,11 @@ use Rattle.tcap_end.specs.End.{is_id}
 use Rattle.tcap_end.specs.Table.{Table, octets_cmp}
 use Rattle.tcap_model.specs.World.{Item}
 use Rattle.tcap_model.specs.Run.{then_so}
-use Rattle.tcap_model.proofs.TurnLaws.{id_is}
 use Rattle.tcap_refute.specs.Before.{asked, components_of, has_a, is_a, sent_by}
-use Rattle.tcap_refute.specs.HalfKinds.{is_request_of}
-use Rattle.tcap_refute.specs.Speaker.{began, begin_from, goes_on_to, is_cause, is_nothing, told, was_refused}
 use Rattle.tcap_refute.proofs.BeforeLaws.{is_that_id}
-use Rattle.tcap_refute.proofs.HalfLawsFinds.{filter_is, find_has, find_none}
 use Rattle.tcap_refute.proofs.Members.{filter_has, has_first, has_not}
+use Rattle.tcap_faults.specs.Counts.{is_nothing}
+use Rattle.tcap_faults.specs.Told.{began, begin_from, goes_on_to, is_cause, is_request_of, told, was_refused}
 use Rattle.tcap_faults.specs.declared.half.Half.{Half}
 use Rattle.tcap_faults.specs.declared.how.How.TheVariants.{Accepted, Begun, Refused, Unanswered}
 use Rattle.tcap_faults.specs.declared.sent_from.Came.{Came}
@@ -33,65 +30,19 @@ use Rattle.tcap_faults.specs.declared.sent_from.SentFrom.{SentFrom}
 use Rattle.tcap_faults.specs.declared.sent_to.SentTo.{SentTo}
 use Rattle.tcap_faults.specs.declared.tally.Tally.{Tally}
 use Rattle.tcap_faults.specs.HalfKept.{AreTallies, IsHalf}
-use Rattle.tcap_faults.specs.HalfOf.{HalfOf, accepted_half, answered_from, begun_from, begun_half, continued_to, from_first, half_of, heard_of, no_half, responds}
+use Rattle.tcap_faults.specs.HalfOf.{HalfOf, accepted_half, answered_from, begun_half, continued_to, from_first, heard_of, responds}
 use Rattle.tcap_faults.specs.Ids.{ids_first}
-use Rattle.tcap_faults.specs.Kept.{IsCame, IsCameAt, IsFirstBegin, IsFrom, IsFromAt, IsTo, IsToAt, before_response, of_user, otids_of, sent_from, sent_to}
+use Rattle.tcap_faults.specs.Kept.{IsCame, IsCameAt, IsFirstBegin, IsFrom, IsTo, IsToAt, before_response, of_user, otids_of, sent_from, sent_to}
 use Rattle.tcap_faults.specs.Speaking.{IsBegunBy, IsCameBack, came_counted, heard_counted, told_counted}
 use Rattle.tcap_faults.specs.HalfKinds.{is_first_answer, is_wrong_dialogue, is_wrong_going_on}
 use Rattle.tcap_faults.specs.Tangled.{goes_to_begun, is_peer_tangled, owns_of}
+use Rattle.tcap_faults.proofs.HalfLawsFinds.{filter_is, find_has, find_none}
 use Rattle.tcap_faults.proofs.OwnHalfLaws.{begun_there, to_begun}
 use Rattle.tcap_faults.proofs.TalliedLaws.{are_more, are_none, are_one}
 use Rattle.tcap_faults.proofs.TangledLaws.{IsPlain, began_used, joins, plain_peer}
+use Rattle.tcap_faults.proofs.TwoTests.{any_both, any_found, filter_both, found_both}
 
 -- ---- two tests
-
-filter_both : {A : Type 0} (p q : A → Bool) (xs : List A) → filter q (filter p xs) ≡ filter (λ x. p x && q x) xs
-filter_both p q [] = refl
-filter_both {A} p q (x ∷ xs) = by (p x) (filter_both p q xs)
-  where
-    both : List A
-    both = filter (λ y. p y && q y) xs
-
-    by : (b : Bool) → filter q (filter p xs) ≡ both
-        → filter q (cond b (x ∷ filter p xs) (filter p xs)) ≡ cond (b && q x) (x ∷ both) both
-    by true rest = ap (λ ys. cond (q x) (x ∷ ys) ys) rest
-    by false rest = rest
-
-any_both : {A : Type 0} (p q : A → Bool) (xs : List A) → list_any q (filter p xs) ≡ list_any (λ x. p x && q x) xs
-any_both p q [] = refl
-any_both p q (x ∷ xs) = by (p x) (any_both p q xs)
-  where
-    by : (b : Bool) → list_any q (filter p xs) ≡ list_any (λ y. p y && q y) xs
-        → list_any q (cond b (x ∷ filter p xs) (filter p xs)) ≡ ((b && q x) || list_any (λ y. p y && q y) xs)
-    by true rest = ap (λ b. q x || b) rest
-    by false rest = rest
-
-any_found : {A : Type 0} (p : A → Bool) (xs : List A) → list_any p xs ≡ is_some (find p xs)
-any_found p [] = refl
-any_found p (x ∷ xs) = by (p x) (any_found p xs)
-  where
-    by : (b : Bool) → list_any p xs ≡ is_some (find p xs) → (b || list_any p xs) ≡ is_some (cond b (Some x) (find p xs))
-    by true rest = refl
-    by false rest = rest
-
-found_both : {A : Type 0} (p q : A → Bool) (xs : List A) → find q (filter p xs) ≡ find (λ x. q x && p x) xs
-found_both p q [] = refl
-found_both p q (x ∷ xs) = by (p x) (found_both p q xs)
-  where
-    kept : (c : Bool) → find q (filter p xs) ≡ find (λ y. q y && p y) xs
-        → cond c (Some x) (find q (filter p xs)) ≡ cond (c && true) (Some x) (find (λ y. q y && p y) xs)
-    kept true rest = refl
-    kept false rest = rest
-
-    left : (c : Bool) → find q (filter p xs) ≡ find (λ y. q y && p y) xs
-        → find q (filter p xs) ≡ cond (c && false) (Some x) (find (λ y. q y && p y) xs)
-    left true rest = rest
-    left false rest = rest
-
-    by : (b : Bool) → find q (filter p xs) ≡ find (λ y. q y && p y) xs
-        → find q (cond b (x ∷ filter p xs) (filter p xs)) ≡ cond (q x && b) (Some x) (find (λ y. q y && p y) xs)
-    by true rest = kept (q x) rest
-    by false rest = left (q x) rest
 
 -- ---- what was told
 
@@ -222,12 +173,12 @@ module _ (table : Table) where
   asks_so None kept begins = absurd begins
   asks_so (Some begin) kept (asks, components) = asks
 
-  there_so : (begin : Option Message) (kept : FirstBegin) → IsFirstBegin table begin (Some kept)
+  pub there_so : (begin : Option Message) (kept : FirstBegin) → IsFirstBegin table begin (Some kept)
       → is_some begin ≡ true
   there_so None kept begins = absurd begins
   there_so (Some begin) kept begins = refl
 
-  none_so : (begin : Option Message) → IsFirstBegin table begin None → begin ≡ None
+  pub none_so : (begin : Option Message) → IsFirstBegin table begin None → begin ≡ None
   none_so None none = refl
   none_so (Some begin) none = absurd none
 
@@ -304,179 +255,6 @@ module _ (table : Table) (side : Side) (id : List ℕ) (items : List Item) (kept
           (cond b [] (came.sooner ∷ []) ++ came.since ∷ [])
       hears_it true so = rw (← so) (are_one table _ came.since is.since)
       hears_it false so = rw (← so) (both_are table _ came is)
-
--- ---- which half it is
-
-module _ (side : Side) (items : List Item) (id : List ℕ) where
-  -- Where the peer began the ID, it is the accepted one.
-  half_accepted : (table : Table) (begin : FirstBegin)
-      → IsFirstBegin table (find (is_a forms.Begin) (asked side id items)) (Some begin)
-      → half_of side items id ≡ accepted_half side items id
-  half_accepted table begin begins = rw (any_found (is_a forms.Begin) (asked side id items), there_so table _ begin begins) refl
-
-  none_began : (table : Table) → IsFirstBegin table (find (is_a forms.Begin) (asked side id items)) None
-      → has_a forms.Begin (asked side id items) ≡ false
-  none_began table none =
-      any_found (is_a forms.Begin) (asked side id items) ∙ ap is_some (none_so table _ none)
-
-  -- a Continue from there to an own ID that the end began
-  record GoesTo (own : List ℕ) : Type 0 where
-    begun : began side own items ≡ true
-    message : Message
-    has : Contains (asked side id items) message
-    goes_on : is_a forms.Continue message ≡ true
-    to : dtid_in message ≡ Some own
-
-  goes_there : (n : Message) → find (goes_to_begun side items) (asked side id items) ≡ Some n
-      → (own : List ℕ) × (begun_from side items id ≡ Some own) × GoesTo own
-  goes_there n found =
-      let (has, goes) = find_has (goes_to_begun side items) (asked side id items) n found in
-      let (own, to, goes_on, begun) = begun_there side items n goes in (
-        own,
-        ap (λ (o : Option Message). then_so o dtid_in) found ∙ to,
-        record {
-          begun = begun;
-          message = n;
-          has = has;
-          goes_on = goes_on;
-          to = to;
-        },
-      )
-
-  -- There is none where no own ID is so,
-  begun_nowhere : ((own : List ℕ) → GoesTo own → ⊥) → begun_from side items id ≡ None
-  begun_nowhere none = by (find (goes_to_begun side items) (asked side id items)) refl
-    where
-      by : (o : Option Message) → find (goes_to_begun side items) (asked side id items) ≡ o
-          → begun_from side items id ≡ None
-      by None nothing = ap (λ (o : Option Message). then_so o dtid_in) nothing
-      by (Some n) found = let (own, is, goes) = goes_there n found in absurd (none own goes)
-
-  -- an own ID that is so is joined.
-  joined : (own : List ℕ) → GoesTo own → Contains (owns_of side items id) own
-  joined own goes =
-      joins side items id own goes.message goes.has goes.goes_on goes.to (began_used side items own goes.begun)
-
-  -- So where none is joined, there is none;
-  none_joined : owns_of side items id ≡ [] → begun_from side items id ≡ None
-  none_joined none = begun_nowhere (λ own goes. has_not own (subst (λ (ids : List (List ℕ)). Contains ids own) none (joined own goes)))
-
-  module _ (plain : IsPlain side items id) (own : List ℕ) (is_joined : Contains (owns_of side items id) own) where
-    same : (one : List ℕ) → GoesTo one → one ≡ own
-    same one goes = plain.one_own one own (joined one goes) is_joined
-
-    -- nor where no Continue came to the one that is joined,
-    none_came : filter (goes_on_to own) (asked side id items) ≡ [] → begun_from side items id ≡ None
-    none_came none = begun_nowhere bad
-      where
-        bad : (one : List ℕ) → GoesTo one → ⊥
-        bad one goes =
-            has_not goes.message
-            (subst (λ (ms : List Message). Contains ms goes.message) none
-            (filter_has (goes_on_to own) (asked side id items) goes.message goes.has
-            (and_from (is_a forms.Continue goes.message) _ goes.goes_on
-            (is_that_id own (dtid_in goes.message) (goes.to ∙ ap Some (same one goes))))))
-
-    -- or the end did not begin that.
-    none_begun : begin_from side own items ≡ None → begun_from side items id ≡ None
-    none_begun none = begun_nowhere bad
-      where
-        bad : (one : List ℕ) → GoesTo one → ⊥
-        bad one goes =
-            let begun : began side own items ≡ true = ap (λ (i : List ℕ). began side i items) (sym (same one goes)) ∙ goes.begun in
-            both_ways _ (ap is_some none) begun
-
-    -- Else it is that one.
-    goes_from : (table : Table) (begin : FirstBegin) (came : Came) → IsBegunBy table side items own begin
-        → IsCameBack table side items id own came → begun_from side items id ≡ Some own
-    goes_from table begin came begins (some, is) =
-        by (filter (goes_on_to own) (asked side id items)) refl some
-      where
-        of : (m : Message) → Contains (filter (goes_on_to own) (asked side id items)) m
-            → begun_from side items id ≡ Some own
-        of m has = found (find (goes_to_begun side items) (asked side id items)) refl
-          where
-            found : (o : Option Message) → find (goes_to_begun side items) (asked side id items) ≡ o
-                → begun_from side items id ≡ Some own
-            found None none =
-                let (there, goes) = filter_is (goes_on_to own) (asked side id items) m has in
-                let (goes_on, to) = and_parts (is_a forms.Continue m) _ goes in
-                find_none (goes_to_begun side items) (asked side id items) m none there
-                (to_begun side items m own (id_is own (dtid_in m) to) goes_on (there_so table _ begin begins))
-            found (Some n) is_first =
-                let (one, is_it, goes) = goes_there n is_first in is_it ∙ ap Some (same one goes)
-
-        by : (ms : List Message) → filter (goes_on_to own) (asked side id items) ≡ ms → is_nothing ms ≡ false
-            → begun_from side items id ≡ Some own
-        by [] is_it something = cc
-        by (m ∷ more) is_it something = of m (rw is_it (has_first m more))
-
-  -- The half where the peer did not begin the ID.
-  module _ (table : Table) (not_begun : IsFirstBegin table (find (is_a forms.Begin) (asked side id items)) None) where
-    half_nowhere : begun_from side items id ≡ None → half_of side items id ≡ no_half
-    half_nowhere none = rw (none_began table not_begun, none) refl
-
-    half_begun : (own : List ℕ) → begun_from side items id ≡ Some own
-        → half_of side items id ≡ begun_half side items id own
-    half_begun own is = rw (none_began table not_begun, is) refl
-
--- The Begin of an own ID, as it is kept.
-abbrev pub begin_kept : Option SentFrom → Option FirstBegin
-begin_kept None = None
-begin_kept (Some kept) = kept.begin
-
-pub begin_is : (table : Table) (side : Side) (items : List Item) (own : List ℕ) (o : Option SentFrom)
-    → IsFromAt table (sent_from side items own) o
-    → IsFirstBegin table (begin_from side own items) (begin_kept o)
-begin_is table side items own o at =
-    subst (λ (begin : Option Message). IsFirstBegin table begin (begin_kept o))
-    (found_both (λ m. is_id own (otid_in m)) (is_a forms.Begin) (sent_by side items)) (by o at)
-  where
-    by : (o : Option SentFrom) → IsFromAt table (sent_from side items own) o
-        → IsFirstBegin table (find (is_a forms.Begin) (sent_from side items own)) (begin_kept o)
-    by None none = rw none tt
-    by (Some kept) (some, is) = is.begin
-
--- ---- which half is read off
-
-module _ (table : Table) (side : Side) (items : List Item) (id : List ℕ) where
-  -- Where nothing was asked from there, there is no half,
-  pub half_unasked : asked side id items ≡ [] → half_of side items id ≡ no_half
-  half_unasked none = rw none refl
-
-  module _ (asks : SentFrom) (is : IsFrom table (sent_from (other side) items id) asks) where
-    pub begun_it : (begin : FirstBegin) → asks.begin ≡ Some begin
-        → half_of side items id ≡ accepted_half side items id
-    begun_it begin begun = half_accepted side items id table begin (rw begun at is.begin)
-
-    module _ (none : asks.begin ≡ None) where
-      not_begun : IsFirstBegin table (find (is_a forms.Begin) (asked side id items)) None
-      not_begun = rw none at is.begin
-
-      -- nor where no own ID is joined with it,
-      pub half_unjoined : owns_of side items id ≡ [] → half_of side items id ≡ no_half
-      half_unjoined no_own = half_nowhere side items id table not_begun (none_joined side items id no_own)
-
-      module _ (plain : is_peer_tangled side items id ≡ false) (own : List ℕ)
-          (is_joined : Contains (owns_of side items id) own) where
-        -- or nothing came to that,
-        pub half_not_come : IsCameAt table (filter (goes_on_to own) (sent_from (other side) items id)) None
-            → half_of side items id ≡ no_half
-        half_not_come no_came =
-            half_nowhere side items id table not_begun
-            (none_came side items id (plain_peer side items id plain) own is_joined no_came)
-
-        -- or the end did not begin it.
-        pub half_not_begun : IsFirstBegin table (begin_from side own items) None → half_of side items id ≡ no_half
-        half_not_begun no_begin =
-            half_nowhere side items id table not_begun
-            (none_begun side items id (plain_peer side items id plain) own is_joined (none_so table _ no_begin))
-
-        pub half_goes : (begin : FirstBegin) (came : Came) → IsBegunBy table side items own begin
-            → IsCameBack table side items id own came → half_of side items id ≡ begun_half side items id own
-        half_goes begin came begins back =
-            half_begun side items id table not_begun own
-            (goes_from side items id (plain_peer side items id plain) own is_joined table begin came begins back)
 
 -- ---- the dialogue
 

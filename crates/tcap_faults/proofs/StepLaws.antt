@@ -17,15 +17,14 @@ use Rattle.tcap_record.specs.Ends.{other}
 use Rattle.tcap_end.specs.Table.{Table, octets_cmp}
 use Rattle.tcap_model.specs.World.{Item}
 use Rattle.tcap_refute.specs.Before.{sent_by}
-use Rattle.tcap_refute.specs.Speaker.{goes_on_to}
+use Rattle.tcap_faults.specs.Told.{goes_on_from, goes_on_to, has_ended, has_used}
 use Rattle.tcap_faults.specs.declared.ids.Ids.{Ids}
 use Rattle.tcap_faults.specs.declared.facts.SideFacts.{SideFacts}
 use Rattle.tcap_faults.specs.declared.sent_to.SentTo.{SentTo}
 use Rattle.tcap_faults.specs.Ids.{AreAmong}
 use Rattle.tcap_faults.specs.Joining.{GetsMore, HasMore}
 use Rattle.tcap_faults.specs.Kept.{IsSide, IsToAt, dtids_of, otids_of, sent_from, sent_to}
-use Rattle.tcap_faults.specs.Tangled.{goes_on_from, has_used, owns_of}
-use Rattle.tcap_faults.specs.UsedAgain.{has_ended}
+use Rattle.tcap_faults.specs.Tangled.{owns_of}
 use Rattle.tcap_faults.proofs.JoinLaws.{dtids_are, otids_are}
 use Rattle.tcap_faults.proofs.JoinedLaws.{bytes_turned, gets_none, gets_same, has_none, same_itself}
 use Rattle.tcap_faults.proofs.SideLaws.{other_twice}
@@ -97,17 +96,9 @@ pub continue_gets : (from to : List ℕ) (used : Bool) → used ≡ true → (ol
 continue_gets from to used is old new gets =
     gets_same to _ _ old new (λ key. bytes_turned from key ∙ rw is (and_yes (bytes_eq key from))) gets
 
-pub continue_gets_none : (from to : List ℕ) (used : Bool) → used ≡ false → (old : BTreeMap (List ℕ) Ids)
-    → GetsMore (λ key. bytes_eq key from && used) to old old
-continue_gets_none from to used is old = gets_none to _ old (λ key. and_right _ _ is)
-
 -- ---- an end
 
 module _ (side : Side) (items : List Item) (id : List ℕ) where
-  pub ended_before : has_ended side items id ≡ true → (old : BTreeSet (List ℕ))
-      → HasMore (λ own. not (has_ended side items id) && list_any (bytes_eq own) (owns_of side items id)) old old
-  ended_before ended old = has_none _ old (λ own. rw ended refl)
-
   -- those from which the end went on to it, and those to which its peer went on from there
   pub end_more : has_ended side items id ≡ false → (old mid new : BTreeSet (List ℕ))
       → HasMore (λ own. list_any (bytes_eq own) (otids_of (sent_to side items id))) old mid

@@ -4,9 +4,9 @@ use Rattle.std.specs.Prelude.{nat_lt}
 use Rattle.std.proofs.lemmas.Bool.Decides.{nat_tests}
 use Rattle.std.proofs.lemmas.List.{length-append}
 use Rattle.std.proofs.lemmas.List.Sums.{count_by-le-length, length-filter}
-use Rattle.tcap_refute.specs.Counts.{count}
-use Rattle.tcap_refute.proofs.LedLawsCounts.{count_last}
+use Rattle.tcap_faults.specs.Counts.{count}
 use Rattle.tcap_faults.specs.Tallied.{more_if, sum}
+use Rattle.tcap_faults.proofs.LedLawsCounts.{count_last}
 
 -- A sum of a sum is that of all.
 pub sum_more : (a b c : ℕ) → sum (sum a b) c ≡ sum (a + b) c

@@ -1,5 +1,5 @@
 -- Tallies of components taken together: of lists one behind the other.
-use Rattle.std.proofs.Common.{◌≡◌, ℕ, ℤ, ◌≤◌, ◌^◌, arith, Bool, ◌||◌, List, [], ◌∷◌, ◌++◌, length, refl, sym, ap, ap₂, ◌∙◌}
+use Rattle.std.proofs.Common.{◌≡◌, ℕ, ℤ, ◌≤◌, ◌^◌, arith, Bool, ◌||◌, List, [], ◌∷◌, ◌++◌, length, refl, sym, ap, ◌∙◌, ap₂}
 use Rattle.std.specs.List.{list_any}
 use Rattle.std.proofs.Math.Path.{fun_ext}
 use Rattle.std.proofs.lemmas.List.{append-nil, length-append}
@@ -8,13 +8,13 @@ use Rattle.std.proofs.lemmas.List.Sums.{count_by-le-length, length-filter}
 use Rattle.tcap_parts.specs.declared.code.Code.{Code}
 use Rattle.tcap_parts.specs.declared.component.Component.{Component}
 use Rattle.tcap_end.specs.Table.{Table}
-use Rattle.tcap_refute.specs.Counts.{count}
-use Rattle.tcap_refute.proofs.LedLawsCounts.{count_both}
+use Rattle.tcap_faults.specs.Counts.{count}
 use Rattle.tcap_faults.specs.declared.sort.Sort.{Sort}
 use Rattle.tcap_faults.specs.declared.tally.Tally.{Tally}
 use Rattle.tcap_faults.specs.HalfKept.{AreTallies}
 use Rattle.tcap_faults.specs.Tallied.{AreFew, Tallied, both_tallied, sum, tallied}
 use Rattle.tcap_faults.specs.Tallies.{IsTally}
+use Rattle.tcap_faults.proofs.LedLawsCounts.{count_both}
 use Rattle.tcap_faults.proofs.SumLaws.{sum_few}
 
 -- ---- equal records

@@ -11,8 +11,8 @@ use Rattle.tcap_parts.specs.declared.code.Code.{Code}
 use Rattle.tcap_parts.specs.declared.component.Component.{Component}
 use Rattle.tcap_end.specs.Component.{is_code}
 use Rattle.tcap_end.specs.Table.{Table}
-use Rattle.tcap_refute.specs.Counts.{invokes_so, is_result_of}
 use Rattle.tcap_refute.proofs.TestLaws.{or_none}
+use Rattle.tcap_faults.specs.Counts.{invokes_so, is_result_of}
 use Rattle.tcap_faults.specs.declared.sort.Sort.{Sort}
 use Rattle.tcap_faults.specs.declared.of_id.OfId.{OfId}
 use Rattle.tcap_faults.specs.declared.tally.Tally.{Tally}

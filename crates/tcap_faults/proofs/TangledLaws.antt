@@ -15,12 +15,11 @@ use Rattle.tcap_end.specs.End.{is_id}
 use Rattle.tcap_model.specs.World.{Item}
 use Rattle.tcap_model.proofs.ListLaws.{contains_first}
 use Rattle.tcap_refute.specs.Before.{asked, has_a, is_a, sent_by}
-use Rattle.tcap_refute.specs.Counts.{count}
-use Rattle.tcap_refute.specs.Speaker.{began, begin_from, goes_on_to}
-use Rattle.tcap_refute.proofs.HalfLawsFinds.{filter_is, find_has}
-use Rattle.tcap_refute.proofs.LifeLawsItems.{begins_from}
 use Rattle.tcap_refute.proofs.Members.{any_has, filter_has, filter_map_has, has_not}
-use Rattle.tcap_faults.specs.Tangled.{are_tangled, goes_on_from, goes_over_tangled, goes_to_begun, has_used, is_own_tangled, is_peer_tangled, near, own_of_continue, owns_of, two_differ}
+use Rattle.tcap_faults.specs.Counts.{count}
+use Rattle.tcap_faults.specs.Told.{began, begin_from, begins_from, goes_on_from, goes_on_to, has_used}
+use Rattle.tcap_faults.specs.Tangled.{are_tangled, goes_over_tangled, goes_to_begun, is_own_tangled, is_peer_tangled, near, own_of_continue, owns_of, two_differ}
+use Rattle.tcap_faults.proofs.HalfLawsFinds.{filter_is, find_has}
 
 -- None of these IDs differs from another.
 pub all_same : (ids : List (List ℕ)) (x y : List ℕ) → two_differ ids ≡ false → Contains ids x → Contains ids y → x ≡ y

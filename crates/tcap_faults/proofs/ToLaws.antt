@@ -8,8 +8,8 @@ use Rattle.tcap_msg.specs.declared.message.Message.TheVariants.{Unidirectional, 
 use Rattle.tcap_msg.specs.Parts.{cause_in, components_in, otid_in}
 use Rattle.tcap_end.specs.Table.{Table}
 use Rattle.tcap_refute.specs.Before.{components_of, is_a}
-use Rattle.tcap_refute.specs.Speaker.{is_cause}
 use Rattle.tcap_refute.proofs.TestLaws.{or_none}
+use Rattle.tcap_faults.specs.Told.{is_cause}
 use Rattle.tcap_faults.specs.declared.ids.Ids.{Ids}
 use Rattle.tcap_faults.specs.declared.sent_to.SentTo.{SentTo}
 use Rattle.tcap_faults.specs.declared.tally.Tally.{Tally}

@@ -7,9 +7,9 @@ use Rattle.std.proofs.lemmas.List.Elements.{Contains-append_cases, filter_agree}
 use Rattle.std.proofs.Math.Path.{fun_ext}
 use Rattle.tcap_end.specs.End.{is_id}
 use Rattle.tcap_model.proofs.ListLaws.{contains_first}
-use Rattle.tcap_refute.specs.Speaker.{is_nothing}
-use Rattle.tcap_refute.proofs.HalfLawsFinds.{any_is}
 use Rattle.tcap_refute.proofs.Members.{any_has, has_first, has_later, has_not}
+use Rattle.tcap_faults.specs.Counts.{is_nothing}
+use Rattle.tcap_faults.proofs.HalfLawsFinds.{any_is}
 
 pub and_turned : (a b : Bool) → (a && b) ≡ (b && a)
 and_turned true true = refl

@@ -10,13 +10,14 @@ use Rattle.tcap_record.specs.declared.entry.Entry.{Entry}
 use Rattle.tcap_record.specs.Framed.{octet_of}
 use Rattle.tcap_end.specs.Table.{Table}
 use Rattle.tcap_model.specs.declared.reason.Reason.{Reason}
-use Rattle.tcap_model.specs.World.{Item, Sent}
+use Rattle.tcap_model.specs.World.{Item, Sent, World}
+use Rattle.tcap_model.specs.Run.{Event, KeepsRules, Runs}
 use Rattle.tcap_model.specs.Entries.{item_of}
 use Rattle.tcap_refute.specs.Before.{since_quiet}
 use Rattle.tcap_refute.specs.declared.kind.Kind.TheVariants as kinds
 use Rattle.tcap_refute.specs.declared.kind.Refutation.{Refutation}
 use Rattle.tcap_refute.specs.Kind.{is_limit}
-use Rattle.tcap_refute.specs.Unsendable.{HasNoMark, IsUnsendable}
+use Rattle.tcap_refute.specs.Unsendable.{IsUnsendable}
 use Rattle.tcap_faults.specs.Fault.{is_fault, is_open_at_mark}
 
 -- an entry of this end whose octets are no message, by a fault that is no limit of this profile
@@ -37,6 +38,12 @@ pub record IsFaultOf (table : Table) (side : Side) (entries : List (Result Item 
   pub counted : length before ≡ r.entry
   pub has_kind : is_fault table side (since_quiet before) message r.kind ≡ true
   pub unsendable : IsUnsendable table before side message
+
+-- at a quiet mark behind these items an end that keeps the rules has a half that is open: so no run has the mark there
+abbrev pub HasNoMark : Table → List Item → Side → Type 0
+HasNoMark table before side =
+    (events : List Event) (w : World) (behind : List Item) → Runs table events w → KeepsRules side events
+    → w.sent ≡ before ++ Item.Quiet ∷ behind → ⊥
 
 -- a quiet mark that stands in no such run: it has that kind
 pub record IsFalseMark (table : Table) (side : Side) (entries : List (Result Item Reason)) (r : Refutation) : Type 0 where

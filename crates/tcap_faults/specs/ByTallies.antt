@@ -7,7 +7,7 @@ use Rattle.tcap_parts.specs.declared.component.Component.TheVariants.{Invoke, Re
 use Rattle.tcap_parts.specs.declared.problem.Problem.TheVariants as problems
 use Rattle.tcap_end.specs.Component.{links}
 use Rattle.tcap_end.specs.Table.{Table}
-use Rattle.tcap_refute.specs.ComponentKinds.{is_of_link, lists_nothing}
+use Rattle.tcap_faults.specs.Components.{is_of_link, lists_nothing}
 use Rattle.tcap_faults.specs.declared.sort.Class.{Class}
 use Rattle.tcap_faults.specs.declared.sort.Class.TheVariants as classes
 use Rattle.tcap_faults.specs.declared.sort.Sort.{Sort}
@@ -29,21 +29,21 @@ pub record Counted : Type 0 where
   pub told : Tallied
   -- these components
   pub own : Tallied
-  -- what it told, with all components of the message
+  -- what it told, with all Rejects of the message
   pub all_told : Tallied
 
--- what is counted where a half, the components of the message before that one, and all of them, are kept
+-- what is counted where a half, the components of the message before that one, and all its Rejects, are kept
 abbrev pub counted_by : Half → Tally → Tally → Counted
-counted_by half own whole = record {
+counted_by half own rejects = record {
   heard = tallies_of (map (λ b. b.now) half.heard.items);
   invoked = tallies_of (map (λ b. b.now) half.invoked.items);
   told = both_tallied (tallies_of (map (λ b. b.now) half.told.items)) (tally_of own);
   own = tally_of own;
-  all_told = both_tallied (tallies_of (map (λ b. b.now) half.told.items)) (tally_of whole);
+  all_told = both_tallied (tallies_of (map (λ b. b.now) half.told.items)) (tally_of rejects);
 }
 
 abbrev pub counted : Before → Counted
-counted before = counted_by before.half.now before.own.now before.whole.now
+counted before = counted_by before.half.now before.own.now before.rejects.now
 
 -- how many Invokes of an ID there are, of a class or of any
 abbrev pub invokes_in : Tallied → ℤ → Class → ℕ

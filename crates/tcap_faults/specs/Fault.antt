@@ -15,12 +15,12 @@ use Rattle.tcap_refute.specs.declared.kind.Kind.{Kind}
 use Rattle.tcap_refute.specs.declared.kind.Kind.TheVariants as kinds
 use Rattle.tcap_refute.specs.declared.kind.Refutation.{Refutation}
 use Rattle.tcap_refute.specs.Before.{asked, is_a, sent_by, since_quiet}
-use Rattle.tcap_refute.specs.Blame.{all_go_to_open, bad_entry_of, is_abort_with}
-use Rattle.tcap_refute.specs.ComponentKinds.{has_component, invokes_again, is_linked}
-use Rattle.tcap_refute.specs.Counts.{count}
 use Rattle.tcap_refute.specs.FirstKinds.{first_kinds, is_of_first_kind}
-use Rattle.tcap_refute.specs.Kind.{or_else, refutation_at}
-use Rattle.tcap_refute.specs.Speaker.{is_nothing, is_surely_open, told}
+use Rattle.tcap_refute.specs.Kind.{kind_of_reason, or_else, refutation_at}
+use Rattle.tcap_faults.specs.Closed.{all_go_to_open, is_surely_open}
+use Rattle.tcap_faults.specs.Components.{has_component, invokes_again, is_linked}
+use Rattle.tcap_faults.specs.Told.{is_abort_with, told}
+use Rattle.tcap_faults.specs.Counts.{count, is_nothing}
 use Rattle.tcap_faults.specs.ComponentKinds.{answers_again, invokes_busy, links_badly, rejects_wrongly}
 use Rattle.tcap_faults.specs.HalfKinds.{is_accepted, is_wrong_dialogue, is_wrong_half}
 use Rattle.tcap_faults.specs.HalfOf.{HalfOf, half_of}
@@ -111,6 +111,14 @@ further_kinds = kinds.WrongHalf ∷ kinds.WrongDialogue ∷ kinds.InvokeIdBusy �
     ∷ kinds.RejectNotAllowed ∷ kinds.WrongReply ∷ []
 
 -- ---- a record
+
+abbrev pub is_entry_of : Side → Option Side → Bool
+is_entry_of side None = false
+is_entry_of side (Some sender) = is_side side sender
+
+-- the kind of an entry that is no item, where that end sent it
+abbrev pub bad_entry_of : Side → Option Side → Reason → Option Kind
+bad_entry_of side sender reason = cond (is_entry_of side sender) (kind_of_reason reason) None
 
 -- The lowest kind of an item of that end, or of a quiet mark for it, behind these since the last quiet mark. Where the end has
 -- used an own ID again, by this item too, there is none up to the next mark, and none at that.

@@ -7,7 +7,8 @@ use Rattle.tcap_msg.specs.declared.message.AbortReason.TheVariants as aborts
 use Rattle.tcap_msg.specs.declared.message.Message.TheVariants.{Begin, Continue, Abort}
 use Rattle.tcap_record.specs.declared.entry.End.TheVariants.{A, B}
 use Rattle.tcap_model.specs.World.{Sent}
-use Rattle.tcap_faults.specs.WorkedFaults.{Blamed, IsBlamed, Unblamed, all_expire, prearranged}
+use Rattle.tcap_refute.specs.WorkedTables.{all_expire, prearranged}
+use Rattle.tcap_faults.specs.WorkedFaults.{Blamed, IsBlamed, Unblamed}
 
 -- a Continue answered as unknown before its ID was begun
 abbrev row_264 : Type 0

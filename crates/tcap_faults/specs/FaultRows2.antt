@@ -7,7 +7,8 @@ use Rattle.tcap_msg.specs.declared.message.AbortReason.TheVariants as aborts
 use Rattle.tcap_msg.specs.declared.message.Message.TheVariants.{Begin, Continue, End as EndMessage, Abort}
 use Rattle.tcap_record.specs.declared.entry.End.TheVariants.{A, B}
 use Rattle.tcap_model.specs.World.{Item, Sent}
-use Rattle.tcap_faults.specs.WorkedFaults.{Blamed, IsBlamed, Unblamed, all_expire, prearranged}
+use Rattle.tcap_refute.specs.WorkedTables.{all_expire, prearranged}
+use Rattle.tcap_faults.specs.WorkedFaults.{Blamed, IsBlamed, Unblamed}
 
 -- two results of one operation that was invoked once
 abbrev row_40 : Type 0

@@ -6,7 +6,8 @@ use Rattle.tcap_parts.specs.declared.problem.Problem.TheVariants as problems
 use Rattle.tcap_msg.specs.declared.message.Message.TheVariants.{Unidirectional, Begin, Continue, End as EndMessage}
 use Rattle.tcap_record.specs.declared.entry.End.TheVariants.{A, B}
 use Rattle.tcap_model.specs.World.{Sent}
-use Rattle.tcap_faults.specs.WorkedFaults.{Blamed, IsBlamed, Unblamed, all_expire, all_last, some_last}
+use Rattle.tcap_refute.specs.WorkedTables.{all_expire, all_last, some_last}
+use Rattle.tcap_faults.specs.WorkedFaults.{Blamed, IsBlamed, Unblamed}
 
 -- an ID of class 2 again behind a Return Result
 abbrev row_80 : Type 0

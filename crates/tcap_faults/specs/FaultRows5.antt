@@ -6,7 +6,8 @@ use Rattle.tcap_parts.specs.declared.problem.Problem.TheVariants as problems
 use Rattle.tcap_msg.specs.declared.message.Message.TheVariants.{Begin, Continue, End as EndMessage}
 use Rattle.tcap_record.specs.declared.entry.End.TheVariants.{A, B}
 use Rattle.tcap_model.specs.World.{Sent}
-use Rattle.tcap_faults.specs.WorkedFaults.{Blamed, IsBlamed, Unblamed, all_expire}
+use Rattle.tcap_refute.specs.WorkedTables.{all_expire}
+use Rattle.tcap_faults.specs.WorkedFaults.{Blamed, IsBlamed, Unblamed}
 
 -- a Reject of class 4
 abbrev row_100 : Type 0

@@ -7,7 +7,8 @@ use Rattle.tcap_msg.specs.declared.message.AbortReason.TheVariants as aborts
 use Rattle.tcap_msg.specs.declared.message.Message.TheVariants.{Begin, Continue, End as EndMessage, Abort}
 use Rattle.tcap_record.specs.declared.entry.End.TheVariants.{A, B}
 use Rattle.tcap_model.specs.World.{Sent}
-use Rattle.tcap_faults.specs.WorkedFaults.{Blamed, IsBlamed, Unblamed, all_expire, all_last, some_last}
+use Rattle.tcap_refute.specs.WorkedTables.{all_expire, all_last, some_last}
+use Rattle.tcap_faults.specs.WorkedFaults.{Blamed, IsBlamed, Unblamed}
 
 -- a linked fault told in the End of what the peer began
 abbrev row_163 : Type 0

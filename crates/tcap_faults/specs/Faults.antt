@@ -1,28 +1,43 @@
 -- What is found of the components of a message, one after the other.
-use Rattle.std.specs.Prelude.{◌≡◌, ℤ, Bool, false, ◌||◌}
+use Rattle.std.specs.Prelude.{◌≡◌, ℕ, ℤ, Bool, false, Option, Some, None, ◌||◌, cond}
 use Rattle.std.specs.Ordering.{int_cmp}
 use Rattle.std.specs.BTreeSet.{BTreeSet, contains}
 use Rattle.tcap_parts.specs.declared.component.Component.{Component}
 use Rattle.tcap_parts.specs.declared.component.Component.TheVariants.{Invoke}
 use Rattle.tcap_end.specs.Table.{Table}
+use Rattle.tcap_refute.specs.declared.kind.Kind.{Kind}
+use Rattle.tcap_refute.specs.declared.kind.Kind.TheVariants as kinds
 use Rattle.tcap_refute.specs.Before.{invokes}
-use Rattle.tcap_refute.specs.ComponentKinds.{is_linked}
+use Rattle.tcap_faults.specs.Components.{is_linked}
 use Rattle.tcap_faults.specs.declared.components.ComponentFaults.{ComponentFaults}
 use Rattle.tcap_faults.specs.ByTallies.{Counted, answers_again_by, invokes_busy_by, links_badly_by, rejects_wrongly_by}
 
+-- the component by which a message has that kind
+abbrev pub component_at : Kind → ComponentFaults → Option ℕ
+component_at kinds.InvokeIdBusy found = found.busy
+component_at kinds.BadLink found = found.badly_linked
+component_at kinds.AnsweredAlready found = found.answered_already
+component_at kinds.RejectNotAllowed found = found.wrongly_rejected
+component_at kind found = None
+
+-- the first that is so: the one that was found, or else that of this number, where it is so
+abbrev pub first_or : Option ℕ → Bool → ℕ → Option ℕ
+first_or None so number = cond so (Some number) None
+first_or (Some first) so number = Some first
+
 -- Nothing.
 pub record IsFaultless (found : ComponentFaults) : Type 0 where
-  pub busy : found.busy ≡ false
-  pub badly_linked : found.badly_linked ≡ false
-  pub answered_already : found.answered_already ≡ false
-  pub wrongly_rejected : found.wrongly_rejected ≡ false
+  pub busy : found.busy ≡ None
+  pub badly_linked : found.badly_linked ≡ None
+  pub answered_already : found.answered_already ≡ None
+  pub wrongly_rejected : found.wrongly_rejected ≡ None
 
--- That of one component more, over a half.
-pub record IsWith (table : Table) (by : Counted) (c : Component) (old new : ComponentFaults) : Type 0 where
-  pub busy : new.busy ≡ old.busy || invokes_busy_by by c
-  pub badly_linked : new.badly_linked ≡ old.badly_linked || links_badly_by table by c
-  pub answered_already : new.answered_already ≡ old.answered_already || answers_again_by by c
-  pub wrongly_rejected : new.wrongly_rejected ≡ old.wrongly_rejected || rejects_wrongly_by table by c
+-- That of one component more, of that number, over a half.
+pub record IsWith (table : Table) (by : Counted) (number : ℕ) (c : Component) (old new : ComponentFaults) : Type 0 where
+  pub busy : new.busy ≡ first_or old.busy (invokes_busy_by by c) number
+  pub badly_linked : new.badly_linked ≡ first_or old.badly_linked (links_badly_by table by c) number
+  pub answered_already : new.answered_already ≡ first_or old.answered_already (answers_again_by by c) number
+  pub wrongly_rejected : new.wrongly_rejected ≡ first_or old.wrongly_rejected (rejects_wrongly_by table by c) number
 
 -- whether it is an Invoke of one of these IDs
 abbrev pub invokes_one_of : BTreeSet ℤ → Component → Bool
@@ -30,9 +45,9 @@ invokes_one_of ids (Invoke id linked code parameter) = contains int_cmp ids id
 invokes_one_of ids _ = false
 
 -- That of one more of a message without destination ID, and the IDs with its own.
-pub record IsFirstNoted (before behind : BTreeSet ℤ) (c : Component) (old new : ComponentFaults) : Type 0 where
+pub record IsFirstNoted (before behind : BTreeSet ℤ) (number : ℕ) (c : Component) (old new : ComponentFaults) : Type 0 where
   pub ids : (id : ℤ) → contains int_cmp behind id ≡ contains int_cmp before id || invokes id c
-  pub busy : new.busy ≡ old.busy || invokes_one_of before c
-  pub badly_linked : new.badly_linked ≡ old.badly_linked || is_linked c
+  pub busy : new.busy ≡ first_or old.busy (invokes_one_of before c) number
+  pub badly_linked : new.badly_linked ≡ first_or old.badly_linked (is_linked c) number
   pub answered_already : new.answered_already ≡ old.answered_already
   pub wrongly_rejected : new.wrongly_rejected ≡ old.wrongly_rejected

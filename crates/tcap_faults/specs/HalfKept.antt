@@ -2,7 +2,7 @@
 use Rattle.std.specs.Prelude.{◌≡◌, List, map}
 use Rattle.tcap_parts.specs.declared.component.Component.{Component}
 use Rattle.tcap_end.specs.Table.{Table}
-use Rattle.tcap_refute.specs.HalfKinds.{is_request_of}
+use Rattle.tcap_faults.specs.Told.{is_request_of}
 use Rattle.tcap_faults.specs.declared.half.Half.{Half}
 use Rattle.tcap_faults.specs.declared.tally.Tally.{Tally}
 use Rattle.tcap_faults.specs.HalfOf.{HalfOf}

@@ -1,6 +1,7 @@
 -- Messages that do not fit the half with their destination ID: its IDs and how it began, and its dialogue (Q.774 3.2, 3.3).
-use Rattle.std.specs.Prelude.{ℕ, Bool, true, false, List, Option, Some, None, is_some, ◌&&◌, ◌||◌, not}
+use Rattle.std.specs.Prelude.{ℕ, Bool, true, false, List, Option, Some, None, is_some, ◌==◌, ◌&&◌, ◌||◌, not}
 use Rattle.tcap_parts.specs.declared.dialogue.Dialogue.{Dialogue}
+use Rattle.tcap_parts.specs.declared.dialogue.Dialogue.TheVariants as dialogues
 use Rattle.tcap_msg.specs.declared.kind.Kind.TheVariants as forms
 use Rattle.tcap_msg.specs.declared.message.Message.{Message}
 use Rattle.tcap_msg.specs.declared.message.Message.TheVariants.{Continue, Abort}
@@ -10,8 +11,8 @@ use Rattle.tcap_end.specs.Dialogue.{is_response, is_user_abort}
 use Rattle.tcap_end.specs.End.{is_id}
 use Rattle.tcap_model.specs.World.{Item}
 use Rattle.tcap_refute.specs.Before.{has_a, is_a}
-use Rattle.tcap_refute.specs.HalfKinds.{is_provider_abort, is_request_of, was_closed}
-use Rattle.tcap_refute.specs.Speaker.{began, told}
+use Rattle.tcap_faults.specs.Closed.{was_closed}
+use Rattle.tcap_faults.specs.Told.{began, is_request_of, told}
 use Rattle.tcap_faults.specs.declared.how.How.{How}
 use Rattle.tcap_faults.specs.declared.how.How.TheVariants.{Accepted, Begun, Nowhere, Refused, Unanswered}
 use Rattle.tcap_faults.specs.HalfOf.{HalfOf}
@@ -30,6 +31,11 @@ goes_from_other side items Accepted own (Continue otid dtid dialogue components)
     began side otid items || is_another otid own
 goes_from_other side items Begun own (Continue otid dtid dialogue components) = is_another otid own
 goes_from_other side items how own m = false
+
+-- an ABRT whose source is the provider
+abbrev pub is_provider_abort : Option Dialogue → Bool
+is_provider_abort (Some (dialogues.Abort source info)) = source == 1
+is_provider_abort _ = false
 
 -- Whether there is no half that may send. An ABRT whose source is the provider may be how an end answers a Continue without
 -- the AARE that its AARQ waits for (Q.774 3.2.1.4, abnormal procedures), and is left open.

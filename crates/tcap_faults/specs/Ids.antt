@@ -1,6 +1,7 @@
 -- Transaction IDs that are kept, one behind the other, without one that stands behind itself.
-use Rattle.std.specs.Prelude.{◌≡◌, ℕ, List, [], ◌∷◌, Contains, Option, Some, None, not}
-use Rattle.tcap_refute.specs.Speaker.{is_nothing}
+use Rattle.std.specs.Prelude.{◌≡◌, ℕ, Bool, List, [], ◌∷◌, Contains, Option, Some, None, not}
+use Rattle.std.specs.List.{find}
+use Rattle.tcap_faults.specs.Counts.{is_nothing}
 use Rattle.tcap_faults.specs.declared.ids.Ids.{Ids}
 use Rattle.tcap_faults.specs.Tangled.{two_differ}
 
@@ -13,12 +14,13 @@ abbrev pub ids_kept : Option (List ℕ) → List (List ℕ) → List (List ℕ)
 ids_kept None more = []
 ids_kept (Some id) more = id ∷ more
 
--- They are of these IDs: the first is the first of them, the same are among both, and more than one is kept exactly where two
--- differ.
+-- They are of these IDs: the first is the first of them, the same are among both, the first that passes a test too, and more
+-- than one is kept exactly where two differ.
 pub record AreIds (ids : List (List ℕ)) (kept : Ids) : Type 0 where
   pub first : kept.first ≡ ids_first ids
   pub there : (id : List ℕ) → Contains ids id → Contains (ids_kept kept.first kept.more.items) id
   pub back : (id : List ℕ) → Contains (ids_kept kept.first kept.more.items) id → Contains ids id
+  pub found : (passes : List ℕ → Bool) → find passes (ids_kept kept.first kept.more.items) ≡ find passes ids
   pub several : not (is_nothing kept.more.items) ≡ two_differ ids
 
 -- The same IDs are among both, whatever their order.

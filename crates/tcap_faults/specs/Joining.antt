@@ -6,16 +6,16 @@ use Rattle.std.specs.BTreeMap.{BTreeMap, is_at}
 use Rattle.std.specs.BTreeSet as set
 use Rattle.std.specs.BTreeSet.{BTreeSet}
 use Rattle.tcap_end.specs.Table.{octets_cmp}
-use Rattle.tcap_faults.specs.declared.ids.Ids.{Ids}
 use Rattle.tcap_record.specs.declared.entry.End.{End as Side}
 use Rattle.tcap_record.specs.Ends.{other}
 use Rattle.tcap_msg.specs.declared.message.Message.{Message}
 use Rattle.tcap_model.specs.World.{Item, Sent}
+use Rattle.tcap_faults.specs.declared.ids.Ids.{Ids}
 use Rattle.tcap_faults.specs.declared.facts.SideFacts.{SideFacts}
 use Rattle.tcap_faults.specs.Ids.{AreAmong}
 use Rattle.tcap_faults.specs.Kept.{dtids_of, sent_from}
-use Rattle.tcap_faults.specs.Tangled.{has_used, peers_of}
-use Rattle.tcap_faults.specs.UsedAgain.{has_ended}
+use Rattle.tcap_faults.specs.Tangled.{peers_of}
+use Rattle.tcap_faults.specs.Told.{has_ended, has_used}
 
 -- An ID more where that is so.
 abbrev pub id_if : Bool → List ℕ → List (List ℕ)

@@ -16,10 +16,10 @@ use Rattle.tcap_end.specs.Table.{Table, octets_cmp}
 use Rattle.tcap_model.specs.World.{Item}
 use Rattle.tcap_model.specs.Since.{ended_by}
 use Rattle.tcap_refute.specs.Before.{components_of, is_a, sent_by}
-use Rattle.tcap_refute.specs.Counts.{count}
-use Rattle.tcap_refute.specs.HalfKinds.{was_closed_behind}
 use Rattle.tcap_refute.specs.Kind.{is_begin_with_request}
-use Rattle.tcap_refute.specs.Speaker.{goes_on_to, is_cause, is_nothing}
+use Rattle.tcap_faults.specs.Closed.{shows_closed}
+use Rattle.tcap_faults.specs.Counts.{count, is_nothing}
+use Rattle.tcap_faults.specs.Told.{goes_on_to, has_ended, has_used, is_cause, one_passes}
 use Rattle.tcap_faults.specs.declared.facts.Facts.{Facts}
 use Rattle.tcap_faults.specs.declared.facts.SideFacts.{SideFacts}
 use Rattle.tcap_faults.specs.declared.sent_from.Came.{Came}
@@ -29,8 +29,8 @@ use Rattle.tcap_faults.specs.declared.sent_to.SentTo.{SentTo}
 use Rattle.tcap_faults.specs.HalfOf.{from_first, responds}
 use Rattle.tcap_faults.specs.Ids.{AreAmong, AreIds}
 use Rattle.tcap_faults.specs.Tallies.{IsTally}
-use Rattle.tcap_faults.specs.Tangled.{guesses, has_used, one_passes, peers_of}
-use Rattle.tcap_faults.specs.UsedAgain.{has_ended, has_used_again}
+use Rattle.tcap_faults.specs.Tangled.{guesses, peers_of}
+use Rattle.tcap_faults.specs.UsedAgain.{has_used_again}
 
 -- ---- by transaction IDs
 
@@ -126,7 +126,7 @@ pub record IsSide (table : Table) (side : Side) (items : List Item) (kept : Side
   -- its IDs from which it guessed one of the other end
   pub guessed : (id : List ℕ) → set.contains octets_cmp kept.guessed id ≡ one_passes (guesses (other side) id) [] items
   -- its IDs that it answered as closed
-  pub closed : (id : List ℕ) → set.contains octets_cmp kept.closed id ≡ was_closed_behind side id [] items
+  pub closed : (id : List ℕ) → set.contains octets_cmp kept.closed id ≡ one_passes (shows_closed side id) [] items
   -- its IDs whose peers it ended
   pub over : (id : List ℕ)
       → set.contains octets_cmp kept.over id ≡ list_any (has_ended side items) (peers_of side items id)

@@ -1,3 +1,7 @@
+pub mod Counts
+pub mod Told
+pub mod Closed
+pub mod Components
 pub mod Tangled
 pub mod UsedAgain
 pub mod HalfOf
@@ -34,3 +38,6 @@ pub mod Noting
 pub mod Joining
 pub mod Speaking
 pub mod Searching
+pub mod Subject
+pub mod Replay
+pub mod Unblamed

@@ -4,7 +4,7 @@ use Rattle.std.specs.Prelude.{ℤ, Bool, ◌==◌, ◌&&◌, not}
 use Rattle.tcap_parts.specs.declared.code.Code.{Code}
 use Rattle.tcap_end.specs.Component.{links}
 use Rattle.tcap_end.specs.Table.{Table}
-use Rattle.tcap_refute.specs.ComponentKinds.{lists_nothing}
+use Rattle.tcap_faults.specs.Components.{lists_nothing}
 use Rattle.tcap_faults.specs.Tallied.{Tallied}
 
 -- whether others may be linked to an operation, but not that one

@@ -1,10 +1,9 @@
 -- What is kept of the entries of a record while faults of its ends are looked for, and what was found.
-use Rattle.std.specs.Prelude.{◌≡◌, ◌≤◌, ℕ, ◌+◌, ◌^◌, Bool, true, false, List, [], ◌∷◌, ◌++◌, drop, length, map, Option, Some, None, Result, Ok, Err, ◌||◌, cond, not}
+use Rattle.std.specs.Prelude.{◌≡◌, ◌≤◌, ℕ, ◌+◌, ◌*◌, ◌^◌, Bool, true, false, List, [], ◌∷◌, ◌++◌, drop, length, map, Option, Some, None, Result, Ok, Err, ◌||◌, cond, not}
 use Rattle.tcap_msg.specs.Parts.{components_in}
 use Rattle.tcap_record.specs.declared.entry.End.{End as Side}
 use Rattle.tcap_record.specs.declared.entry.End.TheVariants.{A, B}
 use Rattle.tcap_model.specs.declared.reason.Reason.{Reason}
-use Rattle.tcap_refute.specs.Blame.{bad_entry_of}
 use Rattle.tcap_record.specs.declared.entry.Entry.{Entry}
 use Rattle.tcap_end.specs.Table.{Table}
 use Rattle.tcap_model.specs.World.{Item, Sent}
@@ -16,7 +15,7 @@ use Rattle.tcap_refute.specs.Kept.{AreNotesOf}
 use Rattle.tcap_faults.specs.declared.kept.Kept.{Kept}
 use Rattle.tcap_faults.specs.declared.blaming.Looking.{Looking}
 use Rattle.tcap_faults.specs.declared.blaming.SearchState.{SearchState}
-use Rattle.tcap_faults.specs.Fault.{blamed, blamed_behind, fault_since}
+use Rattle.tcap_faults.specs.Fault.{bad_entry_of, blamed, blamed_behind, fault_since}
 use Rattle.tcap_faults.specs.Kept.{AreFacts}
 
 -- by whether one is busy, badly linked, answered already, or wrongly rejected
@@ -42,6 +41,11 @@ components_in_all (Item.Quiet ∷ items) = components_in_all items
 pub record AreRoomy (items : List Item) : Type 0 where
   pub few : length items ≤ 2 ^ 63
   pub components : components_in_all items ≤ 2 ^ 126
+
+-- They are so many at the most, each with few components.
+pub record AreCounted (items : List Item) (number : ℕ) : Type 0 where
+  pub few : length items ≤ number
+  pub components : components_in_all items ≤ number * 2 ^ 63
 
 -- ---- what was found of an end
 

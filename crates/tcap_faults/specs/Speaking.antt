@@ -1,15 +1,16 @@
 -- What is counted of a half, as it is read off what is kept.
-use Rattle.std.specs.Prelude.{ℕ, List, [], ◌∷◌, ◌++◌, filter, Option, Some, None, cond}
+use Rattle.std.specs.Prelude.{◌≡◌, ℕ, List, [], ◌∷◌, ◌++◌, filter, Option, Some, None, cond}
 use Rattle.tcap_record.specs.declared.entry.End.{End as Side}
 use Rattle.tcap_record.specs.Ends.{other}
 use Rattle.tcap_end.specs.Table.{Table}
 use Rattle.tcap_model.specs.World.{Item}
-use Rattle.tcap_refute.specs.Speaker.{begin_from, goes_on_to}
+use Rattle.tcap_faults.specs.Told.{begin_from, goes_on_to}
 use Rattle.tcap_faults.specs.declared.sent_from.Came.{Came}
 use Rattle.tcap_faults.specs.declared.sent_from.FirstBegin.{FirstBegin}
 use Rattle.tcap_faults.specs.declared.sent_from.SentFrom.{SentFrom}
 use Rattle.tcap_faults.specs.declared.sent_to.SentTo.{SentTo}
 use Rattle.tcap_faults.specs.declared.tally.Tally.{Tally}
+use Rattle.tcap_faults.specs.HalfOf.{begun_from}
 use Rattle.tcap_faults.specs.Kept.{IsCameAt, IsFirstBegin, IsFrom, sent_from}
 
 abbrev pub came_counted : Option Came → List Tally
@@ -39,3 +40,7 @@ IsBegunBy table side items own kept = IsFirstBegin table (begin_from side own it
 abbrev pub IsCameBack : Table → Side → List Item → List ℕ → List ℕ → Came → Type 0
 IsCameBack table side items id own kept =
     IsCameAt table (filter (goes_on_to own) (sent_from (other side) items id)) (Some kept)
+
+-- It is the own ID of the half with that ID of the peer, where that half began by sending a Begin.
+abbrev pub IsBegunOwn : Side → List Item → List ℕ → Option (List ℕ) → Type 0
+IsBegunOwn side items id own = (it : List ℕ) → begun_from side items id ≡ Some it → own ≡ Some it

@@ -8,8 +8,8 @@ use Rattle.tcap_parts.specs.declared.component.Component.TheVariants.{Invoke, Re
 use Rattle.tcap_end.specs.Component.{is_code}
 use Rattle.tcap_end.specs.Table.{Table, expires_of}
 use Rattle.tcap_refute.specs.Before.{is_invoke_id}
-use Rattle.tcap_refute.specs.Counts.{any_problem, count, has_class, invokes_linked, invokes_so, is_error, is_last_result, is_not_last, is_result, is_result_of, rejects_error, rejects_invoke, rejects_result}
-use Rattle.tcap_refute.specs.ComponentKinds.{is_of_link, is_problem}
+use Rattle.tcap_faults.specs.Counts.{any_problem, count, has_class, invokes_linked, invokes_so, is_error, is_last_result, is_not_last, is_result, is_result_of, rejects_error, rejects_invoke, rejects_result}
+use Rattle.tcap_faults.specs.Components.{is_of_link, is_problem}
 use Rattle.tcap_faults.specs.ComponentKinds.{rejects_generally}
 use Rattle.tcap_faults.specs.declared.sort.Class.{Class}
 use Rattle.tcap_faults.specs.declared.sort.Class.TheVariants as classes

@@ -10,26 +10,12 @@ use Rattle.tcap_msg.specs.declared.message.Message.TheVariants.{Continue}
 use Rattle.tcap_msg.specs.Parts.{dtid_in, otid_in}
 use Rattle.tcap_record.specs.declared.entry.End.{End as Side}
 use Rattle.tcap_record.specs.Ends.{other}
-use Rattle.tcap_end.specs.End.{is_id}
 use Rattle.tcap_model.specs.World.{Item, Sent, is_side}
 use Rattle.tcap_refute.specs.Before.{asked, has_a, is_a, sent_by}
-use Rattle.tcap_refute.specs.Counts.{count}
-use Rattle.tcap_refute.specs.Speaker.{began, goes_on_to}
-
--- whether one of these items passes a test, behind those before it
-abbrev pub one_passes : (List Item → Item → Bool) → List Item → List Item → Bool
-one_passes passes seen [] = false
-one_passes passes seen (item ∷ items) = passes seen item || one_passes passes (seen ++ item ∷ []) items
+use Rattle.tcap_faults.specs.Counts.{count}
+use Rattle.tcap_faults.specs.Told.{began, goes_on_from, goes_on_to, has_used, one_passes}
 
 -- ---- joined IDs
-
--- a Continue from that originating ID
-abbrev pub goes_on_from : List ℕ → Message → Bool
-goes_on_from id m = is_a forms.Continue m && is_id id (otid_in m)
-
--- whether an end used an own ID: it sent a Begin or a Continue from there
-abbrev pub has_used : Side → List Item → List ℕ → Bool
-has_used side items own = list_any (λ m. is_id own (otid_in m)) (sent_by side items)
 
 -- the IDs of the peer that are joined with an own ID: the end sent a Continue from this to that; or the peer sent one from
 -- that to this, and the end used it

@@ -8,17 +8,12 @@ use Rattle.tcap_msg.specs.declared.message.Message.{Message}
 use Rattle.tcap_msg.specs.declared.message.Message.TheVariants.{Begin, Continue}
 use Rattle.tcap_record.specs.declared.entry.End.{End as Side}
 use Rattle.tcap_record.specs.Ends.{other}
-use Rattle.tcap_end.specs.End.{is_id}
 use Rattle.tcap_end.specs.Table.{Table}
 use Rattle.tcap_model.specs.World.{Item, Sent, is_side}
-use Rattle.tcap_model.specs.Since.{ended_by}
-use Rattle.tcap_refute.specs.Before.{asked, has_a, sent_by}
-use Rattle.tcap_refute.specs.Speaker.{ends_to, is_nothing, told}
-use Rattle.tcap_faults.specs.Tangled.{has_used, one_passes, owns_of, peers_of}
-
--- whether an end sent an End, or an Abort without cause, to an ID
-abbrev pub has_ended : Side → List Item → List ℕ → Bool
-has_ended side items id = list_any (λ m. is_id id (ended_by m)) (sent_by side items)
+use Rattle.tcap_refute.specs.Before.{asked, ends_to, has_a, sent_by}
+use Rattle.tcap_faults.specs.Counts.{is_nothing}
+use Rattle.tcap_faults.specs.Told.{has_ended, has_used, one_passes, told}
+use Rattle.tcap_faults.specs.Tangled.{owns_of, peers_of}
 
 -- Whether the transaction of an own ID may be over: the peer ended it, or the end did; or transactions may end by
 -- prearrangement, which no message tells.

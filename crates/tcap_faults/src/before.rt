@@ -15,8 +15,8 @@ pub(crate) struct Before<'a> {
     pub(crate) half: &'a Half<'a>,
     /// Those of the message before that one.
     pub(crate) own: &'a Tally,
-    /// All of the message.
-    pub(crate) whole: &'a Tally,
+    /// All Rejects of the message.
+    pub(crate) rejects: &'a Tally,
 }
 
 impl Before<'_> {
@@ -41,10 +41,13 @@ impl Before<'_> {
         more(count(&self.half.told, id, sort), self.own.count(id, sort))
     }
 
-    /// How many it told, with all of the message.
+    /// How many it told, with all Rejects of the message.
     pub(crate) fn all_told(&self, id: i8, sort: Sort) -> u128
         ensures { result ≡ (counted self.now).all_told.count id sort }
     {
-        more(count(&self.half.told, id, sort), self.whole.count(id, sort))
+        more(
+            count(&self.half.told, id, sort),
+            self.rejects.count(id, sort),
+        )
     }
 }

@@ -63,7 +63,7 @@ fn component_count(message: &Message) -> usize
 }
 
 /// How many components an entry has.
-fn entry_count(entry: &Entry) -> usize
+pub(crate) fn entry_count(entry: &Entry) -> usize
     ensures count { (item : Item) → item_of entry.now ≡ Ok item → components_in_all (item ∷ []) ≤ result }
     ensures small { result < 2 ^ 63 }
 {

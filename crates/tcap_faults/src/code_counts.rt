@@ -27,7 +27,7 @@ impl CodeCounts {
     ghost use Rattle.tcap_parts.specs.declared.code.Code.TheVariants.{Local, Global as GlobalCode};
     ghost use Rattle.tcap_parts.specs.Meaning.{code_of};
     ghost use Rattle.tcap_end.specs.Component.{is_code, links};
-    ghost use Rattle.tcap_refute.specs.ComponentKinds.{lists_nothing};
+    ghost use Rattle.tcap_faults.specs.Components.{lists_nothing};
     ghost use Rattle.tcap_faults.specs.Tallied.{more_if};
     ghost use Rattle.tcap_faults.specs.Tallies.{count_of};
 

@@ -1,17 +1,18 @@
 //! Components that the half over which they would be sent does not allow (Q.774 3.2; Q.771 3.1.2).
 
-ghost use Rattle.std.specs.Prelude.{◌≡◌, false, List, [], ◌++◌, IfOk, OnOk, map, option_map, option_to_list};
-ghost use Rattle.std.specs.List.{list_any};
+ghost use Rattle.std.specs.Prelude.{◌≡◌, List, ◌++◌, IfOk, OnOk, filter, option_map, option_to_list};
 ghost use Rattle.tcap_parts.specs.declared.component.Component.{Component};
 ghost use Rattle.tcap_parts.specs.Meaning.{component_of, components_left};
-ghost use Rattle.tcap_refute.specs.ComponentKinds.{has_component, invokes_again, is_linked};
-ghost use Rattle.tcap_faults.specs.ComponentKinds.{answers_again, invokes_busy, links_badly, rejects_wrongly};
+ghost use Rattle.tcap_msg.specs.Parts.{components_in};
+ghost use Rattle.tcap_refute.specs.declared.kind.Kind.{Kind as FaultKind};
+ghost use Rattle.tcap_refute.specs.Before.{is_reject};
 ghost use Rattle.tcap_faults.specs.HalfOf.{HalfOf};
 ghost use Rattle.tcap_faults.specs.Tallied.{AreFew};
 ghost use Rattle.tcap_faults.specs.Tallies.{IsTally};
 ghost use Rattle.tcap_faults.specs.HalfKept.{IsHalf};
 ghost use Rattle.tcap_faults.specs.ByTallies.{counted};
-ghost use Rattle.tcap_faults.specs.Faults.{IsFaultless, IsFirstNoted, IsWith};
+ghost use Rattle.tcap_faults.specs.Faults.{IsFaultless, IsFirstNoted, IsWith, component_at, first_or};
+ghost use Rattle.tcap_faults.specs.Subject.{alone_component, half_component};
 
 use crate::before::Before;
 use crate::half::Half;
@@ -19,19 +20,32 @@ use crate::tally::Tally;
 use std::alloc::{AllocError, Global};
 use std::collections::BTreeSet;
 use tcap_end::Table;
+use tcap_msg::MessageParts;
 use tcap_parts::{ComponentView, Components};
+use tcap_refute::Kind;
 
-/// What is so of one of the components of a message.
+/// Of the components of a message the numbers of the first that are so.
 #[derive(Clone, Copy, Debug)]
 pub(crate) struct ComponentFaults {
     /// An Invoke of an ID that is in use.
-    pub(crate) busy: bool,
+    pub(crate) busy: Option<u64>,
     /// An Invoke whose linked ID is that of no invocation that is there.
-    pub(crate) badly_linked: bool,
+    pub(crate) badly_linked: Option<u64>,
     /// An answer to an invocation that was answered already.
-    pub(crate) answered_already: bool,
+    pub(crate) answered_already: Option<u64>,
     /// A Reject with a problem that nothing has.
-    pub(crate) wrongly_rejected: bool,
+    pub(crate) wrongly_rejected: Option<u64>,
+}
+
+/// The first that is so: the one that was found, or else that of this number, where it is so.
+fn first_or(first: Option<u64>, so: bool, number: u64) -> Option<u64>
+    ensures { result ≡ first_or first so number }
+{
+    match first {
+        Some(_) => first,
+        None if so => Some(number),
+        None => None,
+    }
 }
 
 impl ComponentFaults {
@@ -40,22 +54,45 @@ impl ComponentFaults {
         ensures { IsFaultless result }
     {
         ComponentFaults {
-            busy: false,
-            badly_linked: false,
-            answered_already: false,
-            wrongly_rejected: false,
+            busy: None,
+            badly_linked: None,
+            answered_already: None,
+            wrongly_rejected: None,
         }
     }
 
-    /// With what is so of one component more.
-    fn with(self, table: &Table, before: Before, component: ComponentView) -> ComponentFaults
-        ensures { IsWith table.now (counted before.entry) (component_of component.entry) self result }
+    /// The component by which the message has that kind, F10 to F13.
+    pub(crate) fn component(self, kind: Kind) -> Option<u64>
+        ensures { result ≡ component_at kind self }
     {
+        match kind {
+            Kind::InvokeIdBusy => self.busy,
+            Kind::BadLink => self.badly_linked,
+            Kind::AnsweredAlready => self.answered_already,
+            Kind::RejectNotAllowed => self.wrongly_rejected,
+            _ => None,
+        }
+    }
+
+    /// With what is so of one component more, of that number.
+    fn with(
+        self,
+        table: &Table,
+        before: Before,
+        number: u64,
+        component: ComponentView,
+    ) -> ComponentFaults
+        ensures { IsWith table.now (counted before.entry) number (component_of component.entry) self result }
+    {
+        let busy = before.invokes_busy(component);
+        let badly_linked = before.links_badly(table, component);
+        let answered_already = before.answers_again(component);
+        let wrongly_rejected = before.rejects_wrongly(table, component);
         ComponentFaults {
-            busy: self.busy || before.invokes_busy(component),
-            badly_linked: self.badly_linked || before.links_badly(table, component),
-            answered_already: self.answered_already || before.answers_again(component),
-            wrongly_rejected: self.wrongly_rejected || before.rejects_wrongly(table, component),
+            busy: first_or(self.busy, busy, number),
+            badly_linked: first_or(self.badly_linked, badly_linked, number),
+            answered_already: first_or(self.answered_already, answered_already, number),
+            wrongly_rejected: first_or(self.wrongly_rejected, wrongly_rejected, number),
         }
     }
 
@@ -63,17 +100,16 @@ impl ComponentFaults {
     fn note_first(
         &mut self,
         ids: &mut BTreeSet<i8>,
+        number: u64,
         component: ComponentView,
     ) -> Result<(), AllocError>
-        ensures { OnOk result (IsFirstNoted ids.old ids.new (component_of component.entry) self.old self.new) }
+        ensures { OnOk result
+            (IsFirstNoted ids.old ids.new number (component_of component.entry) self.old self.new) }
     {
         if let ComponentView::Invoke { id, linked, .. } = component {
-            if !ids.insert(id)? {
-                self.busy = true;
-            }
-            if linked.is_some() {
-                self.badly_linked = true;
-            }
+            let again = !ids.insert(id)?;
+            self.busy = first_or(self.busy, again, number);
+            self.badly_linked = first_or(self.badly_linked, linked.is_some(), number);
         }
         Ok(())
     }
@@ -95,77 +131,70 @@ fn note_last(
     Ok(())
 }
 
-/// All components of a message, each of which is counted.
-fn note_whole<'a>(
-    whole: &mut Tally,
-    alloc: Global,
-    table: &Table,
-    components: Components<'a>,
-) -> Result<Vec<ComponentView<'a>>, AllocError>
-    ensures notes { (cs : List Component) → IsTally table.now cs whole.old
-        → OnOk result (IsTally table.now (cs ++ components_left components.entry) whole.new) }
-    ensures lists { IfOk result (λ v. map component_of v.items ≡ components_left components.entry) }
+/// The Rejects among the components of a message, counted.
+fn count_rejects(alloc: Global, table: &Table, components: Components) -> Result<Tally, AllocError>
+    ensures { IfOk result (λ tally. IsTally table.now (filter is_reject (components_left components.entry)) tally) }
 {
-    let mut all = Vec::new(alloc);
+    let mut rejects = Tally::new(alloc);
     for component in components {
-        whole.note(alloc, table, component)?;
-        all.push(component)?;
+        let ComponentView::Reject { .. } = component else {
+            continue;
+        };
+        rejects.note(alloc, table, component)?;
     }
-    Ok(all)
+    Ok(rejects)
 }
 
-/// What is so of the components of a message that goes over a half.
-pub(crate) fn faults_of(
+/// What is so of the components of a message that goes over a half. Its Rejects are counted first, for one that stands behind an
+/// Invoke may end an own invocation of that ID.
+pub(crate) fn faults_of<M: MessageParts>(
     alloc: Global,
     table: &Table,
     half: &Half,
-    components: Components,
+    message: &M,
 ) -> Result<ComponentFaults, AllocError>
     ensures { (h : HalfOf) → IsHalf table.now h half.now → AreFew h.heard → AreFew h.invoked
-        → AreFew (h.told ++ components_left components.entry)
-        → IfOk result (λ f.
-        (f.busy
-        ≡ has_component (invokes_busy table.now h (h.told ++ components_left components.entry)) [] h.told
-        (components_left components.entry))
-        × (f.badly_linked ≡ has_component (links_badly table.now h) [] h.told (components_left components.entry))
-        × (f.answered_already
-        ≡ has_component (answers_again table.now h) [] h.told (components_left components.entry))
-        × (f.wrongly_rejected
-        ≡ has_component (rejects_wrongly table.now h) [] h.told (components_left components.entry))) }
+        → AreFew (h.told ++ components_in (M.meaning message.now))
+        → IfOk result (λ f. (kind : FaultKind)
+        → component_at kind f ≡ half_component table.now h (components_in (M.meaning message.now)) kind) }
 {
-    let mut whole = Tally::new(alloc);
-    let all = note_whole(&mut whole, alloc, table, components)?;
+    let rejects = count_rejects(alloc, table, message.components())?;
+    // It bounds how many components there are, so that their numbers fit.
+    let _count = message.count();
     let mut own = Tally::new(alloc);
     let mut last = None;
     let mut faults = ComponentFaults::none();
-    for component in &all {
+    let mut number = 0;
+    for component in message.components() {
         note_last(&mut own, alloc, table, last)?;
         let before = Before {
             half: &*half,
             own: &own,
-            whole: &whole,
+            rejects: &rejects,
         };
-        faults = faults.with(table, before, *component);
-        last = Some(*component);
+        faults = faults.with(table, before, number, component);
+        last = Some(component);
+        number += 1;
     }
     Ok(faults)
 }
 
-/// What is so of the components of a message without destination ID: whether two Invokes have one ID, and whether one is
-/// linked.
-pub(crate) fn first_faults(
+/// What is so of the components of a message without destination ID: of two Invokes of one ID the second, and a linked one.
+pub(crate) fn first_faults<M: MessageParts>(
     alloc: Global,
-    components: Components,
+    message: &M,
 ) -> Result<ComponentFaults, AllocError>
-    ensures { IfOk result (λ f.
-        (f.busy ≡ has_component invokes_again [] [] (components_left components.entry))
-        × (f.badly_linked ≡ list_any is_linked (components_left components.entry))
-        × (f.answered_already ≡ false) × (f.wrongly_rejected ≡ false)) }
+    ensures { IfOk result (λ f. (kind : FaultKind)
+        → component_at kind f ≡ alone_component (components_in (M.meaning message.now)) kind) }
 {
+    // It bounds how many components there are, so that their numbers fit.
+    let _count = message.count();
     let mut ids = BTreeSet::new(alloc);
     let mut faults = ComponentFaults::none();
-    for component in components {
-        faults.note_first(&mut ids, component)?;
+    let mut number = 0;
+    for component in message.components() {
+        faults.note_first(&mut ids, number, component)?;
+        number += 1;
     }
     Ok(faults)
 }

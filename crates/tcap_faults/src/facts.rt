@@ -7,12 +7,10 @@ ghost use Rattle.tcap_record.specs.declared.entry.End.{End as Side};
 ghost use Rattle.tcap_record.specs.Ends.{other};
 ghost use Rattle.tcap_end.specs.Table.{Table};
 ghost use Rattle.tcap_model.specs.World.{Item};
-ghost use Rattle.tcap_refute.specs.Before.{is_a, sent_by};
-ghost use Rattle.tcap_refute.specs.Counts.{count};
-ghost use Rattle.tcap_refute.specs.Speaker.{began, ends_to, goes_on_to, is_nothing, told};
+ghost use Rattle.tcap_refute.specs.Before.{ends_to, is_a, sent_by};
+ghost use Rattle.tcap_faults.specs.Counts.{count, is_nothing};
+ghost use Rattle.tcap_faults.specs.Told.{began, goes_on_to, has_ended, has_used, told};
 ghost use Rattle.tcap_faults.specs.Kept.{AreFacts, IsSide, sent_from};
-ghost use Rattle.tcap_faults.specs.Tangled.{has_used};
-ghost use Rattle.tcap_faults.specs.UsedAgain.{has_ended};
 
 use crate::ids::Ids;
 use crate::sent_from::SentFrom;

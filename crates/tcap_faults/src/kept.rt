@@ -36,7 +36,7 @@ impl Kept {
     }
 
     /// An end, and its peer.
-    fn ends(&self, side: End) -> Ends<'_>
+    pub(crate) fn ends(&self, side: End) -> Ends<'_>
         ensures { (table : Table) (items : List Item) → IsKept table items self.now
             → IsSide table side (since_quiet items) result.own.now
             × IsSide table (other side) (since_quiet items) result.peer.now }

@@ -1,6 +1,6 @@
 //! The lowest kind of a message, by what is kept of those before it.
 
-ghost use Rattle.std.specs.Prelude.{◌≡◌, ◌^◌, ◌≤◌, ℕ, List, length, [], ◌∷◌, ◌++◌, false, cond, Some, None, IfOk};
+ghost use Rattle.std.specs.Prelude.{◌≡◌, ◌^◌, ◌≤◌, ℕ, List, length, [], ◌∷◌, ◌++◌, false, cond, Some, None, is_some, IfOk};
 ghost use Rattle.std.specs.List.{find};
 ghost use Rattle.tcap_msg.specs.Parts.{dtid_in};
 ghost use Rattle.tcap_record.specs.declared.entry.End.{End as Side};
@@ -23,15 +23,16 @@ use tcap_refute::Kind;
 
 /// The lowest of the kinds of components.
 fn kind_of_faults(faults: ComponentFaults) -> Option<Kind>
-    ensures { result ≡ kind_of_components faults.busy faults.badly_linked faults.answered_already faults.wrongly_rejected }
+    ensures { result ≡ kind_of_components (is_some faults.busy) (is_some faults.badly_linked)
+        (is_some faults.answered_already) (is_some faults.wrongly_rejected) }
 {
-    if faults.busy {
+    if faults.busy.is_some() {
         Some(Kind::InvokeIdBusy)
-    } else if faults.badly_linked {
+    } else if faults.badly_linked.is_some() {
         Some(Kind::BadLink)
-    } else if faults.answered_already {
+    } else if faults.answered_already.is_some() {
         Some(Kind::AnsweredAlready)
-    } else if faults.wrongly_rejected {
+    } else if faults.wrongly_rejected.is_some() {
         Some(Kind::RejectNotAllowed)
     } else {
         None
@@ -61,7 +62,7 @@ impl Ends<'_> {
         if self.is_wrong_dialogue(id, message, &half) {
             return Ok(Some(Kind::WrongDialogue));
         }
-        let faults = faults_of(alloc, table, &half, message.components())?;
+        let faults = faults_of(alloc, table, &half, message)?;
         Ok(kind_of_faults(faults))
     }
 
@@ -95,7 +96,7 @@ impl Ends<'_> {
             further_kinds) }
     {
         let Some(dtid) = message.dtid() else {
-            return Ok(kind_of_faults(first_faults(alloc, message.components())?));
+            return Ok(kind_of_faults(first_faults(alloc, message)?));
         };
         let id = dtid.to_transaction_id();
         match message.cause() {

@@ -13,7 +13,7 @@ ghost use Rattle.tcap_refute.specs.declared.kind.Kind.{Kind};
 ghost use Rattle.tcap_refute.specs.declared.kind.Refutation.{Refutation};
 ghost use Rattle.tcap_refute.specs.Before.{since_quiet};
 ghost use Rattle.tcap_faults.specs.AtFault.{HasNoMessage, IsAtFaultOf, IsBadEntryOf};
-ghost use Rattle.tcap_faults.specs.Fault.{blamed, is_fault};
+ghost use Rattle.tcap_faults.specs.Fault.{blamed, is_fault, is_open_at_mark};
 
 /// A message that has a kind, behind what was sent before it, is sent in no run in which its end keeps the rules, whatever
 /// the other end sends, and whatever follows.
@@ -22,6 +22,13 @@ pub fn no_end_sends()
         (message : Message) (kind : Kind) → Runs table events w → KeepsRules side events
         → w.sent ≡ before ++ Sent side message ∷ behind
         → is_fault table side (since_quiet before) message kind ≡ true → ⊥ }
+{}
+
+/// At a quiet mark no half of an end that keeps the rules is left open, whatever the other end sends, and whatever follows.
+pub fn no_mark_leaves_open()
+    ensures { (table : Table) (events : List Event) (w : World) (before behind : List Item) (side : Side)
+        → Runs table events w → KeepsRules side events → w.sent ≡ before ++ Item.Quiet ∷ behind
+        → is_open_at_mark table side (since_quiet before) ≡ true → ⊥ }
 {}
 
 /// The entry that is blamed on an end is at fault: it is of this end, and its octets are no message; or this end sends it in no

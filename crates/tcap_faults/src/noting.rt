@@ -10,13 +10,13 @@ ghost use Rattle.tcap_end.specs.End.{is_id};
 ghost use Rattle.tcap_end.specs.Table.{Table};
 ghost use Rattle.tcap_model.specs.World.{Item, Sent};
 ghost use Rattle.tcap_refute.specs.Before.{asked};
-ghost use Rattle.tcap_refute.specs.HalfKinds.{all_go_on_to, shows_closed};
+ghost use Rattle.tcap_faults.specs.Closed.{all_go_on_to, shows_closed};
+ghost use Rattle.tcap_faults.specs.Told.{has_ended, has_used};
 ghost use Rattle.tcap_faults.specs.Joining.{GetsMore, HasMore, IsJoined};
 ghost use Rattle.tcap_faults.specs.Ids.{AreAmong};
 ghost use Rattle.tcap_faults.specs.Kept.{AreFacts, IsSide, otids_of, sent_to};
 ghost use Rattle.tcap_faults.specs.Noting.{AreTo};
-ghost use Rattle.tcap_faults.specs.Tangled.{guesses, has_used, owns_of};
-ghost use Rattle.tcap_faults.specs.UsedAgain.{has_ended};
+ghost use Rattle.tcap_faults.specs.Tangled.{guesses, owns_of};
 
 use crate::facts::{Facts, SideFacts};
 use crate::ids::Ids;

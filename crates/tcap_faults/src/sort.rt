@@ -2,16 +2,20 @@
 
 /// A class of operations (Q.771 3.1.2), or any.
 #[derive(Clone, Copy, Debug)]
-pub(crate) enum Class {
+pub enum Class {
+    /// Any.
     Any,
+    /// 1: success and failure are reported.
     One,
+    /// 2: failure alone is.
     Two,
+    /// 3: success alone is.
     Three,
 }
 
 /// A sort of components of an invoke ID (Q.773 4.2.2).
 #[derive(Clone, Copy, Debug)]
-pub(crate) enum Sort {
+pub enum Sort {
     /// Invokes of operations of that class.
     Invokes(Class),
     /// Those of operations that do not expire.

@@ -1,26 +1,29 @@
 //! The half of an end with an ID of its peer, read off what is kept, and messages that do not fit it (Q.774 3.2, 3.3).
 
 ghost use Rattle.std.specs.Prelude.{◌≡◌, ◌&&◌, ℕ, Bool, List, [], ◌∷◌, ◌++◌, Option, Some, None, false, map, IfOk, OnOk, option_copied, option_map};
+ghost use Rattle.std.specs.List.{find};
 ghost use Rattle.std.specs.Option.{option_to_list};
 ghost use Rattle.tcap_parts.specs.DialogueMeaning.{dialogue_of};
 ghost use Rattle.tcap_msg.specs.declared.kind.Kind.TheVariants as forms;
 ghost use Rattle.tcap_msg.specs.declared.message.Message.{Message};
 ghost use Rattle.tcap_msg.specs.Parts.{dialogue_in};
-ghost use Rattle.tcap_refute.specs.Before.{is_a};
 ghost use Rattle.tcap_record.specs.declared.entry.End.{End as Side};
 ghost use Rattle.tcap_record.specs.Ends.{other};
 ghost use Rattle.tcap_end.specs.Table.{Table};
 ghost use Rattle.tcap_model.specs.World.{Item};
-ghost use Rattle.tcap_refute.specs.HalfKinds.{is_provider_abort, was_closed};
+ghost use Rattle.tcap_faults.specs.HalfKinds.{goes_from_other, is_provider_abort, is_wrong_half, may_not_speak};
+ghost use Rattle.tcap_refute.specs.Before.{is_a};
+ghost use Rattle.tcap_faults.specs.Closed.{was_closed};
+ghost use Rattle.tcap_faults.specs.Told.{began};
 ghost use Rattle.tcap_faults.specs.HalfKept.{IsHalf};
-ghost use Rattle.tcap_faults.specs.HalfKinds.{goes_from_other, is_wrong_half, may_not_speak};
 ghost use Rattle.tcap_faults.specs.HalfOf.{HalfOf, accepted_half, begun_half, half_of, no_half};
 ghost use Rattle.tcap_faults.specs.Kept.{IsSide};
-ghost use Rattle.tcap_faults.specs.Speaking.{IsBegunBy, IsCameBack, IsKeptFrom, begin_counted, came_counted, heard_counted, told_counted};
-ghost use Rattle.tcap_faults.specs.Tangled.{is_peer_tangled};
+ghost use Rattle.tcap_faults.specs.Ids.{AreIds};
+ghost use Rattle.tcap_faults.specs.Speaking.{IsBegunBy, IsBegunOwn, IsCameBack, IsKeptFrom, begin_counted, came_counted, heard_counted, told_counted};
 
 use crate::half::Half;
 use crate::how::How;
+use crate::ids::Ids;
 use crate::sent_from::{Came, FirstBegin, SentFrom};
 use crate::sent_to::SentTo;
 use crate::tally::Tally;
@@ -176,6 +179,40 @@ impl<'a> Ends<'a> {
         })
     }
 
+    /// Of these IDs the first that the end began.
+    fn first_begun(self, ids: &Ids) -> Option<TransactionId>
+        ensures { (table : Table) (side : Side) (items : List Item) (those : List (List ℕ))
+            → IsSide table side items self.entry.own.now → AreIds those ids.now
+            → result ≡ find (λ own. began side own items) those }
+    {
+        let Some(first) = &ids.first else {
+            return None;
+        };
+        if self.own.began(first) {
+            return Some(first.view().to_transaction_id());
+        }
+        for id in &ids.more {
+            if self.own.began(id) {
+                return Some(id.view().to_transaction_id());
+            }
+        }
+        None
+    }
+
+    /// The own ID of the half with an ID of the peer that did not begin it, if there is such a half. Only where several own IDs are
+    /// joined with it are the destination IDs of its Continues looked through.
+    fn begun_own(self, id: &TransactionId, asked: &SentFrom) -> Option<TransactionId>
+        ensures { (table : Table) (side : Side) (items : List Item) → IsSide table side items self.entry.own.now
+            → IsSide table (other side) items self.entry.peer.now
+            → IsKeptFrom table (other side) items id.now asked.now → IsBegunOwn side items id.now result }
+    {
+        if self.owns_differ(id) {
+            self.first_begun(&asked.to)
+        } else {
+            self.joined_own(id)
+        }
+    }
+
     /// The half with an ID of the peer that did not begin it.
     fn other_half(
         self,
@@ -186,10 +223,9 @@ impl<'a> Ends<'a> {
         ensures { (table : Table) (side : Side) (items : List Item) → IsSide table side items self.entry.own.now
             → IsSide table (other side) items self.entry.peer.now
             → IsKeptFrom table (other side) items id.now asked.now → asked.now.begin ≡ None
-            → is_peer_tangled side items id.now ≡ false
             → IfOk result (IsHalf table (half_of side items id.now)) }
     {
-        let Some(own) = self.joined_own(id) else {
+        let Some(own) = self.begun_own(id, asked) else {
             return Ok(no_half(alloc));
         };
         let Some(came) = asked.came.get(&own) else {
@@ -205,10 +241,10 @@ impl<'a> Ends<'a> {
         }
     }
 
-    /// The half with an ID of the peer that is not tangled.
+    /// The half with an ID of the peer.
     pub(crate) fn half(self, alloc: Global, id: &TransactionId) -> Result<Half<'a>, AllocError>
         ensures { (table : Table) (side : Side) (items : List Item) → IsSide table side items self.entry.own.now
-            → IsSide table (other side) items self.entry.peer.now → is_peer_tangled side items id.now ≡ false
+            → IsSide table (other side) items self.entry.peer.now
             → IfOk result (IsHalf table (half_of side items id.now)) }
     {
         let Some(asked) = self.peer.from.get(id) else {

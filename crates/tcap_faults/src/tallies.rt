@@ -4,7 +4,7 @@ ghost use Rattle.std.specs.Prelude.{◌≡◌, ◌==◌, ◌&&◌, not, map};
 ghost use Rattle.std.specs.List.{list_any};
 ghost use Rattle.tcap_parts.specs.Meaning.{code_of};
 ghost use Rattle.tcap_end.specs.Component.{links};
-ghost use Rattle.tcap_refute.specs.ComponentKinds.{lists_nothing};
+ghost use Rattle.tcap_faults.specs.Components.{lists_nothing};
 ghost use Rattle.tcap_faults.specs.Linking.{is_of_none, names_none, names_other};
 ghost use Rattle.tcap_faults.specs.Tallies.{links_at, tallies_of, tally_of};
 

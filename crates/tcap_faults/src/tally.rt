@@ -5,7 +5,7 @@ ghost use Rattle.tcap_parts.specs.declared.component.Component.{Component};
 ghost use Rattle.tcap_parts.specs.Meaning.{code_of, component_of, components_left};
 ghost use Rattle.tcap_end.specs.Component.{links};
 ghost use Rattle.tcap_end.specs.Table.{Table};
-ghost use Rattle.tcap_refute.specs.ComponentKinds.{lists_nothing};
+ghost use Rattle.tcap_faults.specs.Components.{lists_nothing};
 ghost use Rattle.tcap_faults.specs.Noted.{invoke_id, one_tallied};
 ghost use Rattle.tcap_faults.specs.Tallies.{IsTally, kept_of, tally_of};
 

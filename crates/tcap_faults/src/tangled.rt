@@ -10,10 +10,11 @@ ghost use Rattle.tcap_record.specs.Ends.{other};
 ghost use Rattle.tcap_end.specs.Table.{Table};
 ghost use Rattle.tcap_model.specs.World.{Item};
 ghost use Rattle.tcap_refute.specs.Before.{asked, has_a};
-ghost use Rattle.tcap_refute.specs.Speaker.{began, is_nothing, told};
+ghost use Rattle.tcap_faults.specs.Counts.{is_nothing};
+ghost use Rattle.tcap_faults.specs.Told.{began, has_used, told};
 ghost use Rattle.tcap_faults.specs.Ids.{AreAmong, IsOneOf};
 ghost use Rattle.tcap_faults.specs.Kept.{IsSide, dtids_of, otids_of, sent_from, sent_to};
-ghost use Rattle.tcap_faults.specs.Tangled.{are_tangled, goes_over_tangled, goes_to_begun, has_used, is_own_tangled, is_peer_tangled, own_of_continue, owns_of, peers_of, two_differ};
+ghost use Rattle.tcap_faults.specs.Tangled.{are_tangled, goes_over_tangled, goes_to_begun, is_own_tangled, is_peer_tangled, own_of_continue, owns_of, peers_of, two_differ};
 ghost use Rattle.tcap_faults.specs.UsedAgain.{may_be_over, uses_again};
 
 use crate::facts::SideFacts;
@@ -116,7 +117,7 @@ impl<'a> Ends<'a> {
     }
 
     /// Whether two own IDs are joined with one of the peer.
-    fn owns_differ(self, id: &TransactionId) -> bool
+    pub(crate) fn owns_differ(self, id: &TransactionId) -> bool
         ensures { (table : Table) (side : Side) (items : List Item) → IsSide table side items self.entry.own.now
             → IsSide table (other side) items self.entry.peer.now → result ≡ two_differ (owns_of side items id.now) }
     {

@@ -12,8 +12,8 @@ use Rattle.tcap_model.specs.Entries.{AreItems, IsItem, item_of}
 use Rattle.tcap_model.specs.Run.{IsLawful, IsLawfulFor}
 use Rattle.tcap_model.specs.World.{Item, Sent}
 use Rattle.tcap_refute.specs.declared.kind.Refutation.{Refutation}
-use Rattle.tcap_refute.specs.Blame.{blamed}
-use Rattle.tcap_refute.specs.Unsendable.{IsAtFaultOf}
+use Rattle.tcap_faults.specs.AtFault.{IsAtFaultOf}
+use Rattle.tcap_faults.specs.Fault.{blamed}
 use Rattle.tcap_judge.specs.declared.finding.Ends.{Ends}
 use Rattle.tcap_judge.specs.declared.finding.Finding.{Finding}
 use Rattle.tcap_judge.specs.declared.finding.Finding.TheVariants as findings
@@ -27,7 +27,7 @@ use Rattle.tcap_judge.specs.Judged.{AreLawful, IsShown}
 use Rattle.tcap_judge.specs.Checked.{Device, ReadsRecord, ReadsTable, out_of_memory}
 use Rattle.tcap_judge.specs.LawfulRecord.{TellsLawful}
 use Rattle.tcap_judge.specs.Verdict.{record_verdict}
-use Rattle.tcap_judge.specs.Blamed.{AreFound, GivesBlame, GivesBlameWith, IsBlamed, IsFound, PrintsBlame, SaysLines, blame_status, ends_of, finding, finding_by, is_blamed, is_lawful, is_refuted, record_ends}
+use Rattle.tcap_judge.specs.Blamed.{AreFound, GivesBlame, GivesBlameWith, IsBlamed, IsFound, PrintsBlame, SaysLines, blame_status, ends_of, finding, finding_by, is_blamed, is_lawful, record_ends, unblamed_status}
 use Rattle.tcap_judge.proofs.LawfulLaws.{fine_fault, spells_items, table_fault, table_text}
 
 -- ---- the ends
@@ -100,7 +100,7 @@ ends_found whole table entries a b a_is b_is by_a by_b = (
 -- all that is known of what is blamed is that it is at fault
 abbrev pub BlamesRightly : Type 0
 BlamesRightly = (table : Table) (side : Side) (entries : List Entry) (r : Refutation) → blamed table side entries ≡ Some r
-    → IsAtFaultOf table side (map item_of entries) r
+    → IsAtFaultOf table side entries r
 
 -- what is said of a record that was read
 pub gives_blame : BlamesRightly → (table : Table) (d : Device) (entries : List Entry) (end : Result (Unit {0}) FeedFault)
@@ -159,19 +159,27 @@ abbrev pub IsFineBy : Outcome → Option Ends → Type 0
 IsFineBy outcome ends = (outcome_status outcome ≡ statuses.Fine)
     ⊎ ((said : Ends) × (ends ≡ Some said) × (is_lawful said.a && is_lawful said.b ≡ true))
 
-fine_choice : (refuted both : Bool) (status : Status)
-    → cond refuted statuses.Refuted (cond both statuses.Fine status) ≡ statuses.Fine
+fine_choice : (blames both : Bool) (status : Status)
+    → cond blames statuses.Refuted (cond both statuses.Fine status) ≡ statuses.Fine
     → (status ≡ statuses.Fine) ⊎ (both ≡ true)
 fine_choice true both status fine = let bad : statuses.Refuted ≡ statuses.Fine = fine in cc
 fine_choice false true status fine = inr refl
 fine_choice false false status fine = inl fine
 
+fine_unblamed : (outcome : Outcome) → unblamed_status outcome ≡ statuses.Fine → outcome_status outcome ≡ statuses.Fine
+fine_unblamed (Lawful count) fine = fine
+fine_unblamed (LawfulFor count unheard) fine = fine
+fine_unblamed (NotShown fault) fine = fine
+fine_unblamed (Refuted r) fine = let bad : statuses.NotShown ≡ statuses.Fine = fine in cc
+fine_unblamed (Undecided fault) fine = fine
+fine_unblamed (Faulty number place) fine = fine
+
 fine_by : (outcome : Outcome) (ends : Option Ends) → blame_status ends outcome ≡ statuses.Fine → IsFineBy outcome ends
 fine_by outcome None fine = inl fine
 fine_by outcome (Some said) fine =
-    elim (fine_choice (is_refuted outcome || is_blamed said.a || is_blamed said.b) (is_lawful said.a && is_lawful said.b)
-    (outcome_status outcome) fine) [
-      | inl ended ↦ inl ended
+    elim (fine_choice (is_blamed said.a || is_blamed said.b) (is_lawful said.a && is_lawful said.b)
+    (unblamed_status outcome) fine) [
+      | inl ended ↦ inl (fine_unblamed outcome ended)
       | inr both ↦ inr (said, refl, both)
     ]
 

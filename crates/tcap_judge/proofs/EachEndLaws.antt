@@ -18,7 +18,7 @@ use Rattle.tcap_check.proofs.AloneBoth.{both_give}
 use Rattle.tcap_check.proofs.AloneLeft.{unheard_are_lost}
 use Rattle.tcap_check.proofs.AloneRuns.{gives_for}
 use Rattle.tcap_check.proofs.GivenRuns.{gives}
-use Rattle.tcap_refute.specs.Blame.{blamed}
+use Rattle.tcap_faults.specs.Fault.{blamed}
 use Rattle.tcap_refute.specs.declared.kind.Refutation.{Refutation}
 use Rattle.tcap_search.specs.Lines.{is_end}
 use Rattle.tcap_search.specs.Proposed.{proposed_for}

@@ -12,9 +12,10 @@ use Rattle.tcap_model.specs.Entries.{item_of}
 use Rattle.tcap_model.specs.Run.{Event}
 use Rattle.tcap_model.specs.World.{Item}
 use Rattle.tcap_refute.specs.declared.kind.Refutation.{Refutation}
-use Rattle.tcap_refute.specs.Blame.{blamed}
 use Rattle.tcap_refute.specs.Kind.{refuted}
-use Rattle.tcap_refute.specs.Unsendable.{IsAtFault, IsAtFaultOf}
+use Rattle.tcap_refute.specs.Unsendable.{IsAtFault}
+use Rattle.tcap_faults.specs.AtFault.{IsAtFaultOf}
+use Rattle.tcap_faults.specs.Fault.{blamed}
 use Rattle.tcap_judge.specs.declared.outcome.Outcome.{Outcome}
 use Rattle.tcap_judge.specs.declared.outcome.Outcome.TheVariants.{Lawful, LawfulFor, NotShown, Refuted, Undecided, Faulty}
 use Rattle.tcap_judge.specs.declared.status.Status.{Status}
@@ -157,7 +158,7 @@ pub names_rightly : ((table : Table) (entries : List (Result Item Reason)) (r : 
 names_rightly law table entries r is = law table (map item_of entries) r is
 
 pub blames_rightly : (side : Side) → ((table : Table) (side : Side) (entries : List Entry) (r : Refutation)
-    → blamed table side entries ≡ Some r → IsAtFaultOf table side (map item_of entries) r)
+    → blamed table side entries ≡ Some r → IsAtFaultOf table side entries r)
     → NamesRightly (Some side)
 blames_rightly side law table entries r is = law table side entries r is
 

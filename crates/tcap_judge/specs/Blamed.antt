@@ -15,8 +15,8 @@ use Rattle.tcap_model.specs.declared.reason.Reason.{Reason}
 use Rattle.tcap_model.specs.Entries.{item_of}
 use Rattle.tcap_refute.specs.declared.kind.Refutation.{Refutation}
 use Rattle.tcap_refute.specs.Kind.{kind_number}
-use Rattle.tcap_refute.specs.Blame.{blamed}
-use Rattle.tcap_refute.specs.Unsendable.{IsAtFaultOf}
+use Rattle.tcap_faults.specs.AtFault.{IsAtFaultOf}
+use Rattle.tcap_faults.specs.Fault.{blamed}
 use Rattle.tcap_judge.specs.declared.finding.Ends.{Ends}
 use Rattle.tcap_judge.specs.declared.finding.Finding.{Finding}
 use Rattle.tcap_judge.specs.declared.finding.Finding.TheVariants as findings
@@ -109,7 +109,7 @@ pub record SaysBlame (table : Table) (d : Device) (outcome : Outcome) (ends : Op
   pub shown : IsShown None table entries outcome
   pub ends_are : ends ≡ record_ends table entries end
   pub at_fault : (side : Side) (r : Refutation) → blamed table side entries ≡ Some r
-      → IsAtFaultOf table side (map item_of entries) r
+      → IsAtFaultOf table side entries r
   pub found : (said : Ends) → ends ≡ Some said → AreFound table entries said
 
 -- That is so, or memory ran out.
@@ -131,17 +131,18 @@ abbrev pub lines_behind : Option Ends → List ℕ
 lines_behind None = []
 lines_behind (Some ends) = ends_lines ends
 
-abbrev pub is_refuted : Outcome → Bool
-is_refuted (Refuted r) = true
-is_refuted outcome = false
+-- how a run ends that says this of a record, where nobody is blamed: where an entry is refuted, none is found to be at fault
+abbrev pub unblamed_status : Outcome → Status
+unblamed_status (Refuted r) = statuses.NotShown
+unblamed_status outcome = outcome_status outcome
 
--- That of a record that is refuted, where this one is, or an entry is blamed on an end; that of one that is lawful, where
--- both ends are; and else that of the outcome.
+-- That of an entry at fault only where one is blamed on an end; that of a lawful record, where both ends are lawful; and else
+-- that of the outcome, where nobody is blamed.
 abbrev pub blame_status : Option Ends → Outcome → Status
 blame_status None outcome = outcome_status outcome
 blame_status (Some ends) outcome =
-    cond (is_refuted outcome || is_blamed ends.a || is_blamed ends.b) statuses.Refuted
-    (cond (is_lawful ends.a && is_lawful ends.b) statuses.Fine (outcome_status outcome))
+    cond (is_blamed ends.a || is_blamed ends.b) statuses.Refuted
+    (cond (is_lawful ends.a && is_lawful ends.b) statuses.Fine (unblamed_status outcome))
 
 -- The text is the line of the outcome and what stands behind it, or says that memory ran out.
 abbrev pub SaysLines : Outcome → Option Ends → List ℕ → Status → Type 0

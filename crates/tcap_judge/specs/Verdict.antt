@@ -17,9 +17,10 @@ use Rattle.tcap_check.specs.CertificateText.{certificate_data}
 use Rattle.tcap_model.specs.Entries.{item_of}
 use Rattle.tcap_model.specs.Run.{Event}
 use Rattle.tcap_refute.specs.declared.kind.Refutation.{Refutation}
-use Rattle.tcap_refute.specs.Blame.{blamed}
 use Rattle.tcap_refute.specs.Kind.{refuted}
-use Rattle.tcap_refute.specs.Unsendable.{IsAtFault, IsAtFaultOf}
+use Rattle.tcap_refute.specs.Unsendable.{IsAtFault}
+use Rattle.tcap_faults.specs.AtFault.{IsAtFaultOf}
+use Rattle.tcap_faults.specs.Fault.{blamed}
 use Rattle.tcap_search.specs.Proposed.{proposed, proposed_for}
 use Rattle.tcap_judge.specs.declared.outcome.Outcome.{Outcome}
 use Rattle.tcap_judge.specs.declared.outcome.Outcome.TheVariants.{Lawful, LawfulFor, Refuted, Undecided, Faulty}
@@ -142,7 +143,7 @@ FindsLawfulThen judged with_certificate entries table taken taken' =
 -- an entry is at fault: no end sends it which keeps the rules, or that end does not
 abbrev pub IsAtFaultBy : Option Side → Table → List Entry → Refutation → Type 0
 IsAtFaultBy None table entries r = IsAtFault table (map item_of entries) r
-IsAtFaultBy (Some side) table entries r = IsAtFaultOf table side (map item_of entries) r
+IsAtFaultBy (Some side) table entries r = IsAtFaultOf table side entries r
 
 -- One reader told the octets of a record and the other the text of an operation table, both up to their ends; of the
 -- entries that the octets are, one is at fault; and what the writer took is the line that names it.

@@ -9,6 +9,7 @@ ghost use Rattle.tcap_model.specs.Entries.{item_of};
 ghost use Rattle.tcap_check.specs.Replayed.{replayed};
 ghost use Rattle.tcap_model.specs.Run.{Event};
 ghost use Rattle.tcap_refute.specs.Kind.{refuted};
+ghost use Rattle.tcap_faults.specs.Fault.{blamed};
 ghost use Rattle.tcap_search.specs.Found.{or_both};
 ghost use Rattle.tcap_search.specs.Proposed.{proposed, proposed_for};
 ghost use Rattle.tcap_judge.specs.Blamed.{AreFound, GivesBlame, IsBlamed, IsFound, PrintsBlame, SaysLines, ends_of, finding, lines_behind};
@@ -21,13 +22,14 @@ use crate::finding::{Ends, Finding, blame_status};
 use crate::given::read_table;
 use crate::outcome::{OUT_OF_MEMORY, Outcome, push_outcome};
 use crate::status::{Status, WriteFailed};
-use crate::verdicts::{judge_record, replay};
+use crate::verdicts::{judge_by_search, replay};
 use std::alloc::{AllocError, Global};
 use tcap_ber::{Read, Write};
 use tcap_check::{Certificate, Reason};
 use tcap_end::Table;
+use tcap_faults::{BlamedEnds, blame_both, laws};
 use tcap_record::{End, Record, read_record};
-use tcap_refute::{laws, refute};
+use tcap_refute::{Refutation, refute};
 use tcap_search::{Proposals, search_each};
 
 /// What is said of a record, and of its ends.
@@ -52,13 +54,31 @@ impl Blame {
     }
 }
 
-/// What is said of an end of a record.
-fn find_end(alloc: Global, read: &Record, table: &Table, end: End) -> Result<Finding, AllocError>
+/// What is blamed on each end.
+fn named_of_both(alloc: Global, read: &Record, table: &Table) -> Result<BlamedEnds, AllocError>
+    ensures { IfOk result (λ r. (r.a ≡ blamed table.now sides.A read.now.entries.items)
+        × (r.b ≡ blamed table.now sides.B read.now.entries.items)) }
+{
+    blame_both(alloc, read, table).map_err(|_| AllocError)
+}
+
+/// What is said of an end of a record, by what is blamed on it.
+fn find_end(
+    alloc: Global,
+    read: &Record,
+    table: &Table,
+    end: End,
+    named: Option<Refutation>,
+) -> Result<Finding, AllocError>
     requires few { length read.now.entries.items ≤ 100000 }
+    requires named { named ≡ blamed table.now end read.now.entries.items }
     ensures { IfOk result (λ said. (said ≡ finding table.now read.now.entries.items end)
         × IsFound end table.now read.now.entries.items said) }
 {
-    let judged = judge_record(alloc, read, table, Some(end), false)?;
+    if let Some(refutation) = named {
+        return Ok(Finding::Blamed(refutation));
+    }
+    let judged = judge_by_search(alloc, read, table, Some(end), false)?;
     Ok(Finding::new(items_before(&read.entries), judged.outcome))
 }
 
@@ -69,9 +89,10 @@ pub fn find_both(alloc: Global, read: &Record, table: &Table) -> Result<Ends, Al
         × AreFound table.now read.now.entries.items ends) }
 {
     tcap_model::laws::blame_is_whole();
+    let named = named_of_both(alloc, read, table)?;
     Ok(Ends {
-        a: find_end(alloc, read, table, End::A)?,
-        b: find_end(alloc, read, table, End::B)?,
+        a: find_end(alloc, read, table, End::A, named.a)?,
+        b: find_end(alloc, read, table, End::B, named.b)?,
     })
 }
 
@@ -104,14 +125,16 @@ fn find_other_end(
     both: &Certificate,
     alone: &Option<Certificate>,
     end: End,
+    named: Option<Refutation>,
 ) -> Result<Finding, AllocError>
     requires proposed { or_both both.now alone.now ≡ proposed_for end read.now.entries.items }
+    requires named { named ≡ blamed table.now end read.now.entries.items }
     ensures { IfOk result (λ said. (said ≡ finding table.now read.now.entries.items end)
         × IsFound end table.now read.now.entries.items said) }
 {
     match alone {
-        Some(certificate) => find_with(alloc, read, table, certificate, end),
-        None => find_with(alloc, read, table, both, end),
+        Some(certificate) => find_with(alloc, read, table, certificate, end, named),
+        None => find_with(alloc, read, table, both, end, named),
     }
 }
 
@@ -151,10 +174,11 @@ fn find_other_ends(
         × AreFound table.now read.now.entries.items ends) }
 {
     tcap_model::laws::blame_is_whole();
+    let named = named_of_both(alloc, read, table)?;
     let Proposals { both, a, b } = proposals;
     Ok(Ends {
-        a: find_other_end(alloc, read, table, both, a, End::A)?,
-        b: find_other_end(alloc, read, table, both, b, End::B)?,
+        a: find_other_end(alloc, read, table, both, a, End::A, named.a)?,
+        b: find_other_end(alloc, read, table, both, b, End::B, named.b)?,
     })
 }
 
@@ -276,8 +300,8 @@ fn write_said<W: Write>(alloc: Global, said: &Blame, writer: &mut W) -> Result<S
 /// fifteen kinds tell (Q.771, Q.773, Q.774), with the lowest kind; or `LAWFUL END COUNT unheard COUNT`, as `run_judge_end`
 /// says it of this end; or `NOT BLAMED END COUNT`, COUNT being how many entries stand before the first that is no message,
 /// or how many there are. What is blamed stands first, the lower entry before the other; else A stands before B. The
-/// status is that of REFUTED where an entry is refuted or blamed on an end, that of LAWFUL where both ends are, else that of
-/// the line of `judge`. All that grows has grown before the first octet is written. `WriteFailed` where the writer failed.
+/// status is that of REFUTED where an entry is blamed on an end, that of LAWFUL where both ends are, that of UNDECIDED where an
+/// entry is refuted and blamed on nobody, else that of the line of `judge`. All that grows has grown before the first octet is written. `WriteFailed` where the writer failed.
 pub fn run_blame<R: Read, T: Read, W: Write>(
     alloc: Global,
     entries: &mut R,

@@ -4,7 +4,7 @@ ghost use Rattle.std.specs.Prelude.{◌≡◌, ◌≤◌, List, length, map, Non
 ghost use Rattle.tcap_model.specs.Entries.{item_of};
 ghost use Rattle.tcap_model.specs.Run.{Event};
 ghost use Rattle.tcap_check.specs.Replayed.{replayed};
-ghost use Rattle.tcap_refute.specs.Blame.{blamed};
+ghost use Rattle.tcap_faults.specs.Fault.{blamed};
 ghost use Rattle.tcap_search.specs.Proposed.{proposed_for};
 ghost use Rattle.tcap_judge.specs.Blamed.{IsFound, finding, items_before};
 ghost use Rattle.tcap_judge.specs.EachEnd.{lost_by, lost_of};
@@ -14,10 +14,10 @@ use crate::laws;
 use crate::outcome::Outcome;
 use crate::verdicts::replay;
 use std::alloc::{AllocError, Global};
-use tcap_blame::blame;
 use tcap_check::{Certificate, Fate, Reason};
 use tcap_end::Table;
 use tcap_record::{Body, End, Entry, Record};
+use tcap_refute::Refutation;
 
 /// 1 where the entry is of that end and lost, else 0.
 fn lost_by(end: End, fate: Fate, side: Option<End>) -> u64
@@ -110,15 +110,16 @@ pub(crate) fn find_with(
     table: &Table,
     certificate: &Certificate,
     end: End,
+    named: Option<Refutation>,
 ) -> Result<Finding, AllocError>
     requires proposed { certificate.now ≡ proposed_for end read.now.entries.items }
+    requires named { named ≡ blamed table.now end read.now.entries.items }
     ensures { IfOk result (λ said. (said ≡ finding table.now read.now.entries.items end)
         × IsFound end table.now read.now.entries.items said) }
 {
-    match blame(alloc, read, table, end) {
-        Ok(Some(refutation)) => Ok(Finding::Blamed(refutation)),
-        Ok(None) => find_by(alloc, read, table, certificate, end),
-        Err(_) => Err(AllocError),
+    match named {
+        Some(refutation) => Ok(Finding::Blamed(refutation)),
+        None => find_by(alloc, read, table, certificate, end),
     }
 }
 

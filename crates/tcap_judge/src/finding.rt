@@ -3,7 +3,7 @@
 ghost use Rattle.std.specs.Prelude.{◌≡◌, ◌++◌, Some, OnOk};
 ghost use Rattle.std.specs.String.{string_bytes};
 ghost use Rattle.tcap_record.specs.Ends.{letter};
-ghost use Rattle.tcap_judge.specs.Blamed.{blame_status, ends_lines, finding_by, finding_line, is_blamed, is_lawful, stands_behind};
+ghost use Rattle.tcap_judge.specs.Blamed.{blame_status, ends_lines, finding_by, finding_line, is_blamed, is_lawful, stands_behind, unblamed_status};
 
 use crate::outcome::Outcome;
 use crate::status::Status;
@@ -97,6 +97,16 @@ pub fn stands_behind(a: Finding, b: Finding) -> bool
     }
 }
 
+/// How a run ends that says this of a record, where nobody is blamed.
+fn unblamed_status(outcome: Outcome) -> Status
+    ensures { result ≡ unblamed_status outcome }
+{
+    match outcome {
+        Outcome::Refuted(_) => Status::NotShown,
+        _ => outcome.status(),
+    }
+}
+
 impl Ends {
     /// Appends what is said of both: what is blamed first, the lower entry before the other, and else A before B.
     pub(crate) fn push(self, text: &mut String) -> Result<(), AllocError>
@@ -115,18 +125,18 @@ impl Ends {
     fn status(self, outcome: Outcome) -> Status
         ensures { result ≡ blame_status (Some self) outcome }
     {
-        let is_refuted = matches!(outcome, Outcome::Refuted(_));
-        if is_refuted || self.a.is_blamed() || self.b.is_blamed() {
+        if self.a.is_blamed() || self.b.is_blamed() {
             Status::Refuted
         } else if self.a.is_lawful() && self.b.is_lawful() {
             Status::Fine
         } else {
-            outcome.status()
+            unblamed_status(outcome)
         }
     }
 }
 
-/// How a run ends that says this.
+/// How a run ends that says this: with the status of an entry at fault only where one is blamed on an end; with that of a lawful
+/// record where both ends are; and else with that of the outcome, where an entry that is refuted is blamed on nobody.
 pub fn blame_status(ends: Option<Ends>, outcome: Outcome) -> Status
     ensures { result ≡ blame_status ends outcome }
 {

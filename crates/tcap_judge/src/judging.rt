@@ -212,7 +212,7 @@ pub fn run_judge_end<R: Read, T: Read, W: Write>(
     ensures counts { OnOk result (W.failures writer.new ≡ W.failures writer.old) }
     ensures failed { OnErr result (W.failures writer.new ≡ one_more (W.failures writer.old)) }
 {
-    laws::blamed_is_at_fault();
+    tcap_faults::laws::blamed_is_at_fault();
     let said = judge(alloc, entries, table, Some(end), with_certificate);
     write_outcome(alloc, said.outcome, &said.behind, writer)
 }

@@ -8,7 +8,7 @@ ghost use Rattle.tcap_model.specs.Run.{Event};
 ghost use Rattle.tcap_check.specs.Certificate.{Certificate};
 ghost use Rattle.tcap_check.specs.Alone.{replayed_for};
 ghost use Rattle.tcap_refute.specs.declared.kind.Refutation.{Refutation};
-ghost use Rattle.tcap_refute.specs.Blame.{blamed};
+ghost use Rattle.tcap_faults.specs.Fault.{blamed};
 
 /// No certificate gives a run for an end on which an entry is blamed, whoever made it: no end is both lawful alone and at fault.
 pub fn blamed_is_never_given()

@@ -24,9 +24,9 @@ pub enum Outcome {
     LawfulFor(usize, u64),
     /// The certificate does not show that it is.
     NotShown(CheckFault),
-    /// An entry is at fault.
+    /// No two ends send an entry; of one end that is judged alone, it is blamed on this end.
     Refuted(Refutation),
-    /// No entry is found to be at fault, and the certificate that is proposed does not show that it is lawful.
+    /// No entry is refuted, and the certificate that is proposed does not show that it is lawful.
     Undecided(CheckFault),
     /// What was given has a fault: the number of its reason, and its place.
     Faulty(u8, u64),

@@ -10,9 +10,9 @@ use thiserror::Error;
 pub enum Status {
     /// No line of fault was printed.
     Fine,
-    /// An entry of the record is at fault.
+    /// An entry of the record is refuted; where both ends are asked about, one is blamed on an end.
     Refuted,
-    /// Nothing shows that the record is lawful, and no entry is found to be at fault.
+    /// Nothing shows that the record is lawful, and no entry is refuted; where both ends are asked about, none is blamed on an end.
     NotShown,
     /// A line of fault was printed.
     Fault,

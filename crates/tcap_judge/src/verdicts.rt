@@ -10,9 +10,9 @@ ghost use Rattle.tcap_judge.specs.Verdict.{IsVerdict, line_asked, line_of_certif
 
 use crate::outcome::Outcome;
 use std::alloc::{AllocError, Global};
-use tcap_blame::blame;
 use tcap_check::{Certificate, CheckFault, Reason, check, check_end};
 use tcap_end::Table;
+use tcap_faults::blame;
 use tcap_record::{End, Record};
 use tcap_refute::{Refutation, refute};
 use tcap_search::{search, search_for};
@@ -125,7 +125,7 @@ fn shown(
 }
 
 /// What is said of a record of which no entry is named: what the certificate that is proposed shows.
-fn judge_by_search(
+pub(crate) fn judge_by_search(
     alloc: Global,
     read: &Record,
     table: &Table,
@@ -146,7 +146,7 @@ fn judge_by_search(
 }
 
 /// What is said of a record, of at most 100,000 entries, of one end alone, or, where none is named, of both: that an entry is
-/// at fault, or what the certificate that is proposed shows. `AllocError` where memory ran out.
+/// refuted, or what the certificate that is proposed shows. `AllocError` where memory ran out.
 pub fn judge_record(
     alloc: Global,
     read: &Record,

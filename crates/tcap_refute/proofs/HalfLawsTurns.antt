@@ -21,7 +21,7 @@ use Rattle.tcap_end.proofs.MapLaws.{keys_eq}
 use Rattle.tcap_end.proofs.PlacedLaws.{slots_eq}
 use Rattle.tcap_model.specs.Since.{ended_by}
 use Rattle.tcap_model.proofs.TurnLaws.{put_there}
-use Rattle.tcap_refute.specs.Speaker.{ends_to}
+use Rattle.tcap_refute.specs.Before.{ends_to}
 
 -- ---- one half
 

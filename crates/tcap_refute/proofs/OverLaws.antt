@@ -62,6 +62,7 @@ pub record IsOver (table : Table) (e : End) (m : Message) (id : List ℕ) : Type
   pub behind : Half
   pub sends : send_components table start (components_in m) ≡ Ok behind
   pub now : Half
+  pub is_now : is_closed now.phase ≡ false → now ≡ behind
   pub turned : Turned table (Said m) kept.half now
   pub spoken : HasSpoken m now
   pub leads : send table e m ≡ Ok (put e kept.slot kept.key now)
@@ -150,6 +151,7 @@ module _ (table : Table) (e made : End) (sound : IsEnd e) where
         behind = g;
         sends = sent;
         now = g;
+        is_now = λ still. refl;
         turned = answers it;
         spoken = (follows.phase, follows.own);
         leads = ap (send_continue table e otid dtid dialogue (items_of components)) none ∙ is ∙ sym done;
@@ -181,6 +183,7 @@ module _ (table : Table) (e made : End) (sound : IsEnd e) where
         behind = g;
         sends = sent;
         now = g;
+        is_now = λ still. refl;
         turned = follows_stays f.half g follows;
         spoken = (follows.phase ∙ at, follows.own ∙ own_is e otid f found);
         leads = ap (send_continue table e otid dtid dialogue (items_of components)) found ∙ is ∙ sym done;
@@ -220,6 +223,7 @@ module _ (table : Table) (e made : End) (sound : IsEnd e) where
         behind = g;
         sends = sent;
         now = closed_half g;
+        is_now = λ still. cc;
         turned = closes (record {
           phase = refl;
           own = follows.own;
@@ -257,6 +261,7 @@ module _ (table : Table) (e made : End) (sound : IsEnd e) where
         behind = f.half;
         sends = refl;
         now = closed_half f.half;
+        is_now = λ still. cc;
         turned = closes (record {
           phase = refl;
           own = refl;

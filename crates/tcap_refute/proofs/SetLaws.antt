@@ -1,12 +1,12 @@
 -- Sets and maps of what was noted: what a query finds behind one key more.
-use Rattle.std.proofs.Common.{◌≡◌, ℕ, ℤ, Bool, true, false, cond, ◌&&◌, ◌||◌, List, [], ◌∷◌, Some, None, is_some, Vec, Global as Alloc, Ordering, Less, Equal, Greater, int_cmp, nat_cmp, refl, sym, ap, ◌∙◌}
+use Rattle.std.proofs.Common.{◌≡◌, ℕ, Bool, true, false, cond, ◌&&◌, ◌||◌, List, [], ◌∷◌, Some, None, is_some, Vec, Global as Alloc, Ordering, Less, Equal, Greater, nat_cmp, refl, sym, ap, ◌∙◌}
 use Rattle.std.specs.BTreeMap.{BTreeMap, WritesThrough, is_at}
 use Rattle.std.specs.BTreeSet.{insert_key}
 use Rattle.std.specs.Cmp.Lexicographic.{slice_cmp}
 use Rattle.std.specs.List.{list_any}
 use Rattle.std.specs.Map.{lookup}
 use Rattle.std.specs.Ordering.{match_ordering}
-use Rattle.std.proofs.lemmas.Map.Lookups.{CmpEqualImpliesEq, exact_bytes, exact_signed}
+use Rattle.std.proofs.lemmas.Map.Lookups.{CmpEqualImpliesEq, exact_bytes}
 use Rattle.std.proofs.lemmas.Map.Views.{tells_apart}
 use Rattle.tcap_parts.specs.declared.code.Code.{Code}
 use Rattle.tcap_parts.specs.declared.code.Code.TheVariants.{Local, Global}
@@ -52,14 +52,6 @@ module _ {K : Type 0} (cmp : K → K → Ordering) (test : K → Bool) where
 
 abbrev vec_cmp : Vec ℕ Alloc → Vec ℕ Alloc → Ordering
 vec_cmp a b = slice_cmp nat_cmp a.items b.items
-
--- A local code more.
-pub local_added : (codes new : CodeSets) (n : ℤ) → new.locals.keys ≡ insert_key int_cmp codes.locals.keys n
-    → new.globals.keys ≡ codes.globals.keys → (other : Code)
-    → is_among other new ≡ (is_among other codes || is_code other (Local n))
-local_added codes new n is same (Local m) = rw is
-    (any_inserted int_cmp (is_at (int_cmp m)) (λ x y e. rw (exact_signed x y e) refl) codes.locals.keys n)
-local_added codes new n is same (Global octets) = rw same (or_none _)
 
 -- A global one.
 pub global_added : (codes new : CodeSets) (octets : List ℕ) (vec : Vec ℕ Alloc) → vec.items ≡ octets

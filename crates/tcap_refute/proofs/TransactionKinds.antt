@@ -68,7 +68,7 @@ uses_own w side otid (EndMessage dtid dialogue components) used from = cc
 uses_own w side otid (Abort dtid reason) used from = cc
 
 -- At one place an end has one half.
-one_half : (e : End) (f g : KeptHalf) → Has e f → Has e g → IsSame f g → g.half ≡ f.half
+pub one_half : (e : End) (f g : KeptHalf) → Has e f → Has e g → IsSame f g → g.half ≡ f.half
 one_half e f g in_f in_g same =
     let here : Some g.half ≡ Some f.half = sym in_g ∙ (rw (← same.0, ← same.1) in_f) in cc
 

@@ -1,6 +1,5 @@
 -- The kinds of a message (`Kind`), by what is told of the facts.
-use Rattle.std.specs.Prelude.{ℕ, ℤ, Bool, true, false, List, Option, Some, None, ◌==◌, ◌&&◌, ◌||◌, not, cond, is_some, option_map}
-use Rattle.std.specs.List.{list_any}
+use Rattle.std.specs.Prelude.{ℕ, ℤ, Bool, true, false, List, Option, Some, None, ◌==◌, ◌&&◌, ◌||◌, not, cond, is_none, is_some, option_map}
 use Rattle.tcap_parts.specs.declared.component.Component.{Component}
 use Rattle.tcap_parts.specs.declared.component.Component.TheVariants.{Invoke, ReturnResult, ReturnError, Reject}
 use Rattle.tcap_parts.specs.declared.dialogue.Dialogue.{Dialogue}
@@ -12,13 +11,14 @@ use Rattle.tcap_msg.specs.declared.message.Message.{Message}
 use Rattle.tcap_msg.specs.Parts.{cause_in, components_in, dialogue_in, dtid_in, kind_in, otid_in}
 use Rattle.tcap_record.specs.declared.entry.End.{End as Side}
 use Rattle.tcap_end.specs.Dialogue.{is_request, is_uni}
-use Rattle.tcap_end.specs.Table.{Table}
+use Rattle.tcap_end.specs.Table.{Table, operation_of}
 use Rattle.tcap_record.specs.Ends.{other}
 use Rattle.tcap_refute.specs.declared.components.Test.{Test}
 use Rattle.tcap_refute.specs.declared.components.Test.TheVariants as tests
 use Rattle.tcap_refute.specs.declared.kind.Kind.{Kind}
 use Rattle.tcap_refute.specs.declared.kind.Kind.TheVariants as kinds
 use Rattle.tcap_refute.specs.Before.{is_answer, is_reject}
+use Rattle.tcap_refute.specs.FirstComponent.{first_so}
 use Rattle.tcap_refute.specs.Kind.{is_misplaced_aborting, is_misplaced_going_on, is_not_of_class_4, is_unknown_operation, or_else}
 use Rattle.tcap_refute.specs.Facts.{FromFact, EndFact, Spoke, Begun, Asked, WentOn, WentElsewhere, OfId, Invoked, Answered, Succeeds, Fails, From, Ended}
 
@@ -78,6 +78,11 @@ is_not_allowed told (ReturnResult last id body) = not (told (OfId id (Succeeds (
 is_not_allowed told (ReturnError id code parameter) = not (told (OfId id Fails))
 is_not_allowed told _ = false
 
+-- an Invoke whose operation the table lacks, or an answer that no Invoke allows
+abbrev pub is_wrong : Table → (FromFact → Bool) → Component → Bool
+is_wrong table told (Invoke id linked code parameter) = is_none (operation_of table code)
+is_wrong table told component = is_not_allowed told component
+
 -- whether a component passes a test
 abbrev pub passes : Table → (FromFact → Bool) → Test → Component → Bool
 passes table told tests.Answer component = is_answer component
@@ -85,24 +90,30 @@ passes table told tests.AnswerOrReject component = is_answer component || is_rej
 passes table told (tests.AnswersNothing of_one) component = answers_none of_one told component
 passes table told tests.UnknownOperation component = is_unknown_operation table component
 passes table told tests.NotOfClass4 component = is_not_of_class_4 table component
-passes table told tests.NotAllowed component = is_not_allowed told component
+passes table told tests.Wrong component = is_wrong table told component
 
--- whether a component of such a message answers or rejects nothing
-abbrev pub one_answers_nothing : Bool → Table → (FromFact → Bool) → Form → List Component → Bool
-one_answers_nothing of_one table told forms.Unidirectional components =
-    list_any (passes table told tests.Answer) components
-one_answers_nothing of_one table told forms.Begin components =
-    list_any (passes table told tests.AnswerOrReject) components
-one_answers_nothing of_one table told _ components =
-    list_any (passes table told (tests.AnswersNothing of_one)) components
+-- the test by which a component of such a message answers or rejects nothing, and that by which it is of a wrong operation
+abbrev pub answer_test : Bool → Form → Test
+answer_test of_one forms.Unidirectional = tests.Answer
+answer_test of_one forms.Begin = tests.AnswerOrReject
+answer_test of_one _ = tests.AnswersNothing of_one
 
--- whether one is of a wrong operation
-abbrev pub one_is_wrong : Table → (FromFact → Bool) → Form → List Component → Bool
-one_is_wrong table told forms.Unidirectional components = list_any (passes table told tests.NotOfClass4) components
-one_is_wrong table told forms.Begin components = list_any (passes table told tests.UnknownOperation) components
-one_is_wrong table told _ components =
-    list_any (passes table told tests.UnknownOperation) components
-    || list_any (passes table told tests.NotAllowed) components
+abbrev pub operation_test : Form → Test
+operation_test forms.Unidirectional = tests.NotOfClass4
+operation_test forms.Begin = tests.UnknownOperation
+operation_test _ = tests.Wrong
+
+-- the number of the first component of a message that passes a test
+abbrev pub first_passing : Table → (FromFact → Bool) → Test → Message → Option ℕ
+first_passing table told test message = first_so (passes table told test) 0 (components_in message)
+
+-- that of the component by which a message has a kind
+abbrev pub component_by : Bool → Table → (FromFact → Bool) → Message → Kind → Option ℕ
+component_by of_one table told message kinds.AnswersNothing =
+    first_passing table told (answer_test of_one (kind_in message)) message
+component_by of_one table told message kinds.WrongOperation =
+    first_passing table told (operation_test (kind_in message)) message
+component_by of_one table told message kind = None
 
 -- ---- the dialogue portion
 
@@ -124,8 +135,8 @@ kind_of_ids own there message =
 -- by its components and its dialogue portion: where that is told of its destination ID
 abbrev pub kind_of_parts : Bool → Table → (FromFact → Bool) → Message → Option Kind
 kind_of_parts of_one table there message =
-    cond (one_answers_nothing of_one table there (kind_in message) (components_in message)) (Some kinds.AnswersNothing)
-    (cond (one_is_wrong table there (kind_in message) (components_in message)) (Some kinds.WrongOperation)
+    cond (is_some (component_by of_one table there message kinds.AnswersNothing)) (Some kinds.AnswersNothing)
+    (cond (is_some (component_by of_one table there message kinds.WrongOperation)) (Some kinds.WrongOperation)
     (cond (dialogue_is_misplaced (there Asked) (kind_in message) (dialogue_in message)) (Some kinds.MisplacedDialogue)
     None))
 

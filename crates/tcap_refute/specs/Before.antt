@@ -1,6 +1,6 @@
 -- What stands before an entry of a list, since the last quiet mark: what its end was sent, and what it sent, by
 -- transaction IDs (Q.774 3.3).
-use Rattle.std.specs.Prelude.{ℕ, ℤ, Bool, true, false, List, [], ◌∷◌, filter, filter_map, Option, Some, None, cond}
+use Rattle.std.specs.Prelude.{ℕ, ℤ, Bool, true, false, List, [], ◌∷◌, filter, filter_map, Option, Some, None, ◌&&◌, ◌||◌, cond}
 use Rattle.std.specs.Ordering.{int_cmp}
 use Rattle.std.specs.BTreeMap.{is_at}
 use Rattle.std.specs.List.{list_any, flat_map}
@@ -9,7 +9,7 @@ use Rattle.tcap_parts.specs.declared.component.Component.TheVariants.{Invoke, Re
 use Rattle.tcap_msg.specs.declared.kind.Kind.{Kind as Form}
 use Rattle.tcap_msg.specs.declared.kind.Kind.TheVariants as forms
 use Rattle.tcap_msg.specs.declared.message.Message.{Message}
-use Rattle.tcap_msg.specs.Parts.{components_in, kind_in, otid_in}
+use Rattle.tcap_msg.specs.Parts.{components_in, dtid_in, kind_in, otid_in}
 use Rattle.tcap_record.specs.declared.entry.End.{End as Side}
 use Rattle.tcap_end.specs.End.{is_id}
 use Rattle.tcap_record.specs.Ends.{other}
@@ -53,6 +53,10 @@ is_a form message = is_form form (kind_in message)
 -- whether one of these messages is
 abbrev pub has_a : Form → List Message → Bool
 has_a form messages = list_any (is_a form) messages
+
+-- an End or an Abort to that ID
+abbrev pub ends_to : List ℕ → Message → Bool
+ends_to id m = (is_a forms.End m || is_a forms.Abort m) && is_id id (dtid_in m)
 
 -- ---- components
 

@@ -40,35 +40,3 @@ pub record IsUnsendableEntry (table : Table) (entries : List (Result Item Reason
 abbrev pub IsAtFault : Table → List (Result Item Reason) → Refutation → Type 0
 IsAtFault table entries r =
     ((r.kind ≡ kinds.BadMessage) × IsBadEntry entries r.entry) ⊎ IsUnsendableEntry table entries r.entry
-
--- ---- one end
-
--- at a quiet mark behind these items an end that keeps the rules has a half that is open: so no run has the mark there
-abbrev pub HasNoMark : Table → List Item → Side → Type 0
-HasNoMark table before side =
-    (events : List Event) (w : World) (behind : List Item) → Runs table events w → KeepsRules side events
-    → w.sent ≡ before ++ Item.Quiet ∷ behind → ⊥
-
--- an entry that this end sends in no run in which it keeps the rules
-pub record IsFaultOf (table : Table) (side : Side) (entries : List (Result Item Reason)) (entry : ℕ) : Type 0 where
-  pub before : List Item
-  pub message : Message
-  pub more : List (Result Item Reason)
-  pub are : entries ≡ map (λ item. Ok item) before ++ Ok (Sent side message) ∷ more
-  pub counted : length before ≡ entry
-  pub unsendable : IsUnsendable table before side message
-
--- a quiet mark that stands in no such run
-pub record IsFalseMark (table : Table) (side : Side) (entries : List (Result Item Reason)) (entry : ℕ) : Type 0 where
-  pub before : List Item
-  pub more : List (Result Item Reason)
-  pub are : entries ≡ map (λ item. Ok item) before ++ Ok Item.Quiet ∷ more
-  pub counted : length before ≡ entry
-  pub none : HasNoMark table before side
-
--- The octets of the entry are no message; or it is one that this end sends in no run in which it keeps the rules, behind the
--- items before it; or a quiet mark that stands in no such run.
-abbrev pub IsAtFaultOf : Table → Side → List (Result Item Reason) → Refutation → Type 0
-IsAtFaultOf table side entries r =
-    ((r.kind ≡ kinds.BadMessage) × IsBadEntry entries r.entry)
-    ⊎ IsFaultOf table side entries r.entry ⊎ IsFalseMark table side entries r.entry

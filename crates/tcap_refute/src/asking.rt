@@ -4,10 +4,11 @@ ghost use Rattle.std.specs.Prelude.{◌≡◌, option_copied};
 ghost use Rattle.tcap_msg.specs.Meaning.{cause_of, id_of};
 ghost use Rattle.tcap_msg.specs.Parts.{cause_in, dialogue_in, dtid_in, kind_in};
 ghost use Rattle.tcap_refute.specs.Facts.{Asked, Begun, Spoke, WentElsewhere, WentOn};
-ghost use Rattle.tcap_refute.specs.Kept.{kept_from, tells_end, told_by_from, told_by_notes};
+ghost use Rattle.tcap_record.specs.Ends.{other};
+ghost use Rattle.tcap_refute.specs.Kept.{kept_from, notes_at, tells_end, told_by_from, told_by_notes};
 ghost use Rattle.tcap_refute.specs.Asking.{cause_is_unfounded, comes_after_end, dialogue_is_misplaced, id_is_reused, kind_by, kind_of_ids, kind_of_parts, transaction_is_unknown, was_not_asked};
 
-use crate::components::{one_answers_nothing, one_is_wrong};
+use crate::components::component_of;
 use crate::dialogues::{is_misplaced_aborting, is_misplaced_going_on, is_request, is_uni};
 use crate::from_id::FromId;
 use crate::kind::Kind;
@@ -156,9 +157,9 @@ fn kind_of_parts<M: MessageParts>(
 ) -> Option<Kind>
     ensures { result ≡ kind_of_parts of_one table.now (told_by_from (option_copied there.entry)) (M.meaning message.now) }
 {
-    if one_answers_nothing(of_one, table, there, message) {
+    if component_of(of_one, table, there, message, Kind::AnswersNothing).is_some() {
         Some(Kind::AnswersNothing)
-    } else if one_is_wrong(table, there, message) {
+    } else if component_of(of_one, table, there, message, Kind::WrongOperation).is_some() {
         Some(Kind::WrongOperation)
     } else if dialogue_is_misplaced(there, message) {
         Some(Kind::MisplacedDialogue)
@@ -168,6 +169,13 @@ fn kind_of_parts<M: MessageParts>(
 }
 
 impl Notes {
+    /// What the peer of an end sent from the destination ID of its message.
+    pub(crate) fn there<M: MessageParts>(&self, side: End, message: &M) -> Option<&FromId>
+        ensures { option_copied result ≡ kept_from (dtid_in (M.meaning message.now)) (notes_at (other side) self.now) }
+    {
+        self.at(side.other()).from_there(message.dtid())
+    }
+
     /// The lowest kind of a message that an end sends; and whether that is asked of one end.
     pub(crate) fn kind_of<M: MessageParts>(
         &self,
@@ -178,7 +186,7 @@ impl Notes {
     ) -> Option<Kind>
         ensures { result ≡ kind_by of_one table.now (told_by_notes self.now) side (M.meaning message.now) }
     {
-        let there = self.at(side.other()).from_there(message.dtid());
+        let there = self.there(side, message);
         match self.at(side).kind_of_ids(there, message) {
             Some(kind) => Some(kind),
             None => kind_of_parts(of_one, table, there, message),

@@ -1,21 +1,19 @@
 //! What is asked of the components of a message (Q.774 3.2, component sub-layer; Q.771, operation classes).
 
-ghost use Rattle.std.specs.Prelude.{◌≡◌, ◌||◌, option_copied, option_map};
-ghost use Rattle.std.specs.List.{list_any};
-ghost use Rattle.tcap_parts.specs.Meaning.{body_of, code_of, component_of, components_left, problem_of};
-ghost use Rattle.tcap_msg.specs.Parts.{components_in, kind_in};
+ghost use Rattle.std.specs.Prelude.{◌≡◌, option_copied, option_map};
+ghost use Rattle.tcap_parts.specs.Meaning.{body_of, code_of, component_of, problem_of};
 ghost use Rattle.tcap_end.specs.Class.{of_class, reports_neither};
 ghost use Rattle.tcap_end.specs.Table.{class_of};
-ghost use Rattle.tcap_refute.specs.declared.components.Test.TheVariants as tests;
 ghost use Rattle.tcap_refute.specs.Facts.{Answered, Fails, Invoked, OfId, Succeeds};
 ghost use Rattle.tcap_refute.specs.Kept.{id_in, told_by_from};
-ghost use Rattle.tcap_refute.specs.Asking.{answers_none, has_come, is_not_allowed, one_answers_nothing, one_is_wrong, passes, rejects_none};
+ghost use Rattle.tcap_refute.specs.Asking.{answer_test, answers_none, component_by, first_passing, has_come, is_not_allowed, operation_test, passes, rejects_none};
 
 use crate::by_id::ById;
 use crate::from_id::FromId;
+use crate::kind::Kind;
 use tcap_end::Table;
 use tcap_msg::{Kind as Form, MessageParts};
-use tcap_parts::{CodeView, ComponentView, Components, ProblemView, ResultBodyView};
+use tcap_parts::{CodeView, ComponentView, ProblemView, ResultBodyView};
 
 /// What is asked of a component.
 #[derive(Clone, Copy, Debug)]
@@ -30,8 +28,8 @@ pub(crate) enum Test {
     UnknownOperation,
     /// Whether it is an Invoke of another class than 4.
     NotOfClass4,
-    /// Whether it is an answer that no Invoke from an ID allows.
-    NotAllowed,
+    /// Whether it is an Invoke whose operation the table lacks, or an answer that no Invoke from an ID allows.
+    Wrong,
 }
 
 /// Whether the table has the operation, in class 4.
@@ -150,77 +148,74 @@ fn passes(table: &Table, from: Option<&FromId>, test: Test, component: Component
         (Test::Answer, ComponentView::Reject { .. }) => false,
         (Test::Answer | Test::AnswerOrReject, _) => true,
         (Test::AnswersNothing(of_one), component) => answers_none(of_one, from, component),
-        (Test::UnknownOperation, ComponentView::Invoke { code, .. }) => {
+        (Test::UnknownOperation | Test::Wrong, ComponentView::Invoke { code, .. }) => {
             table.class_of(code).is_none()
         }
         (Test::NotOfClass4, ComponentView::Invoke { code, .. }) => !is_of_class_4(table, code),
         (Test::UnknownOperation | Test::NotOfClass4, _) => false,
-        (Test::NotAllowed, component) => is_not_allowed(from, component),
+        (Test::Wrong, component) => is_not_allowed(from, component),
     }
 }
 
-/// Whether one of these components does.
-fn any(table: &Table, from: Option<&FromId>, test: Test, components: Components) -> bool
-    ensures { result ≡ list_any (passes table.now (told_by_from (option_copied from.entry)) test)
-        (components_left components.entry) }
+/// By what it is asked whether a component of a message of that kind answers or rejects what was never sent; and whether that
+/// is asked of one end.
+fn answer_test(of_one: bool, form: Form) -> Test
+    ensures { result ≡ answer_test of_one form }
 {
-    for component in components {
+    match form {
+        Form::Unidirectional => Test::Answer,
+        Form::Begin => Test::AnswerOrReject,
+        _ => Test::AnswersNothing(of_one),
+    }
+}
+
+/// By what it is asked whether one is of a wrong operation.
+fn operation_test(form: Form) -> Test
+    ensures { result ≡ operation_test form }
+{
+    match form {
+        Form::Unidirectional => Test::NotOfClass4,
+        Form::Begin => Test::UnknownOperation,
+        _ => Test::Wrong,
+    }
+}
+
+/// The number of the first component of a message that passes a test.
+fn first_passing<M: MessageParts>(
+    table: &Table,
+    from: Option<&FromId>,
+    test: Test,
+    message: &M,
+) -> Option<u64>
+    ensures { result ≡ first_passing table.now (told_by_from (option_copied from.entry)) test (M.meaning message.now) }
+{
+    // It bounds how many components there are, so that their numbers fit.
+    let _count = message.count();
+    let mut number = 0;
+    for component in message.components() {
         if passes(table, from, test, component) {
-            return true;
+            return Some(number);
         }
+        number += 1;
     }
-    false
+    None
 }
 
-/// Whether one of these components is an Invoke whose operation the table lacks, or an answer that no Invoke from there
-/// allows.
-fn any_wrong(table: &Table, from: Option<&FromId>, components: Components) -> bool
-    ensures { result ≡ list_any (passes table.now (told_by_from (option_copied from.entry)) tests.UnknownOperation)
-        (components_left components.entry)
-        || list_any (passes table.now (told_by_from (option_copied from.entry)) tests.NotAllowed)
-        (components_left components.entry) }
-{
-    for component in components {
-        if passes(table, from, Test::UnknownOperation, component)
-            || passes(table, from, Test::NotAllowed, component)
-        {
-            return true;
-        }
-    }
-    false
-}
-
-/// Whether a component of a message of that kind answers or rejects what was never sent from there; and whether that is
-/// asked of one end.
-pub(crate) fn one_answers_nothing<M: MessageParts>(
+/// The number of the first component by which a message has that kind, F5 or F6; and whether that is asked of one end.
+pub(crate) fn component_of<M: MessageParts>(
     of_one: bool,
     table: &Table,
     from: Option<&FromId>,
     message: &M,
-) -> bool
-    ensures { result ≡ one_answers_nothing of_one table.now (told_by_from (option_copied from.entry))
-        (kind_in (M.meaning message.now)) (components_in (M.meaning message.now)) }
+    kind: Kind,
+) -> Option<u64>
+    ensures { result ≡ component_by of_one table.now (told_by_from (option_copied from.entry)) (M.meaning message.now) kind }
 {
-    let test = match message.kind() {
-        Form::Unidirectional => Test::Answer,
-        Form::Begin => Test::AnswerOrReject,
-        _ => Test::AnswersNothing(of_one),
-    };
-    any(table, from, test, message.components())
-}
-
-/// Whether one is of a wrong operation.
-pub(crate) fn one_is_wrong<M: MessageParts>(
-    table: &Table,
-    from: Option<&FromId>,
-    message: &M,
-) -> bool
-    ensures { result ≡ one_is_wrong table.now (told_by_from (option_copied from.entry))
-        (kind_in (M.meaning message.now)) (components_in (M.meaning message.now)) }
-{
-    match message.kind() {
-        Form::Unidirectional => any(table, from, Test::NotOfClass4, message.components()),
-        Form::Begin => any(table, from, Test::UnknownOperation, message.components()),
-        _ => any_wrong(table, from, message.components()),
+    match kind {
+        Kind::AnswersNothing => {
+            first_passing(table, from, answer_test(of_one, message.kind()), message)
+        }
+        Kind::WrongOperation => first_passing(table, from, operation_test(message.kind()), message),
+        _ => None,
     }
 }

@@ -14,9 +14,8 @@ ghost use Rattle.tcap_model.specs.Run.{IsLawful};
 ghost use Rattle.tcap_refute.specs.declared.kind.Kind.{Kind};
 ghost use Rattle.tcap_refute.specs.declared.kind.Refutation.{Refutation};
 ghost use Rattle.tcap_refute.specs.Before.{since_quiet};
-ghost use Rattle.tcap_refute.specs.Blame.{blamed, is_fault, is_open_at_mark};
 ghost use Rattle.tcap_refute.specs.Kind.{is_of_kind, refuted};
-ghost use Rattle.tcap_refute.specs.Unsendable.{IsAtFault, IsAtFaultOf};
+ghost use Rattle.tcap_refute.specs.Unsendable.{IsAtFault};
 
 /// A message that has a kind, behind what was sent before it, is sent in no run in which its end keeps the rules, whatever
 /// the other end sends, and whatever follows.
@@ -25,22 +24,6 @@ pub fn no_run_sends()
         (message : Message) (kind : Kind) → Runs table events w → KeepsRules side events
         → w.sent ≡ before ++ Sent side message ∷ behind
         → is_of_kind table side (since_quiet before) message kind ≡ true → ⊥ }
-{}
-
-/// The same of all kinds, the further ones too: a message that has one is at fault, and no end sends it that keeps the rules,
-/// whatever the other end sends.
-pub fn no_end_sends()
-    ensures { (table : Table) (events : List Event) (w : World) (before behind : List Item) (side : Side)
-        (message : Message) (kind : Kind) → Runs table events w → KeepsRules side events
-        → w.sent ≡ before ++ Sent side message ∷ behind
-        → is_fault table side (since_quiet before) message kind ≡ true → ⊥ }
-{}
-
-/// At a quiet mark no half of an end that keeps the rules is surely open, whatever the other end sends.
-pub fn no_mark_is_open()
-    ensures { (table : Table) (events : List Event) (w : World) (before behind : List Item) (side : Side)
-        → Runs table events w → KeepsRules side events → w.sent ≡ before ++ Item.Quiet ∷ behind
-        → is_open_at_mark table side (since_quiet before) ≡ false }
 {}
 
 /// The entry that is named is at fault: its octets are no message, or its end sends it in no run in which that end keeps the
@@ -54,11 +37,4 @@ pub fn refuted_is_at_fault()
 pub fn refuted_is_never_lawful()
     ensures { (table : Table) (entries : List Entry) (items : List Item) (r : Refutation) (moves : ℕ)
         → refuted table (map item_of entries) ≡ Some r → AreItems entries items → IsLawful items table moves → ⊥ }
-{}
-
-/// The same of an end and all kinds: the entry that is blamed on it has octets that are no message, or is one that the end
-/// sends in no run in which it keeps the rules, or a quiet mark that stands in no such run, whatever the other end sends.
-pub fn blamed_is_at_fault()
-    ensures { (table : Table) (side : Side) (entries : List Entry) (r : Refutation)
-        → blamed table side entries ≡ Some r → IsAtFaultOf table side (map item_of entries) r }
 {}

@@ -3,7 +3,6 @@
 #![tactic(auto)]
 
 mod asking;
-pub mod blame_rows;
 mod by_id;
 mod codes;
 mod components;

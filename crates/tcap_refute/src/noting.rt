@@ -7,9 +7,11 @@ ghost use Rattle.tcap_model.specs.World.{Item, Sent};
 ghost use Rattle.tcap_refute.specs.declared.kind.Kind.TheVariants.{BadMessage};
 ghost use Rattle.tcap_refute.specs.Before.{since_quiet};
 ghost use Rattle.tcap_refute.specs.Kind.{is_limit, lowest_kind};
+ghost use Rattle.tcap_refute.specs.FirstComponent.{first_component};
 ghost use Rattle.tcap_refute.specs.FirstKinds.{first_kinds, is_of_first_kind};
 ghost use Rattle.tcap_refute.specs.Kept.{AreNotesOf};
 
+use crate::components::component_of;
 use crate::judging::is_limit;
 use crate::kind::Kind;
 use crate::notes::Notes;
@@ -60,6 +62,24 @@ impl Notes {
             → result ≡ find (is_of_first_kind table.now side (since_quiet items) (M.meaning message.now)) first_kinds }
     {
         self.kind_of(true, table, side, message)
+    }
+
+    /// The number, from 0, of the component by which a message that the end sends behind the items that were noted has that
+    /// kind, F5 or F6: the first that has it (Q.774 3.2, Q.771 3.1.2). `None` where none has it, or the kind is another.
+    /// `of_one` says whether it is asked of one end, as `first_kind` asks it, or of both, as `lowest_kind` does. A few look-ups
+    /// for each component.
+    pub fn faulty_component<M: MessageParts>(
+        &self,
+        of_one: bool,
+        table: &Table,
+        side: End,
+        message: &M,
+        kind: Kind,
+    ) -> Option<u64>
+        ensures { (items : List Item) → AreNotesOf table.now items self.now
+            → result ≡ first_component of_one table.now side (since_quiet items) (M.meaning message.now) kind }
+    {
+        component_of(of_one, table, self.there(side, message), message, kind)
     }
 
     /// One message more, which that end sent. `AllocError` where memory ran out; what is noted then is nothing to go on with.

@@ -9,7 +9,7 @@ use Rattle.tcap_record.specs.declared.entry.End.TheVariants.{A, B}
 use Rattle.tcap_model.specs.World.{Item, Sent}
 use Rattle.tcap_end.specs.declared.fault.EndFault.TheVariants as faults
 use Rattle.tcap_model.specs.declared.reason.Reason.TheVariants.{BadReply, HiddenRefused, NotQuiet, OutOfOrder, SendRefused}
-use Rattle.tcap_refute.specs.WorkedBlame.{prearranged, table}
+use Rattle.tcap_refute.specs.WorkedTables.{all_expire as table, prearranged}
 use Rattle.tcap_search.specs.WorkedAlone.{AtFault, Heard, Unheard, IsAlone}
 
 -- two results of one operation that was invoked once

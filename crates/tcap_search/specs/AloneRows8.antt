@@ -9,7 +9,7 @@ use Rattle.tcap_record.specs.declared.entry.End.TheVariants.{A, B}
 use Rattle.tcap_model.specs.World.{Sent}
 use Rattle.tcap_end.specs.declared.fault.EndFault.TheVariants as faults
 use Rattle.tcap_model.specs.declared.reason.Reason.TheVariants.{BadReply, HiddenRefused, NotQuiet, OutOfOrder, SendRefused}
-use Rattle.tcap_refute.specs.WorkedBlame.{all_last, some_last, table}
+use Rattle.tcap_refute.specs.WorkedTables.{all_expire as table, all_last, some_last}
 use Rattle.tcap_search.specs.WorkedAlone.{AtFault, Heard, Unheard, IsAlone}
 
 -- a linked fault told in the End of what the peer began

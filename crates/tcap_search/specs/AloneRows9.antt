@@ -11,7 +11,7 @@ use Rattle.tcap_record.specs.declared.entry.End.TheVariants.{A, B}
 use Rattle.tcap_model.specs.World.{Sent}
 use Rattle.tcap_end.specs.declared.fault.EndFault.TheVariants as faults
 use Rattle.tcap_model.specs.declared.reason.Reason.TheVariants.{BadReply, HiddenRefused, NotQuiet, OutOfOrder, SendRefused}
-use Rattle.tcap_refute.specs.WorkedBlame.{table}
+use Rattle.tcap_refute.specs.WorkedTables.{all_expire as table}
 use Rattle.tcap_search.specs.WorkedAlone.{AtFault, Heard, Unheard, IsAlone}
 
 -- an error of nothing called mistyped

@@ -3,12 +3,12 @@
 #![tactic(auto)]
 
 mod ber;
-mod blame;
 mod check;
 mod checker_lives;
 mod end;
+mod evidence;
 mod explain;
-mod facts;
+mod faults;
 mod judge;
 mod model;
 mod msg;
@@ -20,12 +20,12 @@ mod verdict;
 mod words;
 
 pub use ber::integer_content;
-pub use blame::fault_of;
 pub use check::count_steps;
 pub use checker_lives::{end_waits_behind_mark, given_of_mark, heard_of_mark, waits_behind_mark};
 pub use end::{answered, first_sent};
+pub use evidence::told_fault;
 pub use explain::explained;
-pub use facts::told_fact;
+pub use faults::fault_of;
 pub use judge::{is_called_lawful, shown};
 pub use model::all_taken;
 pub use msg::read_again;

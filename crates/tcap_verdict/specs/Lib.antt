@@ -1,3 +1,4 @@
 pub mod Faults
+pub mod Refuted
 pub mod StepLines
 pub mod Why

@@ -1,6 +1,6 @@
 -- What is said of a record, and why: behind the line of a record that is lawful stand the lines of the run that the certificate
 -- gives.
-use Rattle.std.specs.Prelude.{◌≡◌, ℕ, ◌⊎◌, List, [], Option, Result, Ok, Err}
+use Rattle.std.specs.Prelude.{◌≡◌, ℕ, ◌⊎◌, List, [], ◌++◌, Option, Some, None, Result, Ok, Err}
 use Rattle.std.specs.Io.KnownBytes.{Appends}
 use Rattle.tcap_record.specs.declared.entry.End.{End as Side}
 use Rattle.tcap_record.specs.declared.entry.Entry.{Entry}
@@ -10,13 +10,15 @@ use Rattle.tcap_check.specs.Certificate.{Certificate}
 use Rattle.tcap_runs.specs.declared.step.Step.{Step}
 use Rattle.tcap_runs.specs.Steps.{events_of}
 use Rattle.tcap_judge.specs.declared.outcome.Outcome.{Outcome}
-use Rattle.tcap_judge.specs.declared.outcome.Outcome.TheVariants.{Lawful, LawfulFor, Faulty}
+use Rattle.tcap_judge.specs.declared.outcome.Outcome.TheVariants.{Lawful, LawfulFor, NotShown, Refuted, Undecided, Faulty}
 use Rattle.tcap_judge.specs.declared.status.Status.{Status}
 use Rattle.tcap_judge.specs.Judged.{IsShown, replayed_by}
 use Rattle.tcap_judge.specs.Outcome.{SaysWith}
 use Rattle.tcap_judge.specs.Checked.{Device, IsUntouched, ReadsCertificate, ReadsRecord, ReadsTable, out_of_memory, record_says}
 use Rattle.tcap_judge.specs.Verdict.{proposed_by, record_verdict}
+use Rattle.tcap_judge.specs.Blamed.{ends_of}
 use Rattle.tcap_verdict.specs.Faults.{IsFaultBehind}
+use Rattle.tcap_verdict.specs.Refuted.{both_text, refuted_lines}
 use Rattle.tcap_verdict.specs.StepLines.{run_lines}
 
 -- The certificate gives a run for these entries, of both ends or of the one that is judged, and these are its lines.
@@ -24,13 +26,22 @@ abbrev pub AreLines : Option Side → Table → Certificate → List Entry → L
 AreLines judged table c entries lines = (steps : List Step) × (replayed_by judged table c entries ≡ Ok (events_of steps))
     × (lines ≡ run_lines judged steps)
 
--- Where what is said is that the entries are lawful, the lines behind it are those of the run; where it is a fault, that which
--- says of which file.
+-- Where both ends are judged, what is said of each of them stands last.
+abbrev pub EndsWithEnds : Option Side → Table → List Entry → List ℕ → Type 0
+EndsWithEnds None table entries behind =
+    (front : List ℕ) × (behind ≡ front ++ both_text table entries None (ends_of table entries))
+EndsWithEnds (Some side) table entries behind = Unit {0}
+
+-- Where what is said is that the entries are lawful, the lines behind it are those of the run; where an entry is refuted, what it
+-- breaks and the entries that show it; where neither is shown, what is said of each end stands last; and where it is a fault, that
+-- which says of which file.
 abbrev pub IsWhy : Option Side → Table → Certificate → List Entry → Outcome → List ℕ → Type 0
 IsWhy judged table c entries (Lawful count) behind = AreLines judged table c entries behind
 IsWhy judged table c entries (LawfulFor count unheard) behind = AreLines judged table c entries behind
 IsWhy judged table c entries (Faulty number place) behind = IsFaultBehind (Faulty number place) behind
-IsWhy judged table c entries outcome behind = Unit {0}
+IsWhy judged table c entries (Refuted r) behind = behind ≡ refuted_lines judged table entries r
+IsWhy judged table c entries (Undecided fault) behind = EndsWithEnds judged table entries behind
+IsWhy judged table c entries (NotShown fault) behind = EndsWithEnds judged table entries behind
 
 -- ---- without a certificate: by the one that is proposed
 

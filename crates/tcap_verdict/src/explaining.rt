@@ -14,7 +14,8 @@ ghost use Rattle.tcap_judge.specs.Verdict.{named_by, proposed_by, verdict_of};
 ghost use Rattle.tcap_runs.specs.Steps.{events_of};
 ghost use Rattle.tcap_verdict.specs.Faults.{IsFaultBehind};
 ghost use Rattle.tcap_verdict.specs.StepLines.{run_lines};
-ghost use Rattle.tcap_verdict.specs.Why.{Explains, ExplainsBy, GivesWhy, GivesWhyBy, IsExplained, IsExplainedBy, IsWhy};
+ghost use Rattle.tcap_verdict.specs.Refuted.{refuted_lines};
+ghost use Rattle.tcap_verdict.specs.Why.{EndsWithEnds, Explains, ExplainsBy, GivesWhy, GivesWhyBy, IsExplained, IsExplainedBy, IsWhy};
 
 use crate::charts::{chart_of, chart_of_steps};
 use crate::faults::fault_text;
@@ -161,7 +162,8 @@ fn explain_stop(
     outcome: Outcome,
 ) -> Result<Why, AllocError>
     requires few { length read.now.entries.items ≤ 100000 }
-    ensures { IfOk result (λ why. why.outcome ≡ outcome) }
+    ensures { IfOk result (λ why. (why.outcome ≡ outcome)
+        × EndsWithEnds asked.judged table.now read.now.entries.items (string_bytes why.behind)) }
 {
     let behind = stop_text(alloc, read, table, certificate, asked.judged, fault)?;
     let chart = if asked.with_chart {
@@ -185,7 +187,8 @@ fn explain_refuted(
     refutation: Refutation,
 ) -> Result<Why, AllocError>
     requires few { length read.now.entries.items ≤ 100000 }
-    ensures { IfOk result (λ why. why.outcome ≡ Refuted refutation) }
+    ensures { IfOk result (λ why. (why.outcome ≡ Refuted refutation)
+        × (string_bytes why.behind ≡ refuted_lines asked.judged table.now read.now.entries.items refutation)) }
 {
     let outcome = Outcome::Refuted(refutation);
     let behind = refuted_text(alloc, read, table, asked.judged, refutation)?;

@@ -1,6 +1,8 @@
 //! Why a certificate shows nothing: the reason, the entry, and what the end knows there.
 
-ghost use Rattle.std.specs.Prelude.{◌≤◌, length};
+ghost use Rattle.std.specs.Prelude.{◌≤◌, length, IfOk};
+ghost use Rattle.std.specs.String.{string_bytes};
+ghost use Rattle.tcap_verdict.specs.Why.{EndsWithEnds};
 
 use crate::half_states::{push_component_state, push_half_state};
 use crate::reasons::{fault_words, reason_words};
@@ -324,8 +326,32 @@ fn push_known(
     }
 }
 
-/// The lines behind that of a record of which the certificate shows nothing: the reason, the entry, what the end knows there
-/// that sends or receives it, and, where both ends are judged, what is said of each.
+/// Appends where the run stops: the reason, the entry, and what the end knows there that sends or receives it.
+fn push_stop(alloc: Global, text: &mut String, stop: &Stop) -> Result<(), AllocError> {
+    let fault = stop.fault;
+    push_reason(text, fault.reason)?;
+    if let Some(entry) = stop.read.entries.get(fault.entry as usize) {
+        push_entry(alloc, text, fault.entry as usize, entry)?;
+        if let (Some(sender), Body::Good(message)) = (entry.side, &entry.body) {
+            push_known(alloc, text, stop, sender, message)?;
+        }
+        if let (Reason::NotQuiet, Body::Quiet) = (fault.reason, &entry.body) {
+            let run = stop.run(alloc)?;
+            push_open(alloc, text, End::A, &run.a)?;
+            push_open(alloc, text, End::B, &run.b)?;
+        }
+    }
+    if let Reason::BadMessage(fault) = fault.reason {
+        push_bad(text, fault)?;
+    }
+    if !matches!(fault.reason, Reason::BadMessage(_) | Reason::NoItem) {
+        text.push_str("  another certificate may show more: this says nothing of an end\n")?;
+    }
+    Ok(())
+}
+
+/// The lines behind that of a record of which the certificate shows nothing: where the run stops, and, where both ends are judged, what
+/// is said of each.
 pub(crate) fn stop_text(
     alloc: Global,
     read: &Record,
@@ -335,6 +361,7 @@ pub(crate) fn stop_text(
     fault: CheckFault,
 ) -> Result<String, AllocError>
     requires few { length read.now.entries.items ≤ 100000 }
+    ensures { IfOk result (λ text. EndsWithEnds judged table.now read.now.entries.items (string_bytes text)) }
 {
     let stop = Stop {
         read,
@@ -344,26 +371,12 @@ pub(crate) fn stop_text(
         fault,
     };
     let mut text = String::new(alloc);
-    push_reason(&mut text, fault.reason)?;
-    if let Some(entry) = read.entries.get(fault.entry as usize) {
-        push_entry(alloc, &mut text, fault.entry as usize, entry)?;
-        if let (Some(sender), Body::Good(message)) = (entry.side, &entry.body) {
-            push_known(alloc, &mut text, &stop, sender, message)?;
-        }
-        if let (Reason::NotQuiet, Body::Quiet) = (fault.reason, &entry.body) {
-            let run = stop.run(alloc)?;
-            push_open(alloc, &mut text, End::A, &run.a)?;
-            push_open(alloc, &mut text, End::B, &run.b)?;
+    push_stop(alloc, &mut text, &stop)?;
+    match judged {
+        Some(_) => Ok(text),
+        None => {
+            push_ends(alloc, &mut text, read, table)?;
+            Ok(text)
         }
     }
-    if let Reason::BadMessage(fault) = fault.reason {
-        push_bad(&mut text, fault)?;
-    }
-    if !matches!(fault.reason, Reason::BadMessage(_) | Reason::NoItem) {
-        text.push_str("  another certificate may show more: this says nothing of an end\n")?;
-    }
-    if judged.is_none() {
-        push_ends(alloc, &mut text, read, table, None)?;
-    }
-    Ok(text)
 }

@@ -3,7 +3,7 @@ use Rattle.std.specs.Prelude.{filter}
 use Rattle.std.proofs.lemmas.Result.{on_ok_weaker}
 use Rattle.tcap_record.specs.Ends.{other}
 use Rattle.tcap_faults.specs.Kept.{dtids_of, sent_from, sent_to}
-use Rattle.tcap_faults.specs.Tangled.{has_used}
+use Rattle.tcap_faults.specs.Told.{has_used}
 use Rattle.tcap_faults.proofs.StepLaws.{end_more}
 use Rattle.tcap_faults.proofs.noting.end_all.Goals as goal
 

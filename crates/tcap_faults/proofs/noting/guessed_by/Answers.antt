@@ -1,8 +1,7 @@
 use Rattle.std.proofs.Common.{◌≡◌, ◌&&◌, false, not, sym, ap, ◌∙◌}
 use Rattle.std.proofs.lemmas.Bool.{and_left, and_right}
 use Rattle.tcap_record.specs.Ends.{other}
-use Rattle.tcap_refute.specs.Speaker.{began}
-use Rattle.tcap_faults.specs.Tangled.{has_used}
+use Rattle.tcap_faults.specs.Told.{began, has_used}
 use Rattle.tcap_faults.proofs.ShownLaws.{guessed_not, guessed_so}
 use Rattle.tcap_faults.proofs.noting.guessed_by.Goals.{else-began-via-then-began+else-not-has_used, else-began-via-else-began}
 use Rattle.tcap_faults.proofs.noting.guessed_by.Goals as goal

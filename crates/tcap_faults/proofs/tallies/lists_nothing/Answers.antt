@@ -1,5 +1,5 @@
 use Rattle.std.proofs.Common.{map, to_z-of_z, refl, sym, ◌∙◌}
-use Rattle.tcap_refute.specs.ComponentKinds.{lists_nothing}
+use Rattle.tcap_faults.specs.Components.{lists_nothing}
 use Rattle.tcap_faults.specs.Tallies.{tallies_of, tally_of}
 use Rattle.tcap_faults.proofs.TalliesLaws.{found_next}
 use Rattle.tcap_faults.proofs.tallies.lists_nothing.Goals as goal

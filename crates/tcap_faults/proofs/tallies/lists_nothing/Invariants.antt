@@ -1,6 +1,6 @@
 -- What is left decides.
 use Rattle.std.proofs.Common.{◌≡◌, drop, map}
-use Rattle.tcap_refute.specs.ComponentKinds.{lists_nothing}
+use Rattle.tcap_faults.specs.Components.{lists_nothing}
 use Rattle.tcap_faults.specs.Tallies.{tallies_of}
 use Rattle.tcap_faults.proofs.tallies.lists_nothing.Given as goal
 

@@ -1,4 +1,4 @@
-use Rattle.std.proofs.Common.{ap₂, to_z-of_z, ◌∙◌}
+use Rattle.std.proofs.Common.{to_z-of_z, ◌∙◌, ap₂}
 use Rattle.tcap_faults.specs.Tallied.{sum}
 use Rattle.tcap_faults.proofs.before.Before.told.Goals as goal
 

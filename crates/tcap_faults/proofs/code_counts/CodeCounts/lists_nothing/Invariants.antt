@@ -1,7 +1,7 @@
 -- What is left decides.
 use Rattle.std.proofs.Common.{◌≡◌, drop}
 use Rattle.std.specs.List.{list_any}
-use Rattle.tcap_refute.specs.ComponentKinds.{lists_nothing}
+use Rattle.tcap_faults.specs.Components.{lists_nothing}
 use Rattle.tcap_faults.proofs.code_counts.CodeCounts.lists_nothing.Given as goal
 
 abbrev pub invariant-loop-to : goal.invariant-loop-to

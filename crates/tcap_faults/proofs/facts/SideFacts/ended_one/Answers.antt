@@ -1,6 +1,6 @@
 use Rattle.std.proofs.Common.{sym, ◌∙◌}
 use Rattle.std.proofs.lemmas.Bool.{or_from}
-use Rattle.tcap_faults.specs.UsedAgain.{has_ended}
+use Rattle.tcap_faults.specs.Told.{has_ended}
 use Rattle.tcap_faults.proofs.JoinedLaws.{any_all, any_first, any_next, found_first, found_later, none_at_all}
 use Rattle.tcap_faults.proofs.facts.SideFacts.ended_one.Goals as goal
 

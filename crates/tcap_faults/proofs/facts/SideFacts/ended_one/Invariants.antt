@@ -6,7 +6,7 @@ use Rattle.tcap_end.specs.Table.{Table}
 use Rattle.tcap_model.specs.World.{Item}
 use Rattle.tcap_faults.specs.Ids.{ids_kept}
 use Rattle.tcap_faults.specs.Kept.{IsSide}
-use Rattle.tcap_faults.specs.UsedAgain.{has_ended}
+use Rattle.tcap_faults.specs.Told.{has_ended}
 use Rattle.tcap_faults.proofs.facts.SideFacts.ended_one.Given as goal
 
 abbrev pub invariant-loop-id : goal.invariant-loop-id

@@ -1,6 +1,6 @@
 use Rattle.std.proofs.Common.{sym, ap, ◌∙◌}
 use Rattle.std.specs.List.{list_any}
-use Rattle.tcap_refute.specs.Speaker.{goes_on_to}
+use Rattle.tcap_faults.specs.Told.{goes_on_to}
 use Rattle.tcap_faults.specs.Kept.{sent_from}
 use Rattle.tcap_faults.proofs.SideLaws.{from_nowhere, from_there, goes_there}
 use Rattle.tcap_faults.proofs.facts.SideFacts.goes_on.Goals as goal

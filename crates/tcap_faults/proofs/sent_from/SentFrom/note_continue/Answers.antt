@@ -1,7 +1,7 @@
 use Rattle.std.proofs.Common.{◌≡◌, rules, sym}
 use Rattle.std.specs.Prelude.{filter}
 use Rattle.std.proofs.lemmas.Result.{on_ok_weaker}
-use Rattle.tcap_refute.specs.Speaker.{goes_on_to}
+use Rattle.tcap_faults.specs.Told.{goes_on_to}
 use Rattle.tcap_faults.specs.Kept.{dtids_of}
 use Rattle.tcap_faults.specs.Tallied.{sum}
 use Rattle.tcap_faults.proofs.FromLaws.{IsContinued, continued_nowhere, continued_to, from_continue}

@@ -1,5 +1,5 @@
 use Rattle.std.proofs.Common.{false, to_z-of_z, ap, ◌∙◌}
-use Rattle.tcap_refute.specs.ComponentKinds.{lists_nothing}
+use Rattle.tcap_faults.specs.Components.{lists_nothing}
 use Rattle.tcap_faults.specs.Tallies.{invokes_in, of_kept}
 use Rattle.tcap_faults.proofs.tally.Tally.lists_nothing.Goals as goal
 

@@ -5,7 +5,7 @@ use Rattle.tcap_model.specs.World.{Item}
 use Rattle.tcap_msg.specs.Meaning.{id_of}
 use Rattle.std.specs.List.{list_any}
 use Rattle.tcap_msg.specs.Parts.{cause_in}
-use Rattle.tcap_refute.specs.Speaker.{is_cause, was_refused}
+use Rattle.tcap_faults.specs.Told.{is_cause, was_refused}
 use Rattle.tcap_faults.specs.declared.sent_to.SentTo.{SentTo}
 use Rattle.tcap_faults.specs.declared.how.How.TheVariants.{Accepted, Refused}
 use Rattle.tcap_faults.specs.HalfOf.{answered_from}

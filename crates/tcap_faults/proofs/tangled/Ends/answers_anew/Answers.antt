@@ -4,7 +4,8 @@ use Rattle.std.specs.Str.{bytes_eq}
 use Rattle.tcap_msg.specs.declared.kind.Kind.TheVariants as forms
 use Rattle.tcap_record.specs.Ends.{other}
 use Rattle.tcap_refute.specs.Before.{asked, has_a}
-use Rattle.tcap_refute.specs.Speaker.{is_nothing, told}
+use Rattle.tcap_faults.specs.Counts.{is_nothing}
+use Rattle.tcap_faults.specs.Told.{told}
 use Rattle.tcap_faults.specs.Tangled.{owns_of}
 use Rattle.tcap_faults.proofs.SideLaws.{began_asked}
 use Rattle.tcap_faults.proofs.tangled.Ends.answers_anew.Goals as goal

@@ -1,12 +1,11 @@
-use Rattle.std.proofs.Common.{◌≡◌, ◌-◌, not, sym, ap, ap₂, ◌∙◌}
+use Rattle.std.proofs.Common.{◌≡◌, ◌-◌, not, sym, ap, ◌∙◌, ap₂}
 use Rattle.std.specs.Prelude.{nat_le}
 use Rattle.tcap_msg.specs.declared.kind.Kind.TheVariants as forms
 use Rattle.tcap_msg.specs.Parts.{cause_in}
 use Rattle.tcap_record.specs.Ends.{other}
 use Rattle.tcap_refute.specs.Before.{asked, is_a, sent_by}
-use Rattle.tcap_refute.specs.Blame.{is_abort_with}
-use Rattle.tcap_refute.specs.Counts.{count}
-use Rattle.tcap_refute.specs.Speaker.{is_cause, is_nothing, told}
+use Rattle.tcap_faults.specs.Told.{is_abort_with, is_cause, told}
+use Rattle.tcap_faults.specs.Counts.{count, is_nothing}
 use Rattle.tcap_faults.specs.Fault.{count_received}
 use Rattle.tcap_faults.specs.HalfOf.{half_of}
 use Rattle.tcap_faults.proofs.MarkLaws.{few_from, few_to, none_left, none_received, none_spoken, received_one, unknown_is}

@@ -1,6 +1,6 @@
 use Rattle.std.proofs.Common.{Some, None, sym, ap, ◌∙◌}
 use Rattle.std.specs.List.{list_any}
-use Rattle.tcap_refute.specs.Speaker.{began}
+use Rattle.tcap_faults.specs.Told.{began}
 use Rattle.tcap_faults.proofs.SameLaws.{among_one, any_one}
 use Rattle.tcap_faults.proofs.tangled.Ends.began_first.Goals as goal
 

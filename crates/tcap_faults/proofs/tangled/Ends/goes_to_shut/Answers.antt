@@ -1,6 +1,6 @@
 use Rattle.std.proofs.Common.{ℕ, List, Bool, not, refl, sym, ap, ◌∙◌}
 use Rattle.std.specs.List.{list_any}
-use Rattle.tcap_refute.specs.Speaker.{is_surely_open}
+use Rattle.tcap_faults.specs.Closed.{is_surely_open}
 use Rattle.tcap_faults.specs.Ids.{ids_kept}
 use Rattle.tcap_faults.proofs.MarkLaws.{any_first, any_kept_of, any_last, any_next, first_so, others_so}
 use Rattle.tcap_faults.proofs.tangled.Ends.goes_to_shut.Goals as goal

@@ -4,7 +4,7 @@ use Rattle.std.specs.List.{list_any}
 use Rattle.tcap_record.specs.declared.entry.End.{End as Side}
 use Rattle.tcap_record.specs.Ends.{other}
 use Rattle.tcap_model.specs.World.{Item}
-use Rattle.tcap_refute.specs.Speaker.{is_surely_open}
+use Rattle.tcap_faults.specs.Closed.{is_surely_open}
 use Rattle.tcap_faults.specs.Kept.{IsSide}
 use Rattle.tcap_faults.proofs.tangled.Ends.goes_to_shut.Given as goal
 

@@ -1,18 +1,21 @@
+use Rattle.std.proofs.Common.{◌∙◌}
 use Rattle.std.proofs.lemmas.Result.{IfOk-at_ok}
+use Rattle.tcap_msg.specs.Parts.{components_in}
 use Rattle.tcap_faults.specs.HalfOf.{half_of}
 use Rattle.tcap_faults.proofs.FewLaws.{heard_are_few, invoked_are_few, told_are_few}
-use Rattle.tcap_faults.proofs.KindFinds.{kind_last}
+use Rattle.tcap_faults.proofs.KindFinds.{kind_last, kinds_found}
 use Rattle.tcap_faults.proofs.tangled.Ends.half_kind.Goals as goal
 
 pub returns : goal.returns
 returns g c = λ side items own peer plain roomy.
     let m = g.M.MessageParts.meaning c.args.message.now in
     let id = c.args.id.now in
-    let half = IfOk-at_ok _ c.in_ok-half.was (c.half.ensures c.args.table.now side items own peer plain) in
-    let (busy, linked, answered, rejected) = IfOk-at_ok _ c.in_ok-faults.was
-    (c.faults_of.ensures _ half (heard_are_few side id items m roomy) (invoked_are_few side id items m roomy)
-    (rw c.components.ensures (told_are_few side id items m roomy))) in
+    let half = IfOk-at_ok _ c.in_ok-half.was (c.half.ensures c.args.table.now side items own peer) in
     kind_last c.args.table.now side id items m (half_of side items id) c.kind_of_faults.result
     (c.if-is_wrong_half.ensures c.args.table.now side items _ own half)
     (c.if-is_wrong_dialogue.ensures c.args.table.now side items _ own half)
-    (rw (busy, linked, answered, rejected, c.components.ensures) at c.kind_of_faults.ensures)
+    (c.kind_of_faults.ensures
+    ∙ kinds_found c.args.table.now (half_of side items id) (components_in m) c.in_ok-faults.faults
+    (IfOk-at_ok _ c.in_ok-faults.was
+    (c.faults_of.ensures _ half (heard_are_few side id items m roomy) (invoked_are_few side id items m roomy)
+    (told_are_few side id items m roomy))))

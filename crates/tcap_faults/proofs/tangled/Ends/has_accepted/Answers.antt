@@ -2,7 +2,7 @@ use Rattle.std.proofs.Common.{◌&&◌, not, sym, ap, ◌∙◌}
 use Rattle.std.specs.List.{list_any}
 use Rattle.tcap_record.specs.Ends.{other}
 use Rattle.tcap_msg.specs.Parts.{cause_in}
-use Rattle.tcap_refute.specs.Speaker.{is_cause}
+use Rattle.tcap_faults.specs.Told.{is_cause}
 use Rattle.tcap_faults.specs.Kept.{sent_to}
 use Rattle.tcap_faults.proofs.MarkLaws.{accepted_is}
 use Rattle.tcap_faults.proofs.SideLaws.{began_asked, to_nowhere, to_there}

@@ -5,11 +5,11 @@ use Rattle.tcap_msg.specs.declared.transaction_id.TransactionIdView.{Transaction
 use Rattle.tcap_msg.specs.Meaning.{id_of}
 use Rattle.tcap_record.specs.declared.entry.End.{End as Side}
 use Rattle.tcap_model.specs.World.{Item}
+use Rattle.std.proofs.Common.{◌≡◌, ℕ, Bool, List, Option, None, Some, ◌&&◌, is_some, false, true, not, refl, sym, ap, ◌∙◌}
 use Rattle.tcap_refute.specs.Before.{has_a}
-use Rattle.tcap_refute.specs.Speaker.{told}
+use Rattle.tcap_faults.specs.Told.{told}
 use Rattle.tcap_faults.specs.HalfOf.{HalfOf}
 use Rattle.tcap_faults.specs.Ids.{ids_first}
-use Rattle.std.proofs.Common.{◌≡◌, ℕ, Bool, List, Option, None, Some, ◌&&◌, is_some, false, true, not, refl, sym, ap, ◌∙◌}
 use Rattle.tcap_faults.specs.contracts.how.How.{the_type}
 use Rattle.tcap_faults.specs.declared.how.How.{How}
 use Rattle.tcap_faults.specs.declared.how.How.TheVariants as hows

@@ -2,7 +2,7 @@ use Rattle.std.proofs.Common.{◌||◌, sym, ap, ◌∙◌}
 use Rattle.std.specs.List.{list_any}
 use Rattle.std.proofs.lemmas.Bool.{or_left}
 use Rattle.tcap_record.specs.Ends.{other}
-use Rattle.tcap_refute.specs.Speaker.{goes_on_to}
+use Rattle.tcap_faults.specs.Told.{goes_on_to}
 use Rattle.tcap_faults.specs.Kept.{sent_from}
 use Rattle.tcap_faults.proofs.JoinLaws.{joined_is}
 use Rattle.tcap_faults.proofs.tangled.Ends.is_joined.Goals as goal

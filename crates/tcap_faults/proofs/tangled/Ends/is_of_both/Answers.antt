@@ -3,9 +3,9 @@ use Rattle.std.specs.List.{list_any}
 use Rattle.std.proofs.lemmas.Bool.{and_left, and_right}
 use Rattle.tcap_record.specs.Ends.{other}
 use Rattle.tcap_refute.specs.Before.{asked}
-use Rattle.tcap_refute.specs.Speaker.{began}
+use Rattle.tcap_faults.specs.Told.{began, has_used}
 use Rattle.tcap_faults.specs.Kept.{dtids_of, sent_from}
-use Rattle.tcap_faults.specs.Tangled.{goes_to_begun, has_used}
+use Rattle.tcap_faults.specs.Tangled.{goes_to_begun}
 use Rattle.tcap_faults.proofs.SideLaws.{began_asked}
 use Rattle.tcap_faults.proofs.JoinLaws.{heard_among, heard_same, of_both}
 use Rattle.tcap_faults.proofs.tangled.Ends.is_of_both.Goals as goal

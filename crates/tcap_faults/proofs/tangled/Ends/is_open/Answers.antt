@@ -1,9 +1,8 @@
-use Rattle.std.proofs.Common.{◌≡◌, Bool, true, false, ◌&&◌, not, sym, ap, ap₂, ◌∙◌}
+use Rattle.std.proofs.Common.{◌≡◌, Bool, true, false, ◌&&◌, not, sym, ap, ◌∙◌, ap₂}
 use Rattle.std.specs.List.{list_any}
 use Rattle.tcap_record.specs.Ends.{other}
-use Rattle.tcap_refute.specs.Before.{sent_by}
-use Rattle.tcap_refute.specs.Speaker.{ends_to}
-use Rattle.tcap_faults.specs.UsedAgain.{has_ended}
+use Rattle.tcap_refute.specs.Before.{ends_to, sent_by}
+use Rattle.tcap_faults.specs.Told.{has_ended}
 use Rattle.tcap_faults.proofs.MarkLaws.{open_nowhere, open_there}
 use Rattle.tcap_faults.proofs.tangled.Ends.is_open.Goals as goal
 use Rattle.tcap_faults.proofs.tangled.Ends.is_open.Goals.{then-not-prearranged, else-not-prearranged}

@@ -2,7 +2,7 @@ use Rattle.std.proofs.Common.{ℕ, List, filter, subst}
 use Rattle.tcap_record.specs.Ends.{other}
 use Rattle.tcap_faults.specs.Ids.{IsOneOf}
 use Rattle.tcap_faults.specs.Kept.{dtids_of, otids_of, sent_from, sent_to}
-use Rattle.tcap_faults.specs.Tangled.{has_used}
+use Rattle.tcap_faults.specs.Told.{has_used}
 use Rattle.tcap_faults.proofs.JoinLaws.{heard_among, owns_are}
 use Rattle.tcap_faults.proofs.tangled.Ends.joined_own.Goals as goal
 

@@ -3,7 +3,7 @@ use Rattle.std.specs.Prelude.{option_copied}
 use Rattle.tcap_record.specs.Ends.{other}
 use Rattle.tcap_faults.specs.Ids.{AreAmong, IsOneOf}
 use Rattle.tcap_faults.specs.Kept.{dtids_of, otids_of, sent_from, sent_to}
-use Rattle.tcap_faults.specs.Tangled.{has_used}
+use Rattle.tcap_faults.specs.Told.{has_used}
 use Rattle.tcap_faults.proofs.JoinLaws.{peers_are}
 use Rattle.tcap_faults.proofs.tangled.Ends.joined_peer.Goals as goal
 use Rattle.tcap_faults.proofs.tangled.Ends.joined_peer.Goals.{then-has_used, else-has_used}

@@ -1,8 +1,0 @@
--- What was found behind the components so far.
-use Rattle.tcap_parts.specs.Meaning.{components_left}
-use Rattle.tcap_blame.proofs.FaultLaws.{IsFirstSoFar}
-use Rattle.tcap_blame.proofs.components.first_faults.Given as goal
-
-abbrev pub invariant-loop-component : goal.invariant-loop-component
-invariant-loop-component l =
-    IsFirstSoFar (components_left l.fn.components) (components_left l.component-iterator) l.ids l.faults

@@ -1,0 +1,85 @@
+-- What is asked of a message is never asked of a quiet mark alone.
+use Rattle.std.proofs.Common.{◌≡◌, ◌==◌, ◌<◌, length, get_or, ℕ, Bool, true, false, cond, List, [], ◌∷◌, Option, Some, None, refl}
+use Rattle.std.specs.List.{list_any}
+use Rattle.std.proofs.lemmas.List.Folds.{list_any_at}
+use Rattle.tcap_parts.specs.declared.component.Component.{Component}
+use Rattle.tcap_parts.specs.declared.component.Component.TheVariants.{Invoke, ReturnResult, ReturnError, Reject}
+use Rattle.tcap_parts.specs.declared.problem.Problem.TheVariants as problems
+use Rattle.tcap_refute.specs.declared.kind.Kind.{Kind}
+use Rattle.tcap_refute.specs.declared.kind.Kind.TheVariants as kinds
+use Rattle.tcap_faults.specs.declared.how.How.{How}
+use Rattle.tcap_faults.specs.declared.how.How.TheVariants as hows
+use Rattle.tcap_faults.specs.Components.{is_of_link}
+use Rattle.tcap_faults.specs.declared.sort.Class.TheVariants.{Any}
+use Rattle.tcap_faults.specs.declared.sort.Sort.TheVariants as sorts
+use Rattle.tcap_evidence.specs.declared.what.What.TheVariants as whats
+use Rattle.tcap_evidence.specs.Evidence.{allowed_by, answered_by, dialogue_of, problem_of_invoke, rejected_by, shows, shows_alone, shows_to}
+use Rattle.tcap_evidence.specs.Marked.{is_of_mark}
+
+-- Of these none passes a test: so that of that place does not.
+pub fails_at : {A : Type 0} (p : A → Bool) (xs : List A) (i : ℕ) (d : A) → i < length xs → list_any p xs ≡ false
+    → p (get_or xs i d) ≡ false
+fails_at p xs i d within none = by (p (get_or xs i d)) refl
+  where
+    by : (b : Bool) → p (get_or xs i d) ≡ b → b ≡ false
+    by true is = let one = list_any_at p xs i d within is in cc
+    by false is = refl
+
+answered_open : (c : Option Component) → list_any is_of_mark (answered_by c) ≡ false
+answered_open None = refl
+answered_open (Some (Invoke id linked code parameter)) = refl
+answered_open (Some (ReturnResult last id body)) = refl
+answered_open (Some (ReturnError id code parameter)) = refl
+answered_open (Some (Reject None problem)) = refl
+answered_open (Some (Reject (Some id) (problems.General n))) = refl
+answered_open (Some (Reject (Some id) (problems.Invoke n))) = refl
+answered_open (Some (Reject (Some id) (problems.ReturnResult n))) = refl
+answered_open (Some (Reject (Some id) (problems.ReturnError n))) = refl
+
+allowed_open : (c : Option Component) → list_any is_of_mark (allowed_by c) ≡ false
+allowed_open None = refl
+allowed_open (Some (Invoke id linked code parameter)) = refl
+allowed_open (Some (ReturnResult last id body)) = refl
+allowed_open (Some (ReturnError id code parameter)) = refl
+allowed_open (Some (Reject id problem)) = refl
+
+dialogue_open : (how : How) → list_any is_of_mark (dialogue_of how) ≡ false
+dialogue_open hows.Begun = refl
+dialogue_open how = refl
+
+problem_open : (n : ℕ) → list_any is_of_mark (problem_of_invoke n) ≡ false
+problem_open n = by (n == 0) (is_of_link n)
+  where
+    by : (first link : Bool)
+        → list_any is_of_mark (cond first (whats.Heard (sorts.Invokes Any) ∷ whats.Before sorts.DuplicateRejects ∷ [])
+        (cond link (whats.Heard sorts.Linked ∷ whats.Before sorts.LinkRejects ∷ []) [])) ≡ false
+    by true link = refl
+    by false true = refl
+    by false false = refl
+
+rejected_open : (c : Option Component) → list_any is_of_mark (rejected_by c) ≡ false
+rejected_open None = refl
+rejected_open (Some (Invoke id linked code parameter)) = refl
+rejected_open (Some (ReturnResult last id body)) = refl
+rejected_open (Some (ReturnError id code parameter)) = refl
+rejected_open (Some (Reject id (problems.General n))) = refl
+rejected_open (Some (Reject id (problems.Invoke n))) = problem_open n
+rejected_open (Some (Reject id (problems.ReturnResult n))) = refl
+rejected_open (Some (Reject id (problems.ReturnError n))) = refl
+
+to_open : (how : How) (c : Option Component) (kind : Kind) → list_any is_of_mark (shows_to how c kind) ≡ false
+to_open how c kinds.AnswersNothing = answered_open c
+to_open how c kinds.WrongOperation = allowed_open c
+to_open how c kinds.WrongDialogue = dialogue_open how
+to_open how c kinds.RejectNotAllowed = rejected_open c
+to_open how c kind = refl
+
+alone_open : (kind : Kind) → list_any is_of_mark (shows_alone kind) ≡ false
+alone_open kinds.ReusedId = refl
+alone_open kinds.InvokeIdBusy = refl
+alone_open kind = refl
+
+pub never_open : (to : Option (List ℕ)) (how : How) (c : Option Component) (kind : Kind)
+    → list_any is_of_mark (shows to how c kind) ≡ false
+never_open None how c kind = alone_open kind
+never_open (Some id) how c kind = to_open how c kind

@@ -1,0 +1,17 @@
+pub mod SentBefore
+pub mod NumberedLists
+pub mod SceneLists
+pub mod CountedLaws
+pub mod MessageTests
+pub mod SuchLaws
+pub mod EntryLaws
+pub mod KindShows
+pub mod ListedLaws
+pub mod GroundLaws
+pub mod StretchLaws
+pub mod ListingLaws
+pub mod MarkLaws
+pub mod SceneLaws
+pub mod AskedLaws
+pub mod TextLaws
+pub mod FindingLaws

@@ -1,0 +1,150 @@
+-- Halves that are open at a quiet mark, by what is kept of both ends.
+use Rattle.std.proofs.Common.{◌≡◌, ℕ, ◌+◌, ◌<◌, Bool, true, false, cond, not, ◌&&◌, ◌||◌, List, [], ◌∷◌, Option, Some, None, bytes_eq, drop, get_or, is_some, length, map, refl, sym, ap, ap₂, ◌∙◌}
+use Rattle.std.specs.BTreeMap.{is_at}
+use Rattle.std.specs.BTreeSet as set
+use Rattle.std.specs.List.{find, list_any}
+use Rattle.std.specs.Map.{lookup}
+use Rattle.std.proofs.lemmas.Map.Lookups.{exact_bytes}
+use Rattle.std.proofs.lemmas.Map.Views.{tells_apart}
+use Rattle.tcap_msg.specs.declared.kind.Kind.TheVariants as forms
+use Rattle.tcap_msg.specs.declared.message.Message.{Message}
+use Rattle.tcap_msg.specs.declared.message.Message.TheVariants.{Unidirectional, Begin, Continue, End as EndMessage, Abort}
+use Rattle.tcap_msg.specs.Parts.{dtid_in, otid_in}
+use Rattle.tcap_record.specs.Ends.{other}
+use Rattle.tcap_end.specs.End.{is_id}
+use Rattle.tcap_end.specs.Table.{octets_cmp}
+use Rattle.tcap_model.specs.Run.{then_so, where_so}
+use Rattle.tcap_refute.specs.Before.{ends_to, is_a, sent_by}
+use Rattle.tcap_refute.specs.Kind.{or_else}
+use Rattle.tcap_faults.specs.Closed.{is_surely_open}
+use Rattle.tcap_faults.proofs.KeyLaws.{at_other}
+use Rattle.tcap_faults.proofs.MapLaws.{Puts}
+use Rattle.tcap_faults.proofs.TwoTests.{any_agree}
+use Rattle.tcap_evidence.specs.declared.mark.Halves.{Halves}
+use Rattle.tcap_evidence.specs.declared.sent.Sent.{Sent as SentEntry}
+use Rattle.tcap_evidence.specs.Marked.{AreHalves, ended_to, first_to, messages_of}
+use Rattle.tcap_evidence.specs.Numbered.{Numbered, entries_where, numbered_of}
+use Rattle.tcap_evidence.specs.Scene.{Scene, is_open_continue}
+use Rattle.tcap_evidence.proofs.ListingLaws.{left_is}
+
+-- ---- the messages that are kept
+
+messages_are : (sent : List SentEntry) → map (λ n. n.1) (numbered_of sent) ≡ messages_of sent
+messages_are [] = refl
+messages_are (s ∷ more) = ap (λ ms. s.message.now ∷ ms) (messages_are more)
+
+-- They are what was sent of the items.
+pub all_sent : (sent : List SentEntry) (its : List Numbered) (ms : List Message) → numbered_of sent ≡ its
+    → map (λ n. n.1) its ≡ ms
+    → messages_of sent ≡ ms
+all_sent sent its ms are sent_is = sym (messages_are sent) ∙ ap (map (λ n. n.1)) are ∙ sent_is
+
+-- ---- where a Continue goes
+
+-- Where the first one from an ID goes.
+first_goes : (id : List ℕ) (ms : List Message)
+    → first_to id ms ≡ then_so (find (λ m. is_a forms.Continue m && is_id id (otid_in m)) ms) dtid_in
+first_goes id [] = refl
+first_goes id (Unidirectional dialogue components ∷ ms) = first_goes id ms
+first_goes id (Begin otid dialogue components ∷ ms) = first_goes id ms
+first_goes id (Continue otid dtid dialogue components ∷ ms) = by (bytes_eq id otid) (first_goes id ms)
+  where
+    by : (b : Bool)
+        → first_to id ms ≡ then_so (find (λ m. is_a forms.Continue m && is_id id (otid_in m)) ms) dtid_in
+        → or_else (where_so b (Some dtid)) (first_to id ms)
+        ≡ then_so (cond b (Some (Continue otid dtid dialogue components)) (find (λ m. is_a forms.Continue m && is_id id (otid_in m)) ms)) dtid_in
+    by true rest = refl
+    by false rest = rest
+first_goes id (EndMessage dtid dialogue components ∷ ms) = first_goes id ms
+first_goes id (Abort dtid reason ∷ ms) = first_goes id ms
+
+or_else_none : {A : Type 0} (o : Option A) → o ≡ or_else o None
+or_else_none None = refl
+or_else_none (Some a) = refl
+
+module _ (old : List (List ℕ × List ℕ)) (otid dtid : List ℕ) where
+  -- One that goes from an ID from which none went before is noted.
+  pub first_noted : (new : List (List ℕ × List ℕ)) → is_some (lookup (is_at (octets_cmp otid)) old) ≡ false
+      → Puts old new otid dtid
+      → (id : List ℕ) → lookup (is_at (octets_cmp id)) new
+      ≡ or_else (lookup (is_at (octets_cmp id)) old) (where_so (bytes_eq id otid) (Some dtid))
+  first_noted new none puts id = puts id ∙ by (is_at (octets_cmp otid) id) refl
+    where
+      nothing : (o : Option (List ℕ)) → is_some o ≡ false → o ≡ None
+      nothing None is = refl
+      nothing (Some a) is = cc
+
+      by : (b : Bool) → is_at (octets_cmp otid) id ≡ b
+          → cond b (Some dtid) (lookup (is_at (octets_cmp id)) old)
+          ≡ or_else (lookup (is_at (octets_cmp id)) old) (where_so (bytes_eq id otid) (Some dtid))
+      by true same =
+          let one : otid ≡ id = tells_apart exact_bytes otid id same in
+          let gone : lookup (is_at (octets_cmp id)) old ≡ None =
+          ap (λ key. lookup (is_at (octets_cmp key)) old) (sym one) ∙ nothing _ none in
+          rw (gone, ← at_other otid id, same) refl
+      by false apart = rw (← at_other otid id, apart) (or_else_none _)
+
+-- ---- what is ended
+
+or_assoc : (a b c : Bool) → ((a || b) || c) ≡ (a || (b || c))
+or_assoc true b c = refl
+or_assoc false b c = refl
+
+module _ (by_provider : Bool) (sent : List SentEntry) (i : ℕ) (x : SentEntry) (within : i < length sent)
+    (here : x ≡ get_or sent i x) (id : List ℕ) where
+  -- whether one of those from that number on is an End or an Abort to the ID
+  abbrev left_ended : ℕ → Bool
+  left_ended i = list_any (λ m. is_id id (ended_to by_provider m)) (messages_of (drop i sent))
+
+  -- With the next message those that are left are all.
+  pub ended_more : {all : Bool} (was now : Bool) → now ≡ (was || is_id id (ended_to by_provider x.message.now))
+      → (was || left_ended i) ≡ all → (now || left_ended (i + 1)) ≡ all
+  ended_more was now is so_far =
+      ap (λ b. b || left_ended (i + 1)) is
+      ∙ or_assoc was (is_id id (ended_to by_provider x.message.now)) (left_ended (i + 1))
+      ∙ ap (λ b. was || b)
+      (sym (left_is (λ xs. list_any (λ m. is_id id (ended_to by_provider m)) (messages_of xs)) sent i x within here))
+      ∙ so_far
+
+-- An End or an Abort to an ID.
+ends_is : (id : List ℕ) (m : Message) → is_id id (ended_to true m) ≡ ends_to id m
+ends_is id (Unidirectional dialogue components) = refl
+ends_is id (Begin otid dialogue components) = refl
+ends_is id (Continue otid dtid dialogue components) = refl
+ends_is id (EndMessage dtid dialogue components) = refl
+ends_is id (Abort dtid reason) = refl
+
+-- ---- a half that is surely open
+
+module _ (s : Scene) (kept : Halves) (are : AreHalves s kept) (unarranged : s.table.prearranged ≡ false) (own : List ℕ) where
+  goes : (to : Option (List ℕ)) → to ≡ lookup (is_at (octets_cmp own)) kept.first.entries
+      → then_so (find (λ m. is_a forms.Continue m && is_id own (otid_in m)) (sent_by s.side s.items)) dtid_in ≡ to
+  goes to is = sym (first_goes own (sent_by s.side s.items)) ∙ sym (are.first own) ∙ sym is
+
+  -- It is not where no Continue went from there;
+  pub open_nowhere : None ≡ lookup (is_at (octets_cmp own)) kept.first.entries
+      → false ≡ is_surely_open s.table s.side s.items own
+  open_nowhere none = let none_goes = goes None none in rw (unarranged, none_goes) refl
+
+  -- else it is where neither end ended it.
+  pub open_there : (to : List ℕ) → Some to ≡ lookup (is_at (octets_cmp own)) kept.first.entries
+      → (not (set.contains octets_cmp kept.ended to) && not (set.contains octets_cmp kept.ended_by_peer own))
+      ≡ is_surely_open s.table s.side s.items own
+  open_there to there =
+      let it_goes = goes (Some to) there in
+      ap₂ (λ a b. not a && not b) (are.ended to)
+      (are.ended_by_peer own ∙ any_agree _ _ (sent_by (other s.side) s.items) (ends_is own))
+      ∙ rw (unarranged, it_goes) refl
+
+-- Where transactions may end by prearrangement none is.
+not_open : (s : Scene) → s.table.prearranged ≡ true → (m : Message) → is_open_continue s m ≡ false
+not_open s arranged (Unidirectional dialogue components) = refl
+not_open s arranged (Begin otid dialogue components) = refl
+not_open s arranged (Continue otid dtid dialogue components) = rw arranged refl
+not_open s arranged (EndMessage dtid dialogue components) = refl
+not_open s arranged (Abort dtid reason) = refl
+
+pub none_open : (s : Scene) → s.table.prearranged ≡ true → (sent : List Numbered)
+    → [] ≡ entries_where (is_open_continue s) sent
+none_open s arranged [] = refl
+none_open s arranged (n ∷ more) = rw (not_open s arranged n.1) (none_open s arranged more)

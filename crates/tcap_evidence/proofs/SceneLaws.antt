@@ -1,0 +1,39 @@
+-- What a scene says, by what is kept of it.
+use Rattle.std.proofs.Common.{◌≡◌, ℕ, Bool, true, false, ◌&&◌, List, [], ◌∷◌, Option, Some, None, filter, refl, ap}
+use Rattle.tcap_msg.specs.declared.kind.Kind.TheVariants as forms
+use Rattle.tcap_msg.specs.declared.message.Message.{Message}
+use Rattle.tcap_msg.specs.Parts.{dtid_in}
+use Rattle.tcap_refute.specs.Before.{is_a}
+use Rattle.tcap_refute.proofs.TestLaws.{and_false}
+use Rattle.tcap_evidence.specs.Numbered.{Numbered, entries_where}
+use Rattle.tcap_evidence.specs.Scene.{Scene, is_that, there, to_half, went_elsewhere}
+
+-- ---- filters
+
+pub filter_all : {A : Type 0} (xs : List A) → filter (λ x. true) xs ≡ xs
+filter_all [] = refl
+filter_all (x ∷ xs) = ap (λ ys. x ∷ ys) (filter_all xs)
+
+none_kept : {A : Type 0} (p : A → Bool) → ((x : A) → p x ≡ false) → (xs : List A) → filter p xs ≡ []
+none_kept p none [] = refl
+none_kept p none (x ∷ xs) = rw (none x) (none_kept p none xs)
+
+-- ---- what was heard
+
+-- The Continues to the half's own ID.
+pub to_half_is : (s : Scene) (half : Option (List ℕ)) → half ≡ s.half → (sent : List Numbered) → sent ≡ there s
+    → filter (λ n. is_a forms.Continue n.1 && is_that half (dtid_in n.1)) sent ≡ to_half s
+to_half_is s None is sent are = rw (← is) (none_kept _ (λ n. and_false _) sent)
+to_half_is s (Some own) is sent are = rw (← is, are) refl
+
+-- ---- what went elsewhere
+
+module _ (s : Scene) where
+  -- Where the message has no destination ID there is none.
+  went_not : (from : Option (List ℕ)) → from ≡ s.from → None ≡ s.to → (m : Message) → went_elsewhere s m ≡ false
+  went_not None from_is to_is m = rw (← from_is) refl
+  went_not (Some from) from_is to_is m = rw (← from_is, ← to_is) refl
+
+  pub went_nowhere : None ≡ s.to → (sent : List Numbered) → [] ≡ entries_where (went_elsewhere s) sent
+  went_nowhere none [] = refl
+  went_nowhere none (n ∷ more) = rw (went_not s.from refl none n.1) (went_nowhere none more)

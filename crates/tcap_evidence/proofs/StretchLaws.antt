@@ -1,0 +1,134 @@
+-- What each end sent before an entry, entry by entry; and that it is what it sent since the last quiet mark.
+use Rattle.std.proofs.Common.{◌≡◌, ◌⊎◌, inl, inr, ℕ, ◌+◌, ◌<◌, ◌≤◌, arith, Bool, true, false, cond, List, [], ◌∷◌, ◌++◌, Result, Ok, Err, append_assoc, map, take, drop, get_or, length, length-take, refl, sym, ap, ◌∙◌}
+use Rattle.std.proofs.lemmas.List.{append-nil, drop_all, drop_more, get_or-take, map-append}
+use Rattle.tcap_msg.specs.declared.message.Message.{Message}
+use Rattle.tcap_msg.specs.Parts.{components_in}
+use Rattle.tcap_record.specs.declared.entry.End.{End as Side}
+use Rattle.tcap_record.specs.declared.entry.Entry.{Entry}
+use Rattle.tcap_record.specs.Ends.{other}
+use Rattle.tcap_end.specs.Table.{Table}
+use Rattle.tcap_model.specs.declared.reason.Reason.{Reason}
+use Rattle.tcap_model.specs.World.{Item, Sent, has_quiet, is_side}
+use Rattle.tcap_model.specs.Entries.{item_of}
+use Rattle.tcap_refute.specs.declared.kind.Kind.{Kind}
+use Rattle.tcap_refute.specs.Before.{sent_by, since_quiet}
+use Rattle.tcap_faults.specs.declared.subject.Subject.{Subject}
+use Rattle.tcap_faults.specs.Subject.{items_among}
+use Rattle.tcap_evidence.specs.declared.scene.Scene.{Scene as SceneKept}
+use Rattle.tcap_evidence.specs.declared.sent.Stretch.{Stretch}
+use Rattle.tcap_evidence.specs.Evidence.{component_at, components_before, invoke_id_in, mark_scene, scene_of}
+use Rattle.tcap_evidence.specs.Kept.{IsScene, IsStretch, scene_by}
+use Rattle.tcap_evidence.specs.Numbered.{Numbered, numbered_of, sent_before, with_entries, with_entry}
+
+-- ---- entry by entry
+
+module _ (side : Side) (entries : List Entry) (number : ℕ) where
+  -- these, and what was sent from that entry on
+  abbrev pub sent_from : ℕ → List Numbered → List Numbered
+  sent_from at sent = with_entries side at (map item_of (drop at (take number entries))) sent
+
+  -- With the next entry it is what it was;
+  pub sent_next : (at : ℕ) (e : Entry) → at < length entries → e ≡ get_or entries at e → at < number
+      → (sent more : List Numbered) → more ≡ with_entry side at (item_of e) sent
+      → sent_from at sent ≡ sent_before side entries number → sent_from (at + 1) more ≡ sent_before side entries number
+  sent_next at e within here below sent more is so_far =
+      ap (sent_from (at + 1)) is
+      ∙ ap (λ x. with_entries side (at + 1) (map item_of (drop (at + 1) xs)) (with_entry side at (item_of x) sent)) (sym it)
+      ∙ ap (λ left. with_entries side at (map item_of left) sent) (sym (drop_more xs at e inside))
+      ∙ so_far
+    where
+      xs : List Entry
+      xs = take number entries
+
+      inside : at < length xs
+      inside = simp length-take (omega arith)
+
+      it : get_or xs at e ≡ e
+      it = get_or-take number entries at e below ∙ sym here
+
+  -- and where there is none it is all.
+  pub sent_all : (at : ℕ) → (length entries ≤ at) ⊎ (number ≤ at) → (sent : List Numbered)
+      → sent_from at sent ≡ sent_before side entries number → sent ≡ sent_before side entries number
+  sent_all at past sent so_far =
+      ap (λ left. with_entries side at (map item_of left) sent) (sym (drop_all at (take number entries) (none past))) ∙ so_far
+    where
+      none : (length entries ≤ at) ⊎ (number ≤ at) → length (take number entries) ≤ at
+      none (inl end) = simp length-take (omega arith)
+      none (inr end) = simp length-take (omega arith)
+
+-- ---- since the last quiet mark
+
+since_none : (items : List Item) → has_quiet items ≡ false → since_quiet items ≡ items
+since_none [] none = refl
+since_none (item ∷ items) none = rw none refl
+
+module _ (side : Side) where
+  -- what was sent in these, behind that
+  abbrev behind : List Numbered → List Item → List Message
+  behind sent items =
+      cond (has_quiet items) (sent_by side (since_quiet items)) (map (λ n. n.1) sent ++ sent_by side items)
+
+  behind_none : (items : List Item) → behind [] items ≡ sent_by side (since_quiet items)
+  behind_none items = by (has_quiet items) refl
+    where
+      by : (b : Bool) → has_quiet items ≡ b → behind [] items ≡ sent_by side (since_quiet items)
+      by true is = rw is refl
+      by false is = rw is (ap (sent_by side) (sym (since_none items is)))
+
+  behind_message : (number : ℕ) (sender : Side) (m : Message) (sent : List Numbered) (items : List Item)
+      → behind (with_entry side number (Ok (Sent sender m)) sent) items ≡ behind sent (Sent sender m ∷ items)
+  behind_message number sender m sent items = by (has_quiet items) refl
+    where
+      its : (b : Bool) → is_side side sender ≡ b
+          → map (λ n. n.1) (with_entry side number (Ok (Sent sender m)) sent) ++ sent_by side items
+          ≡ map (λ n. n.1) sent ++ sent_by side (Sent sender m ∷ items)
+      its true is = rw (is, map-append (λ (n : Numbered). n.1) sent ((number, m) ∷ [])) (append_assoc _ (m ∷ []) _)
+      its false is = rw is refl
+
+      by : (b : Bool) → has_quiet items ≡ b
+          → behind (with_entry side number (Ok (Sent sender m)) sent) items ≡ behind sent (Sent sender m ∷ items)
+      by true is = rw is refl
+      by false is = rw is (its (is_side side sender) refl)
+
+  sent_behind : (number : ℕ) (es : List (Result Item Reason)) (sent : List Numbered)
+      → map (λ n. n.1) (with_entries side number es sent) ≡ behind sent (items_among es)
+  sent_behind number [] sent = sym (append-nil _)
+  sent_behind number (Err reason ∷ more) sent = sent_behind (number + 1) more sent
+  sent_behind number (Ok (Sent sender m) ∷ more) sent =
+      sent_behind (number + 1) more (with_entry side number (Ok (Sent sender m)) sent)
+      ∙ behind_message number sender m sent (items_among more)
+  sent_behind number (Ok Item.Quiet ∷ more) sent =
+      sent_behind (number + 1) more [] ∙ behind_none (items_among more)
+
+  -- What an end sent before an entry is what it sent of the items before it since the last quiet mark.
+  pub sent_since : (entries : List Entry) (number : ℕ)
+      → map (λ n. n.1) (sent_before side entries number)
+      ≡ sent_by side (since_quiet (items_among (map item_of (take number entries))))
+  sent_since entries number =
+      sent_behind 0 (map item_of (take number entries)) []
+      ∙ behind_none (items_among (map item_of (take number entries)))
+
+-- ---- scenes
+
+module _ (table : Table) (side : Side) (entries : List Entry) (number : ℕ) where
+  -- What each end sent before a message, as it is kept, makes the message's scene.
+  pub scene_at_message : (m : Message) (kind : Kind) (about : Subject) (stretch : Stretch) (kept : SceneKept)
+      → (numbered_of stretch.own.items ≡ sent_before side entries number)
+      × (numbered_of stretch.peer.items ≡ sent_before (other side) entries number)
+      → IsScene (scene_by table side (since_quiet (items_among (map item_of (take number entries)))) stretch m number about
+      (components_in m) (components_before about.component (components_in m))
+      (invoke_id_in kind (component_at about.component (components_in m)))) kept
+      → IsScene (scene_of table side entries number m kind about) kept
+  scene_at_message m kind about stretch kept are is = rw (are.0, are.1) at is
+
+-- What each end sent before a quiet mark is that of its scene.
+pub stretch_at_mark : (table : Table) (side : Side) (entries : List Entry) (number : ℕ) (kept : Stretch)
+    → (numbered_of kept.own.items ≡ sent_before side entries number)
+    × (numbered_of kept.peer.items ≡ sent_before (other side) entries number)
+    → IsStretch (mark_scene table side entries number) kept
+stretch_at_mark table side entries number kept are = record {
+  own = are.0;
+  peer = are.1;
+  own_sent = sent_since side entries number;
+  peer_sent = sent_since (other side) entries number;
+}

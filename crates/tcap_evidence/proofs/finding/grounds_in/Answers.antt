@@ -1,0 +1,13 @@
+-- The next is asked of a message.
+use Rattle.std.proofs.Common.{arith}
+use Rattle.std.proofs.lemmas.Grind.{common_steps}
+use Rattle.tcap_evidence.specs.Marked.{is_of_mark}
+use Rattle.tcap_evidence.specs.declared.what.What.TheVariants as whats
+use Rattle.tcap_evidence.proofs.AskedLaws.{fails_at}
+use Rattle.tcap_evidence.proofs.finding.grounds_in.Goals as goal
+
+pub loop-what-preserved : goal.loop-what-preserved
+loop-what-preserved c = λ s is none.
+    let here = fails_at is_of_mark c.args.whats.now c.loop-what.what-index whats.BeginsThere c.loop-what-test.true none in
+    let shown = c.in_ok-shown.ensures s is here in
+    grind (arith, common_steps, shown, c.loop-what.invariant s is none, c.in_ok-push.ensures.items)

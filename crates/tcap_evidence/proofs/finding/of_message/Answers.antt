@@ -1,0 +1,17 @@
+-- By what is known of the message.
+use Rattle.std.proofs.Common.{ap, ◌∙◌}
+use Rattle.tcap_msg.specs.Parts.{components_in, dtid_in}
+use Rattle.tcap_evidence.specs.Evidence.{component_at, grounds_in, scene_of, shows}
+use Rattle.tcap_evidence.proofs.AskedLaws.{never_open}
+use Rattle.tcap_evidence.proofs.finding.of_message.Goals as goal
+
+pub returns-clause-grounds : goal.returns-clause-grounds
+returns-clause-grounds c = λ side entries own peer.
+    let m = c.args.message.now in
+    let kind = c.args.at.kind in
+    let about = c.args.about in
+    let known = scene_of c.args.table.now side entries c.args.at.entry m kind about in
+    let are = c.shows_of-whats.ensures ∙ ap (λ x. shows (dtid_in m) about.how x kind) c.component_at-component.ensures in
+    c.in_ok-grounds.ensures known (c.in_ok-scene.ensures side entries own peer)
+    (rw are (never_open (dtid_in m) about.how (component_at about.component (components_in m)) kind))
+    ∙ ap (grounds_in known) are

@@ -1,0 +1,20 @@
+-- What is kept of the message is what is known of it.
+use Rattle.std.proofs.Common.{map, take, ap, ◌∙◌}
+use Rattle.std.proofs.lemmas.Result.{IfOk-weaker}
+use Rattle.tcap_parts.specs.Meaning.{component_of}
+use Rattle.tcap_model.specs.Entries.{item_of}
+use Rattle.tcap_refute.specs.Before.{since_quiet}
+use Rattle.tcap_faults.specs.Subject.{items_among}
+use Rattle.tcap_evidence.specs.Evidence.{invoke_id_in}
+use Rattle.tcap_evidence.proofs.FindingLaws.{scene_is}
+use Rattle.tcap_evidence.proofs.finding.scene_for.Goals as goal
+
+pub returns : goal.returns
+returns c = λ side entries own peer.
+    let number = c.args.at.entry in
+    let items = since_quiet (items_among (map item_of (take number entries))) in
+    let id = c.invoke_id_of-id.ensures ∙ ap (invoke_id_in c.args.at.kind) c.component_at.ensures in
+    IfOk-weaker c.new.result _ _
+    (λ kept is. scene_is c.args.table.now side entries number c.args.message.now c.args.at.kind c.args.about.now c.args.stretch
+    (map component_of c.in_ok-all.all.items) (map component_of c.in_ok-earlier.earlier.items) c.invoke_id_of-id.result
+    kept is own peer c.in_ok-all.ensures c.in_ok-earlier.ensures id) (c.new.ensures side items)

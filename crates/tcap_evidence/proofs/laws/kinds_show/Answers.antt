@@ -1,0 +1,5 @@
+use Rattle.tcap_evidence.proofs.KindShows.{ended_shows, open_shows, reused_shows, unknown_shows}
+use Rattle.tcap_evidence.proofs.laws.kinds_show.Goals as goal
+
+pub returns : goal.returns
+returns c = record { unknown = unknown_shows; reused = reused_shows; ended = ended_shows; left_open = open_shows }

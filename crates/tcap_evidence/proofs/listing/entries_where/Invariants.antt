@@ -1,0 +1,10 @@
+-- With those that are left they are all.
+use Rattle.std.proofs.Common.{◌≡◌, ◌++◌, drop}
+use Rattle.tcap_evidence.specs.Listing.{passes}
+use Rattle.tcap_evidence.specs.Numbered.{entries_where, numbered_of}
+use Rattle.tcap_evidence.proofs.listing.entries_where.Given as goal
+
+abbrev pub invariant-loop-one : goal.invariant-loop-one
+invariant-loop-one l =
+    l.entries.items ++ entries_where (passes l.test) (numbered_of (drop l.one-index l.sent))
+    ≡ entries_where (passes l.test) (numbered_of l.sent)

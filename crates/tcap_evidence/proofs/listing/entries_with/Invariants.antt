@@ -1,0 +1,10 @@
+-- With those of the messages that are left they are all.
+use Rattle.std.proofs.Common.{◌≡◌, ◌++◌, drop}
+use Rattle.tcap_faults.specs.Tallied.{is_sort}
+use Rattle.tcap_evidence.specs.Numbered.{entries_with, numbered_of}
+use Rattle.tcap_evidence.proofs.listing.entries_with.Given as goal
+
+abbrev pub invariant-loop-one : goal.invariant-loop-one
+invariant-loop-one l =
+    l.entries.items ++ entries_with (is_sort l.table l.id l.sort) (numbered_of (drop l.one-index l.sent))
+    ≡ entries_with (is_sort l.table l.id l.sort) (numbered_of l.sent)

@@ -1,0 +1,11 @@
+-- It is among those that are left.
+use Rattle.std.proofs.Common.{◌≡◌, drop}
+use Rattle.std.specs.List.{find}
+use Rattle.tcap_evidence.specs.Listing.{passes}
+use Rattle.tcap_evidence.specs.Numbered.{numbered_of}
+use Rattle.tcap_evidence.proofs.listing.first_where.Given as goal
+
+abbrev pub invariant-loop-one : goal.invariant-loop-one
+invariant-loop-one l =
+    find (λ n. passes l.test n.1) (numbered_of (drop l.one-index l.sent))
+    ≡ find (λ n. passes l.test n.1) (numbered_of l.sent)

@@ -1,0 +1,11 @@
+-- With those of the components that are left they are all.
+use Rattle.std.proofs.Common.{◌≡◌, ◌++◌, filter, map}
+use Rattle.tcap_parts.specs.Meaning.{components_left}
+use Rattle.tcap_msg.specs.Parts.{components_in}
+use Rattle.tcap_faults.specs.Tallied.{is_sort}
+use Rattle.tcap_evidence.proofs.listing.push_components.Given as goal
+
+abbrev pub invariant-loop-component : goal.invariant-loop-component
+invariant-loop-component l =
+    l.entries.items ++ map (λ c. l.one.number) (filter (is_sort l.table l.id l.sort) (components_left l.component-iterator))
+    ≡ l.fn.entries.items ++ map (λ c. l.one.number) (filter (is_sort l.table l.id l.sort) (components_in l.one.message.now))

@@ -1,0 +1,11 @@
+-- With those of the components that are left they are all.
+use Rattle.std.proofs.Common.{◌≡◌, ◌++◌, drop, filter, map}
+use Rattle.tcap_parts.specs.Meaning.{component_of}
+use Rattle.tcap_faults.specs.Tallied.{is_sort}
+use Rattle.tcap_evidence.proofs.listing.push_sorted.Given as goal
+
+abbrev pub invariant-loop-component : goal.invariant-loop-component
+invariant-loop-component l =
+    l.entries.items
+    ++ map (λ c. l.number) (filter (is_sort l.table l.id l.sort) (map component_of (drop l.component-index l.components)))
+    ≡ l.fn.entries.items ++ map (λ c. l.number) (filter (is_sort l.table l.id l.sort) (map component_of l.components))

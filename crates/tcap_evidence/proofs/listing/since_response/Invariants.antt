@@ -1,0 +1,13 @@
+-- With what is heard of those that are left they are all.
+use Rattle.std.proofs.Common.{◌≡◌, ◌++◌, drop}
+use Rattle.tcap_msg.specs.Parts.{dialogue_in}
+use Rattle.tcap_end.specs.Dialogue.{is_response}
+use Rattle.tcap_evidence.specs.Numbered.{numbered_of}
+use Rattle.tcap_evidence.specs.Scene.{since_first}
+use Rattle.tcap_evidence.proofs.ListingLaws.{come_of}
+use Rattle.tcap_evidence.proofs.listing.since_response.Given as goal
+
+abbrev pub invariant-loop-one : goal.invariant-loop-one
+invariant-loop-one l =
+    numbered_of l.kept.items ++ come_of l.has_come (numbered_of (drop l.one-index l.sent))
+    ≡ since_first (λ n. is_response (dialogue_in n.1)) (numbered_of l.sent)

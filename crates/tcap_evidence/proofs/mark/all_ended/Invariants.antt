@@ -1,0 +1,14 @@
+-- With those of the messages that are left they are all.
+use Rattle.std.proofs.Common.{◌≡◌, ◌||◌, ℕ, List, drop}
+use Rattle.std.specs.BTreeSet as set
+use Rattle.std.specs.List.{list_any}
+use Rattle.tcap_end.specs.End.{is_id}
+use Rattle.tcap_end.specs.Table.{octets_cmp}
+use Rattle.tcap_evidence.specs.Marked.{ended_to, messages_of}
+use Rattle.tcap_evidence.proofs.mark.all_ended.Given as goal
+
+abbrev pub invariant-loop-one : goal.invariant-loop-one
+invariant-loop-one l =
+    (id : List ℕ) → (set.contains octets_cmp l.ended id
+    || list_any (λ m. is_id id (ended_to l.by_provider m)) (messages_of (drop l.one-index l.sent)))
+    ≡ list_any (λ m. is_id id (ended_to l.by_provider m)) (messages_of l.sent)

@@ -1,0 +1,12 @@
+-- With those of the messages that are left they are all.
+use Rattle.std.proofs.Common.{◌≡◌, ◌++◌, drop}
+use Rattle.tcap_evidence.specs.Kept.{IsStretch}
+use Rattle.tcap_evidence.specs.Numbered.{entries_where, numbered_of}
+use Rattle.tcap_evidence.specs.Scene.{Scene, is_open_continue}
+use Rattle.tcap_evidence.proofs.mark.open_continues.Given as goal
+
+abbrev pub invariant-loop-one : goal.invariant-loop-one
+invariant-loop-one l =
+    (s : Scene) → s.table ≡ l.table → IsStretch s l.stretch
+    → l.entries.items ++ entries_where (is_open_continue s) (numbered_of (drop l.one-index l.one-items))
+    ≡ entries_where (is_open_continue s) (numbered_of l.one-items)

@@ -1,0 +1,27 @@
+use Rattle.std.proofs.Common.{◌&&◌, ap, ap₂, ◌∙◌}
+use Rattle.std.proofs.lemmas.Result.{IfOk-weaker}
+use Rattle.tcap_msg.specs.declared.kind.Kind.TheVariants as forms
+use Rattle.tcap_msg.specs.Parts.{otid_in}
+use Rattle.tcap_refute.specs.Before.{is_a}
+use Rattle.tcap_refute.specs.Kind.{is_begin_with_request}
+use Rattle.tcap_evidence.specs.Numbered.{entries_where, numbered_of}
+use Rattle.tcap_evidence.specs.Scene.{is_that}
+use Rattle.tcap_evidence.proofs.scene.Scene.shown.Goals as goal
+
+pub returns-in-Begun : goal.returns-in-Begun
+returns-in-Begun c = λ s are of_message.
+    rw c.in-Begun.is
+    (IfOk-weaker c.entries_where-in-Begun.result _ _
+    (λ v is. is
+    ∙ ap₂ (λ id sent. entries_where (λ m. is_a forms.Begin m && is_that id (otid_in m)) sent)
+    (c.own_id.ensures s are) (ap numbered_of c.deref-in-Begun.ensures.value ∙ are.own))
+    c.entries_where-in-Begun.ensures)
+
+pub returns-in-OwnRequests : goal.returns-in-OwnRequests
+returns-in-OwnRequests c = λ s are of_message.
+    rw c.in-OwnRequests.is
+    (IfOk-weaker c.entries_where-in-OwnRequests.result _ _
+    (λ v is. is
+    ∙ ap₂ (λ id sent. entries_where (λ m. is_begin_with_request m && is_that id (otid_in m)) sent)
+    (c.own_id-in-OwnRequests.ensures s are) (ap numbered_of c.deref-in-OwnRequests.ensures.value ∙ are.own))
+    c.entries_where-in-OwnRequests.ensures)

@@ -1,0 +1,11 @@
+use Rattle.std.proofs.Common.{ap, ◌∙◌}
+use Rattle.std.proofs.lemmas.Result.{IfOk-weaker}
+use Rattle.tcap_evidence.specs.Numbered.{numbered_of}
+use Rattle.tcap_evidence.proofs.SceneLaws.{to_half_is}
+use Rattle.tcap_evidence.proofs.scene.Scene.to_half.Goals as goal
+
+pub returns : goal.returns
+returns c = λ s are.
+    IfOk-weaker c.sent_where.result _ _
+    (λ v is. is ∙ to_half_is s _ (c.as_ref.ensures.value ∙ are.half) _ (ap numbered_of c.deref.ensures.value ∙ are.there))
+    c.sent_where.ensures

@@ -1,0 +1,14 @@
+-- With what each end sent in the entries that are left they are all.
+use Rattle.std.proofs.Common.{◌≡◌}
+use Rattle.tcap_record.specs.Ends.{other}
+use Rattle.tcap_evidence.specs.Numbered.{numbered_of, sent_before}
+use Rattle.tcap_evidence.proofs.StretchLaws.{sent_from}
+use Rattle.tcap_evidence.proofs.sent.stretch_before.Given as goal
+
+abbrev pub invariant-loop-at : goal.invariant-loop-at
+invariant-loop-at l = record {
+  own : sent_from l.end l.record.entries.items l.number l.at (numbered_of l.stretch.own.items)
+      ≡ sent_before l.end l.record.entries.items l.number;
+  peer : sent_from (other l.end) l.record.entries.items l.number l.at (numbered_of l.stretch.peer.items)
+      ≡ sent_before (other l.end) l.record.entries.items l.number;
+}

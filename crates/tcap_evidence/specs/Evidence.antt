@@ -1,0 +1,211 @@
+-- What the fault of an end rests on: for each kind the entries that show it (Q.771, Q.773, Q.774).
+use Rattle.std.specs.Prelude.{ℕ, ℤ, Bool, List, [], ◌∷◌, ◌++◌, map, take, slice_get, Option, Some, None, Result, Ok, Err, ◌==◌, cond}
+use Rattle.tcap_parts.specs.declared.component.Component.{Component}
+use Rattle.tcap_parts.specs.declared.component.Component.TheVariants.{Invoke, ReturnResult, ReturnError, Reject}
+use Rattle.tcap_parts.specs.declared.problem.Problem.{Problem}
+use Rattle.tcap_parts.specs.declared.problem.Problem.TheVariants as problems
+use Rattle.tcap_msg.specs.declared.message.Message.{Message}
+use Rattle.tcap_msg.specs.Parts.{components_in, dtid_in, otid_in}
+use Rattle.tcap_record.specs.declared.entry.End.{End as Side}
+use Rattle.tcap_record.specs.declared.entry.Entry.{Entry}
+use Rattle.tcap_record.specs.Ends.{other}
+use Rattle.tcap_end.specs.Table.{Table}
+use Rattle.tcap_model.specs.declared.reason.Reason.{Reason}
+use Rattle.tcap_model.specs.World.{Item, Sent}
+use Rattle.tcap_model.specs.Entries.{item_of}
+use Rattle.tcap_refute.specs.declared.kind.Kind.{Kind}
+use Rattle.tcap_refute.specs.declared.kind.Kind.TheVariants as kinds
+use Rattle.tcap_refute.specs.declared.kind.Refutation.{Refutation}
+use Rattle.tcap_refute.specs.Before.{since_quiet}
+use Rattle.tcap_faults.specs.declared.how.How.{How}
+use Rattle.tcap_faults.specs.declared.how.How.TheVariants as hows
+use Rattle.tcap_faults.specs.declared.sort.Class.TheVariants.{Any, One, Two, Three}
+use Rattle.tcap_faults.specs.declared.sort.Sort.{Sort}
+use Rattle.tcap_faults.specs.declared.sort.Sort.TheVariants as sorts
+use Rattle.tcap_faults.specs.declared.subject.Subject.{Subject}
+use Rattle.tcap_faults.specs.Components.{is_of_link}
+use Rattle.tcap_faults.specs.Subject.{items_among, no_subject, subject_of}
+use Rattle.tcap_evidence.specs.declared.what.What.{What}
+use Rattle.tcap_evidence.specs.declared.what.What.TheVariants as whats
+use Rattle.tcap_evidence.specs.Numbered.{sent_before}
+use Rattle.tcap_evidence.specs.Scene.{Scene, shown}
+
+-- ---- what shows a kind
+
+-- Invokes in such a place, and those of class 1, 2 and 3
+abbrev pub by_class : (Sort → What) → List What
+by_class at =
+    at (sorts.Invokes Any) ∷ at (sorts.Invokes One) ∷ at (sorts.Invokes Two) ∷ at (sorts.Invokes Three) ∷ []
+
+-- what takes invocations: last Return Results, Return Errors and Rejects with an invoke problem
+abbrev pub takings : (Sort → What) → List What
+takings at = at sorts.LastResults ∷ at sorts.Errors ∷ at sorts.InvokeRejects ∷ []
+
+-- F5: what a component answers or rejects; a Reject without ID, or with a general problem, is of nothing that could be read
+abbrev pub answered_by : Option Component → List What
+answered_by (Some (Reject (Some id) (problems.ReturnResult n))) = whats.There sorts.Results ∷ []
+answered_by (Some (Reject (Some id) (problems.ReturnError n))) = whats.There sorts.Errors ∷ []
+answered_by (Some (Reject (Some id) (problems.Invoke n))) = whats.There (sorts.Invokes Any) ∷ []
+answered_by (Some (ReturnResult last id body)) = whats.There (sorts.Invokes Any) ∷ []
+answered_by (Some (ReturnError id code parameter)) = whats.There (sorts.Invokes Any) ∷ []
+answered_by c = []
+
+-- F6
+abbrev pub allowed_by : Option Component → List What
+allowed_by (Some (ReturnResult last id body)) = by_class whats.There
+allowed_by (Some (ReturnError id code parameter)) = by_class whats.There
+allowed_by c = []
+
+-- F9
+abbrev pub dialogue_of : How → List What
+dialogue_of hows.Begun = whats.Begun ∷ whats.OwnRequests ∷ []
+dialogue_of how = whats.BeginsThere ∷ whats.RequestsThere ∷ whats.ContinuesTold ∷ []
+
+-- F10
+abbrev pub in_use : List What
+in_use =
+    whats.Whole (sorts.Invokes Any) ∷ whats.Invoked (sorts.Lasting Any) ∷ whats.Invoked (sorts.Lasting One)
+    ∷ whats.Invoked (sorts.Lasting Three) ∷ whats.Heard sorts.LastResults ∷ whats.Heard sorts.NotLasts
+    ∷ whats.Heard sorts.Errors ∷ whats.Heard sorts.InvokeRejects ∷ whats.Heard sorts.GeneralRejects
+    ∷ whats.Whole sorts.ResultRejects ∷ whats.Whole sorts.GeneralRejects ∷ []
+
+-- F13, of a Reject with that invoke problem: duplicateInvokeID (0), or one of a link (5 to 7)
+abbrev pub problem_of_invoke : ℕ → List What
+problem_of_invoke n =
+    cond (n == 0) (whats.Heard (sorts.Invokes Any) ∷ whats.Before sorts.DuplicateRejects ∷ [])
+    (cond (is_of_link n) (whats.Heard sorts.Linked ∷ whats.Before sorts.LinkRejects ∷ []) [])
+
+-- F13
+abbrev pub rejected_by : Option Component → List What
+rejected_by (Some (Reject id (problems.ReturnResult n))) =
+    (whats.Heard sorts.Results ∷ whats.Heard sorts.Errors ∷ whats.Before sorts.ResultRejects ∷ []) ++ by_class whats.Invoked
+rejected_by (Some (Reject id (problems.ReturnError n))) =
+    (whats.Heard sorts.Errors ∷ whats.Heard sorts.Results ∷ whats.Before sorts.ErrorRejects ∷ []) ++ by_class whats.Invoked
+rejected_by (Some (Reject id (problems.Invoke n))) = problem_of_invoke n
+rejected_by c = []
+
+-- of a message with destination ID
+abbrev pub shows_to : How → Option Component → Kind → List What
+shows_to how c kinds.BadMessage = []
+shows_to how c kinds.UnknownTransaction = whats.BeginsThere ∷ whats.ContinuesThere ∷ []
+shows_to how c kinds.ReusedId = whats.WentElsewhere ∷ []
+shows_to how c kinds.AfterEnd = whats.Ended ∷ []
+shows_to how c kinds.AnswersNothing = answered_by c
+shows_to how c kinds.WrongOperation = allowed_by c
+shows_to how c kinds.MisplacedDialogue = whats.BeginsThere ∷ whats.RequestsThere ∷ []
+shows_to how c kinds.WrongHalf =
+    whats.BeginsThere ∷ whats.Refused ∷ whats.ContinuesThere ∷ whats.Begun ∷ whats.ContinuesTold ∷ whats.Unknown ∷ []
+shows_to how c kinds.WrongDialogue = dialogue_of how
+shows_to how c kinds.InvokeIdBusy = in_use
+shows_to how c kinds.BadLink = whats.Heard (sorts.Invokes Any) ∷ takings whats.Before
+shows_to how c kinds.AnsweredAlready = by_class whats.Heard ++ takings whats.Before
+shows_to how c kinds.RejectNotAllowed = rejected_by c
+shows_to how c kinds.WrongReply =
+    whats.BeginsThere ∷ whats.ContinuesThere ∷ whats.Refused ∷ whats.Unknown ∷ whats.Told ∷ []
+shows_to how c kinds.OpenAtMark = []
+
+-- of a message without one
+abbrev pub shows_alone : Kind → List What
+shows_alone kinds.ReusedId = whats.Used ∷ []
+shows_alone kinds.InvokeIdBusy = whats.Before (sorts.Invokes Any) ∷ []
+shows_alone kind = []
+
+abbrev pub shows : Option (List ℕ) → How → Option Component → Kind → List What
+shows None how c kind = shows_alone kind
+shows (Some id) how c kind = shows_to how c kind
+
+-- ---- of an entry
+
+-- the invoke ID that is asked about: of a linked Invoke the linked ID, of another component its own
+abbrev pub invoke_id_of : Kind → Component → Option ℤ
+invoke_id_of kinds.BadLink (Invoke id linked code parameter) = linked
+invoke_id_of kind (Invoke id linked code parameter) = Some id
+invoke_id_of kind (ReturnResult last id body) = Some id
+invoke_id_of kind (ReturnError id code parameter) = Some id
+invoke_id_of kind (Reject id problem) = id
+
+abbrev pub invoke_id_in : Kind → Option Component → Option ℤ
+invoke_id_in kind None = None
+invoke_id_in kind (Some c) = invoke_id_of kind c
+
+-- the component of that number, and those before it
+abbrev pub component_at : Option ℕ → List Component → Option Component
+component_at None cs = None
+component_at (Some n) cs = slice_get cs n
+
+abbrev pub components_before : Option ℕ → List Component → List Component
+components_before None cs = []
+components_before (Some n) cs = take n cs
+
+-- what is known of a message of that number, of which a fault is about that
+abbrev pub scene_of : Table → Side → List Entry → ℕ → Message → Kind → Subject → Scene
+scene_of table side entries number m kind about = record {
+  table = table;
+  side = side;
+  items = since_quiet (items_among (map item_of (take number entries)));
+  own = sent_before side entries number;
+  peer = sent_before (other side) entries number;
+  number = number;
+  to = dtid_in m;
+  from = otid_in m;
+  how = about.how;
+  half = about.own;
+  all = components_in m;
+  earlier = components_before about.component (components_in m);
+  id = invoke_id_in kind (component_at about.component (components_in m));
+}
+
+-- each of these, with the entries that show it
+abbrev pub grounds_in : Scene → List What → List (What × List ℕ)
+grounds_in s ws = map (λ w. (w, shown s w)) ws
+
+-- the same of the message of an entry, whatever its fault is about; of another entry nothing
+abbrev pub grounds_at : Table → Side → List Entry → ℕ → List What → List (What × List ℕ)
+grounds_at table side entries number ws = by (slice_get (map item_of entries) number)
+  where
+    by : Option (Result Item Reason) → List (What × List ℕ)
+    by (Some (Ok (Sent sender m))) = grounds_in (scene_of table side entries number m kinds.BadMessage no_subject) ws
+    by entry = []
+
+-- at a quiet mark nothing is known but what was sent
+abbrev pub mark_scene : Table → Side → List Entry → ℕ → Scene
+mark_scene table side entries number = record {
+  table = table;
+  side = side;
+  items = since_quiet (items_among (map item_of (take number entries)));
+  own = sent_before side entries number;
+  peer = sent_before (other side) entries number;
+  number = number;
+  to = None;
+  from = None;
+  how = hows.Nowhere;
+  half = None;
+  all = [];
+  earlier = [];
+  id = None;
+}
+
+-- What shows the kind of an entry for that end: of a message by what it is about; of a quiet mark the Continues from IDs whose
+-- halves are open. Octets that are no message show it themselves.
+abbrev pub grounds_of : Bool → Table → Side → List Entry → Refutation → List (What × List ℕ)
+grounds_of of_one table side entries r = by (slice_get (map item_of entries) r.entry)
+  where
+    about : Subject
+    about = subject_of of_one table side entries r
+
+    by : Option (Result Item Reason) → List (What × List ℕ)
+    by (Some (Ok (Sent sender m))) =
+        grounds_in (scene_of table side entries r.entry m r.kind about)
+        (shows (dtid_in m) about.how (component_at about.component (components_in m)) r.kind)
+    by (Some (Ok Item.Quiet)) = grounds_in (mark_scene table side entries r.entry) (whats.Open ∷ [])
+    by entry = []
+
+-- the invoke ID that the components of an entry are counted of
+abbrev pub invoke_id_at : Bool → Table → Side → List Entry → Refutation → Option ℤ
+invoke_id_at of_one table side entries r = by (slice_get (map item_of entries) r.entry)
+  where
+    by : Option (Result Item Reason) → Option ℤ
+    by (Some (Ok (Sent sender m))) =
+        invoke_id_in r.kind
+        (component_at (subject_of of_one table side entries r).component (components_in m))
+    by entry = None

@@ -1,0 +1,9 @@
+pub mod Numbered
+pub mod Scene
+pub mod Listing
+pub mod Evidence
+pub mod Kept
+pub mod Marked
+pub mod Words
+pub mod Unblamed
+pub mod Shown

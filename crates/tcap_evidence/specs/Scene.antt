@@ -1,0 +1,161 @@
+-- What is known of a message at fault, and the entries that show it: what each end sent since the last quiet mark, the half over
+-- which the message would go, and the component at fault (Q.774 3.2, 3.3).
+use Rattle.std.specs.Prelude.{◌≡◌, ℕ, ℤ, Bool, true, false, List, [], ◌∷◌, ◌++◌, filter, map, option_to_list, take, slice_get, length, Option, Some, None, is_none, ◌&&◌, ◌||◌, cond}
+use Rattle.std.specs.List.{find}
+use Rattle.tcap_parts.specs.declared.component.Component.{Component}
+use Rattle.tcap_parts.specs.declared.component.Component.TheVariants.{Invoke, ReturnResult, ReturnError, Reject}
+use Rattle.tcap_parts.specs.declared.problem.Problem.TheVariants as problems
+use Rattle.tcap_msg.specs.declared.kind.Kind.TheVariants as forms
+use Rattle.tcap_msg.specs.declared.message.Message.{Message}
+use Rattle.tcap_msg.specs.Parts.{cause_in, components_in, dialogue_in, dtid_in, otid_in}
+use Rattle.tcap_record.specs.declared.entry.End.{End as Side}
+use Rattle.tcap_record.specs.declared.entry.Entry.{Entry}
+use Rattle.tcap_record.specs.Ends.{other}
+use Rattle.tcap_end.specs.Dialogue.{is_response}
+use Rattle.tcap_end.specs.End.{is_id}
+use Rattle.tcap_end.specs.Table.{Table}
+use Rattle.tcap_model.specs.World.{Item}
+use Rattle.tcap_model.specs.Since.{ended_by}
+use Rattle.tcap_refute.specs.declared.kind.Kind.{Kind}
+use Rattle.tcap_refute.specs.declared.kind.Kind.TheVariants as kinds
+use Rattle.tcap_refute.specs.Before.{is_a}
+use Rattle.tcap_refute.specs.Kind.{goes_elsewhere, is_begin_with_request, or_else}
+use Rattle.tcap_faults.specs.Told.{goes_on_to, is_cause}
+use Rattle.tcap_faults.specs.Closed.{is_surely_open}
+use Rattle.tcap_faults.specs.declared.how.How.{How}
+use Rattle.tcap_faults.specs.declared.how.How.TheVariants.{Accepted, Refused, Begun, Unanswered, Nowhere}
+use Rattle.tcap_faults.specs.declared.sort.Sort.{Sort}
+use Rattle.tcap_faults.specs.Tallied.{is_sort}
+use Rattle.tcap_evidence.specs.declared.what.What.{What}
+use Rattle.tcap_evidence.specs.declared.what.What.TheVariants as whats
+use Rattle.tcap_evidence.specs.Numbered.{Numbered, entries_where, entries_with}
+
+-- What is known of a message at fault.
+pub record Scene : Type 0 where
+  pub table : Table
+  pub side : Side
+  -- what stands before it since the last quiet mark, and what its end and the peer sent of that
+  pub items : List Item
+  pub own : List Numbered
+  pub peer : List Numbered
+  -- the number of its entry, its destination ID and its originating ID
+  pub number : ℕ
+  pub to : Option (List ℕ)
+  pub from : Option (List ℕ)
+  -- the half over which it would go, and its own ID
+  pub how : How
+  pub half : Option (List ℕ)
+  -- the components of the message, those before the one at fault, and the invoke ID that is asked about
+  pub all : List Component
+  pub earlier : List Component
+  pub id : Option ℤ
+
+-- whether an ID is there, and is that of a message
+abbrev pub is_that : Option (List ℕ) → Option (List ℕ) → Bool
+is_that None other = false
+is_that (Some id) other = is_id id other
+
+-- ---- what was sent
+
+-- the peer's messages from the destination ID
+abbrev pub there : Scene → List Numbered
+there s = filter (λ n. is_that s.to (otid_in n.1)) s.peer
+
+-- the end's messages to it, without the Aborts of its provider
+abbrev pub told_there : Scene → List Numbered
+told_there s = filter (λ n. is_that s.to (dtid_in n.1) && is_none (cause_in n.1)) s.own
+
+-- the own ID that is asked about: that of the half; else that of the message
+abbrev pub own_id : Scene → Option (List ℕ)
+own_id s = or_else s.half s.from
+
+-- these from the first on that passes
+abbrev pub since_first : {A : Type 0} → (A → Bool) → List A → List A
+since_first passes [] = []
+since_first passes (a ∷ more) = cond (passes a) (a ∷ more) (since_first passes more)
+
+-- the Continues from there to the half's own ID, if that is known
+abbrev pub to_half : Scene → List Numbered
+to_half s = by s.half
+  where
+    by : Option (List ℕ) → List Numbered
+    by None = []
+    by (Some own) = filter (λ n. goes_on_to own n.1) (there s)
+
+-- the half's own Begin
+abbrev pub own_begin : Scene → Option Numbered
+own_begin s = find (λ n. is_a forms.Begin n.1 && is_that s.half (otid_in n.1)) s.own
+
+abbrev pub has_request : Option Numbered → Bool
+has_request None = false
+has_request (Some n) = is_begin_with_request n.1
+
+-- What a half heard that began so: the peer's Begin, and all Continues to its own ID; or these Continues, where its own Begin asks
+-- for a dialogue only from the first on that answers the request.
+abbrev pub heard_by : Scene → How → List Numbered
+heard_by s Accepted = option_to_list (find (λ n. is_a forms.Begin n.1) (there s)) ++ to_half s
+heard_by s Refused = option_to_list (find (λ n. is_a forms.Begin n.1) (there s)) ++ to_half s
+heard_by s Begun =
+    cond (has_request (own_begin s)) (since_first (λ n. is_response (dialogue_in n.1)) (to_half s)) (to_half s)
+heard_by s Unanswered = []
+heard_by s Nowhere = []
+
+-- What has the own invocations of a half that began so: what the end told there, and its own Begin.
+abbrev pub invoked_by : Scene → How → List Numbered
+invoked_by s Begun = option_to_list (own_begin s) ++ told_there s
+invoked_by s Unanswered = option_to_list (own_begin s) ++ told_there s
+invoked_by s how = told_there s
+
+-- ---- the entries that show it
+
+-- the entries of the components of the invoke ID, of that sort
+abbrev pub with_sort : Scene → Sort → List Numbered → List ℕ
+with_sort s sort sent = by s.id
+  where
+    by : Option ℤ → List ℕ
+    by None = []
+    by (Some id) = entries_with (is_sort s.table id sort) sent
+
+-- the same of these components of the message itself
+abbrev pub with_sort_in : Scene → Sort → List Component → List ℕ
+with_sort_in s sort cs = by s.id
+  where
+    by : Option ℤ → List ℕ
+    by None = []
+    by (Some id) = map (λ c. s.number) (filter (is_sort s.table id sort) cs)
+
+-- a Continue from the message's originating ID to another destination ID
+abbrev pub went_elsewhere : Scene → Message → Bool
+went_elsewhere s m = by s.from s.to
+  where
+    by : Option (List ℕ) → Option (List ℕ) → Bool
+    by (Some otid) (Some dtid) = goes_elsewhere otid dtid m
+    by from to = false
+
+-- a Continue from an ID whose half is open for certain
+abbrev pub is_open_continue : Scene → Message → Bool
+is_open_continue s m = is_a forms.Continue m && by (otid_in m)
+  where
+    by : Option (List ℕ) → Bool
+    by None = false
+    by (Some own) = is_surely_open s.table s.side s.items own
+
+abbrev pub shown : Scene → What → List ℕ
+shown s whats.BeginsThere = entries_where (is_a forms.Begin) (there s)
+shown s whats.RequestsThere = entries_where is_begin_with_request (there s)
+shown s whats.ContinuesThere = entries_where (is_a forms.Continue) (there s)
+shown s whats.Used = entries_where (λ m. is_that s.from (otid_in m)) s.own
+shown s whats.WentElsewhere = entries_where (went_elsewhere s) s.own
+shown s whats.Begun = entries_where (λ m. is_a forms.Begin m && is_that (own_id s) (otid_in m)) s.own
+shown s whats.OwnRequests = entries_where (λ m. is_begin_with_request m && is_that (own_id s) (otid_in m)) s.own
+shown s whats.Told = entries_where (λ m. true) (told_there s)
+shown s whats.ContinuesTold = entries_where (is_a forms.Continue) (told_there s)
+shown s whats.Ended = entries_where (λ m. is_that s.to (ended_by m)) s.own
+shown s whats.Unknown = entries_where (λ m. is_that s.to (dtid_in m) && is_cause 1 (cause_in m)) s.own
+shown s whats.Refused = entries_where (λ m. is_that s.to (dtid_in m) && is_cause 4 (cause_in m)) s.own
+shown s (whats.There sort) = with_sort s sort (there s)
+shown s (whats.Heard sort) = with_sort s sort (heard_by s s.how)
+shown s (whats.Before sort) = with_sort s sort (told_there s) ++ with_sort_in s sort s.earlier
+shown s (whats.Whole sort) = with_sort s sort (told_there s) ++ with_sort_in s sort s.all
+shown s (whats.Invoked sort) = with_sort s sort (invoked_by s s.how)
+shown s whats.Open = entries_where (is_open_continue s) s.own

@@ -1,0 +1,47 @@
+-- Words for why nobody is blamed for an entry that is refuted, behind what it breaks.
+use Rattle.std.specs.Prelude.{ℕ, List, [], ◌∷◌, ◌++◌, Option, Some, None, codes}
+use Rattle.std.specs.List.{flat_map}
+use Rattle.std.specs.Fmt.{decimal}
+use Rattle.tcap_record.specs.declared.entry.End.{End as Side}
+use Rattle.tcap_record.specs.declared.entry.Entry.{Entry}
+use Rattle.tcap_record.specs.Ends.{letter}
+use Rattle.tcap_record.specs.Lines.{line_end}
+use Rattle.tcap_end.specs.Table.{Table}
+use Rattle.tcap_faults.specs.declared.why.Unblamed.{Unblamed}
+use Rattle.tcap_faults.specs.declared.why.Unblamed.TheVariants.{UsedAgain, Tangled}
+use Rattle.tcap_faults.specs.Unblamed.{unblamed_at}
+use Rattle.tcap_evidence.specs.declared.what.What.{What}
+use Rattle.tcap_evidence.specs.declared.what.What.TheVariants as whats
+use Rattle.tcap_evidence.specs.Evidence.{grounds_at}
+use Rattle.tcap_evidence.specs.Words.{ground_line}
+
+-- where the IDs of a message stood before
+abbrev pub id_uses : List What
+id_uses = whats.BeginsThere ∷ whats.ContinuesThere ∷ whats.ContinuesTold ∷ whats.Used ∷ []
+
+-- the lines of these for the message of that entry
+abbrev pub id_lines : Table → Side → List Entry → ℕ → List ℕ
+id_lines table side entries number = flat_map (ground_line side None) (grounds_at table side entries number id_uses)
+
+unfoldable pub tangled_words : List ℕ
+tangled_words =
+    codes "  nobody is blamed for it: its transaction IDs are tangled (one was given twice, begun twice, or guessed)\n"
+
+unfoldable pub spelling_words : List ℕ
+spelling_words =
+    codes "  nobody is blamed for it: what it rejects may be mistyped or badly structured as this end reads it\n"
+
+abbrev pub again_text : Side → ℕ → List ℕ
+again_text side again =
+    codes "  nobody is blamed for it: " ++ letter side ++ (codes " used an own ID again in entry " ++ decimal again)
+    ++ codes ", so that its transactions can't be told apart" ++ line_end
+
+-- by why that is so
+abbrev pub unblamed_words : Table → Side → List Entry → ℕ → Option Unblamed → List ℕ
+unblamed_words table side entries number (Some (UsedAgain again)) = again_text side again
+unblamed_words table side entries number (Some Tangled) = tangled_words ++ id_lines table side entries number
+unblamed_words table side entries number None = spelling_words
+
+abbrev pub unblamed_text : Table → Side → List Entry → ℕ → List ℕ
+unblamed_text table side entries number =
+    unblamed_words table side entries number (unblamed_at table side entries number)

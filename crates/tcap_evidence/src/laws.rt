@@ -1,0 +1,104 @@
+//! What it says that entries show a fault. Each function says by its contract alone what holds of the definitions: of the lists of
+//! entries, of the record, and of what the kinds of faults compare.
+
+ghost use Rattle.std.specs.Prelude.{◌≡◌, ◌≢◌, ℕ, ℤ, Bool, true, false, List, Contains, Some, Ok, map, slice_get};
+ghost use Rattle.tcap_parts.specs.declared.component.Component.{Component};
+ghost use Rattle.tcap_msg.specs.declared.message.Message.{Message};
+ghost use Rattle.tcap_msg.specs.Parts.{cause_in, dtid_in};
+ghost use Rattle.tcap_record.specs.declared.entry.End.{End as Side};
+ghost use Rattle.tcap_record.specs.declared.entry.Entry.{Entry};
+ghost use Rattle.tcap_end.specs.Table.{Table};
+ghost use Rattle.tcap_model.specs.World.{Item, Sent};
+ghost use Rattle.tcap_model.specs.Entries.{item_of};
+ghost use Rattle.tcap_refute.specs.declared.kind.Kind.{Kind};
+ghost use Rattle.tcap_refute.specs.declared.kind.Kind.TheVariants as kinds;
+ghost use Rattle.tcap_refute.specs.declared.kind.Refutation.{Refutation};
+ghost use Rattle.tcap_faults.specs.declared.how.How.TheVariants.{Nowhere};
+ghost use Rattle.tcap_faults.specs.declared.sort.Sort.{Sort};
+ghost use Rattle.tcap_faults.specs.declared.subject.Subject.{Subject};
+ghost use Rattle.tcap_faults.specs.Fault.{is_fault, is_open_at_mark};
+ghost use Rattle.tcap_faults.specs.HalfOf.{half_of};
+ghost use Rattle.tcap_faults.specs.Tallied.{is_sort};
+ghost use Rattle.tcap_evidence.specs.declared.what.What.{What};
+ghost use Rattle.tcap_evidence.specs.declared.what.What.TheVariants as whats;
+ghost use Rattle.tcap_evidence.specs.Evidence.{grounds_of, mark_scene, scene_of};
+ghost use Rattle.tcap_evidence.specs.Scene.{shown};
+ghost use Rattle.tcap_evidence.specs.Shown.{AreAllThere, AreCounted, HasKind, IsShown, ListsOne, ShowsReused, ShowsUnknown, SortsAre, is_of_component, is_heard_or_invoked, items_before, scene_at};
+
+/// The entries that are given as grounds are those which `shown` lists: of a message, with the half and the component that have the
+/// kind; of a quiet mark, with what was sent before it.
+pub fn grounds_are_listed()
+    ensures message { (of_one : Bool) (table : Table) (side sender : Side) (entries : List Entry) (r : Refutation) (m : Message)
+        (what : What) (numbers : List ℕ) → slice_get (map item_of entries) r.entry ≡ Some (Ok (Sent sender m))
+        → Contains (grounds_of of_one table side entries r) (what, numbers)
+        → numbers ≡ shown (scene_at of_one table side entries r.entry m r.kind) what }
+    ensures mark { (of_one : Bool) (table : Table) (side : Side) (entries : List Entry) (r : Refutation)
+        (what : What) (numbers : List ℕ) → slice_get (map item_of entries) r.entry ≡ Some (Ok Item.Quiet)
+        → Contains (grounds_of of_one table side entries r) (what, numbers)
+        → numbers ≡ shown (mark_scene table side entries r.entry) what }
+{}
+
+/// The lists have as many entries as the kinds of faults count: of components of an invoke ID, of each sort, and of messages.
+pub fn grounds_are_counts()
+    ensures components { (of_one : Bool) (table : Table) (side : Side) (entries : List Entry) (number : ℕ) (m : Message)
+        (kind : Kind) (to : List ℕ) (id : ℤ) (sort : Sort) → dtid_in m ≡ Some to
+        → (scene_at of_one table side entries number m kind).id ≡ Some id
+        → AreCounted side (items_before entries number) to m (scene_at of_one table side entries number m kind) sort
+        (is_sort table id sort) }
+    ensures messages { (table : Table) (side : Side) (entries : List Entry) (number : ℕ) (m : Message) (kind : Kind)
+        (about : Subject) (to : List ℕ) → dtid_in m ≡ Some to
+        → AreAllThere side (items_before entries number) to (scene_of table side entries number m kind about) }
+{}
+
+/// The sorts count what the words of the kinds count.
+pub fn sorts_are_counts()
+    ensures { (table : Table) (id : ℤ) (cs : List Component) → SortsAre table id cs }
+{}
+
+/// Where a message with a destination ID has one of the kinds F10 to F13, there is a half over which it goes. So the counts of what
+/// it told and invoked hold of these.
+pub fn components_have_a_half()
+    ensures { (table : Table) (side : Side) (items : List Item) (m : Message) (kind : Kind) (to : List ℕ)
+        → dtid_in m ≡ Some to → is_of_component kind ≡ true → is_fault table side items m kind ≡ true
+        → (half_of side items to).how ≢ Nowhere }
+{}
+
+/// Each number in a list is that of an entry of the record, of the end whose messages the list has, before the entry at fault and behind the last
+/// quiet mark, and its message is what the list is of; or it is the entry at fault itself, which has such a component before the
+/// one at fault, or, where the list is of all of the message, anywhere in it.
+pub fn entries_are_there()
+    ensures message { (table : Table) (side : Side) (entries : List Entry) (number : ℕ) (m : Message) (kind : Kind)
+        (about : Subject) (what : What) (n : ℕ) → Contains (shown (scene_of table side entries number m kind about) what) n
+        → IsShown entries (scene_of table side entries number m kind about) what n }
+    ensures mark { (table : Table) (side : Side) (entries : List Entry) (number : ℕ) (what : What) (n : ℕ)
+        → Contains (shown (mark_scene table side entries number) what) n
+        → IsShown entries (mark_scene table side entries number) what n }
+{}
+
+/// And each such entry is in the list, unless the list is of what one half heard or invoked.
+pub fn entries_are_listed()
+    ensures message { (table : Table) (side : Side) (entries : List Entry) (number : ℕ) (m : Message) (kind : Kind)
+        (about : Subject) (what : What) (n : ℕ) → is_heard_or_invoked what ≡ false
+        → IsShown entries (scene_of table side entries number m kind about) what n
+        → Contains (shown (scene_of table side entries number m kind about) what) n }
+    ensures mark { (table : Table) (side : Side) (entries : List Entry) (number : ℕ) (what : What) (n : ℕ)
+        → is_heard_or_invoked what ≡ false → IsShown entries (mark_scene table side entries number) what n
+        → Contains (shown (mark_scene table side entries number) what) n }
+{}
+
+/// Where a message has one of the kinds F2 to F4, or a quiet mark F15, the lists show that: of F2 they are empty, of the others there
+/// is an entry.
+pub fn kinds_show()
+    ensures unknown { (table : Table) (side : Side) (entries : List Entry) (number : ℕ) (m : Message) (about : Subject)
+        → HasKind table side (items_before entries number) m kinds.UnknownTransaction
+        → ShowsUnknown (scene_of table side entries number m kinds.UnknownTransaction about) (cause_in m) }
+    ensures reused { (table : Table) (side : Side) (entries : List Entry) (number : ℕ) (m : Message) (about : Subject)
+        → HasKind table side (items_before entries number) m kinds.ReusedId
+        → ShowsReused (scene_of table side entries number m kinds.ReusedId about) m }
+    ensures ended { (table : Table) (side : Side) (entries : List Entry) (number : ℕ) (m : Message) (about : Subject)
+        → HasKind table side (items_before entries number) m kinds.AfterEnd
+        → ListsOne (scene_of table side entries number m kinds.AfterEnd about) whats.Ended }
+    ensures left_open { (table : Table) (side : Side) (entries : List Entry) (number : ℕ)
+        → is_open_at_mark table side (items_before entries number) ≡ true
+        → ListsOne (mark_scene table side entries number) whats.Open }
+{}

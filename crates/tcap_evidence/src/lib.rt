@@ -1,0 +1,20 @@
+//! What the fault of an end of TCAP dialogues rests on: the entries of a record that show it, and words for them (Q.771, Q.773,
+//! Q.774).
+#![tactic(auto)]
+
+mod finding;
+pub mod laws;
+mod listing;
+mod mark;
+mod scene;
+mod sent;
+mod shows;
+mod telling;
+mod unblamed;
+mod what;
+mod words;
+
+pub use finding::{Evidence, Ground, find_evidence};
+pub use telling::{push_evidence, push_why};
+pub use unblamed::push_unblamed;
+pub use what::What;

@@ -1,0 +1,355 @@
+//! The entries of messages, or of components in them, that pass a test.
+
+ghost use Rattle.std.specs.Prelude.{◌≡◌, ◌++◌, IfOk, OnOk, filter, map, option_map};
+ghost use Rattle.std.specs.List.{find};
+ghost use Rattle.tcap_parts.specs.Meaning.{code_of, component_of, problem_of};
+ghost use Rattle.tcap_msg.specs.declared.kind.Kind.TheVariants as forms;
+ghost use Rattle.tcap_msg.specs.Meaning.{cause_of, id_of};
+ghost use Rattle.tcap_msg.specs.Parts.{components_in, dialogue_in};
+ghost use Rattle.tcap_end.specs.Dialogue.{is_response};
+ghost use Rattle.tcap_refute.specs.Before.{is_a};
+ghost use Rattle.tcap_refute.specs.Kind.{is_begin_with_request};
+ghost use Rattle.tcap_faults.specs.Told.{is_cause};
+ghost use Rattle.tcap_faults.specs.Noted.{invoke_has, reject_has, result_has};
+ghost use Rattle.tcap_faults.specs.Tallied.{is_of_class, is_sort};
+ghost use Rattle.tcap_evidence.specs.Listing.{passes};
+ghost use Rattle.tcap_evidence.specs.Marked.{ended_to};
+ghost use Rattle.tcap_evidence.specs.Numbered.{entries_where, entries_with, numbered_of};
+ghost use Rattle.tcap_evidence.specs.Scene.{is_that, since_first};
+
+use crate::sent::Sent;
+use std::alloc::{AllocError, Global};
+use tcap_ber::SmallView;
+use tcap_end::Table;
+use tcap_faults::{Class, Sort};
+use tcap_msg::{Kind as Form, Message, MessageParts, TransactionId, TransactionIdView};
+use tcap_parts::{CodeView, ComponentView, DialogueView, ProblemView};
+
+/// A test of a message.
+#[derive(Clone, Copy, Debug)]
+pub(crate) enum Test<'a> {
+    /// Any message.
+    Any,
+    /// A Begin.
+    Begin,
+    /// A Begin with a dialogue request.
+    Request,
+    /// A Continue.
+    Continue,
+    /// A message from that originating ID, if one is given.
+    From(Option<&'a TransactionId>),
+    /// A Begin from there.
+    BeginFrom(Option<&'a TransactionId>),
+    /// A Begin with a dialogue request from there.
+    RequestFrom(Option<&'a TransactionId>),
+    /// A Continue from the first ID to another than the second.
+    Elsewhere(Option<&'a TransactionId>, Option<&'a TransactionId>),
+    /// A message to that destination ID that is no Abort of the provider.
+    Told(Option<&'a TransactionId>),
+    /// A Continue to there.
+    ContinueTo(Option<&'a TransactionId>),
+    /// An End, or an Abort of the user, to there.
+    EndTo(Option<&'a TransactionId>),
+    /// An Abort of the provider with that cause to there.
+    AbortTo(Option<&'a TransactionId>, u8),
+}
+
+/// Whether that ID is there, and is the other.
+fn is_that(id: Option<&TransactionId>, other: Option<TransactionIdView>) -> bool
+    ensures { result ≡ is_that (option_map (λ t. t.now) id.entry) (id_of other.entry) }
+{
+    match (id, other) {
+        (Some(id), Some(other)) => id.octets() == other.octets,
+        _ => false,
+    }
+}
+
+/// Whether a message is a Begin.
+fn is_begin(message: &Message) -> bool
+    ensures { result ≡ is_a forms.Begin message.now }
+{
+    matches!(message, Message::Begin { .. })
+}
+
+/// Whether it is a Begin with a dialogue request.
+fn is_request(message: &Message) -> bool
+    ensures { result ≡ is_begin_with_request message.now }
+{
+    is_begin(message) && matches!(message.dialogue(), Some(DialogueView::Request { .. }))
+}
+
+/// Whether it is a Continue.
+fn is_continue(message: &Message) -> bool
+    ensures { result ≡ is_a forms.Continue message.now }
+{
+    matches!(message, Message::Continue { .. })
+}
+
+/// Whether it carries a dialogue response.
+fn has_response(message: &Message) -> bool
+    ensures { result ≡ is_response (dialogue_in message.now) }
+{
+    matches!(message.dialogue(), Some(DialogueView::Response { .. }))
+}
+
+/// The ID to which a message is an End, or an Abort: of the provider only where that counts.
+pub(crate) fn ended_to(message: &Message, by_provider: bool) -> Option<TransactionIdView<'_>>
+    ensures { id_of result ≡ ended_to by_provider message.now }
+{
+    let ends = match message.kind() {
+        Form::End => true,
+        Form::Abort => by_provider || message.cause().is_none(),
+        _ => false,
+    };
+    if ends { message.dtid() } else { None }
+}
+
+/// Whether it is that cause.
+fn is_cause(number: u8, cause: Option<SmallView>) -> bool
+    ensures { result ≡ is_cause number (cause_of cause) }
+{
+    match cause {
+        Some(cause) => cause.number == number,
+        None => false,
+    }
+}
+
+impl Test<'_> {
+    /// Whether a message passes.
+    pub(crate) fn passes(self, message: &Message) -> bool
+        ensures { result ≡ passes self.entry message.now }
+    {
+        match self {
+            Test::Any => true,
+            Test::Begin => is_begin(message),
+            Test::Request => is_request(message),
+            Test::Continue => is_continue(message),
+            Test::From(id) => is_that(id, message.otid()),
+            Test::BeginFrom(id) => is_begin(message) && is_that(id, message.otid()),
+            Test::RequestFrom(id) => is_request(message) && is_that(id, message.otid()),
+            Test::Elsewhere(from, to) => {
+                is_continue(message)
+                    && is_that(from, message.otid())
+                    && !is_that(to, message.dtid())
+            }
+            Test::Told(id) => is_that(id, message.dtid()) && message.cause().is_none(),
+            Test::ContinueTo(id) => is_continue(message) && is_that(id, message.dtid()),
+            Test::EndTo(id) => is_that(id, ended_to(message, false)),
+            Test::AbortTo(id, number) => {
+                is_that(id, message.dtid()) && is_cause(number, message.cause())
+            }
+        }
+    }
+}
+
+/// Whether an operation is of that class, or of any (Q.771 3.1.2).
+fn is_of_class(table: &Table, class: Class, code: CodeView) -> bool
+    ensures { result ≡ is_of_class table.now class (code_of code.entry) }
+{
+    let found = table.class_of(code);
+    match class {
+        Class::Any => true,
+        Class::One => found == Some(1),
+        Class::Two => found == Some(2),
+        Class::Three => found == Some(3),
+    }
+}
+
+/// Whether an Invoke of that linked ID and that operation is of a sort.
+fn is_invoke_of(table: &Table, sort: Sort, linked: Option<i8>, code: CodeView) -> bool
+    ensures { result ≡ invoke_has table.now linked (code_of code.entry) sort }
+{
+    match sort {
+        Sort::Invokes(class) => is_of_class(table, class, code),
+        Sort::Lasting(class) => !table.expires(code) && is_of_class(table, class, code),
+        Sort::Linked => linked.is_some(),
+        _ => false,
+    }
+}
+
+/// Whether a Return Result, the last one or not, is of a sort.
+fn is_result_of(sort: Sort, last: bool) -> bool
+    ensures { result ≡ result_has last sort }
+{
+    match sort {
+        Sort::Results => true,
+        Sort::LastResults => last,
+        Sort::NotLasts => !last,
+        _ => false,
+    }
+}
+
+/// Whether a Reject with that problem is of a sort.
+fn is_reject_of(sort: Sort, problem: ProblemView) -> bool
+    ensures { result ≡ reject_has (problem_of problem) sort }
+{
+    match (sort, problem) {
+        (Sort::GeneralRejects, ProblemView::General(_)) => true,
+        (Sort::InvokeRejects, ProblemView::Invoke(_)) => true,
+        (Sort::DuplicateRejects, ProblemView::Invoke(n)) => n.number == 0,
+        (Sort::LinkRejects, ProblemView::Invoke(n)) => 5 <= n.number && n.number <= 7,
+        (Sort::ResultRejects, ProblemView::ReturnResult(_)) => true,
+        (Sort::ErrorRejects, ProblemView::ReturnError(_)) => true,
+        _ => false,
+    }
+}
+
+/// Whether a component of that invoke ID is of a sort (Q.773 4.2.2).
+fn is_sort(table: &Table, id: i8, sort: Sort, component: ComponentView) -> bool
+    ensures { result ≡ is_sort table.now id sort (component_of component.entry) }
+{
+    match component {
+        ComponentView::Invoke {
+            id: other,
+            linked,
+            code,
+            ..
+        } => other == id && is_invoke_of(table, sort, linked, code),
+        ComponentView::ReturnResult {
+            last,
+            id: other,
+            ..
+        } => other == id && is_result_of(sort, last),
+        ComponentView::ReturnError { id: other, .. } => {
+            other == id && matches!(sort, Sort::Errors)
+        }
+        ComponentView::Reject { id: other, problem } => {
+            other == Some(id) && is_reject_of(sort, problem)
+        }
+    }
+}
+
+/// The entries of the messages that pass.
+pub(crate) fn entries_where(
+    alloc: Global,
+    sent: &[Sent],
+    test: Test,
+) -> Result<Vec<u64>, AllocError>
+    ensures { IfOk result (λ v. v.items ≡ entries_where (passes test.entry) (numbered_of sent.now)) }
+{
+    let mut entries = Vec::new(alloc);
+    for one in sent {
+        if test.passes(one.message) {
+            entries.push(one.number)?;
+        }
+    }
+    Ok(entries)
+}
+
+/// The first message that passes.
+pub(crate) fn first_where<'a>(sent: &[Sent<'a>], test: Test) -> Option<Sent<'a>>
+    ensures { option_map (λ s. (s.number, s.message.now)) result
+        ≡ find (λ n. passes test.entry n.1) (numbered_of sent.now) }
+{
+    for one in sent {
+        if test.passes(one.message) {
+            return Some(*one);
+        }
+    }
+    None
+}
+
+/// Appends the messages that pass.
+pub(crate) fn push_where<'a>(
+    kept: &mut Vec<Sent<'a>>,
+    sent: &[Sent<'a>],
+    test: Test,
+) -> Result<(), AllocError>
+    ensures { OnOk result (numbered_of kept.new.items
+        ≡ numbered_of kept.old.items ++ filter (λ n. passes test.entry n.1) (numbered_of sent.now)) }
+{
+    for one in sent {
+        if test.passes(one.message) {
+            kept.push(*one)?;
+        }
+    }
+    Ok(())
+}
+
+/// The messages that pass.
+pub(crate) fn sent_where<'a>(
+    alloc: Global,
+    sent: &[Sent<'a>],
+    test: Test,
+) -> Result<Vec<Sent<'a>>, AllocError>
+    ensures { IfOk result (λ v. numbered_of v.items ≡ filter (λ n. passes test.entry n.1) (numbered_of sent.now)) }
+{
+    let mut kept = Vec::new(alloc);
+    push_where(&mut kept, sent, test)?;
+    Ok(kept)
+}
+
+/// These messages from the first on that carries a dialogue response.
+pub(crate) fn since_response<'a>(
+    alloc: Global,
+    sent: &[Sent<'a>],
+) -> Result<Vec<Sent<'a>>, AllocError>
+    ensures { IfOk result (λ v. numbered_of v.items
+        ≡ since_first (λ n. is_response (dialogue_in n.1)) (numbered_of sent.now)) }
+{
+    let mut kept = Vec::new(alloc);
+    let mut has_come = false;
+    for one in sent {
+        has_come = has_come || has_response(one.message);
+        if has_come {
+            kept.push(*one)?;
+        }
+    }
+    Ok(kept)
+}
+
+/// Appends an entry as often as one of these components is of that invoke ID and that sort.
+pub(crate) fn push_sorted(
+    entries: &mut Vec<u64>,
+    table: &Table,
+    number: u64,
+    components: &[ComponentView],
+    id: i8,
+    sort: Sort,
+) -> Result<(), AllocError>
+    ensures { OnOk result (entries.new.items ≡ entries.old.items
+        ++ map (λ c. number) (filter (is_sort table.now id sort) (map component_of components.now))) }
+{
+    for component in components {
+        if is_sort(table, id, sort, *component) {
+            entries.push(number)?;
+        }
+    }
+    Ok(())
+}
+
+/// Appends the entry of a message as often as it has a component of that invoke ID and that sort.
+fn push_components(
+    entries: &mut Vec<u64>,
+    table: &Table,
+    one: Sent,
+    id: i8,
+    sort: Sort,
+) -> Result<(), AllocError>
+    ensures { OnOk result (entries.new.items ≡ entries.old.items
+        ++ map (λ c. one.entry.number) (filter (is_sort table.now id sort) (components_in one.entry.message.now))) }
+{
+    for component in one.message.components() {
+        if is_sort(table, id, sort, component) {
+            entries.push(one.number)?;
+        }
+    }
+    Ok(())
+}
+
+/// The entries of the components of that invoke ID and that sort.
+pub(crate) fn entries_with(
+    alloc: Global,
+    table: &Table,
+    sent: &[Sent],
+    id: i8,
+    sort: Sort,
+) -> Result<Vec<u64>, AllocError>
+    ensures { IfOk result (λ v. v.items ≡ entries_with (is_sort table.now id sort) (numbered_of sent.now)) }
+{
+    let mut entries = Vec::new(alloc);
+    for one in sent {
+        push_components(&mut entries, table, *one, id, sort)?;
+    }
+    Ok(entries)
+}

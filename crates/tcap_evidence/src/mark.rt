@@ -1,0 +1,133 @@
+//! Halves that are open at a quiet mark.
+
+ghost use Rattle.std.specs.Prelude.{◌≡◌, ℕ, List, IfOk, OnOk, false};
+ghost use Rattle.std.specs.BTreeMap.{is_at};
+ghost use Rattle.std.specs.BTreeSet as set;
+ghost use Rattle.std.specs.List.{list_any};
+ghost use Rattle.std.specs.Map.{lookup};
+ghost use Rattle.tcap_end.specs.End.{is_id};
+ghost use Rattle.tcap_end.specs.Table.{octets_cmp};
+ghost use Rattle.tcap_refute.specs.Kind.{or_else};
+ghost use Rattle.tcap_evidence.specs.Kept.{IsStretch};
+ghost use Rattle.tcap_evidence.specs.Marked.{AreHalves, ended_to, first_to, goes_first, messages_of};
+ghost use Rattle.tcap_evidence.specs.Scene.{Scene, is_open_continue, shown};
+ghost use Rattle.tcap_evidence.specs.declared.what.What.TheVariants as whats;
+
+use crate::listing::ended_to;
+use crate::sent::{Sent, Stretch};
+use std::alloc::{AllocError, Global};
+use std::collections::{BTreeMap, BTreeSet};
+use tcap_end::Table;
+use tcap_msg::{Message, TransactionId};
+
+/// What tells which halves of an end are open.
+#[derive(Debug, Drop)]
+struct Halves {
+    /// The first ID to which the end sent a Continue from each of its own.
+    first: BTreeMap<TransactionId, TransactionId>,
+    /// The IDs of the peer to which it sent an End, or an Abort of its user.
+    ended: BTreeSet<TransactionId>,
+    /// Its own IDs to which the peer sent an End or any Abort.
+    ended_by_peer: BTreeSet<TransactionId>,
+}
+
+/// The IDs to which these messages are Ends or Aborts: of the provider only where those count.
+fn all_ended(
+    alloc: Global,
+    sent: &[Sent],
+    by_provider: bool,
+) -> Result<BTreeSet<TransactionId>, AllocError>
+    ensures { IfOk result (λ ended. (id : List ℕ) → set.contains octets_cmp ended id
+        ≡ list_any (λ m. is_id id (ended_to by_provider m)) (messages_of sent.now)) }
+{
+    let mut ended = BTreeSet::new(alloc);
+    for one in sent {
+        if let Some(id) = ended_to(one.message, by_provider) {
+            ended.insert(id.to_transaction_id())?;
+        }
+    }
+    Ok(ended)
+}
+
+/// Notes where a Continue goes from an ID, unless one went from there before.
+fn note_first(
+    first: &mut BTreeMap<TransactionId, TransactionId>,
+    message: &Message,
+) -> Result<(), AllocError>
+    ensures { OnOk result ((id : List ℕ) → lookup (is_at (octets_cmp id)) first.new.entries
+        ≡ or_else (lookup (is_at (octets_cmp id)) first.old.entries) (goes_first id message.now)) }
+{
+    if let Message::Continue { otid, dtid, .. } = message {
+        if !first.contains_key(otid) {
+            first.insert(
+                otid.view().to_transaction_id(),
+                dtid.view().to_transaction_id(),
+            )?;
+        }
+    }
+    Ok(())
+}
+
+/// The first ID to which these messages are Continues from each ID.
+fn all_first(
+    alloc: Global,
+    sent: &[Sent],
+) -> Result<BTreeMap<TransactionId, TransactionId>, AllocError>
+    ensures { IfOk result (λ first. (id : List ℕ) → lookup (is_at (octets_cmp id)) first.entries
+        ≡ first_to id (messages_of sent.now)) }
+{
+    let mut first = BTreeMap::new(alloc);
+    for one in sent {
+        note_first(&mut first, one.message)?;
+    }
+    Ok(first)
+}
+
+impl Halves {
+    /// Those of what both ends sent.
+    fn of(alloc: Global, stretch: &Stretch) -> Result<Halves, AllocError>
+        ensures { (s : Scene) → IsStretch s stretch.now → IfOk result (λ halves. AreHalves s halves) }
+    {
+        Ok(Halves {
+            first: all_first(alloc, &stretch.own)?,
+            ended: all_ended(alloc, &stretch.own, false)?,
+            ended_by_peer: all_ended(alloc, &stretch.peer, true)?,
+        })
+    }
+
+    /// Whether a message is a Continue from an ID whose half is open for certain.
+    fn has(&self, message: &Message) -> bool
+        ensures { (s : Scene) → AreHalves s self.now → s.table.prearranged ≡ false
+            → result ≡ is_open_continue s message.now }
+    {
+        let Message::Continue { otid, .. } = message else {
+            return false;
+        };
+        match self.first.get(otid) {
+            Some(to) => !self.ended.contains(to) && !self.ended_by_peer.contains(otid),
+            None => false,
+        }
+    }
+}
+
+/// The entries of the Continues from IDs whose halves are open for certain.
+pub(crate) fn open_continues(
+    alloc: Global,
+    table: &Table,
+    stretch: &Stretch,
+) -> Result<Vec<u64>, AllocError>
+    ensures { (s : Scene) → s.table ≡ table.now → IsStretch s stretch.now
+        → IfOk result (λ v. v.items ≡ shown s whats.Open) }
+{
+    let mut entries = Vec::new(alloc);
+    if table.prearranged() {
+        return Ok(entries);
+    }
+    let halves = Halves::of(alloc, stretch)?;
+    for one in &stretch.own {
+        if halves.has(one.message) {
+            entries.push(one.number)?;
+        }
+    }
+    Ok(entries)
+}

@@ -1,0 +1,274 @@
+//! What is known of a message at fault: what each end sent since the last quiet mark, and the half over which it would go (Q.774
+//! 3.2, 3.3).
+
+ghost use Rattle.std.specs.Prelude.{◌≡◌, ◌++◌, false, List, IfOk, OnOk, map, option_map, option_to_list};
+ghost use Rattle.tcap_parts.specs.Meaning.{component_of};
+ghost use Rattle.tcap_msg.specs.Meaning.{id_of};
+ghost use Rattle.tcap_record.specs.declared.entry.End.{End as Side};
+ghost use Rattle.tcap_model.specs.World.{Item};
+ghost use Rattle.tcap_evidence.specs.Kept.{IsScene, scene_by};
+ghost use Rattle.tcap_evidence.specs.Marked.{is_of_mark};
+ghost use Rattle.tcap_evidence.specs.Numbered.{numbered_of};
+ghost use Rattle.tcap_evidence.specs.Scene.{Scene as Known, heard_by, invoked_by, own_begin, own_id, shown, to_half, told_there, with_sort, with_sort_in};
+ghost use Rattle.tcap_faults.specs.declared.how.How.TheVariants as hows;
+ghost use Rattle.tcap_evidence.specs.declared.what.What.TheVariants as whats;
+
+use crate::listing::{
+    Test, entries_where, entries_with, first_where, push_sorted, push_where, sent_where,
+    since_response,
+};
+use crate::sent::{Sent, Stretch};
+use crate::what::What;
+use std::alloc::{AllocError, Global};
+use tcap_end::Table;
+use tcap_faults::{How, Sort, Subject};
+use tcap_msg::{Message, MessageParts, TransactionId, TransactionIdView};
+use tcap_parts::ComponentView;
+
+/// What is known of a message at fault.
+#[derive(Debug, Drop)]
+pub(crate) struct Scene<'a> {
+    pub(crate) table: &'a Table,
+    /// The number of its entry.
+    pub(crate) number: u64,
+    pub(crate) to: Option<TransactionId>,
+    pub(crate) from: Option<TransactionId>,
+    /// The half over which it would go, and its own ID.
+    pub(crate) how: How,
+    pub(crate) half: Option<TransactionId>,
+    /// The components of the message, those before the one at fault, and the invoke ID that is asked about.
+    pub(crate) all: Vec<ComponentView<'a>>,
+    pub(crate) earlier: Vec<ComponentView<'a>>,
+    pub(crate) id: Option<i8>,
+    /// What its end sent.
+    pub(crate) own: Vec<Sent<'a>>,
+    /// What its peer sent from the destination ID.
+    pub(crate) there: Vec<Sent<'a>>,
+    /// What the end sent to there, without the Aborts of its provider.
+    pub(crate) told: Vec<Sent<'a>>,
+}
+
+/// A transaction ID as a value of its own, where there is one.
+fn owned(id: Option<TransactionIdView>) -> Option<TransactionId>
+    ensures { result ≡ id_of id.entry }
+{
+    match id {
+        Some(id) => Some(id.to_transaction_id()),
+        None => None,
+    }
+}
+
+/// A list of a message, if there is one.
+fn list_of<'a>(alloc: Global, first: Option<Sent<'a>>) -> Result<Vec<Sent<'a>>, AllocError>
+    ensures { IfOk result (λ v.
+        numbered_of v.items ≡ option_to_list (option_map (λ s. (s.number, s.message.now)) first.entry)) }
+{
+    let mut list = Vec::new(alloc);
+    if let Some(first) = first {
+        list.push(first)?;
+    }
+    Ok(list)
+}
+
+impl<'a> Scene<'a> {
+    /// That of a message of that number, of which a fault is about that, by what each end sent before it, by its components, those
+    /// before the one at fault, and the invoke ID that is asked about.
+    pub(crate) fn new(
+        alloc: Global,
+        stretch: Stretch<'a>,
+        table: &'a Table,
+        message: &Message,
+        number: u64,
+        about: &Subject,
+        all: Vec<ComponentView<'a>>,
+        earlier: Vec<ComponentView<'a>>,
+        id: Option<i8>,
+    ) -> Result<Scene<'a>, AllocError>
+        ensures { (side : Side) (items : List Item) → IfOk result (IsScene (scene_by table.now side items stretch.entry message.now
+            number about.now (map component_of all.entry.items) (map component_of earlier.entry.items) id)) }
+    {
+        let to = owned(message.dtid());
+        let there = sent_where(alloc, &stretch.peer, Test::From(to.as_ref()))?;
+        let told = sent_where(alloc, &stretch.own, Test::Told(to.as_ref()))?;
+        let half = match &about.own {
+            Some(own) => Some(own.view().to_transaction_id()),
+            None => None,
+        };
+        Ok(Scene {
+            table,
+            number,
+            to,
+            from: owned(message.otid()),
+            how: about.how,
+            half,
+            all,
+            earlier,
+            id,
+            own: stretch.own,
+            there,
+            told,
+        })
+    }
+
+    /// The own ID that is asked about: that of the half; else that of the message.
+    fn own_id(&self) -> Option<&TransactionId>
+        ensures { (s : Known) → IsScene s self.now → option_map (λ t. t.now) result ≡ own_id s }
+    {
+        match &self.half {
+            Some(id) => Some(id),
+            None => self.from.as_ref(),
+        }
+    }
+
+    /// The half's own Begin.
+    fn own_begin(&self) -> Option<Sent<'a>>
+        ensures { (s : Known) → IsScene s self.now → option_map (λ b. (b.number, b.message.now)) result ≡ own_begin s }
+    {
+        first_where(&self.own, Test::BeginFrom(self.half.as_ref()))
+    }
+
+    /// The Continues from there to the half's own ID.
+    fn to_half(&self, alloc: Global) -> Result<Vec<Sent<'a>>, AllocError>
+        ensures { (s : Known) → IsScene s self.now → IfOk result (λ v. numbered_of v.items ≡ to_half s) }
+    {
+        sent_where(alloc, &self.there, Test::ContinueTo(self.half.as_ref()))
+    }
+
+    /// What an accepted half heard: the peer's first Begin, and the Continues to its own ID.
+    fn heard_accepted(&self, alloc: Global) -> Result<Vec<Sent<'a>>, AllocError>
+        ensures { (s : Known) → IsScene s self.now → IfOk result (λ v. numbered_of v.items ≡ heard_by s hows.Accepted) }
+    {
+        let mut heard = list_of(alloc, first_where(&self.there, Test::Begin))?;
+        push_where(
+            &mut heard,
+            &self.there,
+            Test::ContinueTo(self.half.as_ref()),
+        )?;
+        Ok(heard)
+    }
+
+    /// What a half heard that began by sending a Begin: the Continues to its own ID; where it asked for a dialogue, from the first
+    /// on that answers the request.
+    fn heard_begun(&self, alloc: Global) -> Result<Vec<Sent<'a>>, AllocError>
+        ensures { (s : Known) → IsScene s self.now → IfOk result (λ v. numbered_of v.items ≡ heard_by s hows.Begun) }
+    {
+        let heard = self.to_half(alloc)?;
+        match self.own_begin() {
+            Some(begin) if Test::Request.passes(begin.message) => since_response(alloc, &heard),
+            _ => Ok(heard),
+        }
+    }
+
+    /// What the half heard.
+    fn heard(&self, alloc: Global) -> Result<Vec<Sent<'a>>, AllocError>
+        ensures { (s : Known) → IsScene s self.now → IfOk result (λ v. numbered_of v.items ≡ heard_by s s.how) }
+    {
+        match self.how {
+            How::Accepted | How::Refused => self.heard_accepted(alloc),
+            How::Begun => self.heard_begun(alloc),
+            How::Unanswered | How::Nowhere => Ok(Vec::new(alloc)),
+        }
+    }
+
+    /// The half's own Begin, where it began by sending one.
+    fn sent_begin(&self) -> Option<Sent<'a>>
+        ensures { (s : Known) → IsScene s self.now
+            → option_to_list (option_map (λ b. (b.number, b.message.now)) result) ++ told_there s ≡ invoked_by s s.how }
+    {
+        match self.how {
+            How::Begun | How::Unanswered => self.own_begin(),
+            How::Accepted | How::Refused | How::Nowhere => None,
+        }
+    }
+
+    /// What has the half's own invocations.
+    fn invoked(&self, alloc: Global) -> Result<Vec<Sent<'a>>, AllocError>
+        ensures { (s : Known) → IsScene s self.now → IfOk result (λ v. numbered_of v.items ≡ invoked_by s s.how) }
+    {
+        let mut invoked = list_of(alloc, self.sent_begin())?;
+        push_where(&mut invoked, &self.told, Test::Any)?;
+        Ok(invoked)
+    }
+
+    /// The entries of the components of the invoke ID, of that sort, in these messages.
+    fn with_sort(&self, alloc: Global, sent: &[Sent], sort: Sort) -> Result<Vec<u64>, AllocError>
+        ensures { (s : Known) → IsScene s self.now → IfOk result (λ v. v.items ≡ with_sort s sort (numbered_of sent.now)) }
+    {
+        match self.id {
+            Some(id) => entries_with(alloc, self.table, sent, id, sort),
+            None => Ok(Vec::new(alloc)),
+        }
+    }
+
+    /// Appends the same of these components of the message itself.
+    fn push_in(
+        &self,
+        entries: &mut Vec<u64>,
+        components: &[ComponentView],
+        sort: Sort,
+    ) -> Result<(), AllocError>
+        ensures { (s : Known) → IsScene s self.now → OnOk result (entries.new.items
+            ≡ entries.old.items ++ with_sort_in s sort (map component_of components.now)) }
+    {
+        match self.id {
+            Some(id) => push_sorted(entries, self.table, self.number, components, id, sort),
+            None => Ok(()),
+        }
+    }
+
+    /// The same of what the end told there, and of these components of the message.
+    fn told_with(
+        &self,
+        alloc: Global,
+        components: &[ComponentView],
+        sort: Sort,
+    ) -> Result<Vec<u64>, AllocError>
+        ensures { (s : Known) → IsScene s self.now → IfOk result (λ v. v.items
+            ≡ with_sort s sort (told_there s) ++ with_sort_in s sort (map component_of components.now)) }
+    {
+        let mut entries = self.with_sort(alloc, &self.told, sort)?;
+        self.push_in(&mut entries, components, sort)?;
+        Ok(entries)
+    }
+
+    /// The Continues from the message's originating ID to another destination ID.
+    fn elsewhere(&self, alloc: Global) -> Result<Vec<u64>, AllocError>
+        ensures { (s : Known) → IsScene s self.now → IfOk result (λ v. v.items ≡ shown s whats.WentElsewhere) }
+    {
+        match &self.to {
+            Some(to) => entries_where(
+                alloc,
+                &self.own,
+                Test::Elsewhere(self.from.as_ref(), Some(to)),
+            ),
+            None => Ok(Vec::new(alloc)),
+        }
+    }
+
+    /// The entries that show it. What is open is asked of a quiet mark alone.
+    pub(crate) fn shown(&self, alloc: Global, what: What) -> Result<Vec<u64>, AllocError>
+        ensures { (s : Known) → IsScene s self.now → is_of_mark what ≡ false → IfOk result (λ v. v.items ≡ shown s what) }
+    {
+        let to = self.to.as_ref();
+        match what {
+            What::BeginsThere => entries_where(alloc, &self.there, Test::Begin),
+            What::RequestsThere => entries_where(alloc, &self.there, Test::Request),
+            What::ContinuesThere => entries_where(alloc, &self.there, Test::Continue),
+            What::Used => entries_where(alloc, &self.own, Test::From(self.from.as_ref())),
+            What::WentElsewhere => self.elsewhere(alloc),
+            What::Begun => entries_where(alloc, &self.own, Test::BeginFrom(self.own_id())),
+            What::OwnRequests => entries_where(alloc, &self.own, Test::RequestFrom(self.own_id())),
+            What::Told => entries_where(alloc, &self.told, Test::Any),
+            What::ContinuesTold => entries_where(alloc, &self.told, Test::Continue),
+            What::Ended => entries_where(alloc, &self.own, Test::EndTo(to)),
+            What::Unknown => entries_where(alloc, &self.own, Test::AbortTo(to, 1)),
+            What::Refused => entries_where(alloc, &self.own, Test::AbortTo(to, 4)),
+            What::There(sort) => self.with_sort(alloc, &self.there, sort),
+            What::Heard(sort) => self.with_sort(alloc, &self.heard(alloc)?, sort),
+            What::Before(sort) => self.told_with(alloc, &self.earlier, sort),
+            What::Whole(sort) => self.told_with(alloc, &self.all, sort),
+            What::Invoked(sort) => self.with_sort(alloc, &self.invoked(alloc)?, sort),
+            What::Open => Ok(Vec::new(alloc)),
+        }
+    }
+}

@@ -1,0 +1,83 @@
+//! Messages with the numbers of their entries.
+
+ghost use Rattle.std.specs.Prelude.{◌≡◌, IfOk, OnOk};
+ghost use Rattle.tcap_record.specs.Ends.{other};
+ghost use Rattle.tcap_model.specs.Entries.{item_of};
+ghost use Rattle.tcap_model.specs.World.{is_side};
+ghost use Rattle.tcap_evidence.specs.Numbered.{numbered_of, sent_before, with_entry};
+
+use std::alloc::{AllocError, Global};
+use tcap_msg::Message;
+use tcap_record::{Body, End, Entry, Record};
+
+/// A message, with the number of its entry.
+#[derive(Clone, Copy, Debug)]
+pub(crate) struct Sent<'a> {
+    pub(crate) number: u64,
+    pub(crate) message: &'a Message,
+}
+
+/// What each end sent before the entry of that number, since the last quiet mark.
+#[derive(Debug, Drop)]
+pub(crate) struct Stretch<'a> {
+    pub(crate) own: Vec<Sent<'a>>,
+    pub(crate) peer: Vec<Sent<'a>>,
+}
+
+/// Whether it is that end.
+fn is_side(end: End, side: End) -> bool
+    ensures { result ≡ is_side end side }
+{
+    end == side
+}
+
+impl<'a> Stretch<'a> {
+    /// An entry more, of that number.
+    fn take(&mut self, end: End, number: u64, entry: &'a Entry) -> Result<(), AllocError>
+        ensures own { OnOk result (numbered_of self.new.own.items
+            ≡ with_entry end number (item_of entry.now) (numbered_of self.old.own.items)) }
+        ensures peer { OnOk result (numbered_of self.new.peer.items
+            ≡ with_entry (other end) number (item_of entry.now) (numbered_of self.old.peer.items)) }
+    {
+        match (entry.side, &entry.body) {
+            (None, Body::Quiet) => {
+                self.own.clear();
+                self.peer.clear();
+            }
+            (Some(side), Body::Good(message)) => {
+                let sent = Sent { number, message };
+                if is_side(end, side) {
+                    self.own.push(sent)?;
+                } else {
+                    self.peer.push(sent)?;
+                }
+            }
+            _ => {}
+        }
+        Ok(())
+    }
+}
+
+/// What an end and its peer sent before the entry of that number, since the last quiet mark.
+pub(crate) fn stretch_before<'a>(
+    alloc: Global,
+    record: &'a Record,
+    end: End,
+    number: u64,
+) -> Result<Stretch<'a>, AllocError>
+    ensures { IfOk result (λ s.
+        (numbered_of s.own.items ≡ sent_before end «record».now.entries.items number)
+        × (numbered_of s.peer.items ≡ sent_before (other end) «record».now.entries.items number)) }
+{
+    let mut stretch = Stretch {
+        own: Vec::new(alloc),
+        peer: Vec::new(alloc),
+    };
+    for (at, entry) in record.entries.iter().enumerate() {
+        if at as u64 >= number {
+            break;
+        }
+        stretch.take(end, at as u64, entry)?;
+    }
+    Ok(stretch)
+}

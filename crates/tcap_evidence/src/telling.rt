@@ -1,0 +1,355 @@
+//! The lines that say what a fault rests on.
+
+ghost use Rattle.std.specs.Prelude.{◌≡◌, ◌++◌, OnOk, codes, map, option_map, slice_get};
+ghost use Rattle.std.specs.List.{flat_map};
+ghost use Rattle.std.specs.String.{string_bytes};
+ghost use Rattle.tcap_parts.specs.Meaning.{component_of};
+ghost use Rattle.tcap_msg.specs.Parts.{dtid_in};
+ghost use Rattle.tcap_record.specs.Ends.{letter};
+ghost use Rattle.tcap_record.specs.Lines.{head_text, line_end};
+ghost use Rattle.tcap_evidence.specs.Words.{component_shown, component_words, doubt_lines, entries_words, entry_line, evidence_text, ground_line, half_line, how_words, id_words, lacks, mark_line, message_text, more_words, number_behind, own_words, sorted, sorted_in, told_text};
+
+use crate::finding::{Evidence, Ground, component_at, entry_at, find_evidence};
+use crate::words::{
+    class_of_sort, class_words, doubt_words, how_words, is_of_half, is_told_empty, kind_words,
+    lacks_words, letter, place_words, sender_of, sort_in, sort_words,
+};
+use std::alloc::{AllocError, Global};
+use tcap_end::Table;
+use tcap_faults::{Sort, Subject};
+use tcap_msg::{Message, MessageParts, TransactionId};
+use tcap_parts::ComponentView;
+use tcap_record::{Body, End, Entry, Record, push_component, push_head, push_hex};
+use tcap_refute::{Kind, Refutation};
+
+/// How many entries are named at most.
+const MOST: usize = 8;
+
+/// Appends the number of a component, where there is one.
+fn push_number(text: &mut String, component: Option<u64>) -> Result<(), AllocError>
+    ensures { OnOk result (string_bytes text.new ≡ string_bytes text.old ++ component_words component) }
+{
+    match component {
+        Some(number) => write!(text, ", component {number}"),
+        None => Ok(()),
+    }
+}
+
+/// Appends the line of an entry, and of its component where one is at fault.
+fn push_entry(
+    text: &mut String,
+    end: End,
+    at: Refutation,
+    component: Option<u64>,
+) -> Result<(), AllocError>
+    ensures { OnOk result (string_bytes text.new ≡ string_bytes text.old ++ entry_line end at component) }
+{
+    let number = at.entry;
+    let letter = letter(end);
+    write!(text, "  entry {number} of {letter}")?;
+    push_number(text, component)?;
+    text.push_str(": ")?;
+    text.push_str(kind_words(at.kind))?;
+    text.push_str("\n")
+}
+
+/// Appends that of a quiet mark.
+fn push_mark(text: &mut String, end: End, at: Refutation) -> Result<(), AllocError>
+    ensures { OnOk result (string_bytes text.new ≡ string_bytes text.old ++ mark_line end at) }
+{
+    let number = at.entry;
+    write!(text, "  entry {number}")?;
+    text.push_str(": a transaction of ")?;
+    text.push_str(letter(end))?;
+    text.push_str(" is open at this quiet mark")?;
+    text.push_str("\n")
+}
+
+/// Appends a component, where there is one.
+fn push_shown(text: &mut String, component: Option<ComponentView>) -> Result<(), AllocError>
+    ensures { OnOk result (string_bytes text.new ≡ string_bytes text.old
+        ++ component_shown (option_map component_of component.entry)) }
+{
+    match component {
+        Some(component) => {
+            text.push_str("    ")?;
+            push_component(text, component)
+        }
+        None => Ok(()),
+    }
+}
+
+/// Appends a message, and that component of it.
+fn push_message(
+    text: &mut String,
+    message: &Message,
+    component: Option<ComponentView>,
+) -> Result<(), AllocError>
+    ensures { OnOk result (string_bytes text.new ≡ string_bytes text.old
+        ++ (codes "    " ++ head_text message.now ++ line_end
+        ++ component_shown (option_map component_of component.entry))) }
+{
+    text.push_str("    ")?;
+    push_head(text, message)?;
+    text.push_str("\n")?;
+    push_shown(text, component)
+}
+
+/// Appends the own ID of a half, where it is known.
+fn push_own(text: &mut String, own: Option<&TransactionId>) -> Result<(), AllocError>
+    ensures { OnOk result (string_bytes text.new ≡ string_bytes text.old ++ own_words (option_map (λ id. id.now) own.entry)) }
+{
+    match own {
+        Some(id) => {
+            text.push_str(", own ID ")?;
+            push_hex(text, id.octets())
+        }
+        None => Ok(()),
+    }
+}
+
+/// Appends how the half began over which a message would go, and its own ID.
+fn push_how(text: &mut String, end: End, about: &Subject) -> Result<(), AllocError>
+    ensures { OnOk result (string_bytes text.new ≡ string_bytes text.old
+        ++ (codes "  the transaction of " ++ letter end ++ codes ": " ++ how_words about.now.how ++ own_words about.now.own
+        ++ line_end)) }
+{
+    text.push_str("  the transaction of ")?;
+    text.push_str(letter(end))?;
+    text.push_str(": ")?;
+    text.push_str(how_words(about.how))?;
+    push_own(text, about.own.as_ref())?;
+    text.push_str("\n")
+}
+
+/// The same of a message, where it has a destination ID and its kind is asked of the half.
+fn push_half(
+    text: &mut String,
+    end: End,
+    kind: Kind,
+    message: &Message,
+    about: &Subject,
+) -> Result<(), AllocError>
+    ensures { OnOk result (string_bytes text.new ≡ string_bytes text.old
+        ++ half_line end kind (dtid_in message.now) about.now) }
+{
+    match message.dtid() {
+        Some(_) if is_of_half(kind) => push_how(text, end, about),
+        _ => Ok(()),
+    }
+}
+
+/// Appends an invoke ID, where there is one.
+fn push_id(text: &mut String, id: Option<i8>) -> Result<(), AllocError>
+    ensures { OnOk result (string_bytes text.new ≡ string_bytes text.old ++ id_words id) }
+{
+    match id {
+        Some(id) => write!(text, " of {id}"),
+        None => Ok(()),
+    }
+}
+
+/// Appends a sort of components of an invoke ID.
+fn push_sort(text: &mut String, sort: Sort, id: Option<i8>) -> Result<(), AllocError>
+    ensures { OnOk result (string_bytes text.new ≡ string_bytes text.old ++ sorted sort id) }
+{
+    text.push_str(sort_words(sort))?;
+    push_id(text, id)?;
+    text.push_str(class_words(class_of_sort(sort)))
+}
+
+/// The same where components are counted.
+fn push_sorted(text: &mut String, sort: Option<Sort>, id: Option<i8>) -> Result<(), AllocError>
+    ensures { OnOk result (string_bytes text.new ≡ string_bytes text.old ++ sorted_in sort id) }
+{
+    match sort {
+        Some(sort) => push_sort(text, sort, id),
+        None => Ok(()),
+    }
+}
+
+/// Appends numbers of entries, each behind a comma.
+fn push_numbers(text: &mut String, numbers: &[u64]) -> Result<(), AllocError>
+    ensures { OnOk result (string_bytes text.new ≡ string_bytes text.old ++ flat_map number_behind numbers.now) }
+{
+    for number in numbers {
+        write!(text, ", {number}")?;
+    }
+    Ok(())
+}
+
+/// Appends how many entries there are that are not named.
+fn push_more(text: &mut String, count: usize) -> Result<(), AllocError>
+    ensures { OnOk result (string_bytes text.new ≡ string_bytes text.old ++ more_words count) }
+{
+    if count <= MOST {
+        return Ok(());
+    }
+    let left = count - MOST;
+    write!(text, " and {left} more")
+}
+
+/// Appends entries: the first eight, and how many more there are.
+fn push_entries(text: &mut String, entries: &[u64]) -> Result<(), AllocError>
+    ensures { OnOk result (string_bytes text.new ≡ string_bytes text.old ++ entries_words entries.now) }
+{
+    match entries {
+        [] => text.push_str("none"),
+        [only] => write!(text, "entry {only}"),
+        [first, more @ ..] => {
+            write!(text, "entries {first}")?;
+            push_numbers(text, &more[..more.len().min(MOST - 1)])?;
+            push_more(text, entries.len())
+        }
+    }
+}
+
+/// Appends what entries show, and which.
+fn push_ground(
+    text: &mut String,
+    end: End,
+    id: Option<i8>,
+    ground: &Ground,
+) -> Result<(), AllocError>
+    ensures { OnOk result (string_bytes text.new ≡ string_bytes text.old
+        ++ ground_line end id (ground.now.what, ground.now.entries.items)) }
+{
+    let what = ground.what;
+    if ground.entries.is_empty() && !is_told_empty(what) {
+        return Ok(());
+    }
+    text.push_str("  ")?;
+    text.push_str(letter(sender_of(end, what)))?;
+    text.push_str(": ")?;
+    push_sorted(text, sort_in(what), id)?;
+    text.push_str(place_words(what))?;
+    text.push_str(": ")?;
+    push_entries(text, &ground.entries)?;
+    text.push_str("\n")
+}
+
+/// Appends all that shows it, each on its line.
+pub(crate) fn push_grounds(
+    text: &mut String,
+    end: End,
+    id: Option<i8>,
+    grounds: &[Ground],
+) -> Result<(), AllocError>
+    ensures { OnOk result (string_bytes text.new ≡ string_bytes text.old
+        ++ flat_map (ground_line end id) (map (λ g. (g.what, g.entries.items)) grounds.now)) }
+{
+    for ground in grounds {
+        push_ground(text, end, id, ground)?;
+    }
+    Ok(())
+}
+
+/// Whether a component is an Invoke of an operation that the table lacks.
+fn lacks(table: &Table, component: Option<ComponentView>) -> bool
+    ensures { result ≡ lacks table.now (option_map component_of component.entry) }
+{
+    match component {
+        Some(ComponentView::Invoke { code, .. }) => table.class_of(code).is_none(),
+        _ => false,
+    }
+}
+
+/// Appends what else may be so of a message.
+fn push_doubt(
+    text: &mut String,
+    table: &Table,
+    kind: Kind,
+    component: Option<ComponentView>,
+) -> Result<(), AllocError>
+    ensures { OnOk result (string_bytes text.new ≡ string_bytes text.old
+        ++ doubt_lines table.now kind (option_map component_of component.entry)) }
+{
+    match kind {
+        Kind::WrongOperation => text.push_str(lacks_words(lacks(table, component))),
+        _ => text.push_str(doubt_words(kind)),
+    }
+}
+
+/// Appends the lines of a message.
+fn push_of_message(
+    text: &mut String,
+    table: &Table,
+    end: End,
+    at: Refutation,
+    message: &Message,
+    found: &Evidence,
+) -> Result<(), AllocError>
+    ensures { OnOk result (string_bytes text.new ≡ string_bytes text.old
+        ++ message_text table.now end at message.now found.now.about found.now.id
+        (map (λ g. (g.what, g.entries.items)) found.now.grounds.items)) }
+{
+    let about = &found.about;
+    let component = component_at(message, about.component);
+    push_entry(text, end, at, about.component)?;
+    push_message(text, message, component)?;
+    push_half(text, end, at.kind, message, about)?;
+    push_grounds(text, end, found.id, &found.grounds)?;
+    push_doubt(text, table, at.kind, component)
+}
+
+/// Appends in words what the fault of an end rests on, as `find_evidence` gives it of that record, that table, that end and that
+/// refutation: lines, each with two blanks before it, that name the entries which show it. `AllocError` where memory ran out: a part
+/// of the lines may have been appended.
+pub fn push_evidence(
+    text: &mut String,
+    record: &Record,
+    table: &Table,
+    end: End,
+    at: Refutation,
+    found: &Evidence,
+) -> Result<(), AllocError>
+    ensures { OnOk result (string_bytes text.new ≡ string_bytes text.old
+        ++ evidence_text table.now end (slice_get «record».now.entries.items at.entry) at found.now.about found.now.id
+        (map (λ g. (g.what, g.entries.items)) found.now.grounds.items)) }
+{
+    match entry_at(record, at.entry) {
+        Some(
+            Entry {
+                side: Some(_),
+                body: Body::Good(message),
+                ..
+            },
+        ) => push_of_message(text, table, end, at, message, found),
+        Some(
+            Entry {
+                side: None,
+                body: Body::Quiet,
+                ..
+            },
+        ) => {
+            push_mark(text, end, at)?;
+            push_grounds(text, end, None, &found.grounds)?;
+            text.push_str(doubt_words(at.kind))
+        }
+        _ => {
+            push_entry(text, end, at, None)?;
+            text.push_str(doubt_words(at.kind))
+        }
+    }
+}
+
+/// Appends in words what the fault of an end rests on: the entry of a record that is named for it, as `refute` or `blame` name it, and
+/// the entries that show it. It is given whether its kind was asked of one end alone, as `blame` does. `AllocError` where memory ran
+/// out: a part of the lines may have been appended.
+pub fn push_why(
+    alloc: Global,
+    text: &mut String,
+    record: &Record,
+    table: &Table,
+    end: End,
+    at: Refutation,
+    of_one: bool,
+) -> Result<(), AllocError>
+    ensures { OnOk result (string_bytes text.new ≡ string_bytes text.old
+        ++ told_text of_one table.now end «record».now.entries.items at) }
+{
+    match find_evidence(alloc, record, table, end, at, of_one) {
+        Ok(found) => push_evidence(text, record, table, end, at, &found),
+        Err(_) => Err(AllocError),
+    }
+}

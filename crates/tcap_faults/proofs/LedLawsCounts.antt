@@ -1,0 +1,120 @@
+-- How many of a list pass a test.
+use Rattle.std.proofs.Common.{◌≡◌, ℕ, ◌+◌, ◌≤◌, arith, Bool, true, false, cond, List, [], ◌∷◌, ◌++◌, length, filter, refl}
+use Rattle.std.specs.Prelude.{◌||◌}
+use Rattle.std.specs.List.{list_any}
+use Rattle.tcap_faults.specs.Counts.{count}
+
+-- ---- one item
+
+-- one where so, else none
+abbrev pub one : Bool → ℕ
+one b = cond b 1 0
+
+-- One is not more than another where the one is so only if the other is,
+pub one_weaker : (a b : Bool) → (a ≡ true → b ≡ true) → one a ≤ one b
+one_weaker true b then_so = rw (then_so refl) (omega arith)
+one_weaker false b then_so = omega arith
+
+-- two are not more than a third that each shows, where not both are so,
+pub one_apart : (a b c : Bool) → (a ≡ true → c ≡ true) → (b ≡ true → c ≡ true) → (a ≡ true → b ≡ true → ⊥)
+    → one a + one b ≤ one c
+one_apart true true c left right apart = absurd (apart refl refl)
+one_apart true false c left right apart = rw (left refl) (omega arith)
+one_apart false true c left right apart = rw (right refl) (omega arith)
+one_apart false false c left right apart = omega arith
+
+-- and a third that shows one of two is not more than both.
+pub one_covered : (a b c : Bool) → (c ≡ true → (a || b) ≡ true) → one c ≤ one a + one b
+one_covered true b c covered = one_below c (one b)
+  where
+    one_below : (x : Bool) (n : ℕ) → one x ≤ 1 + n
+    one_below true n = omega arith
+    one_below false n = omega arith
+one_covered false b c covered = by c (one_weaker c b covered)
+  where
+    by : (x : Bool) → one x ≤ one b → one x ≤ 0 + one b
+    by x less = omega arith
+
+-- ---- lists
+
+-- One item more is counted where it passes,
+pub count_more : {A : Type 0} (p : A → Bool) (x : A) (xs : List A) → count p (x ∷ xs) ≡ one (p x) + count p xs
+count_more {A} p x xs = by (p x)
+  where
+    by : (b : Bool) → length (cond b (x ∷ filter p xs) (filter p xs)) ≡ one b + count p xs
+    by true = omega arith
+    by false = omega arith
+
+-- of two lists those of each,
+pub count_both : {A : Type 0} (p : A → Bool) (xs ys : List A) → count p (xs ++ ys) ≡ count p xs + count p ys
+count_both p [] ys = omega arith
+count_both p (x ∷ xs) ys = omega (arith, count_more p x (xs ++ ys), count_more p x xs, count_both p xs ys)
+
+-- and of a list with one behind it that one too.
+pub count_last : {A : Type 0} (p : A → Bool) (xs : List A) (x : A) → count p (xs ++ x ∷ []) ≡ count p xs + one (p x)
+count_last p xs x = omega (arith, count_both p xs (x ∷ []), count_more p x [])
+
+-- ---- two tests
+
+-- No more pass a test than one that follows from it,
+pub count_weaker : {A : Type 0} (p q : A → Bool) (xs : List A) → ((x : A) → p x ≡ true → q x ≡ true)
+    → count p xs ≤ count q xs
+count_weaker p q [] weaker = omega arith
+count_weaker p q (x ∷ xs) weaker =
+    omega (arith, count_more p x xs, count_more q x xs, one_weaker (p x) (q x) (weaker x), count_weaker p q xs weaker)
+
+-- two tests that not both pass, than one that follows from each,
+pub count_apart : {A : Type 0} (p q r : A → Bool) (xs : List A) → ((x : A) → p x ≡ true → r x ≡ true)
+    → ((x : A) → q x ≡ true → r x ≡ true) → ((x : A) → p x ≡ true → q x ≡ true → ⊥)
+    → count p xs + count q xs ≤ count r xs
+count_apart p q r [] left right apart = omega arith
+count_apart p q r (x ∷ xs) left right apart =
+    omega (
+      arith,
+      count_more p x xs,
+      count_more q x xs,
+      count_more r x xs,
+      one_apart (p x) (q x) (r x) (left x) (right x) (apart x),
+      count_apart p q r xs left right apart,
+    )
+
+-- and one of which one of two follows, than both.
+pub count_covered : {A : Type 0} (p q r : A → Bool) (xs : List A) → ((x : A) → r x ≡ true → (p x || q x) ≡ true)
+    → count r xs ≤ count p xs + count q xs
+count_covered p q r [] covered = omega arith
+count_covered p q r (x ∷ xs) covered =
+    omega (
+      arith,
+      count_more p x xs,
+      count_more q x xs,
+      count_more r x xs,
+      one_covered (p x) (q x) (r x) (covered x),
+      count_covered p q r xs covered,
+    )
+
+-- None pass what never is so.
+pub count_never : {A : Type 0} (xs : List A) → count (λ x. false) xs ≡ 0
+count_never [] = refl
+count_never (x ∷ xs) = count_never xs
+
+-- ---- what a test finds
+
+-- Where it finds one, one is counted,
+pub any_counts : {A : Type 0} (p : A → Bool) (xs : List A) → list_any p xs ≡ true → 1 ≤ count p xs
+any_counts p [] found = cc
+any_counts {A} p (x ∷ xs) found = by (p x) (any_counts p xs) found (count_more p x xs)
+  where
+    by : (b : Bool) → (list_any p xs ≡ true → 1 ≤ count p xs) → (b || list_any p xs) ≡ true
+        → count p (x ∷ xs) ≡ one b + count p xs → 1 ≤ count p (x ∷ xs)
+    by true later is more = omega arith
+    by false later is more = omega (arith, later is)
+
+-- and where one is counted it finds one.
+pub counts_any : {A : Type 0} (p : A → Bool) (xs : List A) → 1 ≤ count p xs → list_any p xs ≡ true
+counts_any p [] found = absurd (omega arith)
+counts_any {A} p (x ∷ xs) found = by (p x) (counts_any p xs) (count_more p x xs)
+  where
+    by : (b : Bool) → (1 ≤ count p xs → list_any p xs ≡ true) → count p (x ∷ xs) ≡ one b + count p xs
+        → (b || list_any p xs) ≡ true
+    by true later more = refl
+    by false later more = later (omega (arith, found))

@@ -1,0 +1,97 @@
+-- What happened to the components of a half, and what the list of messages tells of it.
+use Rattle.std.proofs.Common.{◌≡◌, ℕ, ℤ, ◌≤◌, Bool, true, List, [], ◌∷◌, ◌++◌, filter, Option, Some, None, Ok}
+use Rattle.tcap_parts.specs.declared.component.Component.{Component}
+use Rattle.tcap_msg.specs.declared.kind.Kind.TheVariants as forms
+use Rattle.tcap_msg.specs.declared.message.Message.{Message}
+use Rattle.tcap_msg.specs.Parts.{otid_in}
+use Rattle.tcap_record.specs.declared.entry.End.{End as Side}
+use Rattle.tcap_end.specs.declared.half.Slot.{Slot}
+use Rattle.tcap_end.specs.declared.half.Slot.TheVariants.{Begun, Accepted}
+use Rattle.tcap_end.specs.Table.{Table}
+use Rattle.tcap_end.specs.Half.{Half}
+use Rattle.tcap_end.specs.Component.{own_invocation, receive_component, send_component}
+use Rattle.tcap_end.specs.End.{is_id}
+use Rattle.tcap_end.specs.Hidden.{may_expire, without_invocation}
+use Rattle.tcap_model.specs.World.{Item}
+use Rattle.tcap_refute.specs.Before.{is_a}
+use Rattle.tcap_faults.specs.Counts.{count}
+use Rattle.tcap_faults.specs.HalfOf.{HalfOf, heard_of}
+use Rattle.tcap_faults.specs.Told.{begin_from, goes_on_to, told}
+
+-- ---- a half's own story
+
+-- A component was sent, or received, or an own invocation ended unseen.
+pub data Happening : Type 0 where
+  Sends : Component → Happening
+  Gets : Component → Happening
+  Ends : ℤ → Happening
+
+-- They have the same invocations and answers.
+abbrev pub SameLists : Half → Half → Type 0
+SameLists g h = (h.out ≡ g.out) × (h.inn ≡ g.inn) × (h.grants ≡ g.grants)
+
+-- A half is what these happenings, the newest first, made of one without invocations and answers; its IDs, its phase and its
+-- dialogue may be any.
+abbrev pub IsLed : Table → List Happening → Half → Type 0
+IsLed table [] h = (h.out ≡ []) × (h.inn ≡ []) × (h.grants ≡ [])
+IsLed table (Sends c ∷ past) h =
+    (g k : Half) × IsLed table past g × (send_component table g c ≡ Ok k) × SameLists k h
+IsLed table (Gets c ∷ past) h = (g : Half) × IsLed table past g × SameLists (receive_component table g c) h
+IsLed table (Ends id ∷ past) h =
+    (g : Half) × IsLed table past g × (may_expire table (own_invocation g id) ≡ true) × SameLists (without_invocation id g) h
+
+-- the components that were sent, and those that were received
+abbrev pub sent_in : List Happening → List Component
+sent_in [] = []
+sent_in (Sends c ∷ past) = c ∷ sent_in past
+sent_in (Gets c ∷ past) = sent_in past
+sent_in (Ends id ∷ past) = sent_in past
+
+abbrev pub got_in : List Happening → List Component
+got_in [] = []
+got_in (Sends c ∷ past) = got_in past
+got_in (Gets c ∷ past) = c ∷ got_in past
+got_in (Ends id ∷ past) = got_in past
+
+-- ---- what is told of it
+
+-- No more of any sort stand in the first list.
+abbrev pub AreWithin : List Component → List Component → Type 0
+AreWithin xs ys = (passes : Component → Bool) → count passes xs ≤ count passes ys
+
+-- What is told of a half bounds what was sent and received over it.
+pub record Bounds (s : HalfOf) (sent got : List Component) : Type 0 where
+  pub heard : AreWithin got s.heard
+  pub told : AreWithin s.told sent
+  pub invoked : AreWithin s.invoked sent
+  pub all : AreWithin sent s.invoked
+
+-- ---- what the list tells of a half, since the last quiet mark
+
+-- what was sent from that ID
+abbrev pub from : List ℕ → List Message → List Message
+from id messages = filter (λ m. is_id id (otid_in m)) messages
+
+-- the Continues from its peer's ID to its own
+abbrev pub continues_to : List ℕ → List Message → Option (List ℕ) → List Message
+continues_to id gone None = []
+continues_to id gone (Some own) = filter (goes_on_to own) (from id gone)
+
+-- what a half heard of these Continues that began by this Begin, once it is there
+abbrev pub heard_behind : Option Message → List Message → List Message
+heard_behind None continues = []
+heard_behind (Some begin) continues = heard_of (Some begin) continues
+
+-- What a half may have heard of these messages of its peer: the Begin, where it began by receiving one, and the Continues
+-- from its peer's ID to its own.
+abbrev pub may_have_heard : Side → List Item → List Message → Slot → Option (List ℕ) → Option (List ℕ) → List Message
+may_have_heard side items gone slot own None = []
+may_have_heard side items gone Accepted own (Some id) =
+    filter (is_a forms.Begin) (from id gone) ++ continues_to id gone own
+may_have_heard side items gone Begun None (Some id) = []
+may_have_heard side items gone Begun (Some own) (Some id) =
+    heard_behind (begin_from side own items) (continues_to id gone (Some own))
+
+abbrev pub told_to : Side → List Item → Option (List ℕ) → List Message
+told_to side items None = []
+told_to side items (Some id) = told side id items

@@ -1,0 +1,5 @@
+use Rattle.tcap_faults.proofs.MarkKinds.{no_open_mark}
+use Rattle.tcap_faults.proofs.laws.no_mark_leaves_open.Goals as goal
+
+pub returns : goal.returns
+returns c = no_open_mark

@@ -1,0 +1,60 @@
+-- Halves that an end answered as closed, and halves that are surely open (Q.774 3.3).
+use Rattle.std.specs.Prelude.{ℕ, Bool, false, List, [], Option, Some, None, ◌&&◌, not}
+use Rattle.std.specs.List.{find, list_any}
+use Rattle.tcap_msg.specs.declared.kind.Kind.TheVariants as forms
+use Rattle.tcap_msg.specs.declared.message.Message.{Message}
+use Rattle.tcap_msg.specs.Parts.{cause_in, dtid_in}
+use Rattle.tcap_record.specs.declared.entry.End.{End as Side}
+use Rattle.tcap_record.specs.Ends.{other}
+use Rattle.tcap_end.specs.Table.{Table}
+use Rattle.tcap_model.specs.World.{Item, Sent, is_side}
+use Rattle.tcap_model.specs.Run.{then_so}
+use Rattle.tcap_refute.specs.Before.{asked, ends_to, has_a, is_a, sent_by}
+use Rattle.tcap_faults.specs.Told.{goes_on_from, goes_on_to, has_ended, has_used, is_cause, one_passes}
+
+-- ---- answered as closed
+
+-- whether of these messages there is a Continue, and all of them go to that ID
+abbrev pub all_go_on_to : List ℕ → List Message → Bool
+all_go_on_to own messages =
+    has_a forms.Continue messages && not (list_any (λ m. is_a forms.Continue m && not (goes_on_to own m)) messages)
+
+-- An Abort with cause 1 behind these items which can answer nothing but a Continue to an own ID that the end had used: so
+-- the half with that ID was closed.
+abbrev pub shows_closed : Side → List ℕ → List Item → Item → Bool
+shows_closed side own seen (Sent sender message) =
+    is_side side sender && is_cause 1 (cause_in message) && by (dtid_in message)
+    && has_used side seen own
+  where
+    by : Option (List ℕ) → Bool
+    by None = false
+    by (Some id) = all_go_on_to own (asked side id seen)
+shows_closed side own seen Item.Quiet = false
+
+-- whether the half was answered as closed
+abbrev pub was_closed : Side → List Item → Option (List ℕ) → Bool
+was_closed side items None = false
+was_closed side items (Some own) = one_passes (shows_closed side own) [] items
+
+-- ---- surely open
+
+-- Whether a half is open for certain: the end sent a Continue from its own ID, the first of them to some ID; it ended
+-- nothing there, and the peer sent no End and no Abort to the own ID; and no half closes by prearrangement.
+abbrev pub is_surely_open : Table → Side → List Item → List ℕ → Bool
+is_surely_open table side items own =
+    not table.prearranged
+    && by (then_so (find (goes_on_from own) (sent_by side items)) dtid_in)
+    && not (list_any (ends_to own) (sent_by (other side) items))
+  where
+    by : Option (List ℕ) → Bool
+    by None = false
+    by (Some to) = not (has_ended side items to)
+
+-- whether of these messages there is a Continue, and all of them go to halves that are surely open
+abbrev pub all_go_to_open : Table → Side → List Item → List Message → Bool
+all_go_to_open table side items messages =
+    has_a forms.Continue messages && not (list_any (λ m. is_a forms.Continue m && not (by (dtid_in m))) messages)
+  where
+    by : Option (List ℕ) → Bool
+    by None = false
+    by (Some own) = is_surely_open table side items own

@@ -1,0 +1,45 @@
+-- Components of a message, each behind those before it; problems of links, and what a linked Invoke names (Q.773 4.2.2).
+use Rattle.std.specs.Prelude.{ℕ, ℤ, Bool, true, false, List, [], ◌∷◌, ◌++◌, Some, ◌==◌, ◌&&◌, ◌||◌, nat_le}
+use Rattle.std.specs.List.{list_any}
+use Rattle.tcap_parts.specs.declared.code.Code.{Code}
+use Rattle.tcap_parts.specs.declared.component.Component.{Component}
+use Rattle.tcap_parts.specs.declared.component.Component.TheVariants.{Invoke}
+use Rattle.tcap_end.specs.Table.{Table, linked_of}
+use Rattle.tcap_refute.specs.Before.{invokes, is_invoke_id}
+use Rattle.tcap_faults.specs.Counts.{invokes_so, is_nothing}
+
+-- ---- a message
+
+-- whether one of the components of a message is so, behind those of the message and those that were sent before
+abbrev pub has_component : (List Component → List Component → Component → Bool) → List Component → List Component
+    → List Component → Bool
+has_component is_so own before [] = false
+has_component is_so own before (c ∷ more) =
+    is_so own before c || has_component is_so (own ++ c ∷ []) (before ++ c ∷ []) more
+
+abbrev pub is_linked : Component → Bool
+is_linked (Invoke id (Some linked) code parameter) = true
+is_linked _ = false
+
+-- an Invoke of an ID that one of the components before it has
+abbrev pub invokes_again : List Component → List Component → Component → Bool
+invokes_again own before (Invoke id linked code parameter) = list_any (invokes id) own
+invokes_again own before _ = false
+
+-- ---- links
+
+abbrev pub is_problem : ℕ → ℕ → Bool
+is_problem problem n = n == problem
+
+-- the problems of a link: unrecognizedLinkedID (5), linkedResponseUnexpected (6), unexpectedLinkedOperation (7)
+abbrev pub is_of_link : ℕ → Bool
+is_of_link n = nat_le 5 n && nat_le n 7
+
+-- a linked Invoke of that ID that names an own invocation whose operation, with the Invoke's, passes a test
+abbrev pub is_linked_to : (Code → Code → Bool) → List Component → ℤ → Component → Bool
+is_linked_to passes invoked id (Invoke other (Some linked) code parameter) =
+    is_invoke_id id other && list_any (invokes_so linked (λ to. passes to code)) invoked
+is_linked_to passes invoked id _ = false
+
+abbrev pub lists_nothing : Table → Code → Bool
+lists_nothing table to = is_nothing (linked_of table to)

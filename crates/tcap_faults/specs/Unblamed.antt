@@ -1,0 +1,48 @@
+-- Why nothing is blamed on an end at an entry: it used an own ID again, so that it can't be told which transaction is meant; or its
+-- message goes over tangled IDs.
+use Rattle.std.specs.Prelude.{ℕ, ◌+◌, Bool, true, false, List, [], ◌∷◌, ◌++◌, map, slice_get, take, Option, Some, None, Result, Ok, Err, cond}
+use Rattle.tcap_record.specs.declared.entry.End.{End as Side}
+use Rattle.tcap_record.specs.declared.entry.Entry.{Entry}
+use Rattle.tcap_end.specs.Table.{Table}
+use Rattle.tcap_model.specs.declared.reason.Reason.{Reason}
+use Rattle.tcap_model.specs.World.{Item, Sent}
+use Rattle.tcap_model.specs.Entries.{item_of}
+use Rattle.tcap_refute.specs.Before.{since_quiet}
+use Rattle.tcap_refute.specs.Kind.{or_else}
+use Rattle.tcap_faults.specs.declared.why.Unblamed.{Unblamed}
+use Rattle.tcap_faults.specs.declared.why.Unblamed.TheVariants.{UsedAgain, Tangled}
+use Rattle.tcap_faults.specs.Subject.{items_among}
+use Rattle.tcap_faults.specs.Tangled.{goes_over_tangled}
+use Rattle.tcap_faults.specs.UsedAgain.{is_used_again}
+
+-- The number of the first of these entries in which the end used an own ID again, since the last quiet mark; these items since then,
+-- and that number, if there is one, are of the entries before.
+abbrev pub again_behind : Table → Side → ℕ → List (Result Item Reason) → List Item → Option ℕ → Option ℕ
+again_behind table side number [] seen first = first
+again_behind table side number (Err reason ∷ more) seen first = again_behind table side (number + 1) more seen first
+again_behind table side number (Ok Item.Quiet ∷ more) seen first = again_behind table side (number + 1) more [] None
+again_behind table side number (Ok (Sent sender m) ∷ more) seen first =
+    again_behind table side (number + 1) more (seen ++ Sent sender m ∷ [])
+    (or_else first (cond (is_used_again table side seen (Sent sender m)) (Some number) None))
+
+-- among the entries up to that number, this one too
+abbrev pub used_again_at : Table → Side → List Entry → ℕ → Option ℕ
+used_again_at table side entries number = again_behind table side 0 (map item_of (take (number + 1) entries)) [] None
+
+-- whether the message of that entry goes over tangled IDs of its end
+abbrev pub is_tangled_at : Side → List Entry → ℕ → Bool
+is_tangled_at side entries number = by (slice_get (map item_of entries) number)
+  where
+    by : Option (Result Item Reason) → Bool
+    by (Some (Ok (Sent sender m))) =
+        goes_over_tangled side (since_quiet (items_among (map item_of (take number entries)))) m
+    by entry = false
+
+abbrev pub unblamed_by : Option ℕ → Bool → Option Unblamed
+unblamed_by (Some again) tangled = Some (UsedAgain again)
+unblamed_by None true = Some Tangled
+unblamed_by None false = None
+
+abbrev pub unblamed_at : Table → Side → List Entry → ℕ → Option Unblamed
+unblamed_at table side entries number =
+    unblamed_by (used_again_at table side entries number) (is_tangled_at side entries number)

@@ -1,0 +1,64 @@
+//! Why nothing is blamed on an end at an entry (Q.774 3.3).
+
+ghost use Rattle.std.specs.Prelude.{◌≡◌, ℕ, List, slice_get, Some, IfOk};
+ghost use Rattle.tcap_record.specs.declared.entry.Entry.{Entry};
+ghost use Rattle.tcap_end.specs.Table.{Table};
+ghost use Rattle.tcap_faults.specs.Replay.{items_up_to};
+ghost use Rattle.tcap_faults.specs.Searching.{IsKept};
+ghost use Rattle.tcap_faults.specs.Unblamed.{is_tangled_at, unblamed_at, unblamed_by};
+
+use crate::kept::Kept;
+use crate::replay::{Replay, entry_at};
+use crate::why::Unblamed;
+use std::alloc::Global;
+use tcap_end::Table;
+use tcap_msg::MessageParts;
+use tcap_record::{Body, End, Entry, Record};
+use tcap_refute::SearchFault;
+
+impl Kept {
+    /// Whether the message of an entry behind what is kept goes over tangled IDs.
+    fn is_tangled(&self, end: End, entry: &Entry) -> bool
+        ensures { (table : Table) (entries : List Entry) (number : ℕ) → IsKept table (items_up_to entries number) self.now
+            → slice_get entries number ≡ Some entry.now → result ≡ is_tangled_at end entries number }
+    {
+        match (entry.side, &entry.body) {
+            (Some(_), Body::Good(message)) => self.ends(end).goes_over_tangled(&message.view()),
+            _ => false,
+        }
+    }
+}
+
+/// That, by the entry in which an own ID was used again, if there is one, and whether IDs are tangled.
+fn unblamed_by(again: Option<u64>, tangled: bool) -> Option<Unblamed>
+    ensures { result ≡ unblamed_by again tangled }
+{
+    match again {
+        Some(number) => Some(Unblamed::UsedAgain(number)),
+        None if tangled => Some(Unblamed::Tangled),
+        None => None,
+    }
+}
+
+/// Why nothing is blamed on an end at an entry of a record, which is given by its number, counted from 0 (Q.774 3.3). `UsedAgain`, with
+/// the number of the first entry, up to and with that one, in which the end used an own ID again, since the last quiet mark; else
+/// `Tangled`, where the message of that entry, whoever sent it, goes over tangled IDs of the end; else `None`. Where the record has no
+/// such entry, all its entries are looked at for IDs that are used again. The entries are noted once more, so it costs what the search
+/// up to that entry did. `Memory` where memory ran out.
+pub fn unblamed(
+    alloc: Global,
+    record: &Record,
+    table: &Table,
+    end: End,
+    number: u64,
+) -> Result<Option<Unblamed>, SearchFault>
+    ensures { IfOk result (λ u. u ≡ unblamed_at table.now end «record».now.entries.items number) }
+{
+    let mut replay = Replay::before(alloc, record, table, end, number)?;
+    let Some(entry) = entry_at(record, number) else {
+        return Ok(unblamed_by(replay.again, false));
+    };
+    let tangled = replay.kept.is_tangled(end, entry);
+    replay.take(alloc, table, end, number, entry)?;
+    Ok(unblamed_by(replay.again, tangled))
+}

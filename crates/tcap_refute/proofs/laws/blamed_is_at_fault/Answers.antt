@@ -1,5 +1,0 @@
-use Rattle.tcap_refute.proofs.BlamedLaws.{blamed_at_fault}
-use Rattle.tcap_refute.proofs.laws.blamed_is_at_fault.Goals as goal
-
-pub returns : goal.returns
-returns c = blamed_at_fault

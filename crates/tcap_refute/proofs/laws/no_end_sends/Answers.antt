@@ -1,5 +1,0 @@
-use Rattle.tcap_refute.proofs.BlameLaws.{none_at_fault}
-use Rattle.tcap_refute.proofs.laws.no_end_sends.Goals as goal
-
-pub returns : goal.returns
-returns c = none_at_fault

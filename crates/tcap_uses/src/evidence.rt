@@ -1,0 +1,24 @@
+ghost use Rattle.std.specs.Prelude.{◌≡◌, true, IfOk};
+ghost use Rattle.std.specs.String.{string_bytes};
+ghost use Rattle.tcap_evidence.specs.Words.{told_text};
+
+use std::alloc::{AllocError, Global};
+use tcap_end::Table;
+use tcap_evidence::push_why;
+use tcap_record::{End, Record};
+use tcap_refute::Refutation;
+
+/// What the entry that `blame` names of that end breaks, and the entries that show it, in words.
+pub fn told_fault(
+    alloc: Global,
+    record: &Record,
+    table: &Table,
+    end: End,
+    named: Refutation,
+) -> Result<String, AllocError>
+    ensures { IfOk result (λ text. string_bytes text ≡ told_text true table.now end «record».now.entries.items named) }
+{
+    let mut text = String::new(alloc);
+    push_why(alloc, &mut text, record, table, end, named, true)?;
+    Ok(text)
+}

@@ -1,0 +1,73 @@
+-- The lines behind REFUTED, and those of both ends: what is blamed, and the entries that show it.
+use Rattle.std.specs.Prelude.{ℕ, Bool, true, false, List, [], ◌++◌, length, slice_get, Option, Some, None, ◌==◌, ◌&&◌, ◌||◌, cond, nat_lt, codes}
+use Rattle.std.specs.Fmt.{decimal}
+use Rattle.tcap_record.specs.declared.entry.End.{End as Side}
+use Rattle.tcap_record.specs.declared.entry.End.TheVariants as sides
+use Rattle.tcap_record.specs.declared.entry.Entry.{Entry}
+use Rattle.tcap_record.specs.Lines.{line_end}
+use Rattle.tcap_end.specs.Table.{Table}
+use Rattle.tcap_refute.specs.declared.kind.Refutation.{Refutation}
+use Rattle.tcap_refute.specs.Kind.{kind_number}
+use Rattle.tcap_evidence.specs.Unblamed.{unblamed_text}
+use Rattle.tcap_evidence.specs.Words.{told_text}
+use Rattle.tcap_judge.specs.declared.finding.Ends.{Ends}
+use Rattle.tcap_judge.specs.declared.finding.Finding.{Finding}
+use Rattle.tcap_judge.specs.declared.finding.Finding.TheVariants as findings
+use Rattle.tcap_judge.specs.Blamed.{ends_of, finding_line, is_blamed, stands_behind}
+
+-- the end that sent an entry; A where none did
+abbrev pub sender_at : List Entry → ℕ → Side
+sender_at entries number = by (slice_get entries number)
+  where
+    by_side : Option Side → Side
+    by_side None = sides.A
+    by_side (Some side) = side
+
+    by : Option Entry → Side
+    by None = sides.A
+    by (Some entry) = by_side entry.side
+
+-- whether it was shown
+abbrev pub is_shown : Option Refutation → Refutation → Bool
+is_shown None r = false
+is_shown (Some shown) r = (shown.entry == r.entry) && (kind_number shown.kind == kind_number r.kind)
+
+-- that nothing is looked at from the first entry on that is no message
+unfoldable pub unread_words : ℕ → List ℕ
+unread_words count = codes "  entry " ++ decimal count ++ codes " is no message, and nothing from there on is looked at\n"
+
+unfoldable pub none_found_words : List ℕ
+none_found_words = codes "  no fault is found; that does not clear it\n"
+
+-- of so many entries that were looked at, of which so many there are: that no fault is found, or that no more are looked at
+abbrev pub unblamed_words : ℕ → ℕ → List ℕ
+unblamed_words count all = cond (nat_lt count all) (unread_words count) none_found_words
+
+-- why, where an entry is blamed on an end other than what was shown
+abbrev pub behind_text : Table → List Entry → Option Refutation → Side → Finding → List ℕ
+behind_text table entries shown side (findings.Blamed r) = cond (is_shown shown r) [] (told_text true table side entries r)
+behind_text table entries shown side (findings.Lawful count unheard) = []
+behind_text table entries shown side (findings.NotBlamed count) = unblamed_words count (length entries)
+
+-- what is said of an end, and why
+abbrev pub end_text : Table → List Entry → Option Refutation → Side → Finding → List ℕ
+end_text table entries shown side finding = finding_line side finding ++ behind_text table entries shown side finding
+
+-- that of both, what is blamed first
+abbrev pub both_text : Table → List Entry → Option Refutation → Ends → List ℕ
+both_text table entries shown ends = cond (stands_behind ends.a ends.b)
+    (end_text table entries shown sides.B ends.b ++ end_text table entries shown sides.A ends.a)
+    (end_text table entries shown sides.A ends.a ++ end_text table entries shown sides.B ends.b)
+
+-- why nobody is blamed for an entry that is refuted, where that is so
+abbrev pub unblamed_lines : Table → Side → List Entry → ℕ → Ends → List ℕ
+unblamed_lines table side entries number ends =
+    cond (is_blamed ends.a || is_blamed ends.b) [] (unblamed_text table side entries number)
+
+-- the lines behind REFUTED, of both ends or of the one that is judged
+abbrev pub refuted_lines : Option Side → Table → List Entry → Refutation → List ℕ
+refuted_lines (Some side) table entries r = told_text true table side entries r
+refuted_lines None table entries r =
+    told_text false table (sender_at entries r.entry) entries r
+    ++ unblamed_lines table (sender_at entries r.entry) entries r.entry (ends_of table entries)
+    ++ both_text table entries (Some r) (ends_of table entries)
