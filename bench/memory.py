@@ -119,8 +119,11 @@ LAWFUL B 3 unheard 0
 """
 WHY_REFUTED = """\
 REFUTED 1 F2
-  entry 1 of B is an End to 09, but A sent no Begin and no Continue from 09 before it
-  the messages of A come from 01 (entry 0)
+  entry 1 of B: its peer sent nothing from the destination ID that it could answer
+    End dtid=09
+  A: Begins from its destination ID: none
+  A: Continues from its destination ID: none
+  it may be, too, that a message of the peer is missing from the record
 BLAMED B 1 F2
 LAWFUL A 2 unheard 0
 """
