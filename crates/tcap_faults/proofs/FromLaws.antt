@@ -7,7 +7,7 @@ use Rattle.std.specs.BTreeMap.{BTreeMap, is_at}
 use Rattle.std.specs.Option.{option_or}
 use Rattle.std.proofs.lemmas.Bool.Decides.{nat_tests}
 use Rattle.std.proofs.lemmas.List.{append-nil}
-use Rattle.std.proofs.lemmas.List.Folds.{find-append}
+use Rattle.std.proofs.lemmas.List.Folds.{find-append, list_any-append}
 use Rattle.tcap_msg.specs.declared.kind.Kind.{Kind as Form}
 use Rattle.tcap_msg.specs.declared.kind.Kind.TheVariants as forms
 use Rattle.tcap_msg.specs.declared.message.Message.{Message}
@@ -16,7 +16,11 @@ use Rattle.tcap_msg.specs.Parts.{components_in, dialogue_in, dtid_in, kind_in}
 use Rattle.tcap_end.specs.Dialogue.{is_request}
 use Rattle.tcap_end.specs.Table.{Table, octets_cmp}
 use Rattle.tcap_refute.specs.Before.{components_of, is_a}
+use Rattle.tcap_refute.specs.Facts.{FromFact, shows_from}
+use Rattle.tcap_refute.specs.Kept.{tells_from}
 use Rattle.tcap_refute.specs.Kind.{is_begin_with_request, or_else}
+use Rattle.tcap_refute.specs.declared.from_id.FromId.{FromId}
+use Rattle.tcap_refute.proofs.TestLaws.{or_none}
 use Rattle.tcap_faults.specs.Counts.{count}
 use Rattle.tcap_faults.specs.Told.{goes_on_to}
 use Rattle.tcap_faults.specs.declared.ids.Ids.{Ids}
@@ -156,6 +160,24 @@ is_kept table None None is = refl
 is_kept table (Some begin) (Some kept) is = refl
 is_kept table None (Some kept) is = absurd is
 is_kept table (Some begin) None is = absurd is
+
+-- ---- what F2 to F7 ask
+
+-- The rest says nothing of it.
+pub from_same : (table : Table) (ms : List Message) (old : SentFrom) → IsFrom table ms old → (first : FromId)
+    → IsFrom table ms (record old { first = first })
+from_same table ms old was first =
+    record { begin = was.begin; twice = was.twice; continues = was.continues; to = was.to; came = was.came }
+
+pub first_noted : (table : Table) (ms : List Message) (m : Message) (old new : FromId)
+    → ((fact : FromFact) → tells_from fact old ≡ list_any (shows_from table fact) ms)
+    → ((fact : FromFact) → tells_from fact new ≡ (tells_from fact old || shows_from table fact m))
+    → (fact : FromFact) → tells_from fact new ≡ list_any (shows_from table fact) (ms ++ m ∷ [])
+first_noted table ms m old new was told fact =
+    told fact
+    ∙ ap (λ b. b || shows_from table fact m) (was fact)
+    ∙ ap (λ b. list_any (shows_from table fact) ms || b) (or_none (shows_from table fact m))
+    ∙ sym (list_any-append (shows_from table fact) ms (m ∷ []))
 
 -- ---- a message more
 

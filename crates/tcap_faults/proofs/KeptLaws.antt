@@ -10,11 +10,10 @@ use Rattle.tcap_model.specs.World.{Item, Sent, is_side}
 use Rattle.tcap_refute.specs.declared.kind.Kind.{Kind}
 use Rattle.tcap_refute.specs.Before.{since_quiet}
 use Rattle.tcap_refute.specs.FirstKinds.{first_kinds, is_of_first_kind}
-use Rattle.tcap_refute.specs.Kept.{AreNotesOf}
 use Rattle.tcap_refute.specs.Kind.{or_else}
 use Rattle.tcap_refute.proofs.BeforeLaws.{is_itself}
 use Rattle.tcap_refute.proofs.ItemLaws.{since_mark, since_more}
-use Rattle.tcap_faults.specs.declared.kept.Kept.{Kept}
+use Rattle.tcap_faults.specs.declared.facts.Facts.{Facts}
 use Rattle.tcap_faults.specs.Fault.{fault_since, further_kinds, is_fault, is_of_further_kind}
 use Rattle.tcap_faults.specs.Kept.{AreFacts}
 use Rattle.tcap_faults.specs.Searching.{IsKept}
@@ -122,19 +121,12 @@ peer_alone table side sender items m is =
 
 -- ---- what is kept behind one item more
 
-pub kept_more : (table : Table) (sender : Side) (items : List Item) (m : Message) (kept : Kept)
-    → AreNotesOf table (items ++ Sent sender m ∷ []) kept.notes
-    → AreFacts table (since_quiet items ++ Sent sender m ∷ []) kept.facts
+pub kept_more : (table : Table) (sender : Side) (items : List Item) (m : Message) (kept : Facts)
+    → AreFacts table (since_quiet items ++ Sent sender m ∷ []) kept
     → IsKept table (items ++ Sent sender m ∷ []) kept
-kept_more table sender items m kept notes facts = record {
-  notes = notes;
-  facts = subst (λ (xs : List Item). AreFacts table xs kept.facts) (sym (since_more sender m items)) facts;
-}
+kept_more table sender items m kept facts =
+    subst (λ (xs : List Item). AreFacts table xs kept) (sym (since_more sender m items)) facts
 
-pub kept_mark : (table : Table) (items : List Item) (kept : Kept)
-    → AreNotesOf table (items ++ Item.Quiet ∷ []) kept.notes → AreFacts table [] kept.facts
+pub kept_mark : (table : Table) (items : List Item) (kept : Facts) → AreFacts table [] kept
     → IsKept table (items ++ Item.Quiet ∷ []) kept
-kept_mark table items kept notes facts = record {
-  notes = notes;
-  facts = subst (λ (xs : List Item). AreFacts table xs kept.facts) (sym (since_mark items)) facts;
-}
+kept_mark table items kept facts = subst (λ (xs : List Item). AreFacts table xs kept) (sym (since_mark items)) facts

@@ -51,6 +51,7 @@ pub mod FaultLaws
 pub mod BlamedLaws
 pub mod SumLaws
 pub mod CodeLaws
+pub mod FirstCodeLaws
 pub mod FoundLaws
 pub mod LinkLaws
 pub mod SortLaws
@@ -84,3 +85,5 @@ pub mod KeptLaws
 pub mod SearchLaws
 pub mod ReplayLaws
 pub mod SubjectLaws
+pub mod MatterLaws
+pub mod MatterNotes

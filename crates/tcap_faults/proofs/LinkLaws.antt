@@ -9,7 +9,7 @@ use Rattle.std.proofs.lemmas.Map.Views.{tells_apart}
 use Rattle.tcap_parts.specs.declared.code.Code.{Code}
 use Rattle.tcap_refute.proofs.TestLaws.{or_none}
 use Rattle.tcap_faults.specs.declared.code_counts.CodeCounts.{CodeCounts}
-use Rattle.tcap_faults.specs.Tallies.{links_at}
+use Rattle.tcap_faults.specs.Tallies.{codes_any, links_at}
 
 first : (a b p : Bool) → ((a || p) || b) ≡ ((a || b) || p)
 first true b p = refl
@@ -70,24 +70,42 @@ module _ (linked : ℤ) (code : Code) (old new : BTreeMap ℤ CodeCounts) (s : C
   -- Something was kept of the linked ID.
   pub link_written : (was : CodeCounts) → Some was ≡ lookup (is_at (int_cmp linked)) old.entries
       → WritesThrough int_cmp (int_cmp linked) old s new
-      → ((passes : Code → Bool) → list_any passes s.codes.items ≡ (list_any passes was.codes.items || passes code))
+      → ((passes : Code → Bool) → codes_any passes s ≡ (codes_any passes was || passes code))
       → (passes : ℤ → Code → Bool)
       → list_any (links_at passes) new.entries ≡ (list_any (links_at passes) old.entries || passes linked code)
   link_written was there writes gains passes =
       ap (list_any (links_at passes)) writes.0
       ∙ any_set (links_at passes) (is_at (int_cmp linked)) was s (passes linked code)
       (λ k same. gains (passes k)
-      ∙ ap (λ q. list_any (passes k) was.codes.items || passes q code) (sym (tells_apart exact_signed linked k same)))
+      ∙ ap (λ q. codes_any (passes k) was || passes q code) (sym (tells_apart exact_signed linked k same)))
       old.entries there
 
   -- Nothing was.
   pub link_made : (fresh : CodeCounts) → None ≡ lookup (is_at (int_cmp linked)) old.entries
-      → new.entries ≡ insert_entry int_cmp old.entries linked s → fresh.codes.items ≡ []
-      → ((passes : Code → Bool) → list_any passes s.codes.items ≡ (list_any passes fresh.codes.items || passes code))
+      → new.entries ≡ insert_entry int_cmp old.entries linked s
+      → ((passes : Code → Bool) → codes_any passes fresh ≡ false)
+      → ((passes : Code → Bool) → codes_any passes s ≡ (codes_any passes fresh || passes code))
       → (passes : ℤ → Code → Bool)
       → list_any (links_at passes) new.entries ≡ (list_any (links_at passes) old.entries || passes linked code)
   link_made fresh none puts nothing gains passes =
       ap (list_any (links_at passes)) puts
       ∙ any_inserted (links_at passes) int_cmp linked s old.entries none
       ∙ ap (λ b. list_any (links_at passes) old.entries || b)
-      (gains (passes linked) ∙ ap (λ cs. list_any (passes linked) cs || passes linked code) nothing)
+      (gains (passes linked) ∙ ap (λ b. b || passes linked code) (nothing (passes linked)))
+
+-- ---- a loop over them
+
+module _ (passes : ℤ → Code → Bool) (linked : ℤ) (counts : CodeCounts) (left more all : List (ℤ × CodeCounts))
+    (steps : left ≡ (linked, counts) ∷ more)
+    (so_far : list_any (links_at passes) left ≡ list_any (links_at passes) all) where
+  here : (codes_any (passes linked) counts || list_any (links_at passes) more) ≡ list_any (links_at passes) all
+  here = sym (ap (list_any (links_at passes)) steps) ∙ so_far
+
+  -- Where the next one passes, one of all does,
+  pub link_found : codes_any (passes linked) counts ≡ true → true ≡ list_any (links_at passes) all
+  link_found so = sym (ap (λ b. b || list_any (links_at passes) more) so) ∙ here
+
+  -- and where it does not, what is left decides.
+  pub link_passed : codes_any (passes linked) counts ≡ false
+      → list_any (links_at passes) more ≡ list_any (links_at passes) all
+  link_passed none = sym (ap (λ b. b || list_any (links_at passes) more) none) ∙ here

@@ -8,7 +8,7 @@ use Rattle.std.proofs.lemmas.Map.Views.{tells_apart}
 use Rattle.tcap_msg.specs.declared.message.Message.{Message}
 use Rattle.tcap_end.specs.Table.{Table, octets_cmp}
 use Rattle.tcap_faults.specs.Counts.{is_nothing}
-use Rattle.tcap_faults.specs.Kept.{IsCame, IsCameAt, IsFrom, IsFromAt, IsTo, IsToAt}
+use Rattle.tcap_faults.specs.Kept.{IsCame, IsCameAt, IsFromAt, IsFromWhole, IsTo, IsToAt}
 use Rattle.tcap_faults.specs.Noting.{with_more}
 use Rattle.tcap_faults.proofs.KeyLaws.{at_other}
 use Rattle.tcap_faults.proofs.NotedLists.{something}
@@ -72,7 +72,7 @@ module _ {X : Type 0} {At : List Message → Option X → Type 0} {Is : List Mes
 pub came_family : (table : Table) → IsFamily (IsCameAt table) (IsCame table)
 came_family table = record { none = λ ms is. is; some = λ ms kept is. is.1; made = λ ms kept some is. (some, is) }
 
-pub from_family : (table : Table) → IsFamily (IsFromAt table) (IsFrom table)
+pub from_family : (table : Table) → IsFamily (IsFromAt table) (IsFromWhole table)
 from_family table = record { none = λ ms is. is; some = λ ms kept is. is.1; made = λ ms kept some is. (some, is) }
 
 pub to_family : (table : Table) → IsFamily (IsToAt table) (IsTo table)

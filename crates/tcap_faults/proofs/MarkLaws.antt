@@ -376,7 +376,7 @@ module _ {table : Table} {side : Side} {items : List Item} {facts : SideFacts} (
       let has = within (own, kept) (rw steps (has_first (own, kept) more)) in
       let found : lookup (is_at (octets_cmp own)) facts.from.entries ≡ Some kept =
       (btree_map_get_iff nat_list_cmp_total exact_bytes facts.from ordered own kept).1 has in
-      (rw found at (is.from own)).1
+      (rw found at (is.from own)).1.from
 
   -- what is left open goes on from an ID
   left_from : (m : Message) → is_left_open table side items m ≡ true → (own : List ℕ) × (otid_in m ≡ Some own)

@@ -13,7 +13,7 @@ use Rattle.tcap_model.specs.Entries.{item_of}
 use Rattle.tcap_refute.specs.Before.{since_quiet}
 use Rattle.tcap_refute.specs.Kind.{or_else}
 use Rattle.tcap_refute.proofs.ItemLaws.{since_mark, since_more}
-use Rattle.tcap_faults.specs.declared.kept.Kept.{Kept}
+use Rattle.tcap_faults.specs.declared.facts.Facts.{Facts}
 use Rattle.tcap_faults.specs.declared.replay.Replay.{Replay}
 use Rattle.tcap_faults.specs.Replay.{IsReplayed, items_up_to}
 use Rattle.tcap_faults.specs.Searching.{AreCounted, AreRoomy, IsKept, components_in_all}
@@ -49,6 +49,20 @@ seen_is items (Ok (Sent sender m) ∷ xs) =
     ap since_quiet (sym (append_assoc items (Sent sender m ∷ []) (items_among xs)))
     ∙ seen_is (items ++ Sent sender m ∷ []) xs
     ∙ ap (λ seen. seen_behind seen xs) (since_more sender m items)
+
+-- ---- one entry more
+
+module _ (entries : List Entry) (number : ℕ) (entry : Entry) (there : slice_get entries number ≡ Some entry) where
+  within : number < length entries
+  within = slice_get_within entries number entry there
+
+  one_entry : map item_of (take (number + 1) entries) ≡ map item_of (take number entries) ++ item_of entry ∷ []
+  one_entry =
+      map_more item_of entries number entry within
+      ∙ ap (λ e. map item_of (take number entries) ++ item_of e ∷ []) (get_or_from_slice_get entries number entry entry there)
+
+  pub one_item : items_up_to entries (number + 1) ≡ items_up_to entries number ++ items_among (item_of entry ∷ [])
+  one_item = ap items_among one_entry ∙ among_both (map item_of (take number entries)) (item_of entry ∷ [])
 
 -- ---- the first of them in which an own ID was used again
 
@@ -109,7 +123,7 @@ either : {A : Type 0} (a b : Option A) → option_or a b ≡ or_else a b
 either None b = refl
 either (Some a) b = refl
 
-pub replayed_none : (table : Table) (side : Side) (entries : List Entry) (kept : Kept) → IsKept table [] kept
+pub replayed_none : (table : Table) (side : Side) (entries : List Entry) (kept : Facts) → IsKept table [] kept
     → IsReplayed table side entries 0 (record { kept = kept; again = None })
 replayed_none table side entries kept are = record { are = are; counted = none_counted; again = refl }
 
@@ -134,17 +148,6 @@ module _ (table : Table) (side : Side) (entries : List Entry) (number : ℕ) (ol
 
   module _ (entry : Entry) (there : slice_get entries number ≡ Some entry) (count : ℕ)
       (counted : (item : Item) → item_of entry ≡ Ok item → components_in_all (item ∷ []) ≤ count) (small : count < 2 ^ 63) where
-    within : number < length entries
-    within = slice_get_within entries number entry there
-
-    one_entry : map item_of (take (number + 1) entries) ≡ map item_of (take number entries) ++ item_of entry ∷ []
-    one_entry =
-        map_more item_of entries number entry within
-        ∙ ap (λ e. map item_of (take number entries) ++ item_of e ∷ []) (get_or_from_slice_get entries number entry entry there)
-
-    one_item : items_up_to entries (number + 1) ≡ items_up_to entries number ++ items_among (item_of entry ∷ [])
-    one_item = ap items_among one_entry ∙ among_both (map item_of (take number entries)) (item_of entry ∷ [])
-
     -- The next entry is kept,
     pub replayed_more : (new : Replay)
         → IsKept table (items_up_to entries number ++ items_among (item_of entry ∷ [])) new.kept
@@ -152,13 +155,14 @@ module _ (table : Table) (side : Side) (entries : List Entry) (number : ℕ) (ol
         (option_or old.again (Some number)) None
         → IsReplayed table side entries (number + 1) new
     replayed_more new are again = record {
-      are = subst (λ (items : List Item). IsKept table items new.kept) (sym one_item) are;
-      counted = subst (λ (items : List Item). AreCounted items (number + 1)) (sym one_item) (by (item_of entry) refl);
+      are = subst (λ (items : List Item). IsKept table items new.kept) (sym (one_item entries number entry there)) are;
+      counted = subst (λ (items : List Item). AreCounted items (number + 1)) (sym (one_item entries number entry there))
+          (by (item_of entry) refl);
       again = again
           ∙ ap₂ (λ seen first. cond (has_used_again table side seen) first None)
           (ap since_quiet (sym (among_both before (item_of entry ∷ []))) ∙ seen_is [] (before ++ item_of entry ∷ []))
           (either old.again (Some number) ∙ ap (λ first. or_else first (Some number)) so_far.again)
-          ∙ sym (ap (λ xs. again_behind table side 0 xs [] None) one_entry
+          ∙ sym (ap (λ xs. again_behind table side 0 xs [] None) (one_entry entries number entry there)
           ∙ again_next table side number 0 before (item_of entry) [] None many refl);
     }
       where
@@ -168,7 +172,7 @@ module _ (table : Table) (side : Side) (entries : List Entry) (number : ℕ) (ol
         many : number ≡ 0 + length before
         many =
             let a = length-map (take number entries) item_of in
-            let b = length-take-le number entries (omega (arith, within)) in
+            let b = length-take-le number entries (omega (arith, within entries number entry there)) in
             omega (arith, a, b)
 
         by : (r : Result Item Reason) → item_of entry ≡ r

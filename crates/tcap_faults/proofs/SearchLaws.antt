@@ -18,7 +18,7 @@ use Rattle.tcap_refute.specs.Before.{since_quiet}
 use Rattle.tcap_refute.specs.Kind.{or_else, refutation_at}
 use Rattle.tcap_faults.specs.declared.blaming.Looking.{Looking}
 use Rattle.tcap_faults.specs.declared.blaming.SearchState.{SearchState}
-use Rattle.tcap_faults.specs.declared.kept.Kept.{Kept}
+use Rattle.tcap_faults.specs.declared.facts.Facts.{Facts}
 use Rattle.tcap_faults.specs.Fault.{bad_entry_of, blamed, blamed_behind, fault_since}
 use Rattle.tcap_faults.specs.Searching.{AreCounted, AreRoomy, IsFound, IsKept, IsTaken, Takes, components_in_all, looking_at, looking_bad, looking_behind, looking_first, looking_on, looking_put, looking_with}
 use Rattle.tcap_faults.proofs.FewLaws.{counted_roomy, more_counted, none_counted}
@@ -104,7 +104,7 @@ looked_over table items number sender m old looking same over = record {
 }
 
 pub message_taken : (table : Table) (items : List Item) (number : ℕ) (sender : Side) (m : Message) (old new : SearchState)
-    (kept : Kept) → IsLookedAt table items number sender m old new → IsKept table (items ++ Sent sender m ∷ []) kept
+    (kept : Facts) → IsLookedAt table items number sender m old new → IsKept table (items ++ Sent sender m ∷ []) kept
     → IsTaken table items number (Sent sender m) old (record { kept = kept; a = new.a; b = new.b })
 message_taken table items number sides.A m old new kept looked are = record {
   are = are;
@@ -125,7 +125,7 @@ message_taken table items number sides.B m old new kept looked are = record {
     by sides.A = looked.peer sides.A refl ∙ sym (peer_still table items number sides.B m sides.A old.a refl)
     by sides.B = looked.own
 
-pub mark_taken : (table : Table) (items : List Item) (number : ℕ) (old : SearchState) (kept : Kept) (a b : Looking)
+pub mark_taken : (table : Table) (items : List Item) (number : ℕ) (old : SearchState) (kept : Facts) (a b : Looking)
     → IsKept table (items ++ Item.Quiet ∷ []) kept → a ≡ looking_behind table items number Item.Quiet sides.A old.a
     → b ≡ looking_behind table items number Item.Quiet sides.B old.b
     → IsTaken table items number Item.Quiet old (record { kept = kept; a = a; b = b })
@@ -227,7 +227,7 @@ pub record IsSearched (table : Table) (entries : List Entry) (a b : Bool) (numbe
   pub of_a : a ≡ true → IsFound table sides.A entries items number state.a
   pub of_b : b ≡ true → IsFound table sides.B entries items number state.b
 
-pub started : (table : Table) (entries : List Entry) (asked_a asked_b : Bool) (kept : Kept) (a b : Looking)
+pub started : (table : Table) (entries : List Entry) (asked_a asked_b : Bool) (kept : Facts) (a b : Looking)
     → IsKept table [] kept → a ≡ looking_first asked_a → b ≡ looking_first asked_b
     → IsSearched table entries asked_a asked_b 0 (record { kept = kept; a = a; b = b })
 started table entries asked_a asked_b kept a b are is_a is_b = record {

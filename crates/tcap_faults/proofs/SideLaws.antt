@@ -16,6 +16,8 @@ use Rattle.tcap_end.specs.Table.{Table, octets_cmp}
 use Rattle.tcap_model.specs.World.{Item}
 use Rattle.tcap_model.specs.Since.{ended_by}
 use Rattle.tcap_refute.specs.Before.{asked, ends_to, has_a, is_a, sent_by}
+use Rattle.tcap_refute.specs.Facts.{FromFact, From, shows_from, told_since}
+use Rattle.tcap_refute.specs.Kept.{tells_from}
 use Rattle.tcap_refute.proofs.TestLaws.{and_false}
 use Rattle.tcap_faults.specs.Counts.{is_nothing}
 use Rattle.tcap_faults.specs.Told.{began, begin_from, goes_on_to, has_ended, has_used, told}
@@ -24,7 +26,7 @@ use Rattle.tcap_faults.specs.declared.sent_from.Came.{Came}
 use Rattle.tcap_faults.specs.declared.sent_from.FirstBegin.{FirstBegin}
 use Rattle.tcap_faults.specs.declared.sent_from.SentFrom.{SentFrom}
 use Rattle.tcap_faults.specs.declared.sent_to.SentTo.{SentTo}
-use Rattle.tcap_faults.specs.Kept.{IsCameAt, IsFirstBegin, IsFrom, IsFromAt, IsSide, IsTo, ends, of_user, sent_from, sent_to, silences}
+use Rattle.tcap_faults.specs.Kept.{IsCameAt, IsFirstBegin, IsFrom, IsFromAt, IsFromWhole, IsSide, IsTo, ends, of_user, sent_from, sent_to, silences}
 use Rattle.tcap_faults.proofs.TwoTests.{any_agree, any_both, any_found, any_kept, any_turned, filter_both, found_both}
 
 -- The peer's peer is the end.
@@ -43,7 +45,10 @@ module _ {table : Table} {side : Side} {items : List Item} {facts : SideFacts} (
   to_at = lookup (is_at (octets_cmp id)) facts.to.entries
 
   pub from_there : (kept : SentFrom) → Some kept ≡ from_at → IsFrom table (sent_from side items id) kept
-  from_there kept some = (rw (← some) at (is.from id)).1
+  from_there kept some = (rw (← some) at (is.from id)).1.from
+
+  pub from_whole : (kept : SentFrom) → Some kept ≡ from_at → IsFromWhole table (sent_from side items id) kept
+  from_whole kept some = (rw (← some) at (is.from id)).1
 
   pub from_nowhere : None ≡ from_at → sent_from side items id ≡ []
   from_nowhere none = rw (← none) at (is.from id)
@@ -55,6 +60,19 @@ module _ {table : Table} {side : Side} {items : List Item} {facts : SideFacts} (
   to_nowhere none = rw (← none) at (is.to id)
 
 -- ---- what was sent from an ID
+
+module _ (table : Table) (side : Side) (items : List Item) (id : List ℕ) where
+  -- What F2 to F7 ask of it.
+  pub first_there : (kept : SentFrom) → IsFromWhole table (sent_from side items id) kept → (fact : FromFact)
+      → tells_from fact kept.first ≡ told_since table side items (From id fact)
+  first_there kept is fact =
+      is.first fact ∙ any_both (λ m. is_id id (otid_in m)) (shows_from table fact) (sent_by side items)
+
+  pub first_nowhere : sent_from side items id ≡ [] → (fact : FromFact)
+      → false ≡ told_since table side items (From id fact)
+  first_nowhere none fact =
+      ap (list_any (shows_from table fact)) (sym none)
+      ∙ any_both (λ m. is_id id (otid_in m)) (shows_from table fact) (sent_by side items)
 
 -- Something is kept where something was sent.
 kept_where : (table : Table) (p : Message → Bool) (ms : List Message) (o : Option SentFrom)

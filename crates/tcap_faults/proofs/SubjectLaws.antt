@@ -21,7 +21,7 @@ use Rattle.tcap_refute.specs.FirstComponent.{first_component}
 use Rattle.tcap_refute.specs.Kind.{or_else}
 use Rattle.tcap_faults.specs.declared.how.How.{How}
 use Rattle.tcap_faults.specs.declared.how.How.TheVariants.{Nowhere}
-use Rattle.tcap_faults.specs.declared.kept.Kept.{Kept}
+use Rattle.tcap_faults.specs.declared.facts.Facts.{Facts}
 use Rattle.tcap_faults.specs.declared.subject.Subject.{Subject}
 use Rattle.tcap_faults.specs.HalfOf.{half_of}
 use Rattle.tcap_faults.specs.Replay.{items_up_to}
@@ -36,7 +36,7 @@ either None b = refl
 either (Some a) b = refl
 
 module _ (of_one : Bool) (table : Table) (side : Side) (items : List Item) (kind : Kind) where
-  alone_is : (m : Message) → None ≡ dtid_in m
+  pub alone_is : (m : Message) → None ≡ dtid_in m
       → record {
         how = Nowhere;
         own = None;
@@ -48,7 +48,7 @@ module _ (of_one : Bool) (table : Table) (side : Side) (items : List Item) (kind
   alone_is (EndMessage dtid dialogue components) none = cc
   alone_is (Abort dtid reason) none = cc
 
-  half_is : (m : Message) (id : List ℕ) → Some id ≡ dtid_in m
+  pub half_is : (m : Message) (id : List ℕ) → Some id ≡ dtid_in m
       → record {
         how = (half_of side items id).how;
         own = (half_of side items id).own;
@@ -110,7 +110,7 @@ sent_subject of_one table side items entry sender m kind r from is roomy so =
     rw (from, is) (so (roomy_of items sender side m (roomy (Sent sender m) (rw (from, is) refl))))
 
 -- and a quiet mark is one more item.
-pub mark_noted : (table : Table) (items : List Item) (entry : Entry) (kept : Kept) → entry.side ≡ None → entry.body ≡ Quiet
+pub mark_noted : (table : Table) (items : List Item) (entry : Entry) (kept : Facts) → entry.side ≡ None → entry.body ≡ Quiet
     → IsKept table (items ++ Item.Quiet ∷ []) kept → IsKept table (items ++ items_among (item_of entry ∷ [])) kept
 mark_noted table items entry kept from is are = rw (from, is) are
 

@@ -1,6 +1,5 @@
 -- Several tallies together: what a loop over them answers.
-use Rattle.std.proofs.Common.{◌≡◌, ℕ, ℤ, ◌+◌, ◌^◌, ◌<◌, ◌≤◌, Bool, true, false, ◌||◌, eqb, List, [], ◌∷◌, length, get_or, drop, Bor, refl, sym, ap, ◌∙◌, arith}
-use Rattle.std.specs.List.{list_any}
+use Rattle.std.proofs.Common.{◌≡◌, ℕ, ℤ, ◌+◌, ◌^◌, ◌<◌, ◌≤◌, Bool, true, ◌||◌, List, [], ◌∷◌, length, get_or, drop, Bor, sym, ap, ◌∙◌, arith}
 use Rattle.std.proofs.lemmas.Bool.{or_left}
 use Rattle.std.proofs.lemmas.List.{at_drop_all, at_drop_more}
 use Rattle.tcap_parts.specs.declared.code.Code.{Code}
@@ -37,13 +36,3 @@ found_next f p i tallies tally step within is so left =
     sym (at_drop_more f tallies i tally within ∙ step (get_or tallies i tally) (drop (i + 1) tallies)
     ∙ or_left (p (get_or tallies i tally).now) (f (drop (i + 1) tallies)) here)
     ∙ left
-
--- A test that does not ask which code it is.
-never : (codes : List Code) → list_any (λ code. false) codes ≡ false
-never [] = refl
-never (code ∷ more) = never more
-
-pub always : (b : Bool) (codes : List Code) → eqb (length codes) 0 ≡ false → b ≡ list_any (λ code. b) codes
-always b [] some = cc
-always true (code ∷ more) some = refl
-always false (code ∷ more) some = sym (never more)

@@ -202,7 +202,7 @@ begin_is table side items own o at =
     by : (o : Option SentFrom) → IsFromAt table (sent_from side items own) o
         → IsFirstBegin table (find (is_a forms.Begin) (sent_from side items own)) (begin_kept o)
     by None none = rw none tt
-    by (Some kept) (some, is) = is.begin
+    by (Some kept) (some, is) = is.from.begin
 
 -- ---- which half is read off
 

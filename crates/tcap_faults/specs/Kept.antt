@@ -16,6 +16,8 @@ use Rattle.tcap_end.specs.Table.{Table, octets_cmp}
 use Rattle.tcap_model.specs.World.{Item}
 use Rattle.tcap_model.specs.Since.{ended_by}
 use Rattle.tcap_refute.specs.Before.{components_of, is_a, sent_by}
+use Rattle.tcap_refute.specs.Facts.{FromFact, shows_from}
+use Rattle.tcap_refute.specs.Kept.{tells_from}
 use Rattle.tcap_refute.specs.Kind.{is_begin_with_request}
 use Rattle.tcap_faults.specs.Closed.{shows_closed}
 use Rattle.tcap_faults.specs.Counts.{count, is_nothing}
@@ -74,7 +76,7 @@ IsFirstBegin table (Some begin) (Some kept) =
     (kept.requests ≡ is_begin_with_request begin) × IsTally table (components_in begin) kept.components
 IsFirstBegin table _ _ = ⊥
 
--- Of these messages from one ID.
+-- Of these messages from one ID, but for what F2 to F7 ask of them.
 pub record IsFrom (table : Table) (ms : List Message) (kept : SentFrom) : Type 0 where
   pub begin : IsFirstBegin table (find (is_a forms.Begin) ms) kept.begin
   pub twice : kept.begun_twice ≡ nat_le 2 (count (is_a forms.Begin) ms)
@@ -82,9 +84,14 @@ pub record IsFrom (table : Table) (ms : List Message) (kept : SentFrom) : Type 0
   pub to : AreIds (dtids_of ms) kept.to
   pub came : (own : List ℕ) → IsCameAt table (filter (goes_on_to own) ms) (lookup (is_at (octets_cmp own)) kept.came.entries)
 
+-- The same with what F2 to F7 ask of them.
+pub record IsFromWhole (table : Table) (ms : List Message) (kept : SentFrom) : Type 0 where
+  pub from : IsFrom table ms kept
+  pub first : (fact : FromFact) → tells_from fact kept.first ≡ list_any (shows_from table fact) ms
+
 abbrev pub IsFromAt : Table → List Message → Option SentFrom → Type 0
 IsFromAt table ms None = ms ≡ []
-IsFromAt table ms (Some kept) = (is_nothing ms ≡ false) × IsFrom table ms kept
+IsFromAt table ms (Some kept) = (is_nothing ms ≡ false) × IsFromWhole table ms kept
 
 -- ---- what was sent to an ID
 

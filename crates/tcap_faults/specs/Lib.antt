@@ -40,4 +40,5 @@ pub mod Speaking
 pub mod Searching
 pub mod Subject
 pub mod Replay
+pub mod Matters
 pub mod Unblamed

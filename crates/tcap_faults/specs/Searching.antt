@@ -11,8 +11,7 @@ use Rattle.tcap_model.specs.Entries.{item_of}
 use Rattle.tcap_refute.specs.declared.kind.Kind.{Kind}
 use Rattle.tcap_refute.specs.declared.kind.Kind.TheVariants as kinds
 use Rattle.tcap_refute.specs.Before.{since_quiet}
-use Rattle.tcap_refute.specs.Kept.{AreNotesOf}
-use Rattle.tcap_faults.specs.declared.kept.Kept.{Kept}
+use Rattle.tcap_faults.specs.declared.facts.Facts.{Facts}
 use Rattle.tcap_faults.specs.declared.blaming.Looking.{Looking}
 use Rattle.tcap_faults.specs.declared.blaming.SearchState.{SearchState}
 use Rattle.tcap_faults.specs.Fault.{bad_entry_of, blamed, blamed_behind, fault_since}
@@ -26,10 +25,9 @@ kind_of_components busy linked answered rejected =
     (cond answered (Some kinds.AnsweredAlready)
     (cond rejected (Some kinds.RejectNotAllowed) None)))
 
--- What is kept is of these items.
-pub record IsKept (table : Table) (items : List Item) (kept : Kept) : Type 0 where
-  pub notes : AreNotesOf table items kept.notes
-  pub facts : AreFacts table (since_quiet items) kept.facts
+-- What is kept is of these items since the last quiet mark.
+abbrev pub IsKept : Table → List Item → Facts → Type 0
+IsKept table items kept = AreFacts table (since_quiet items) kept
 
 -- how many components these items have
 abbrev pub components_in_all : List Item → ℕ

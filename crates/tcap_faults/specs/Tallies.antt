@@ -1,17 +1,21 @@
 -- What tallies say of components.
-use Rattle.std.specs.Prelude.{◌≡◌, ℕ, ℤ, Bool, false, List, [], ◌∷◌, Option, Some, None, option_map}
+use Rattle.std.specs.Prelude.{◌≡◌, ℕ, ℤ, Bool, false, List, [], ◌∷◌, Option, Some, None, ◌||◌, cond, option_map}
+use Rattle.std.specs.Global.{Box}
 use Rattle.std.specs.Ordering.{int_cmp}
 use Rattle.std.specs.List.{list_any}
 use Rattle.std.specs.Map.{lookup}
 use Rattle.std.specs.BTreeMap.{is_at}
 use Rattle.tcap_parts.specs.declared.code.Code.{Code}
+use Rattle.tcap_parts.specs.declared.code.Code.TheVariants.{Local}
 use Rattle.tcap_parts.specs.declared.component.Component.{Component}
 use Rattle.tcap_end.specs.Table.{Table}
+use Rattle.tcap_refute.specs.Kept.{holds, is_first}
 use Rattle.tcap_faults.specs.declared.sort.Class.{Class}
 use Rattle.tcap_faults.specs.declared.sort.Class.TheVariants as classes
 use Rattle.tcap_faults.specs.declared.sort.Sort.{Sort}
 use Rattle.tcap_faults.specs.declared.sort.Sort.TheVariants as sorts
 use Rattle.tcap_faults.specs.declared.code_counts.CodeCounts.{CodeCounts}
+use Rattle.tcap_faults.specs.declared.many_codes.ManyCodes.{ManyCodes}
 use Rattle.tcap_faults.specs.declared.by_class.ByClass.{ByClass}
 use Rattle.tcap_faults.specs.declared.of_id.OfId.{OfId}
 use Rattle.tcap_faults.specs.declared.tally.Tally.{Tally}
@@ -23,9 +27,28 @@ abbrev pub or_zero : Option ℕ → ℕ
 or_zero None = 0
 or_zero (Some n) = n
 
--- how often a code was counted
+-- how often a code was counted among many, and among the others, where there are such
+abbrev pub count_among : Code → ManyCodes → ℕ
+count_among code kept = or_zero (counted kept.locals.entries kept.globals.entries code)
+
+abbrev pub count_others : Code → Option (Box ManyCodes) → ℕ
+count_others code None = 0
+count_others code (Some others) = count_among code others.value
+
+-- how often a code was counted, the first or one of the others
 abbrev pub count_of : Code → CodeCounts → ℕ
-count_of code kept = or_zero (counted kept.locals.entries kept.globals.entries code)
+count_of code kept = cond (is_first code kept.first) kept.times (count_others code kept.others)
+
+-- whether the first of the codes that were counted passes a test, where there is one, and whether one of the others does
+abbrev pub first_passes : (Code → Bool) → Option ℤ → Bool
+first_passes passes first = holds (λ n. passes (Local n)) first
+
+abbrev pub others_any : (Code → Bool) → Option (Box ManyCodes) → Bool
+others_any passes others = holds (λ kept. list_any passes kept.value.codes.items) others
+
+-- whether one of them does
+abbrev pub codes_any : (Code → Bool) → CodeCounts → Bool
+codes_any passes kept = first_passes passes kept.first || others_any passes kept.others
 
 abbrev pub count_of_class : Class → ByClass → ℕ
 count_of_class classes.Any kept = kept.all
@@ -52,11 +75,11 @@ count_in sorts.ErrorRejects kept = kept.error_rejects
 
 -- whether one of the operations of a linked ID passes a test with it
 abbrev pub links_at : (ℤ → Code → Bool) → ℤ × CodeCounts → Bool
-links_at passes (linked, kept) = list_any (passes linked) kept.codes.items
+links_at passes (linked, kept) = codes_any (passes linked) kept
 
 -- whether the operation of an Invoke passes a test
 abbrev pub invokes_in : (Code → Bool) → OfId → Bool
-invokes_in passes kept = list_any passes kept.operations.codes.items
+invokes_in passes kept = codes_any passes kept.operations
 
 -- whether the linked ID of a linked one does, with its operation
 abbrev pub links_in : (ℤ → Code → Bool) → OfId → Bool
@@ -64,7 +87,7 @@ links_in passes kept = list_any (links_at passes) kept.by_link.entries
 
 -- whether the operation that a Return Result names does
 abbrev pub answers_in : (Code → Bool) → OfId → Bool
-answers_in passes kept = list_any passes kept.answered.codes.items
+answers_in passes kept = codes_any passes kept.answered
 
 -- ---- of all of them
 

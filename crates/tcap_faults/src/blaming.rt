@@ -11,7 +11,7 @@ ghost use Rattle.tcap_model.specs.World.{Item, Sent};
 ghost use Rattle.tcap_faults.specs.Fault.{blamed};
 ghost use Rattle.tcap_faults.specs.Searching.{AreRoomy, IsKept, IsTaken, Takes, components_in_all, looking_at, looking_bad, looking_behind, looking_first, looking_put, looking_with};
 
-use crate::kept::Kept;
+use crate::facts::Facts;
 use std::alloc::{AllocError, Global};
 use tcap_ber::Reason;
 use tcap_end::Table;
@@ -39,7 +39,7 @@ pub(crate) struct Looking {
 /// What is kept of the entries so far, and what was found.
 #[derive(Debug, Drop)]
 pub(crate) struct SearchState {
-    pub(crate) kept: Kept,
+    pub(crate) kept: Facts,
     pub(crate) a: Looking,
     pub(crate) b: Looking,
 }
@@ -214,7 +214,7 @@ fn search(
         × (b ≡ true → r.b ≡ blamed table.now sides.B «record».now.entries.items)) }
 {
     let mut state = SearchState {
-        kept: Kept::new(alloc),
+        kept: Facts::new(alloc),
         a: Looking::new(a),
         b: Looking::new(b),
     };

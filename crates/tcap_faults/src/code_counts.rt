@@ -1,45 +1,51 @@
 //! How often operation codes were counted.
 
-ghost use Rattle.tcap_faults.specs.Listed.{AreListed};
+ghost use Rattle.std.specs.Prelude.{◌≡◌, ◌||◌, ◌&&◌, not, true, false, Bool, OnOk};
+ghost use Rattle.tcap_parts.specs.declared.code.Code.{Code};
+ghost use Rattle.tcap_parts.specs.Meaning.{code_of};
+ghost use Rattle.tcap_end.specs.Component.{is_code, links};
+ghost use Rattle.tcap_refute.specs.Kept.{is_first};
+ghost use Rattle.tcap_faults.specs.Components.{lists_nothing};
+ghost use Rattle.tcap_faults.specs.Tallied.{more_if};
+ghost use Rattle.tcap_faults.specs.Tallies.{codes_any, count_of};
 
+use crate::many_codes::ManyCodes;
 use crate::sums::more;
 use std::alloc::{AllocError, Global};
-use std::collections::BTreeMap;
-use tcap_ber::ObjectIdView;
 use tcap_end::Table;
-use tcap_parts::{Code, CodeView};
+use tcap_parts::CodeView;
 
-/// How often operation codes were counted.
+/// How often operation codes were counted. Most often there is one code, a local one, which takes no memory.
 #[derive(Debug, Drop)]
 pub(crate) struct CodeCounts {
-    pub(crate) locals: BTreeMap<i32, u128>,
-    /// By the octets of global codes.
-    pub(crate) globals: BTreeMap<Vec<u8>, u128>,
-    /// Each code that was counted.
-    pub(crate) codes: Vec<Code>,
-    ghost listed: { AreListed locals.entries globals.entries codes.items },
+    /// The local code that came first.
+    pub(crate) first: Option<i32>,
+    /// How often it was counted.
+    pub(crate) times: u128,
+    /// The others.
+    pub(crate) others: Option<Box<ManyCodes>>,
 }
 
 impl CodeCounts {
-    ghost use Rattle.std.specs.Prelude.{◌≡◌, ◌||◌, ◌&&◌, not, [], Bool, OnOk};
-    ghost use Rattle.std.specs.List.{list_any};
-    ghost use Rattle.tcap_parts.specs.declared.code.Code.{Code as Coded};
-    ghost use Rattle.tcap_parts.specs.declared.code.Code.TheVariants.{Local, Global as GlobalCode};
-    ghost use Rattle.tcap_parts.specs.Meaning.{code_of};
-    ghost use Rattle.tcap_end.specs.Component.{is_code, links};
-    ghost use Rattle.tcap_faults.specs.Components.{lists_nothing};
-    ghost use Rattle.tcap_faults.specs.Tallied.{more_if};
-    ghost use Rattle.tcap_faults.specs.Tallies.{count_of};
-
     /// None.
-    pub(crate) fn new(alloc: Global) -> CodeCounts
-        ensures counts { (code : Coded) → count_of code result ≡ 0 }
-        ensures codes { result.codes.items ≡ [] }
+    pub(crate) fn new() -> CodeCounts
+        ensures counts { (code : Code) → count_of code result ≡ 0 }
+        ensures codes { (passes : Code → Bool) → codes_any passes result ≡ false }
     {
         CodeCounts {
-            locals: BTreeMap::new(alloc),
-            globals: BTreeMap::new(alloc),
-            codes: Vec::new(alloc),
+            first: None,
+            times: 0,
+            others: None,
+        }
+    }
+
+    /// Whether it is the local code that came first.
+    fn is_first(&self, code: CodeView) -> bool
+        ensures { result ≡ is_first (code_of code.entry) self.now.first }
+    {
+        match (code, self.first) {
+            (CodeView::Local(local), Some(first)) => local == first,
+            _ => false,
         }
     }
 
@@ -47,98 +53,108 @@ impl CodeCounts {
     pub(crate) fn count(&self, code: CodeView) -> u128
         ensures { result ≡ count_of (code_of code.entry) self.now }
     {
-        let count = match code {
-            CodeView::Local(local) => self.locals.get(&local),
-            CodeView::Global(id) => self.globals.get(id.octets),
-        };
-        match count {
-            Some(count) => *count,
+        if self.is_first(code) {
+            return self.times;
+        }
+        match &self.others {
+            Some(others) => others.count(code),
             None => 0,
         }
     }
 
-    /// One local code more.
-    fn add_local(&mut self, local: i32) -> Result<(), AllocError>
-        ensures counts { OnOk result ((other : Coded) → count_of other self.new
-            ≡ more_if (is_code other (Local local)) (count_of other self.old)) }
-        ensures codes { OnOk result ((passes : Coded → Bool) → list_any passes self.new.codes.items
-            ≡ list_any passes self.old.codes.items || passes (Local local)) }
+    /// One code more, which is not the first.
+    fn add_other(&mut self, alloc: Global, code: CodeView) -> Result<(), AllocError>
+        requires { is_first (code_of code) self.old.first ≡ false }
+        ensures counts { OnOk result ((other : Code) → count_of other self.new
+            ≡ more_if (is_code other (code_of code.entry)) (count_of other self.old)) }
+        ensures codes { OnOk result ((passes : Code → Bool) → codes_any passes self.new
+            ≡ codes_any passes self.old || passes (code_of code.entry)) }
     {
-        match self.locals.get_mut(&local) {
-            Some(count) => *count = more(*count, 1),
-            None => {
-                self.codes.push(Code::Local(local))?;
-                self.locals.insert(local, 1)?;
-            }
+        if let Some(others) = &mut self.others {
+            return others.add(alloc, code);
         }
-        Ok(())
-    }
-
-    /// One global code more.
-    fn add_global(&mut self, alloc: Global, id: ObjectIdView) -> Result<(), AllocError>
-        ensures counts { OnOk result ((other : Coded) → count_of other self.new
-            ≡ more_if (is_code other (GlobalCode id.entry.octets.now)) (count_of other self.old)) }
-        ensures codes { OnOk result ((passes : Coded → Bool) → list_any passes self.new.codes.items
-            ≡ list_any passes self.old.codes.items || passes (GlobalCode id.entry.octets.now)) }
-    {
-        match self.globals.get_mut(id.octets) {
-            Some(count) => *count = more(*count, 1),
-            None => {
-                self.codes.push(Code::Global(id.to_object_id(alloc)?))?;
-                self.globals.insert(Vec::from_slice(alloc, id.octets)?, 1)?;
-            }
-        }
+        let mut others = Box::new(alloc, ManyCodes::new(alloc))?;
+        others.add(alloc, code)?;
+        self.others = Some(others);
         Ok(())
     }
 
     /// One code more.
     pub(crate) fn add(&mut self, alloc: Global, code: CodeView) -> Result<(), AllocError>
-        ensures counts { OnOk result ((other : Coded) → count_of other self.new
+        ensures counts { OnOk result ((other : Code) → count_of other self.new
             ≡ more_if (is_code other (code_of code.entry)) (count_of other self.old)) }
-        ensures codes { OnOk result ((passes : Coded → Bool) → list_any passes self.new.codes.items
-            ≡ list_any passes self.old.codes.items || passes (code_of code.entry)) }
+        ensures codes { OnOk result ((passes : Code → Bool) → codes_any passes self.new
+            ≡ codes_any passes self.old || passes (code_of code.entry)) }
     {
-        match code {
-            CodeView::Local(local) => self.add_local(local),
-            CodeView::Global(id) => self.add_global(alloc, id),
+        if self.is_first(code) {
+            self.times = more(self.times, 1);
+            return Ok(());
+        }
+        match (code, self.first, self.others.is_none()) {
+            (CodeView::Local(local), None, true) => {
+                self.first = Some(local);
+                self.times = 1;
+                Ok(())
+            }
+            _ => self.add_other(alloc, code),
+        }
+    }
+
+    /// Whether a code was counted.
+    pub(crate) fn counts_some(&self) -> bool
+        ensures { result ≡ codes_any (λ code. true) self.now }
+    {
+        match (self.first, &self.others) {
+            (Some(_), _) => true,
+            (None, Some(others)) => !others.codes.is_empty(),
+            (None, None) => false,
         }
     }
 
     /// Whether that operation may be linked to one that was counted (Q.771 3.1.2).
     pub(crate) fn lists(&self, table: &Table, code: CodeView) -> bool
-        ensures { result ≡ list_any (λ to. links table.now to (code_of code.entry)) self.now.codes.items }
+        ensures { result ≡ codes_any (λ to. links table.now to (code_of code.entry)) self.now }
     {
-        for to in &self.codes {
-            if table.links(to.view(), code) {
+        if let Some(first) = self.first {
+            if table.links(CodeView::Local(first), code) {
                 return true;
             }
         }
-        false
+        match &self.others {
+            Some(others) => others.lists(table, code),
+            None => false,
+        }
     }
 
     /// Whether none may be linked to one that was counted.
     pub(crate) fn lists_nothing(&self, table: &Table) -> bool
-        ensures { result ≡ list_any (lists_nothing table.now) self.now.codes.items }
+        ensures { result ≡ codes_any (lists_nothing table.now) self.now }
     {
-        for to in &self.codes {
-            if !table.links_some(to.view()) {
+        if let Some(first) = self.first {
+            if !table.links_some(CodeView::Local(first)) {
                 return true;
             }
         }
-        false
+        match &self.others {
+            Some(others) => others.lists_nothing(table),
+            None => false,
+        }
     }
 
     /// Whether others may be linked to one that was counted, but not that one.
     pub(crate) fn lists_others(&self, table: &Table, code: CodeView) -> bool
-        ensures { result ≡ list_any
-            (λ to. not (lists_nothing table.now to) && not (links table.now to (code_of code.entry)))
-            self.now.codes.items }
+        ensures { result ≡ codes_any
+            (λ to. not (lists_nothing table.now to) && not (links table.now to (code_of code.entry))) self.now }
     {
-        for to in &self.codes {
-            if table.links_some(to.view()) && !table.links(to.view(), code) {
+        if let Some(first) = self.first {
+            let to = CodeView::Local(first);
+            if table.links_some(to) && !table.links(to, code) {
                 return true;
             }
         }
-        false
+        match &self.others {
+            Some(others) => others.lists_others(table, code),
+            None => false,
+        }
     }
 }

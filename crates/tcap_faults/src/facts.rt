@@ -1,13 +1,17 @@
 //! What is kept of what both ends sent, since the last quiet mark.
 
-ghost use Rattle.std.specs.Prelude.{◌≡◌, ℕ, List, [], nat_le, not};
+ghost use Rattle.std.specs.Prelude.{◌≡◌, ℕ, List, [], nat_le, not, option_copied};
 ghost use Rattle.std.specs.List.{list_any};
 ghost use Rattle.tcap_msg.specs.declared.kind.Kind.TheVariants as forms;
+ghost use Rattle.tcap_msg.specs.Meaning.{id_of};
 ghost use Rattle.tcap_record.specs.declared.entry.End.{End as Side};
 ghost use Rattle.tcap_record.specs.Ends.{other};
 ghost use Rattle.tcap_end.specs.Table.{Table};
 ghost use Rattle.tcap_model.specs.World.{Item};
 ghost use Rattle.tcap_refute.specs.Before.{ends_to, is_a, sent_by};
+ghost use Rattle.tcap_refute.specs.Asking.{told_ended, told_from};
+ghost use Rattle.tcap_refute.specs.Facts.{FromFact, told_since};
+ghost use Rattle.tcap_refute.specs.Kept.{told_by_from};
 ghost use Rattle.tcap_faults.specs.Counts.{count, is_nothing};
 ghost use Rattle.tcap_faults.specs.Told.{began, goes_on_to, has_ended, has_used, told};
 ghost use Rattle.tcap_faults.specs.Kept.{AreFacts, IsSide, sent_from};
@@ -17,8 +21,9 @@ use crate::sent_from::SentFrom;
 use crate::sent_to::SentTo;
 use std::alloc::Global;
 use std::collections::{BTreeMap, BTreeSet};
-use tcap_msg::TransactionId;
+use tcap_msg::{TransactionId, TransactionIdView};
 use tcap_record::End;
+use tcap_refute::FromId;
 
 /// What is kept of an end.
 #[derive(Debug, Drop)]
@@ -59,6 +64,20 @@ impl SideFacts {
             closed: BTreeSet::new(alloc),
             over: BTreeSet::new(alloc),
             again: false,
+        }
+    }
+
+    /// What F2 to F7 ask of what the end sent from an ID, where there is one.
+    pub(crate) fn first_from(&self, id: Option<TransactionIdView>) -> Option<&FromId>
+        ensures { (table : Table) (side : Side) (items : List Item) (fact : FromFact) → IsSide table side items self.now
+            → told_by_from (option_copied result) fact ≡ told_from (told_since table side items) (id_of id.entry) fact }
+    {
+        let Some(id) = id else {
+            return None;
+        };
+        match self.from.get(&id.to_transaction_id()) {
+            Some(kept) => Some(&kept.first),
+            None => None,
         }
     }
 
@@ -132,6 +151,17 @@ impl SideFacts {
     {
         match self.to.get(id) {
             Some(kept) => kept.ended,
+            None => false,
+        }
+    }
+
+    /// The same, where there is an ID.
+    pub(crate) fn has_ended_with(&self, id: Option<TransactionIdView>) -> bool
+        ensures { (table : Table) (side : Side) (items : List Item) → IsSide table side items self.now
+            → result ≡ told_ended (told_since table side items) (id_of id.entry) }
+    {
+        match id {
+            Some(id) => self.has_ended(&id.to_transaction_id()),
             None => false,
         }
     }

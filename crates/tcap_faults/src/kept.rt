@@ -1,6 +1,6 @@
-//! What is kept of the entries of a record while faults of its ends are looked for.
+//! What the next entry of a record is to an end, by what is kept of those before it.
 
-ghost use Rattle.std.specs.Prelude.{◌≡◌, List, [], ◌∷◌, ◌++◌, IfOk, OnOk};
+ghost use Rattle.std.specs.Prelude.{◌≡◌, List, [], ◌∷◌, ◌++◌, IfOk};
 ghost use Rattle.tcap_end.specs.Table.{Table};
 ghost use Rattle.tcap_model.specs.World.{Item, Sent};
 ghost use Rattle.tcap_refute.specs.Before.{since_quiet};
@@ -15,26 +15,9 @@ use std::alloc::{AllocError, Global};
 use tcap_end::Table;
 use tcap_msg::MessageParts;
 use tcap_record::End;
-use tcap_refute::{Kind, Notes};
+use tcap_refute::Kind;
 
-/// What is kept of the entries so far.
-#[derive(Debug, Drop)]
-pub(crate) struct Kept {
-    pub(crate) notes: Notes,
-    pub(crate) facts: Facts,
-}
-
-impl Kept {
-    /// That of no items.
-    pub(crate) fn new(alloc: Global) -> Kept
-        ensures { (table : Table) → IsKept table [] result }
-    {
-        Kept {
-            notes: Notes::none(alloc),
-            facts: Facts::new(alloc),
-        }
-    }
-
+impl Facts {
     /// An end, and its peer.
     pub(crate) fn ends(&self, side: End) -> Ends<'_>
         ensures { (table : Table) (items : List Item) → IsKept table items self.now
@@ -42,8 +25,8 @@ impl Kept {
             × IsSide table (other side) (since_quiet items) result.peer.now }
     {
         Ends {
-            own: self.facts.of(side),
-            peer: self.facts.of(side.other()),
+            own: self.of(side),
+            peer: self.of(side.other()),
         }
     }
 
@@ -64,7 +47,7 @@ impl Kept {
         if ends.own.again || ends.uses_again(table, message) || ends.goes_over_tangled(message) {
             return Ok(None);
         }
-        match self.notes.first_kind(table, side, message) {
+        match ends.first_kind(table, message) {
             Some(kind) => Ok(Some(kind)),
             None => ends.further_kind(alloc, table, message),
         }
@@ -83,26 +66,10 @@ impl Kept {
         }
     }
 
-    /// A message more.
-    pub(crate) fn note<M: MessageParts>(
-        &mut self,
-        alloc: Global,
-        table: &Table,
-        sender: End,
-        message: &M,
-    ) -> Result<(), AllocError>
-        ensures { (items : List Item) → IsKept table.now items self.old
-            → OnOk result (IsKept table.now (items ++ Sent sender (M.meaning message.now) ∷ []) self.new) }
-    {
-        self.notes.add_message(alloc, table, sender, message)?;
-        self.facts.note(alloc, table, sender, message)
-    }
-
     /// A quiet mark more: what was before it is forgotten.
     pub(crate) fn note_mark(&mut self, alloc: Global)
         ensures { (table : Table) (items : List Item) → IsKept table (items ++ Item.Quiet ∷ []) self.new }
     {
-        self.notes.add_mark(alloc);
-        self.facts = Facts::new(alloc);
+        *self = Facts::new(alloc);
     }
 }

@@ -8,6 +8,8 @@ ghost use Rattle.tcap_record.specs.Ends.{other};
 ghost use Rattle.tcap_model.specs.World.{Item, Sent};
 ghost use Rattle.tcap_refute.specs.declared.kind.Kind.TheVariants.{WrongReply};
 ghost use Rattle.tcap_faults.specs.Fault.{further_kinds, is_of_further_kind, is_of_half_kind, is_wrong_reply};
+ghost use Rattle.tcap_refute.specs.Before.{since_quiet};
+ghost use Rattle.tcap_refute.specs.FirstKinds.{first_kinds, is_of_first_kind};
 ghost use Rattle.tcap_faults.specs.HalfOf.{half_of};
 ghost use Rattle.tcap_faults.specs.Kept.{IsSide};
 ghost use Rattle.tcap_faults.specs.Searching.{AreRoomy, kind_of_components};
@@ -19,7 +21,7 @@ use std::alloc::{AllocError, Global};
 use tcap_ber::SmallView;
 use tcap_end::Table;
 use tcap_msg::{MessageParts, TransactionId};
-use tcap_refute::Kind;
+use tcap_refute::{Kind, first_kind};
 
 /// The lowest of the kinds of components.
 fn kind_of_faults(faults: ComponentFaults) -> Option<Kind>
@@ -40,6 +42,18 @@ fn kind_of_faults(faults: ComponentFaults) -> Option<Kind>
 }
 
 impl Ends<'_> {
+    /// The lowest of F2 to F7, as they are asked of one end, of a message that the end sends.
+    pub(crate) fn first_kind<M: MessageParts>(self, table: &Table, message: &M) -> Option<Kind>
+        ensures { (side : Side) (items : List Item) → IsSide table.now side (since_quiet items) self.entry.own.now
+            → IsSide table.now (other side) (since_quiet items) self.entry.peer.now
+            → result ≡ find (is_of_first_kind table.now side (since_quiet items) (M.meaning message.now)) first_kinds }
+    {
+        let own = self.own.first_from(message.otid());
+        let there = self.peer.first_from(message.dtid());
+        let has_ended = self.own.has_ended_with(message.dtid());
+        first_kind(table, own, there, has_ended, message)
+    }
+
     /// The lowest kind of a message to that ID, which is not tangled, by the half over which it would go.
     fn half_kind<M: MessageParts>(
         self,

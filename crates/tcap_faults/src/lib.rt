@@ -18,6 +18,8 @@ mod invokes;
 mod kept;
 mod kinds;
 pub mod laws;
+mod many_codes;
+mod matters;
 mod noting;
 mod of_id;
 mod rejects;

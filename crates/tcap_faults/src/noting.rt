@@ -14,8 +14,9 @@ ghost use Rattle.tcap_faults.specs.Closed.{all_go_on_to, shows_closed};
 ghost use Rattle.tcap_faults.specs.Told.{has_ended, has_used};
 ghost use Rattle.tcap_faults.specs.Joining.{GetsMore, HasMore, IsJoined};
 ghost use Rattle.tcap_faults.specs.Ids.{AreAmong};
-ghost use Rattle.tcap_faults.specs.Kept.{AreFacts, IsSide, otids_of, sent_to};
+ghost use Rattle.tcap_faults.specs.Kept.{IsSide, otids_of, sent_to};
 ghost use Rattle.tcap_faults.specs.Noting.{AreTo};
+ghost use Rattle.tcap_faults.specs.Searching.{IsKept};
 ghost use Rattle.tcap_faults.specs.Tangled.{guesses, owns_of};
 
 use crate::facts::{Facts, SideFacts};
@@ -378,8 +379,8 @@ impl Facts {
         sender: End,
         message: &M,
     ) -> Result<(), AllocError>
-        ensures { (items : List Item) → AreFacts table.now items self.old
-            → OnOk result (AreFacts table.now (items ++ Sent sender (M.meaning message.now) ∷ []) self.new) }
+        ensures { (items : List Item) → IsKept table.now items self.old
+            → OnOk result (IsKept table.now (items ++ Sent sender (M.meaning message.now) ∷ []) self.new) }
     {
         match sender {
             End::A => note_sent(alloc, table, &mut self.a, &mut self.b, message),

@@ -68,7 +68,7 @@ fn add_link(
     if let Some(counts) = by_link.get_mut(&linked) {
         return counts.add(alloc, code);
     }
-    let mut counts = CodeCounts::new(alloc);
+    let mut counts = CodeCounts::new();
     counts.add(alloc, code)?;
     by_link.insert(linked, counts)?;
     Ok(())
@@ -93,9 +93,9 @@ impl OfId {
             link_rejects: 0,
             result_rejects: 0,
             error_rejects: 0,
-            operations: CodeCounts::new(alloc),
-            named: CodeCounts::new(alloc),
-            answered: CodeCounts::new(alloc),
+            operations: CodeCounts::new(),
+            named: CodeCounts::new(),
+            answered: CodeCounts::new(),
             by_link: BTreeMap::new(alloc),
         }
     }

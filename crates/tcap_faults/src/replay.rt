@@ -9,7 +9,7 @@ ghost use Rattle.tcap_faults.specs.Searching.{IsKept};
 ghost use Rattle.tcap_faults.specs.Subject.{items_among};
 
 use crate::blaming::entry_count;
-use crate::kept::Kept;
+use crate::facts::Facts;
 use std::alloc::{AllocError, Global};
 use tcap_end::Table;
 use tcap_msg::MessageParts;
@@ -19,7 +19,7 @@ use tcap_refute::SearchFault;
 /// What is kept of so many entries of a record, and what was found in them of an end.
 #[derive(Debug, Drop)]
 pub(crate) struct Replay {
-    pub(crate) kept: Kept,
+    pub(crate) kept: Facts,
     /// The number of the first of them in which the end used an own ID again, since the last quiet mark.
     pub(crate) again: Option<u64>,
 }
@@ -32,9 +32,14 @@ pub(crate) fn entry_at(record: &Record, number: u64) -> Option<&Entry>
     record.entries.get(number as usize)
 }
 
-impl Kept {
+impl Facts {
     /// An entry more; what is no item is passed over.
-    fn note_entry(&mut self, alloc: Global, table: &Table, entry: &Entry) -> Result<(), AllocError>
+    pub(crate) fn note_entry(
+        &mut self,
+        alloc: Global,
+        table: &Table,
+        entry: &Entry,
+    ) -> Result<(), AllocError>
         ensures { (items : List Item) → IsKept table.now items self.old
             → OnOk result (IsKept table.now (items ++ items_among (item_of entry.now ∷ [])) self.new) }
     {
@@ -63,7 +68,7 @@ impl Replay {
         ensures { IfOk result (IsReplayed table.now end «record».now.entries.items number) }
     {
         let mut replay = Replay {
-            kept: Kept::new(alloc),
+            kept: Facts::new(alloc),
             again: None,
         };
         for (place, entry) in record.entries.iter().enumerate() {

@@ -1,6 +1,6 @@
 //! What an end sent from a transaction ID, since the last quiet mark.
 
-ghost use Rattle.std.specs.Prelude.{◌≡◌, [], ◌∷◌, ◌++◌, ℕ, true, List, Some, IfOk, OnOk, option_map};
+ghost use Rattle.std.specs.Prelude.{◌≡◌, [], ◌∷◌, ◌++◌, ℕ, true, false, List, Some, IfOk, OnOk, option_map};
 ghost use Rattle.tcap_parts.specs.DialogueMeaning.{dialogue_of};
 ghost use Rattle.tcap_msg.specs.declared.kind.Kind.TheVariants as forms;
 ghost use Rattle.tcap_msg.specs.declared.message.Message.{Message};
@@ -8,7 +8,9 @@ ghost use Rattle.tcap_msg.specs.Parts.{dtid_in, otid_in};
 ghost use Rattle.tcap_end.specs.Dialogue.{is_request, is_response};
 ghost use Rattle.tcap_end.specs.Table.{Table};
 ghost use Rattle.tcap_refute.specs.Before.{is_a};
-ghost use Rattle.tcap_faults.specs.Kept.{IsCame, IsFirstBegin, IsFrom};
+ghost use Rattle.tcap_refute.specs.Facts.{FromFact};
+ghost use Rattle.tcap_refute.specs.Kept.{tells_from};
+ghost use Rattle.tcap_faults.specs.Kept.{IsCame, IsFirstBegin, IsFrom, IsFromWhole};
 ghost use Rattle.tcap_faults.specs.Noting.{AreCame, AreFrom, with_more};
 
 use crate::ids::Ids;
@@ -18,6 +20,7 @@ use std::collections::BTreeMap;
 use tcap_end::Table;
 use tcap_msg::{Kind as Form, MessageParts, TransactionId};
 use tcap_parts::DialogueView;
+use tcap_refute::FromId;
 
 /// The Continues from an ID to another.
 #[derive(Debug, Drop)]
@@ -41,6 +44,8 @@ pub(crate) struct FirstBegin {
 /// What was sent from an ID.
 #[derive(Debug, Drop)]
 pub(crate) struct SentFrom {
+    /// What F2 to F7 ask of it.
+    pub(crate) first: FromId,
     pub(crate) begin: Option<FirstBegin>,
     /// Whether there are two Begins or more.
     pub(crate) begun_twice: bool,
@@ -142,9 +147,11 @@ impl FirstBegin {
 impl SentFrom {
     /// That of no messages.
     fn new(alloc: Global) -> SentFrom
-        ensures { (table : Table) → IsFrom table [] result }
+        ensures from { (table : Table) → IsFrom table [] result }
+        ensures first { (fact : FromFact) → tells_from fact result.first ≡ false }
     {
         SentFrom {
+            first: FromId::new(alloc),
             begin: None,
             begun_twice: false,
             continues: 0,
@@ -160,8 +167,9 @@ impl SentFrom {
         table: &Table,
         message: &M,
     ) -> Result<(), AllocError>
-        ensures { (ms : List Message) → is_a forms.Begin (M.meaning message.now) ≡ true → IsFrom table.now ms self.old
+        ensures from { (ms : List Message) → is_a forms.Begin (M.meaning message.now) ≡ true → IsFrom table.now ms self.old
             → OnOk result (IsFrom table.now (ms ++ M.meaning message.now ∷ []) self.new) }
+        ensures first { self.new.first ≡ self.old.first }
     {
         if self.begin.is_some() {
             self.begun_twice = true;
@@ -178,9 +186,10 @@ impl SentFrom {
         table: &Table,
         message: &M,
     ) -> Result<(), AllocError>
-        ensures { (ms : List Message) → is_a forms.Continue (M.meaning message.now) ≡ true
+        ensures from { (ms : List Message) → is_a forms.Continue (M.meaning message.now) ≡ true
             → IsFrom table.now ms self.old
             → OnOk result (IsFrom table.now (ms ++ M.meaning message.now ∷ []) self.new) }
+        ensures first { self.new.first ≡ self.old.first }
     {
         self.continues = self.continues.saturating_add(1);
         if let Some(dtid) = message.dtid() {
@@ -196,9 +205,10 @@ impl SentFrom {
         table: &Table,
         message: &M,
     ) -> Result<(), AllocError>
-        ensures { (ms : List Message) → IsFrom table.now ms self.old
-            → OnOk result (IsFrom table.now (ms ++ M.meaning message.now ∷ []) self.new) }
+        ensures { (ms : List Message) → IsFromWhole table.now ms self.old
+            → OnOk result (IsFromWhole table.now (ms ++ M.meaning message.now ∷ []) self.new) }
     {
+        self.first.note(alloc, table, message)?;
         match message.kind() {
             Form::Begin => self.note_begin(alloc, table, message),
             Form::Continue => self.note_continue(alloc, table, message),

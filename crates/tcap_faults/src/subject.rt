@@ -9,14 +9,14 @@ ghost use Rattle.tcap_faults.specs.Subject.{no_subject, subject, subject_by, sub
 
 use crate::blaming::entry_count;
 use crate::components::{faults_of, first_faults};
+use crate::facts::Facts;
 use crate::how::How;
-use crate::kept::Kept;
-use crate::replay::{Replay, entry_at};
+use crate::replay::entry_at;
 use std::alloc::{AllocError, Global};
 use tcap_end::Table;
 use tcap_msg::{MessageParts, TransactionId};
 use tcap_record::{Body, End, Entry, Record};
-use tcap_refute::{Kind, Refutation, SearchFault};
+use tcap_refute::{Kind, Refutation, SearchFault, faulty_component};
 
 /// What a fault of an end is about.
 #[derive(Debug, Drop)]
@@ -40,7 +40,7 @@ fn no_subject() -> Subject
     }
 }
 
-impl Kept {
+impl Facts {
     /// That of a message behind what is kept, by its kind; and whether that was asked of one end.
     fn subject<M: MessageParts>(
         &self,
@@ -56,9 +56,9 @@ impl Kept {
             → IfOk result (λ s. s
             ≡ subject of_one table.now side (since_quiet items) (M.meaning message.now) kind) }
     {
-        let first = self
-            .notes
-            .faulty_component(of_one, table, side, message, kind);
+        let ends = self.ends(side);
+        let there = ends.peer.first_from(message.dtid());
+        let first = faulty_component(of_one, table, there, message, kind);
         let Some(dtid) = message.dtid() else {
             let faults = first_faults(alloc, message)?;
             return Ok(Subject {
@@ -67,7 +67,7 @@ impl Kept {
                 component: first.or(faults.component(kind)),
             });
         };
-        let half = self.ends(side).half(alloc, &dtid.to_transaction_id())?;
+        let half = ends.half(alloc, &dtid.to_transaction_id())?;
         let faults = faults_of(alloc, table, &half, message)?;
         Ok(Subject {
             how: half.how,
@@ -102,8 +102,9 @@ impl Kept {
 
 /// What a fault of an end is about, of which `at` names the entry and the kind (Q.774 3.2, 3.3). `of_one` says whether the kind
 /// was asked of one end, as `blame` asks it, or of both, as `refute` does: of F5 that makes a difference. Where the entry is no
-/// message, or the record has no such entry, there is no half and no component. The entries before it are noted once more, so
-/// it costs what a search up to there does. `Memory` where memory ran out.
+/// message, or the record has no such entry, there is no half and no component. Those entries before it are noted once more that
+/// matter for this half: what the peer sent from the message's destination ID, what the end sent to it, and the Begins of the
+/// end. Each of the others costs a look. `Memory` where memory ran out.
 pub fn subject_of(
     alloc: Global,
     record: &Record,
@@ -114,15 +115,11 @@ pub fn subject_of(
 ) -> Result<Subject, SearchFault>
     ensures { IfOk result (λ s. s ≡ subject_of of_one table.now end «record».now.entries.items at) }
 {
-    let replay = Replay::before(alloc, record, table, end, at.entry)?;
     let Some(entry) = entry_at(record, at.entry) else {
         return Ok(no_subject());
     };
+    let kept = Facts::for_entry(alloc, record, table, end, at.entry, entry)?;
     // It bounds how many components there are, so that no count of them is above the greatest.
     let _count = entry_count(entry);
-    Ok(
-        replay
-            .kept
-            .subject_of_entry(alloc, table, end, entry, at.kind, of_one)?,
-    )
+    Ok(kept.subject_of_entry(alloc, table, end, entry, at.kind, of_one)?)
 }

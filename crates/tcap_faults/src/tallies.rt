@@ -6,7 +6,7 @@ ghost use Rattle.tcap_parts.specs.Meaning.{code_of};
 ghost use Rattle.tcap_end.specs.Component.{links};
 ghost use Rattle.tcap_faults.specs.Components.{lists_nothing};
 ghost use Rattle.tcap_faults.specs.Linking.{is_of_none, names_none, names_other};
-ghost use Rattle.tcap_faults.specs.Tallies.{links_at, tallies_of, tally_of};
+ghost use Rattle.tcap_faults.specs.Tallies.{codes_any, links_at, tallies_of, tally_of};
 
 use crate::code_counts::CodeCounts;
 use crate::sort::Sort;
@@ -87,15 +87,15 @@ fn lists_others(tallies: &[&Tally], table: &Table, id: i8, code: CodeView) -> bo
     false
 }
 
-/// Whether there is one of these operations, and none may be linked to an operation of that ID.
-fn one_is_none(codes: &[Code], invoked: &[&Tally], table: &Table, id: i8) -> bool
-    ensures { result ≡ list_any (names_none table.now (tallies_of (map (λ b. b.now) invoked.now)) id) codes.now }
+/// Whether an operation was counted, and none may be linked to an operation of that ID.
+fn one_is_none(counts: &CodeCounts, invoked: &[&Tally], table: &Table, id: i8) -> bool
+    ensures { result ≡ codes_any (names_none table.now (tallies_of (map (λ b. b.now) invoked.now)) id) counts.now }
 {
-    !codes.is_empty() && lists_nothing(invoked, table, id)
+    counts.counts_some() && lists_nothing(invoked, table, id)
 }
 
 /// Whether others, but not one of these operations, may be linked to an operation of that ID.
-fn one_is_other(codes: &[Code], invoked: &[&Tally], table: &Table, id: i8) -> bool
+fn any_is_other(codes: &[Code], invoked: &[&Tally], table: &Table, id: i8) -> bool
     ensures { result ≡ list_any (names_other table.now (tallies_of (map (λ b. b.now) invoked.now)) id) codes.now }
 {
     for code in codes {
@@ -106,13 +106,28 @@ fn one_is_other(codes: &[Code], invoked: &[&Tally], table: &Table, id: i8) -> bo
     false
 }
 
+/// Whether others, but not one of the operations that were counted, may be linked to an operation of that ID.
+fn one_is_other(counts: &CodeCounts, invoked: &[&Tally], table: &Table, id: i8) -> bool
+    ensures { result ≡ codes_any (names_other table.now (tallies_of (map (λ b. b.now) invoked.now)) id) counts.now }
+{
+    if let Some(first) = counts.first {
+        if lists_others(invoked, table, id, CodeView::Local(first)) {
+            return true;
+        }
+    }
+    match &counts.others {
+        Some(others) => any_is_other(&others.codes, invoked, table, id),
+        None => false,
+    }
+}
+
 /// Whether a linked ID is that of an invocation of an operation to which none may be linked.
 fn one_to_none(by_link: &BTreeMap<i8, CodeCounts>, invoked: &[&Tally], table: &Table) -> bool
     ensures { result ≡ list_any (links_at (names_none table.now (tallies_of (map (λ b. b.now) invoked.now))))
         by_link.now.entries }
 {
     for (linked, counts) in by_link {
-        if one_is_none(&counts.codes, invoked, table, *linked) {
+        if one_is_none(counts, invoked, table, *linked) {
             return true;
         }
     }
@@ -125,7 +140,7 @@ fn one_to_other(by_link: &BTreeMap<i8, CodeCounts>, invoked: &[&Tally], table: &
         by_link.now.entries }
 {
     for (linked, counts) in by_link {
-        if one_is_other(&counts.codes, invoked, table, *linked) {
+        if one_is_other(counts, invoked, table, *linked) {
             return true;
         }
     }
@@ -188,7 +203,7 @@ pub(crate) fn is_linked_to_other(
 }
 
 /// Whether one of these operations is that of no invocation of that ID.
-fn one_is_of_none(codes: &[Code], invoked: &[&Tally], id: i8) -> bool
+fn any_is_of_none(codes: &[Code], invoked: &[&Tally], id: i8) -> bool
     ensures { result ≡ list_any (is_of_none (tallies_of (map (λ b. b.now) invoked.now)) id) codes.now }
 {
     for code in codes {
@@ -199,13 +214,28 @@ fn one_is_of_none(codes: &[Code], invoked: &[&Tally], id: i8) -> bool
     false
 }
 
+/// Whether one of the operations that were counted is that of no invocation of that ID.
+fn one_is_of_none(counts: &CodeCounts, invoked: &[&Tally], id: i8) -> bool
+    ensures { result ≡ codes_any (is_of_none (tallies_of (map (λ b. b.now) invoked.now)) id) counts.now }
+{
+    if let Some(first) = counts.first {
+        if invokes_of(invoked, id, CodeView::Local(first)) == 0 {
+            return true;
+        }
+    }
+    match &counts.others {
+        Some(others) => any_is_of_none(&others.codes, invoked, id),
+        None => false,
+    }
+}
+
 /// Whether a Return Result of that ID names an operation of which no invocation of the ID is.
 fn answers_none(heard: &Tally, invoked: &[&Tally], id: i8) -> bool
     ensures { result ≡ (tally_of heard.now).has_result id
         (is_of_none (tallies_of (map (λ b. b.now) invoked.now)) id) }
 {
     match heard.of_id(id) {
-        Some(kept) => one_is_of_none(&kept.answered.codes, invoked, id),
+        Some(kept) => one_is_of_none(&kept.answered, invoked, id),
         None => false,
     }
 }

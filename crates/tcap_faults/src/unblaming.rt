@@ -7,7 +7,7 @@ ghost use Rattle.tcap_faults.specs.Replay.{items_up_to};
 ghost use Rattle.tcap_faults.specs.Searching.{IsKept};
 ghost use Rattle.tcap_faults.specs.Unblamed.{is_tangled_at, unblamed_at, unblamed_by};
 
-use crate::kept::Kept;
+use crate::facts::Facts;
 use crate::replay::{Replay, entry_at};
 use crate::why::Unblamed;
 use std::alloc::Global;
@@ -16,7 +16,7 @@ use tcap_msg::MessageParts;
 use tcap_record::{Body, End, Entry, Record};
 use tcap_refute::SearchFault;
 
-impl Kept {
+impl Facts {
     /// Whether the message of an entry behind what is kept goes over tangled IDs.
     fn is_tangled(&self, end: End, entry: &Entry) -> bool
         ensures { (table : Table) (entries : List Entry) (number : ℕ) → IsKept table (items_up_to entries number) self.now

@@ -15,45 +15,16 @@ use Rattle.tcap_model.specs.World.{Item, Sent}
 use Rattle.tcap_refute.specs.declared.kind.Kind.{Kind}
 use Rattle.tcap_refute.specs.declared.kind.Kind.TheVariants as kinds
 use Rattle.tcap_refute.specs.declared.from_id.FromId.{FromId}
-use Rattle.tcap_refute.specs.declared.notes.EndNotes.{EndNotes}
 use Rattle.tcap_refute.specs.declared.notes.Notes.{Notes}
 use Rattle.tcap_refute.specs.Before.{asked, sent_by, since_quiet}
 use Rattle.tcap_refute.specs.Kind.{goes_elsewhere, is_after_end, is_begin_with_request, is_misplaced_dialogue, is_reused, is_unasked, is_unknown_transaction, is_wrong_operation, lowest_kind, or_else}
 use Rattle.tcap_refute.specs.FirstKinds.{first_kinds, is_of_first_kind}
 use Rattle.tcap_refute.specs.FirstComponent.{first_component}
-use Rattle.tcap_refute.specs.Facts.{FromFact, Spoke, Asked, WentElsewhere, EndFact, shows_from, told_by_list}
-use Rattle.tcap_refute.specs.Kept.{AreNotesOf, kept_from, notes_at, tells_end, told_by_from, told_by_notes}
-use Rattle.tcap_refute.specs.Asking.{comes_after_end, component_by, dialogue_is_misplaced, id_is_reused, kind_by, kind_of_ids, kind_of_parts, told_from, transaction_is_unknown, was_not_asked}
+use Rattle.tcap_refute.specs.Facts.{FromFact, Spoke, Asked, WentElsewhere, From, Ended, shows_from, told_by_list}
+use Rattle.tcap_refute.specs.Kept.{AreNotesOf, kept_from, notes_at, tells_end, told_by_from}
+use Rattle.tcap_refute.specs.Asking.{AreOfIds, comes_after_end, component_by, dialogue_is_misplaced, id_is_reused, kind_by, told_ended, told_from, transaction_is_unknown, was_not_asked}
 use Rattle.tcap_refute.proofs.TestLaws.{and_false}
 use Rattle.tcap_refute.proofs.ToldLaws.{answering, component_told, from_id, nothing_of, same_any, there, told_is, told_of, wrong}
-
--- ---- what is kept, asked of
-
-there_told : (id : Option (List ℕ)) (kept : EndNotes)
-    → told_by_from (kept_from id kept) ≡ told_from (λ fact. tells_end fact kept) id
-there_told None kept = refl
-there_told (Some id) kept = refl
-
--- the lowest kind, where that is told of a message's end and of its destination ID
-kind_told : Bool → Table → Message → (EndFact → Bool) → (FromFact → Bool) → Option Kind
-kind_told of_one table m own there = or_else (kind_of_ids own there m) (kind_of_parts of_one table there m)
-
--- What is told of a destination ID of which that is kept.
-there_asked : (notes : Notes) (side : Side) (m : Message) (there : Option FromId)
-    → there ≡ kept_from (dtid_in m) (notes_at (other side) notes)
-    → told_by_from there ≡ told_from (told_by_notes notes (other side)) (dtid_in m)
-there_asked notes side m there is = ap told_by_from is ∙ there_told (dtid_in m) (notes_at (other side) notes)
-
--- The lowest kind by the parts, where the IDs give none.
-pub kind_asked : (of_one : Bool) (table : Table) (notes : Notes) (side : Side) (m : Message) (own : EndNotes)
-    (there : Option FromId) (r : Option Kind) → own ≡ notes_at side notes
-    → there ≡ kept_from (dtid_in m) (notes_at (other side) notes)
-    → None ≡ kind_of_ids (λ fact. tells_end fact own) (told_by_from there) m
-    → r ≡ kind_of_parts of_one table (told_by_from there) m → r ≡ kind_by of_one table (told_by_notes notes) side m
-unfolding kind_told
-kind_asked of_one table notes side m own there r is_own is_there none is =
-    is ∙ ap (λ o. or_else o (kind_of_parts of_one table (told_by_from there) m)) none
-    ∙ ap₂ (kind_told of_one table m) (ap (λ kept fact. tells_end fact kept) is_own) (there_asked notes side m there is_there)
 
 -- ---- a transaction that the peer did not speak of
 
@@ -137,7 +108,8 @@ reused table items side (Abort dtid reason) = refl
 -- ---- behind the end
 
 after_end : (table : Table) (items : List Item) (side : Side) (m : Message)
-    → comes_after_end (told_by_list table items side) (dtid_in m) (cause_in m) ≡ is_after_end side (since_quiet items) m
+    → comes_after_end (told_ended (told_by_list table items side) (dtid_in m)) (cause_in m)
+    ≡ is_after_end side (since_quiet items) m
 after_end table items side (Unidirectional dialogue components) = refl
 after_end table items side (Begin otid dialogue components) = refl
 after_end table items side (Continue otid dtid dialogue components) = refl
@@ -205,12 +177,14 @@ found true table items side m = refl
 found false table items side m = refl
 
 -- The kind by what the list tells is the lowest one.
-pub kind_by_list : (of_one : Bool) (table : Table) (items : List Item) (side : Side) (m : Message)
-    → kind_by of_one table (told_by_list table items) side m ≡ kind_found of_one table items side m
+kind_by_list : (of_one : Bool) (table : Table) (items : List Item) (side : Side) (m : Message)
+    → kind_by of_one table (told_from (told_by_list table items side) (otid_in m)) (there table items side m)
+    (told_ended (told_by_list table items side) (dtid_in m)) m
+    ≡ kind_found of_one table items side m
 kind_by_list of_one table items side m =
     chained (transaction_is_unknown (there table items side m) m)
     (id_is_reused (told_from (told_by_list table items side) (otid_in m)) (dtid_in m) (kind_in m))
-    (comes_after_end (told_by_list table items side) (dtid_in m) (cause_in m))
+    (comes_after_end (told_ended (told_by_list table items side) (dtid_in m)) (cause_in m))
     kinds.UnknownTransaction kinds.ReusedId kinds.AfterEnd _
     ∙ rw (
       transaction table items side m,
@@ -222,28 +196,48 @@ kind_by_list of_one table items side m =
     ) refl
     ∙ found of_one table items side m
 
--- What is noted of items tells what they do.
-noted_told : (table : Table) (items : List Item) (notes : Notes) → AreNotesOf table items notes
-    → told_by_notes notes ≡ told_by_list table items
-noted_told table items notes are = fun_ext λ end. fun_ext λ fact. are.told end fact
-
--- So it gives the lowest kind behind them,
-pub kind_noted : (of_one : Bool) (table : Table) (items : List Item) (notes : Notes) (side : Side) (m : Message)
-    → AreNotesOf table items notes
-    → kind_by of_one table (told_by_notes notes) side m ≡ kind_found of_one table items side m
-kind_noted of_one table items notes side m are =
-    ap (λ told. kind_by of_one table told side m) (noted_told table items notes are)
+-- So it is by what is kept of its IDs,
+pub kind_kept : (of_one : Bool) (table : Table) (items : List Item) (side : Side) (m : Message) (own there : Option FromId)
+    (ended : Bool) → AreOfIds table items side m own there ended
+    → kind_by of_one table (told_by_from own) (told_by_from there) ended m ≡ kind_found of_one table items side m
+kind_kept of_one table items side m own there ended are =
+    ap (λ told. kind_by of_one table told (told_by_from there) ended m) (fun_ext are.from_own)
+    ∙ ap (λ told. kind_by of_one table (told_from (told_by_list table items side) (otid_in m)) told ended m)
+    (fun_ext are.from_there)
+    ∙ ap (λ b. kind_by of_one table (told_from (told_by_list table items side) (otid_in m))
+    (told_from (told_by_list table items (other side)) (dtid_in m)) b m) are.has_ended
     ∙ kind_by_list of_one table items side m
 
--- and the component by which a message has a kind.
-pub component_noted : (of_one : Bool) (table : Table) (items : List Item) (notes : Notes) (side : Side) (m : Message)
-    (kind : Kind) (there : Option FromId) (r : Option ℕ) → AreNotesOf table items notes
+-- and so is the component by which a message has a kind.
+pub component_kept : (of_one : Bool) (table : Table) (items : List Item) (side : Side) (m : Message) (kind : Kind)
+    (there : Option FromId)
+    → ((fact : FromFact) → told_by_from there fact ≡ told_from (told_by_list table items (other side)) (dtid_in m) fact)
+    → component_by of_one table (told_by_from there) m kind
+    ≡ first_component of_one table side (since_quiet items) m kind
+component_kept of_one table items side m kind there told =
+    ap (λ told. component_by of_one table told m kind) (fun_ext told) ∙ component_told table items side of_one m kind
+
+-- ---- what is noted of items tells what they do
+
+module _ (table : Table) (items : List Item) (notes : Notes) (are : AreNotesOf table items notes) (side : Side) where
+  noted_from : (id : Option (List ℕ)) (fact : FromFact)
+      → told_by_from (kept_from id (notes_at side notes)) fact ≡ told_from (told_by_list table items side) id fact
+  noted_from None fact = refl
+  noted_from (Some id) fact = are.told side (From id fact)
+
+  noted_ended : (id : Option (List ℕ))
+      → told_ended (λ fact. tells_end fact (notes_at side notes)) id ≡ told_ended (told_by_list table items side) id
+  noted_ended None = refl
+  noted_ended (Some id) = are.told side (Ended id)
+
+pub noted_of_ids : (table : Table) (items : List Item) (notes : Notes) → AreNotesOf table items notes → (side : Side)
+    (m : Message) (own there : Option FromId) (ended : Bool) → own ≡ kept_from (otid_in m) (notes_at side notes)
     → there ≡ kept_from (dtid_in m) (notes_at (other side) notes)
-    → r ≡ component_by of_one table (told_by_from there) m kind
-    → r ≡ first_component of_one table side (since_quiet items) m kind
-component_noted of_one table items notes side m kind there r are is_there is =
-    is
-    ∙ ap (λ told. component_by of_one table told m kind)
-    (there_asked notes side m there is_there
-    ∙ ap (λ told. told_from (told (other side)) (dtid_in m)) (noted_told table items notes are))
-    ∙ component_told table items side of_one m kind
+    → ended ≡ told_ended (λ fact. tells_end fact (notes_at side notes)) (dtid_in m)
+    → AreOfIds table items side m own there ended
+noted_of_ids table items notes are side m own there ended is_own is_there is_ended = record {
+  from_own = λ fact. ap (λ kept. told_by_from kept fact) is_own ∙ noted_from table items notes are side (otid_in m) fact;
+  from_there = λ fact. ap (λ kept. told_by_from kept fact) is_there
+      ∙ noted_from table items notes are (other side) (dtid_in m) fact;
+  has_ended = is_ended ∙ noted_ended table items notes are side (dtid_in m);
+}

@@ -17,10 +17,8 @@ use Rattle.tcap_refute.specs.Before.{message_of, sent_by, since_quiet}
 use Rattle.tcap_refute.specs.Facts.{EndFact, shows_end, told_by_list}
 use Rattle.tcap_refute.specs.Kept.{AreNotesOf, told_by_notes}
 use Rattle.tcap_refute.specs.Kind.{lowest_kind, refuted, refuted_behind}
-use Rattle.tcap_refute.specs.Asking.{kind_by}
 use Rattle.tcap_refute.specs.Judging.{Judges}
 use Rattle.tcap_refute.proofs.TestLaws.{or_none}
-use Rattle.tcap_refute.proofs.AskLaws.{kind_noted}
 
 -- ---- a message more
 
@@ -83,17 +81,11 @@ module _ (side : Side) (m : Message) where
 
   -- A message that was asked for its kind and has none, and was noted.
   pub passes : (table : Table) (items : List Item) (old new : Notes) → AreNotesOf table items old
-      → (asked : Option Kind) → asked ≡ kind_by false table (told_by_notes old) side m → (asked ≡ None)
+      → (asked : Option Kind) → asked ≡ lowest_kind table items (Sent side m) → (asked ≡ None)
       → ((end : Side) (fact : EndFact) → told_by_notes new end fact
       ≡ (told_by_notes old end fact || (is_side end side && shows_end table fact m)))
       → Judges table items (Ok (Sent side m)) Passed new
-  passes table items old new are asked is none told =
-      (sym (kind_noted false table items old side m are) ∙ sym is ∙ none, noted table items old new are told)
-
-  -- One that has a kind.
-  pub is_refuted : (table : Table) (items : List Item) (old : Notes) → AreNotesOf table items old → (kind : Kind)
-      → Some kind ≡ kind_by false table (told_by_notes old) side m → lowest_kind table items (Sent side m) ≡ Some kind
-  is_refuted table items old are kind is = sym (is ∙ kind_noted false table items old side m are)
+  passes table items old new are asked is none told = (sym is ∙ none, noted table items old new are told)
 
 -- ---- a quiet mark more
 

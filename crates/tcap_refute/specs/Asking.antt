@@ -1,5 +1,5 @@
 -- The kinds of a message (`Kind`), by what is told of the facts.
-use Rattle.std.specs.Prelude.{ℕ, ℤ, Bool, true, false, List, Option, Some, None, ◌==◌, ◌&&◌, ◌||◌, not, cond, is_none, is_some, option_map}
+use Rattle.std.specs.Prelude.{◌≡◌, ℕ, ℤ, Bool, true, false, List, Option, Some, None, ◌==◌, ◌&&◌, ◌||◌, not, cond, is_none, is_some, option_map}
 use Rattle.tcap_parts.specs.declared.component.Component.{Component}
 use Rattle.tcap_parts.specs.declared.component.Component.TheVariants.{Invoke, ReturnResult, ReturnError, Reject}
 use Rattle.tcap_parts.specs.declared.dialogue.Dialogue.{Dialogue}
@@ -20,12 +20,20 @@ use Rattle.tcap_refute.specs.declared.kind.Kind.TheVariants as kinds
 use Rattle.tcap_refute.specs.Before.{is_answer, is_reject}
 use Rattle.tcap_refute.specs.FirstComponent.{first_so}
 use Rattle.tcap_refute.specs.Kind.{is_misplaced_aborting, is_misplaced_going_on, is_not_of_class_4, is_unknown_operation, or_else}
-use Rattle.tcap_refute.specs.Facts.{FromFact, EndFact, Spoke, Begun, Asked, WentOn, WentElsewhere, OfId, Invoked, Answered, Succeeds, Fails, From, Ended}
+use Rattle.tcap_model.specs.World.{Item}
+use Rattle.tcap_refute.specs.declared.from_id.FromId.{FromId}
+use Rattle.tcap_refute.specs.Kept.{told_by_from}
+use Rattle.tcap_refute.specs.Facts.{FromFact, EndFact, Spoke, Begun, Asked, WentOn, WentElsewhere, OfId, Invoked, Answered, Succeeds, Fails, From, Ended, told_by_list}
 
 -- what is told of an originating ID; nothing is of none
 abbrev pub told_from : (EndFact → Bool) → Option (List ℕ) → FromFact → Bool
 told_from told None fact = false
 told_from told (Some id) fact = told (From id fact)
+
+-- whether an end of the dialogue with a destination ID is told; none is of none
+abbrev pub told_ended : (EndFact → Bool) → Option (List ℕ) → Bool
+told_ended told None = false
+told_ended told (Some id) = told (Ended id)
 
 -- ---- a transaction that the peer did not speak of: by what is told of the destination ID
 
@@ -49,9 +57,10 @@ id_is_reused told dtid _ = false
 
 -- ---- behind the end
 
-abbrev pub comes_after_end : (EndFact → Bool) → Option (List ℕ) → Option ℕ → Bool
-comes_after_end told (Some dtid) None = told (Ended dtid)
-comes_after_end told _ _ = false
+-- where it is given whether the end ended its dialogue
+abbrev pub comes_after_end : Bool → Option ℕ → Bool
+comes_after_end ended None = ended
+comes_after_end ended (Some cause) = false
 
 -- ---- components: by what is told of the destination ID
 
@@ -125,12 +134,12 @@ dialogue_is_misplaced is_asked _ dialogue = is_misplaced_going_on is_asked dialo
 
 -- ---- the lowest kind of a message that an end sends
 
--- by its IDs: where that is told of its end, and of its destination ID
-abbrev pub kind_of_ids : (EndFact → Bool) → (FromFact → Bool) → Message → Option Kind
-kind_of_ids own there message =
+-- by its IDs: where that is told of its originating ID, and of its destination ID, and whether its end ended its dialogue
+abbrev pub kind_of_ids : (FromFact → Bool) → (FromFact → Bool) → Bool → Message → Option Kind
+kind_of_ids own there ended message =
     cond (transaction_is_unknown there message) (Some kinds.UnknownTransaction)
-    (cond (id_is_reused (told_from own (otid_in message)) (dtid_in message) (kind_in message)) (Some kinds.ReusedId)
-    (cond (comes_after_end own (dtid_in message) (cause_in message)) (Some kinds.AfterEnd) None))
+    (cond (id_is_reused own (dtid_in message) (kind_in message)) (Some kinds.ReusedId)
+    (cond (comes_after_end ended (cause_in message)) (Some kinds.AfterEnd) None))
 
 -- by its components and its dialogue portion: where that is told of its destination ID
 abbrev pub kind_of_parts : Bool → Table → (FromFact → Bool) → Message → Option Kind
@@ -140,8 +149,16 @@ kind_of_parts of_one table there message =
     (cond (dialogue_is_misplaced (there Asked) (kind_in message) (dialogue_in message)) (Some kinds.MisplacedDialogue)
     None))
 
--- where that is told of each end, and whether it is asked of one end
-abbrev pub kind_by : Bool → Table → (Side → EndFact → Bool) → Side → Message → Option Kind
-kind_by of_one table told side message =
-    or_else (kind_of_ids (told side) (told_from (told (other side)) (dtid_in message)) message)
-    (kind_of_parts of_one table (told_from (told (other side)) (dtid_in message)) message)
+-- by all of it, and whether it is asked of one end
+abbrev pub kind_by : Bool → Table → (FromFact → Bool) → (FromFact → Bool) → Bool → Message → Option Kind
+kind_by of_one table own there ended message =
+    or_else (kind_of_ids own there ended message) (kind_of_parts of_one table there message)
+
+-- What is kept of the IDs of a message of that end, and whether that end ended its dialogue, tell of the facts what these items
+-- since the last quiet mark do.
+pub record AreOfIds (table : Table) (items : List Item) (side : Side) (message : Message) (own there : Option FromId)
+    (ended : Bool) : Type 0 where
+  pub from_own : (fact : FromFact) → told_by_from own fact ≡ told_from (told_by_list table items side) (otid_in message) fact
+  pub from_there : (fact : FromFact)
+      → told_by_from there fact ≡ told_from (told_by_list table items (other side)) (dtid_in message) fact
+  pub has_ended : ended ≡ told_ended (told_by_list table items side) (dtid_in message)

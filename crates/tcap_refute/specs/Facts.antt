@@ -83,6 +83,10 @@ abbrev pub shows_end : Table → EndFact → Message → Bool
 shows_end table (From id fact) message = is_id id (otid_in message) && shows_from table fact message
 shows_end table (Ended id) message = is_id id (ended_by message)
 
--- whether a fact holds of a message that an end sent since the last quiet mark
+-- whether a fact holds of a message that an end sent in these items since the last quiet mark
+abbrev pub told_since : Table → Side → List Item → EndFact → Bool
+told_since table side items fact = list_any (shows_end table fact) (sent_by side items)
+
+-- the same by all items
 abbrev pub told_by_list : Table → List Item → Side → EndFact → Bool
-told_by_list table items side fact = list_any (shows_end table fact) (sent_by side (since_quiet items))
+told_by_list table items side fact = told_since table side (since_quiet items) fact

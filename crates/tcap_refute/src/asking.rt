@@ -1,22 +1,19 @@
 //! Which kind a message has, by what was noted of those before it (Q.771, Q.773, Q.774).
 
 ghost use Rattle.std.specs.Prelude.{◌≡◌, option_copied};
-ghost use Rattle.tcap_msg.specs.Meaning.{cause_of, id_of};
+ghost use Rattle.tcap_msg.specs.Meaning.{cause_of};
 ghost use Rattle.tcap_msg.specs.Parts.{cause_in, dialogue_in, dtid_in, kind_in};
 ghost use Rattle.tcap_refute.specs.Facts.{Asked, Begun, Spoke, WentElsewhere, WentOn};
-ghost use Rattle.tcap_record.specs.Ends.{other};
-ghost use Rattle.tcap_refute.specs.Kept.{kept_from, notes_at, tells_end, told_by_from, told_by_notes};
+ghost use Rattle.tcap_refute.specs.Kept.{told_by_from};
 ghost use Rattle.tcap_refute.specs.Asking.{cause_is_unfounded, comes_after_end, dialogue_is_misplaced, id_is_reused, kind_by, kind_of_ids, kind_of_parts, transaction_is_unknown, was_not_asked};
 
 use crate::components::component_of;
 use crate::dialogues::{is_misplaced_aborting, is_misplaced_going_on, is_request, is_uni};
 use crate::from_id::FromId;
 use crate::kind::Kind;
-use crate::notes::{EndNotes, Notes};
 use tcap_ber::SmallView;
 use tcap_end::Table;
 use tcap_msg::{Kind as Form, MessageParts, TransactionIdView};
-use tcap_record::End;
 
 /// Whether a Begin was sent from there.
 fn begun(from: Option<&FromId>) -> bool
@@ -111,39 +108,34 @@ fn dialogue_is_misplaced<M: MessageParts>(from: Option<&FromId>, message: &M) ->
     }
 }
 
-impl EndNotes {
-    /// What the end sent from that ID, where there is one.
-    fn from_there(&self, id: Option<TransactionIdView>) -> Option<&FromId>
-        ensures { option_copied result ≡ kept_from (id_of id.entry) self.now }
-    {
-        self.from(id?)
+/// Whether it comes behind the end of its dialogue, where it is given whether its end ended that.
+fn comes_after_end<M: MessageParts>(has_ended: bool, message: &M) -> bool
+    ensures { result ≡ comes_after_end has_ended (cause_in (M.meaning message.now)) }
+{
+    match message.cause() {
+        None => has_ended,
+        Some(_) => false,
     }
+}
 
-    /// Whether a message comes behind the end of its dialogue.
-    fn comes_after_end<M: MessageParts>(&self, message: &M) -> bool
-        ensures { result ≡ comes_after_end (λ fact. tells_end fact self.now)
-            (dtid_in (M.meaning message.now)) (cause_in (M.meaning message.now)) }
-    {
-        match (message.dtid(), message.cause()) {
-            (Some(dtid), None) => self.has_ended(dtid),
-            _ => false,
-        }
-    }
-
-    /// The lowest kind by the IDs of a message that the end sends; there has what was sent from its destination ID.
-    fn kind_of_ids<M: MessageParts>(&self, there: Option<&FromId>, message: &M) -> Option<Kind>
-        ensures { result ≡ kind_of_ids (λ fact. tells_end fact self.now) (told_by_from (option_copied there.entry))
-            (M.meaning message.now) }
-    {
-        if transaction_is_unknown(there, message) {
-            Some(Kind::UnknownTransaction)
-        } else if id_is_reused(self.from_there(message.otid()), message) {
-            Some(Kind::ReusedId)
-        } else if self.comes_after_end(message) {
-            Some(Kind::AfterEnd)
-        } else {
-            None
-        }
+/// The lowest kind by the IDs of a message; own and there have what was sent from its originating ID, and from its destination ID.
+fn kind_of_ids<M: MessageParts>(
+    own: Option<&FromId>,
+    there: Option<&FromId>,
+    has_ended: bool,
+    message: &M,
+) -> Option<Kind>
+    ensures { result ≡ kind_of_ids (told_by_from (option_copied own.entry)) (told_by_from (option_copied there.entry)) has_ended
+        (M.meaning message.now) }
+{
+    if transaction_is_unknown(there, message) {
+        Some(Kind::UnknownTransaction)
+    } else if id_is_reused(own, message) {
+        Some(Kind::ReusedId)
+    } else if comes_after_end(has_ended, message) {
+        Some(Kind::AfterEnd)
+    } else {
+        None
     }
 }
 
@@ -168,28 +160,21 @@ fn kind_of_parts<M: MessageParts>(
     }
 }
 
-impl Notes {
-    /// What the peer of an end sent from the destination ID of its message.
-    pub(crate) fn there<M: MessageParts>(&self, side: End, message: &M) -> Option<&FromId>
-        ensures { option_copied result ≡ kept_from (dtid_in (M.meaning message.now)) (notes_at (other side) self.now) }
-    {
-        self.at(side.other()).from_there(message.dtid())
-    }
-
-    /// The lowest kind of a message that an end sends; and whether that is asked of one end.
-    pub(crate) fn kind_of<M: MessageParts>(
-        &self,
-        of_one: bool,
-        table: &Table,
-        side: End,
-        message: &M,
-    ) -> Option<Kind>
-        ensures { result ≡ kind_by of_one table.now (told_by_notes self.now) side (M.meaning message.now) }
-    {
-        let there = self.there(side, message);
-        match self.at(side).kind_of_ids(there, message) {
-            Some(kind) => Some(kind),
-            None => kind_of_parts(of_one, table, there, message),
-        }
+/// The lowest kind of a message, by what was sent from its IDs, and whether its end ended its dialogue; and whether that is asked of
+/// one end.
+pub(crate) fn kind_by<M: MessageParts>(
+    of_one: bool,
+    table: &Table,
+    own: Option<&FromId>,
+    there: Option<&FromId>,
+    has_ended: bool,
+    message: &M,
+) -> Option<Kind>
+    ensures { result ≡ kind_by of_one table.now (told_by_from (option_copied own.entry)) (told_by_from (option_copied there.entry))
+        has_ended (M.meaning message.now) }
+{
+    match kind_of_ids(own, there, has_ended, message) {
+        Some(kind) => Some(kind),
+        None => kind_of_parts(of_one, table, there, message),
     }
 }

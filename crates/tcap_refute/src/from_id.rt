@@ -29,9 +29,10 @@ pub(crate) enum Toward {
     Several,
 }
 
-/// What an end sent from a transaction ID.
+/// What an end sent from a transaction ID since the last quiet mark, as far as F2 to F7 of its peer's messages, and of its own, ask
+/// for it (Q.771, Q.773, Q.774).
 #[derive(Debug, Drop)]
-pub(crate) struct FromId {
+pub struct FromId {
     /// A Begin.
     pub(crate) begun: bool,
     /// A Begin with a dialogue request.
@@ -81,8 +82,8 @@ impl Toward {
 }
 
 impl FromId {
-    /// Nothing.
-    pub(crate) fn new(alloc: Global) -> FromId
+    /// That of no message.
+    pub fn new(alloc: Global) -> FromId
         ensures { (fact : FromFact) → tells_from fact result ≡ false }
     {
         FromId {
@@ -177,8 +178,9 @@ impl FromId {
         Ok(())
     }
 
-    /// A message.
-    pub(crate) fn note<M: MessageParts>(
+    /// A message more that came from the ID. Each of its components takes a look-up. `AllocError` where memory ran out; what is kept
+    /// then is nothing to go on with.
+    pub fn note<M: MessageParts>(
         &mut self,
         alloc: Global,
         table: &Table,

@@ -67,7 +67,7 @@ impl Notes {
         ensures { (items : List Item) → AreNotesOf table.now items self.old → IfOk result
             (λ judged. Judges table.now items (Ok (Sent side (M.meaning message.now))) judged self.new) }
     {
-        if let Some(kind) = self.kind_of(false, table, side, message) {
+        if let Some(kind) = self.kind_of(table, side, message) {
             return Ok(Judged::Refuted(kind));
         }
         self.note(alloc, table, side, message)?;

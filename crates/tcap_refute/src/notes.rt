@@ -12,9 +12,14 @@ ghost use Rattle.tcap_record.specs.Ends.{other};
 ghost use Rattle.tcap_model.specs.World.{is_side};
 ghost use Rattle.tcap_model.specs.Since.{ended_by};
 ghost use Rattle.tcap_refute.specs.Facts.{EndFact, Ended, From, FromFact, shows_end, shows_from};
-ghost use Rattle.tcap_refute.specs.Kept.{holds, notes_at, tells_end, tells_from, told_by_notes};
+ghost use Rattle.tcap_model.specs.World.{Item, Sent};
+ghost use Rattle.tcap_refute.specs.Asking.{told_ended};
+ghost use Rattle.tcap_refute.specs.Kept.{AreNotesOf, holds, kept_from, notes_at, tells_end, tells_from, told_by_notes};
+ghost use Rattle.tcap_refute.specs.Kind.{lowest_kind};
 
+use crate::asking::kind_by;
 use crate::from_id::FromId;
+use crate::kind::Kind;
 use std::alloc::{AllocError, Global};
 use std::collections::{BTreeMap, BTreeSet};
 use tcap_end::Table;
@@ -32,7 +37,7 @@ pub(crate) struct EndNotes {
 
 /// What is noted of the messages that two ends sent since the last quiet mark.
 #[derive(Debug, Drop)]
-pub struct Notes {
+pub(crate) struct Notes {
     pub(crate) a: EndNotes,
     pub(crate) b: EndNotes,
 }
@@ -58,18 +63,21 @@ impl EndNotes {
         }
     }
 
-    /// What it sent from that transaction ID.
-    pub(crate) fn from(&self, id: TransactionIdView) -> Option<&FromId>
-        ensures { option_copied result ≡ lookup (is_at (octets_cmp id.entry.octets.now)) self.now.from.entries }
+    /// What it sent from a transaction ID, where there is one.
+    fn from(&self, id: Option<TransactionIdView>) -> Option<&FromId>
+        ensures { option_copied result ≡ kept_from (id_of id.entry) self.now }
     {
-        self.from.get(&id.to_transaction_id())
+        self.from.get(&id?.to_transaction_id())
     }
 
-    /// Whether it ended the dialogue with that transaction ID.
-    pub(crate) fn has_ended(&self, id: TransactionIdView) -> bool
-        ensures { result ≡ set.contains octets_cmp self.now.ended id.entry.octets.now }
+    /// Whether it ended the dialogue with a transaction ID; with none it did not.
+    fn has_ended(&self, id: Option<TransactionIdView>) -> bool
+        ensures { result ≡ told_ended (λ fact. tells_end fact self.now) (id_of id.entry) }
     {
-        self.ended.contains(&id.to_transaction_id())
+        match id {
+            Some(id) => self.ended.contains(&id.to_transaction_id()),
+            None => false,
+        }
     }
 
     /// A message from that transaction ID.
@@ -152,13 +160,30 @@ impl Notes {
     }
 
     /// What that end sent.
-    pub(crate) fn at(&self, side: End) -> &EndNotes
+    fn at(&self, side: End) -> &EndNotes
         ensures { result.now ≡ notes_at side self.now }
     {
         match side {
             End::A => &self.a,
             End::B => &self.b,
         }
+    }
+
+    /// The lowest kind of a message that an end sends.
+    pub(crate) fn kind_of<M: MessageParts>(
+        &self,
+        table: &Table,
+        side: End,
+        message: &M,
+    ) -> Option<Kind>
+        ensures { (items : List Item) → AreNotesOf table.now items self.now
+            → result ≡ lowest_kind table.now items (Sent side (M.meaning message.now)) }
+    {
+        let sender = self.at(side);
+        let own = sender.from(message.otid());
+        let there = self.at(side.other()).from(message.dtid());
+        let has_ended = sender.has_ended(message.dtid());
+        kind_by(false, table, own, there, has_ended, message)
     }
 
     /// A message that an end sent.

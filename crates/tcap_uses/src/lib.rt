@@ -5,6 +5,7 @@
 mod ber;
 mod check;
 mod checker_lives;
+mod dialogues;
 mod end;
 mod evidence;
 mod explain;
@@ -22,6 +23,7 @@ mod words;
 pub use ber::integer_content;
 pub use check::count_steps;
 pub use checker_lives::{end_waits_behind_mark, given_of_mark, heard_of_mark, waits_behind_mark};
+pub use dialogues::fault_of_a_part;
 pub use end::{answered, first_sent};
 pub use evidence::told_fault;
 pub use explain::explained;

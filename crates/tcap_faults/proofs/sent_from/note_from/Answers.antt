@@ -24,4 +24,4 @@ returns g c = λ lists are.
     noted_made (from_family c.args.table.now) otid_in m lists id (sym c.in-Some.ensures) c.args.from.now
     c.insert.new.self c.note-2.new.self (rw c.to_transaction_id-key.ensures at c.in_default-get_mut.ensures.value)
     (rw (c.get_mut.follows.holds-at-none, c.to_transaction_id-key.ensures) at c.in_ok-insert.ensures.updates.0) are
-    (c.in_ok-note.ensures [] (c.new-kept.ensures c.args.table.now))
+    (c.in_ok-note.ensures [] (record { from = c.new-kept.ensures.from c.args.table.now; first = c.new-kept.ensures.first }))

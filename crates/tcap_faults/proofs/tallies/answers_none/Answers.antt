@@ -5,7 +5,7 @@ use Rattle.tcap_faults.proofs.tallies.answers_none.Goals as goal
 
 pub returns-in-Some : goal.returns-in-Some
 returns-in-Some c =
-    (rw (c.deref.ensures.value, to_z-of_z c.ranges.id) at c.one_is_of_none.ensures)
+    (rw (to_z-of_z c.ranges.id) at c.one_is_of_none.ensures)
     ∙ ap (of_kept false (answers_in (is_of_none (tallies_of (map (λ b. b.now) c.args.invoked.now)) c.args.id)))
     (rw (to_z-of_z c.ranges.id) at c.in-Some.ensures)
 

@@ -1,8 +1,12 @@
 use Rattle.std.proofs.Common.{to_z-of_z, sym, ◌∙◌}
-use Rattle.tcap_faults.proofs.TalliesLaws.{always}
+use Rattle.tcap_faults.proofs.FirstCodeLaws.{where_none, where_some}
 use Rattle.tcap_faults.proofs.tallies.one_is_none.Goals as goal
 
-pub returns-then-not-is_empty : goal.returns-then-not-is_empty
-returns-then-not-is_empty c =
+pub returns-then-counts_some : goal.returns-then-counts_some
+returns-then-counts_some c =
     (rw (to_z-of_z c.ranges.id) at c.lists_nothing.ensures)
-    ∙ always _ c.args.codes.now (sym c.is_empty.ensures ∙ c.if-not-is_empty.true)
+    ∙ where_some _ c.args.counts.now (sym c.counts_some.ensures ∙ c.if-counts_some.true)
+
+pub returns-else-counts_some : goal.returns-else-counts_some
+returns-else-counts_some c =
+    c.if-counts_some.false ∙ where_none _ c.args.counts.now (sym c.counts_some.ensures ∙ c.if-counts_some.false)

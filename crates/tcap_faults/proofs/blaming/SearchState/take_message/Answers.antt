@@ -1,7 +1,7 @@
 use Rattle.std.proofs.Common.{sym, subst}
 use Rattle.std.proofs.lemmas.Bool.{not-false, not-true}
 use Rattle.std.proofs.lemmas.Result.{IfOk-at_ok, on_ok_weaker}
-use Rattle.tcap_faults.specs.declared.kept.Kept.{Kept}
+use Rattle.tcap_faults.specs.declared.facts.Facts.{Facts}
 use Rattle.tcap_faults.specs.Searching.{IsKept}
 use Rattle.tcap_faults.proofs.SearchLaws.{IsLookedAt, looked_over, looked_put, message_taken}
 use Rattle.tcap_faults.proofs.blaming.SearchState.take_message.Goals.{then-not-looking+in_ok-kind, else-not-looking}
@@ -23,4 +23,4 @@ returns g c = λ items are roomy.
     ] in
     on_ok_weaker c.note.result
     (message_taken table items c.args.number c.args.sender m old c.if-not-looking.self c.note.new.self looked)
-    (c.note.ensures items (subst (λ (k : Kept). IsKept table items k) (sym looked.kept) are))
+    (c.note.ensures items (subst (λ (k : Facts). IsKept table items k) (sym looked.kept) are))

@@ -8,8 +8,8 @@ use Rattle.tcap_faults.proofs.FromLaws.{IsContinued, continued_nowhere, continue
 use Rattle.tcap_faults.proofs.sent_from.SentFrom.note_continue.Goals as goal
 use Rattle.tcap_faults.proofs.sent_from.SentFrom.note_continue.Goals.{in-Some+in_ok-add, in_default}
 
-pub returns : goal.returns
-returns g c = λ ms it was.
+pub returns-clause-from : goal.returns-clause-from
+returns-clause-from g c = λ ms it was.
     let table = c.args.table.now in
     let m = g.M.MessageParts.meaning c.args.message.now in
     let old = c.args.self.now in

@@ -8,11 +8,11 @@ returns-in_default c = λ table side items own peer.
 
 pub returns-in-Some-begin : goal.returns-in-Some-begin
 returns-in-Some-begin c = λ table side items own peer.
-    let kept = (rw (← c.in-Some.ensures.value) at (peer.from c.args.id.now)).1 in
+    let kept = (rw (← c.in-Some.ensures.value) at (peer.from c.args.id.now)).1.from in
     rw (begun_it table side items c.args.id.now c.in-Some.asked.now kept c.in-Some-begin.begin c.in-Some-begin.is)
     (c.accepted_half.ensures table side items own peer kept c.in-Some-begin.is)
 
 pub returns-in-None : goal.returns-in-None
 returns-in-None c = λ table side items own peer.
-    let kept = (rw (← c.in-Some.ensures.value) at (peer.from c.args.id.now)).1 in
+    let kept = (rw (← c.in-Some.ensures.value) at (peer.from c.args.id.now)).1.from in
     c.other_half.ensures table side items own peer kept c.in-None.is

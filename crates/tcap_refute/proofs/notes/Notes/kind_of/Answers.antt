@@ -1,9 +1,14 @@
-use Rattle.std.proofs.Common.{option_copied}
-use Rattle.tcap_refute.proofs.AskLaws.{kind_asked}
+use Rattle.std.proofs.Common.{false, ◌∙◌}
+use Rattle.tcap_refute.proofs.AskLaws.{kind_kept, noted_of_ids}
 use Rattle.tcap_refute.proofs.notes.Notes.kind_of.Goals as goal
 
-pub returns-in-None : goal.returns-in-None
-returns-in-None g c =
-    kind_asked c.args.of_one c.args.table.now c.args.self.now c.args.side (g.M.MessageParts.meaning c.args.message.now)
-    c.at.result.now (option_copied c.there-there.result) c.kind_of_parts.result c.at.ensures c.there-there.ensures
-    c.in-None.ensures c.kind_of_parts.ensures
+pub returns : goal.returns
+returns g c = λ items are.
+    let m = g.M.MessageParts.meaning c.args.message.now in
+    let table = c.args.table.now in
+    c.kind_by.ensures
+    ∙ kind_kept false table items c.args.side m _ _ _
+    (noted_of_ids table items c.args.self.now are c.args.side m _ _ _
+    (rw (c.at-sender.ensures, c.otid.ensures) at c.from-own.ensures)
+    (rw (c.at.ensures, c.other.ensures, c.dtid.ensures) at c.from-there.ensures)
+    (rw (c.at-sender.ensures, c.dtid-2.ensures) at c.has_ended-has_ended.ensures))

@@ -1,0 +1,11 @@
+pub mod Views
+pub mod Actions
+pub mod ThinLaws
+pub mod InsideLaws
+pub mod SendLaws
+pub mod ReceiveLaws
+pub mod PartLists
+pub mod FitLaws
+pub mod PartActs
+pub mod PartLaws
+pub mod StretchLaws

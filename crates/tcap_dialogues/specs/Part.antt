@@ -1,0 +1,30 @@
+-- A part of a list of messages that shares no transaction ID with the rest of it (Q.774 3.3).
+use Rattle.std.specs.Prelude.{◌≡◌, ℕ, ◌+◌, Bool, true, false, List, [], ◌∷◌, slice_get, Some, cond}
+use Rattle.tcap_msg.specs.declared.message.Message.{Message}
+use Rattle.tcap_msg.specs.Parts.{dtid_in, otid_in}
+use Rattle.tcap_record.specs.declared.entry.End.{End as Side}
+use Rattle.tcap_end.specs.End.{is_id}
+use Rattle.tcap_model.specs.World.{Item, Sent, is_side}
+
+-- Whether a message of the sender carries that ID of that end: the originating ID is one of its sender's, the destination ID one of
+-- its receiver's.
+abbrev pub carries : Side → List ℕ → Side → Message → Bool
+carries end id sender message = cond (is_side end sender) (is_id id (otid_in message)) (is_id id (dtid_in message))
+
+-- Two messages, each with its sender, share an ID of one end.
+abbrev pub ShareId : Side → Message → Side → Message → Type 0
+ShareId sender message other_sender other_message =
+    (end : Side) × (id : List ℕ) × (carries end id sender message ≡ true)
+    × (carries end id other_sender other_message ≡ true)
+
+-- Of these items, those messages whose numbers pass, and the marks; the first of them has number n.
+abbrev pub part_of : (ℕ → Bool) → ℕ → List Item → List Item
+part_of keeps n [] = []
+part_of keeps n (Sent side message ∷ items) =
+    cond (keeps n) (Sent side message ∷ part_of keeps (n + 1) items) (part_of keeps (n + 1) items)
+part_of keeps n (Item.Quiet ∷ items) = Item.Quiet ∷ part_of keeps (n + 1) items
+
+-- The part shares no ID with the rest: of two messages that share one both are kept, or neither.
+pub record IsClosed (keeps : ℕ → Bool) (items : List Item) : Type 0 where
+  pub same : (i j : ℕ) (s t : Side) (m n : Message) → slice_get items i ≡ Some (Sent s m)
+      → slice_get items j ≡ Some (Sent t n) → ShareId s m t n → keeps i ≡ keeps j

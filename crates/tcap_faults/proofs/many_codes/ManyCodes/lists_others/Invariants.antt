@@ -1,0 +1,13 @@
+-- What is left decides.
+use Rattle.std.proofs.Common.{◌≡◌, drop}
+use Rattle.std.specs.List.{list_any}
+use Rattle.tcap_parts.specs.Meaning.{code_of}
+use Rattle.tcap_faults.specs.Linking.{lists_other}
+use Rattle.tcap_faults.proofs.many_codes.ManyCodes.lists_others.Given as goal
+
+abbrev pub invariant-loop-to : goal.invariant-loop-to
+invariant-loop-to l = record {
+  items : l.to-items ≡ l.self.codes.items;
+  left : list_any (lists_other l.table (code_of l.code)) (drop l.to-index l.to-items)
+      ≡ list_any (lists_other l.table (code_of l.code)) l.to-items;
+}
