@@ -9,3 +9,8 @@ pub mod FitLaws
 pub mod PartActs
 pub mod PartLaws
 pub mod StretchLaws
+pub mod CutLists
+pub mod CutIds
+pub mod CutJoins
+pub mod CutLaws
+pub mod CutEnds

@@ -1,15 +1,20 @@
 -- Worked parts: two dialogues of one list, and messages that share an ID or do not.
-use Rattle.std.specs.Prelude.{◌≡◌, ℕ, Bool, true, false, List, [], ◌∷◌, None, refl, ◌==◌, ◌||◌}
+use Rattle.std.specs.Prelude.{◌≡◌, ℕ, Bool, false, List, [], ◌∷◌, ◌++◌, None, refl, map, ◌==◌, ◌||◌}
 use Rattle.tcap_record.specs.declared.entry.End.TheVariants.{A, B}
 use Rattle.tcap_msg.specs.declared.message.Message.{Message}
-use Rattle.tcap_msg.specs.declared.message.Message.TheVariants.{Begin}
+use Rattle.tcap_msg.specs.declared.message.Message.TheVariants.{Begin, Continue}
 use Rattle.tcap_model.specs.World.{Item, Sent}
 use Rattle.tcap_model.specs.WorkedItems.{answer, begin, end_to, id}
+use Rattle.tcap_dialogues.specs.Cut.{dialogues_of}
 use Rattle.tcap_dialogues.specs.Part.{ShareId, carries, part_of}
 
 -- A's Begin from 03
 abbrev pub second_begin : Message
 second_begin = Begin (id 3) None None
+
+-- B's Continue from 02 to that ID
+abbrev continue_to : ℕ → Message
+continue_to octet = Continue (id 2) (id octet) None None
 
 -- two dialogues: A begins from 01 and from 03, and B ends both, the second one first
 abbrev pub two_dialogues : List Item
@@ -39,3 +44,15 @@ ends_the_answered = (B, id 2, refl, refl)
 -- A's 01 is no ID of B's: a Begin of B from 01 does not carry it.
 pub other_ids : carries A (id 1) B (begin None None) ≡ false
 other_ids = refl
+
+-- ---- dialogues
+
+-- Those of this list are the messages of one and of the other.
+pub two_found : map (λ d. d.numbers) (dialogues_of two_dialogues) ≡ (1 ∷ 2 ∷ []) ∷ (0 ∷ 3 ∷ []) ∷ []
+two_found = refl
+
+-- Where B gives one ID to both, they are one.
+pub one_found : map (λ d. d.numbers)
+    (dialogues_of (two_dialogues ++ Sent B (continue_to 1) ∷ Sent B (continue_to 3) ∷ []))
+    ≡ (1 ∷ 2 ∷ 0 ∷ 3 ∷ 4 ∷ 5 ∷ []) ∷ []
+one_found = refl
