@@ -5,8 +5,8 @@
 # make program   proves and builds the program, and prints where it lies
 # make clib      proves and builds the library for programs in C, clib/out/libtcapjudge.a and .so, and compares what it and
 #                its examples say with what the program prints
-# make test      the gate: all proofs, the must-fail edits, the tests and runs of the program, with the seconds of each
-#                part and its processor time. So many checks go side by side as there are processors, and 5 GB of free memory
+# make test      the gate: all proofs, wrong bodies that have to be refused, the tests and runs of the program, with the seconds
+#                of each part and its processor time. So many checks go side by side as there are processors, and 5 GB of free memory
 #                for each; with RT_JOBS=N, N of them
 # make edits     tries all edits of all crates, or of CRATES="NAME ..", over what is proved in a kept copy of the
 #                repository; RT_JOBS=N has N go side by side

@@ -12,7 +12,7 @@ command. The commands of a page run one after the other, by bash with pipefail, 
 COPIED. `tcapjudge` is the program that is tested (tests/tested.py).
 
 Each link of a page leads to a file that is there, and to a heading of it; each `make WORD` names a target; and the table of
-docs/PROOFS.md has the edits that stand in crates/*/must-fail, and how many stand in crates/*/edits."""
+docs/PROOFS.md has the edits that the gate tries, and how many others stand in crates/*/edits."""
 
 import glob
 import itertools
@@ -99,8 +99,10 @@ def has_edits():
     """Whether docs/PROOFS.md has the edits of each crate."""
     rows = re.findall(r"^\| `(tcap_\w+)` \| (.*) \| (\d+) \|$", text_of("docs/PROOFS.md"), re.MULTILINE)
     said = {name: (sorted(re.findall(r"`(\w+)`", tried)), int(count)) for name, tried, count in rows}
-    names = lambda folder: sorted(os.path.basename(path)[:-5] for path in glob.glob(f"{folder}/*.edit"))
-    found = {os.path.basename(it): (names(f"{it}/must-fail"), len(names(f"{it}/edits"))) for it in glob.glob("crates/*")}
+    lines = [line.split(":") for line in text_of("tools/gate_edits.txt").splitlines() if not line.startswith("#")]
+    gate = {name: sorted(edits.split()) for name, edits in lines}
+    count = {os.path.basename(it): len(glob.glob(f"{it}/edits/*.edit")) for it in glob.glob("crates/*")}
+    found = {name: (gate.get(name, []), number - len(gate.get(name, []))) for name, number in count.items()}
     wrong = [name for name, both in found.items() if both != said.get(name, ([], 0))]
     if wrong:
         print(f"docs/PROOFS.md has other edits of {' '.join(wrong)}", file=sys.stderr)

@@ -14,6 +14,7 @@ import time
 import edits
 import gate
 import kept
+import kit
 
 SKIPPED = """Left to `make test`: proofs from nothing, the proofs of tests, edits of crates and files that did not
 change, the layout, the stored runs, the second compiler, feeding while an entry is lent, and allocations that fail in turn."""
@@ -62,13 +63,13 @@ def main(names):
     # Python would wait for the checks that run. They end with this process.
     signal.signal(signal.SIGINT, signal.SIG_DFL)
     name, base = base_of(names or ["origin/main", "HEAD~1"])
-    start, copy, rt, passed = time.monotonic(), kept.Kept(), edits.load_rt(), []
+    start, copy, rt, passed = time.monotonic(), kept.Kept(), kit.load_rt(), []
     print(f"What changed since {name}, from {base[:12]} on, is proved in {copy.tree}", flush=True)
     chosen = chosen_of(rt, copy, changes_since(base))
     is_proved = copy.step("every crate is proved", ["rt", "all", "check"])
     passed.append(is_proved)
     if is_proved:
-        passed.append(edits.try_all(rt, copy, chosen) == 0)
+        passed.append(edits.counted(rt, copy.tree, chosen, copy.log, 0) == 0)
     for crate in rt.rtlib.crates_below(copy.tree):
         if crate.has_tests():
             what = f"tests of {crate.name}, run without a proof"

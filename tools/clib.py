@@ -11,7 +11,7 @@ import subprocess
 import sys
 import tempfile
 
-import edits
+import kit
 
 BUILT, OUT = "crates/tcap_c/out/libtcap_c.a", "clib/out"
 ARCHIVE, SHARED, EXAMPLE = (f"{OUT}/{name}" for name in ("libtcapjudge.a", "libtcapjudge.so", "example"))
@@ -27,17 +27,9 @@ def run(*words, cwd=None):
     return ended.stdout.decode()
 
 
-def take_libraries():
-    """Has `rt lib` take the libraries that `rt ci` left without a stamp. Returns whether all are there."""
-    rtlib = edits.load_rt().rtlib
-    crate = rtlib.Crate(os.path.abspath("crates/tcap_c"), os.path.abspath("."), {})
-    stamps = {it: f"{it.folder}/out/rlib/stamp" for it in crate.below()}
-    if not any(os.path.exists(path) for path in stamps.values()):
-        for library, path in stamps.items():
-            if os.path.isdir(library.rlib):
-                with open(path, "w", encoding="utf-8") as file:
-                    file.write(library.stamp())
-    return all(library.is_built() for library in stamps)
+def library():
+    """The crate of the library, as the kit's command `rt` has it."""
+    return kit.load_rt().rtlib.Crate(os.path.abspath("crates/tcap_c"), os.path.abspath("."), {})
 
 
 def link():
@@ -58,7 +50,7 @@ def link():
 def main():
     is_over_ci = sys.argv[1:] == ["--over-ci"]
     missing = [tool for tool in TOOLS if not shutil.which(tool)]
-    if is_over_ci and (missing or not take_libraries()):
+    if is_over_ci and (missing or not kit.take_libraries(library())):
         why = f"missing: {' '.join(missing)}" if missing else "what `rt ci` built does not stand here; see `make clib`"
         print(f"the library for C was not built: {why}\n0 passed, 0 failed")
         return 0

@@ -1,12 +1,12 @@
 """The gate, which `make test` runs: `rt ci`, as many tasks side by side as RT_JOBS says or as this machine has room for, then the
 tests of TESTS on the program that `rt ci` built, tests/borrows.py, tools/clib.py over the libraries that `rt ci` built, and
-bench/memory.py, which lets each allocation of a run of that program fail in turn. What they print is passed on. Then it prints
-how many seconds each crate's proof, its tests' proof and its must-fail edits took, with their processor time, and closes with
-the line `N passed, M failed`, in which all are counted. The exit status is 0 where none failed.
+bench/memory.py, which lets each allocation of a run of that program fail in turn; beside them wrong bodies (tools/edits.py). What
+they print is passed on. Then it prints how many seconds each crate's proof and its tests' proof took, with their
+processor time, and closes with the line `N passed, M failed`, in which all are counted. The exit status is 0 where none failed.
 
 `rt ci` does not say when a part begins and ends. So twice a second this looks in /proc for the runs of `rattle` that
 `rt ci` started, which a word in their environment marks, and takes a part to last from the first to the last time that
-it is seen: a run names its crate, that of an edit is in a folder rt-edit-*, and that of tests has the word --test. The
+it is seen: a run names its crate, and that of tests has the word --test. The
 processor time of a part is what its runs had when they were last seen, so it lacks up to half a second of each. That of
 `rt ci` is whole: it is what the system counts of the processes that have ended."""
 
@@ -61,11 +61,10 @@ def run_at(process):
     with open(f"{process}/environ", "rb") as file:
         if f"{MARK}={os.getpid()}".encode() not in file.read().split(b"\0"):
             return None
-    folder = os.path.basename(os.readlink(f"{process}/cwd"))
     with open(f"{process}/stat", "rb") as file:
         # Behind the name, which is in parentheses, the fields are numbered from 3 on.
         fields = file.read().rpartition(b") ")[2].split()
-    kind = "must-fail edits" if folder.startswith("rt-edit-") else "tests' proof" if "--test" in words else "proof"
+    kind = "tests' proof" if "--test" in words else "proof"
     part = words[words.index("--crate-name") + 1], kind
     return part, (process, fields[19]), (int(fields[11]) + int(fields[12])) / TICKS
 
@@ -86,26 +85,35 @@ def watch(start, parts, is_over):
                 part.last, part.used[run] = now, seconds
 
 
-def counts_of(command):
-    """Runs a command and passes on what it prints, but for its line of counts. Returns how many passed and failed."""
+def counts_of(run):
+    """Passes on what a command that runs prints, but for its line of counts. Returns how many passed and failed."""
     # What ends without its counts has failed.
     passed, failed = 0, 1
-    with subprocess.Popen(command, stdout=subprocess.PIPE) as run:
-        try:
-            for line in run.stdout:
-                counts = COUNTS.fullmatch(line)
-                if counts:
-                    passed, failed = int(counts[1]), int(counts[2])
-                else:
-                    sys.stdout.buffer.write(line)
-                    sys.stdout.buffer.flush()
-        except BaseException:
-            # At Ctrl-C a test ends by itself, and removes what it made.
-            with contextlib.suppress(subprocess.TimeoutExpired):
-                run.wait(3)
-            run.terminate()
-            raise
-    return passed, max(failed, int(run.returncode != 0))
+    try:
+        for line in run.stdout:
+            counts = COUNTS.fullmatch(line)
+            if counts:
+                passed, failed = int(counts[1]), int(counts[2])
+            else:
+                sys.stdout.buffer.write(line)
+                sys.stdout.buffer.flush()
+    except BaseException:
+        # At Ctrl-C a test ends by itself, and removes what it made.
+        with contextlib.suppress(subprocess.TimeoutExpired):
+            run.wait(3)
+        run.terminate()
+        raise
+    return passed, max(failed, int(run.wait() != 0))
+
+
+def started(*words):
+    """A command that runs, and whose output is read."""
+    return subprocess.Popen(words, stdout=subprocess.PIPE)
+
+
+def counts_of_script(path, *words):
+    """What `counts_of` returns of a program in Python."""
+    return counts_of(started(sys.executable, path, *words))
 
 
 def used_by_ended():
@@ -119,7 +127,7 @@ def watched(command):
     parts, is_over, start, before = {}, threading.Event(), time.monotonic(), used_by_ended()
     watching = threading.Thread(target=watch, args=(start, parts, is_over), daemon=True)
     watching.start()
-    counts = counts_of(command)
+    counts = counts_of(started(*command))
     seconds = time.monotonic() - start
     is_over.set()
     watching.join()
@@ -166,16 +174,18 @@ def main():
     if os.path.exists(PROGRAM):
         os.remove(PROGRAM)
     (passed, failed), parts, seconds, used = watched(["rt", "ci"])
-    others = []
+    # What that prints is little, so it waits for no reader.
+    edits, others = started(sys.executable, "tools/edits.py", "--gate"), []
     for name, what in TESTS.items():
-        others.append(counts_of([sys.executable, f"tests/{name}.py"]))
+        others.append(counts_of_script(f"tests/{name}.py"))
         print(f"{sum(others[-1])} {what}, {others[-1][1]} wrong")
-    lent = counts_of([sys.executable, "tests/borrows.py"])
+    lent = counts_of_script("tests/borrows.py")
     print(f"feeding while an entry is lent: {'refused' if lent[0] else 'NOT refused'}")
-    clib = counts_of([sys.executable, "tools/clib.py", "--over-ci"])
+    clib = counts_of_script("tools/clib.py", "--over-ci")
     print(f"{clib[0] + clib[1]} comparisons of the library for C with the program, {clib[1]} that differ")
+    others += [lent, clib, refused_memory(), counts_of(edits)]
+    print(f"{sum(others[-1])} wrong bodies, {others[-1][1]} not refused")
     show_parts(parts, seconds, used)
-    others += [lent, clib, refused_memory()]
     both = [passed + sum(one[0] for one in others), failed + sum(one[1] for one in others)]
     print(f"{both[0]} passed, {both[1]} failed", flush=True)
     return int(both[1] != 0)

@@ -18,7 +18,7 @@ import unproved
 
 # Random cases, for so many seconds: the first ones of this seed.
 FUZZ = ["60", "1"]
-NOT_SHOWN = """Left to `make test`: proofs, must-fail edits, the tests within the crates, the stored runs, the second compiler,
+NOT_SHOWN = """Left to `make test`: proofs, wrong bodies, the tests within the crates, the stored runs, the second compiler,
 the library for C, allocations that fail, and feeding while an entry is lent. What ran is not the proved program: it is not
 optimised, and checks each index, sum and access as it runs, so it is slower, and nothing is said of speed."""
 
