@@ -1,5 +1,5 @@
 -- The laws of the dialogues of a list, from what holds of those of each front of it.
-use Rattle.std.proofs.Common.{arith, ◌≡◌, ◌⊎◌, inl, inr, ℕ, suc, ◌+◌, ◌<◌, ◌≤◌, ◌-◌, Bool, true, false, List, [], ◌∷◌, Some, None, refl, sym, ap, ◌∙◌}
+use Rattle.std.proofs.Common.{arith, ◌≡◌, ◌⊎◌, inl, inr, ℕ, ◌+◌, ◌<◌, ◌≤◌, ◌-◌, Bool, true, false, List, [], ◌∷◌, Some, None, refl, sym, ap, ◌∙◌}
 use Rattle.std.specs.Prelude.{Contains, slice_get}
 use Rattle.std.proofs.lemmas.Bool.{cases_lt}
 use Rattle.tcap_msg.specs.declared.message.Message.{Message}
@@ -10,9 +10,28 @@ use Rattle.tcap_model.specs.Run.{IsLawfulFor}
 use Rattle.tcap_dialogues.specs.Cut.{Dialogue, IdOf, dialogues_behind, dialogues_of, ids_of, is_of, with_message}
 use Rattle.tcap_dialogues.specs.Part.{IsClosed, ShareId, part_of}
 use Rattle.tcap_dialogues.proofs.CutIds.{among_is}
+use Rattle.tcap_dialogues.proofs.CutLists.{first_left, later_left}
 use Rattle.tcap_dialogues.proofs.CutLaws.{IsCut, Owner, cut_more, cut_none, cut_quiet}
 use Rattle.tcap_dialogues.proofs.PartLaws.{part_keeps}
 use Rattle.tcap_dialogues.proofs.PartLists.{from_zero}
+
+-- ---- a closed part
+
+-- A part is closed that has with each message those that share an ID with it.
+pub closed_from : (keeps : ℕ → Bool) (items : List Item)
+    → ((i j : ℕ) (s t : Side) (m o : Message) → slice_get items i ≡ Some (Sent s m) → slice_get items j ≡ Some (Sent t o) → ShareId s m t o
+    → keeps i ≡ true → keeps j ≡ true) → IsClosed keeps items
+closed_from keeps items follows = record { same = λ i j s t m o is so shared. agree i j s t m o is so shared }
+  where
+    both : (a b : Bool) → (a ≡ true → b ≡ true) → (b ≡ true → a ≡ true) → a ≡ b
+    both true b there back = sym (there refl)
+    both false true there back = back refl
+    both false false there back = refl
+
+    agree : (i j : ℕ) (s t : Side) (m o : Message) → slice_get items i ≡ Some (Sent s m) → slice_get items j ≡ Some (Sent t o)
+        → ShareId s m t o → keeps i ≡ keeps j
+    agree i j s t m o is so (end, id, hers, his) =
+        both (keeps i) (keeps j) (follows i j s t m o is so (end, id, hers, his)) (follows j i t s o m so is (end, id, his, hers))
 
 -- ---- the whole list
 
@@ -21,22 +40,6 @@ record Ended (items : List Item) (dialogues : List Dialogue) : Type 0 where
   n : ℕ
   cut : IsCut items n dialogues
   past : (k : ℕ) → slice_get items (n + k) ≡ None
-
--- Where these items are left from a number on, the first of them stands at it,
-first_left : (items left : List Item) (n : ℕ) (item : Item) → ((k : ℕ) → slice_get (item ∷ left) k ≡ slice_get items (n + k))
-    → slice_get items n ≡ Some item
-first_left items left n item same = ap (slice_get items) at_front ∙ sym (same 0)
-  where
-    at_front : n ≡ n + 0
-    at_front = omega arith
-
--- and the others are left from the next one on.
-later_left : (items left : List Item) (n : ℕ) (item : Item) → ((k : ℕ) → slice_get (item ∷ left) k ≡ slice_get items (n + k)) → (k : ℕ)
-    → slice_get left k ≡ slice_get items ((n + 1) + k)
-later_left items left n item same k = same (suc k) ∙ ap (slice_get items) further
-  where
-    further : n + suc k ≡ (n + 1) + k
-    further = omega arith
 
 -- So it holds of the dialogues of the whole list, where it does of those of the messages before these.
 cut_behind : (items left : List Item) (n : ℕ) (before : List Dialogue) → ((k : ℕ) → slice_get left k ≡ slice_get items (n + k))
@@ -86,18 +89,7 @@ module _ (items : List Item) where
 
   -- and the other way round: a dialogue shares no ID with the rest.
   pub share_nothing : (d : Dialogue) → Contains (dialogues_of items) d → IsClosed (is_of d) items
-  share_nothing d has = record { same = λ i j s t m o is so shared. agree i j s t m o is so shared }
-    where
-      both : (a b : Bool) → (a ≡ true → b ≡ true) → (b ≡ true → a ≡ true) → a ≡ b
-      both true b there back = sym (there refl)
-      both false true there back = back refl
-      both false false there back = refl
-
-      agree : (i j : ℕ) (s t : Side) (m o : Message) → slice_get items i ≡ Some (Sent s m) → slice_get items j ≡ Some (Sent t o)
-          → ShareId s m t o → is_of d i ≡ is_of d j
-      agree i j s t m o is so (end, id, hers, his) =
-          both (is_of d i) (is_of d j) (follows d has i j s t m o is so (end, id, hers, his))
-          (follows d has j i t s o m so is (end, id, his, hers))
+  share_nothing d has = closed_from (is_of d) items (follows d has)
 
   -- A part that shares no ID with the rest has all messages of a dialogue, or none.
   pub are_whole : (keeps : ℕ → Bool) (d : Dialogue) (i j : ℕ) → IsClosed keeps items → Contains (dialogues_of items) d → is_of d i ≡ true

@@ -1,6 +1,7 @@
 -- The transaction IDs of a message and of a dialogue: when two are one, and what a message carries.
 use Rattle.std.proofs.Common.{◌≡◌, ℕ, Bool, true, false, cond, List, Option, Some, None, map, refl, sym, ap, subst, ◌∙◌}
 use Rattle.std.specs.Prelude.{◌&&◌, ◌||◌, Contains}
+use Rattle.std.specs.List.{list_any}
 use Rattle.std.specs.Option.{option_to_list}
 use Rattle.std.proofs.lemmas.Bool.{and_from, and_parts}
 use Rattle.std.proofs.lemmas.List.Folds.{list_any-append}
@@ -13,7 +14,7 @@ use Rattle.tcap_record.specs.Ends.{other}
 use Rattle.tcap_end.specs.End.{is_id}
 use Rattle.tcap_model.specs.World.{is_side}
 use Rattle.tcap_model.proofs.RunLaws.{same_side}
-use Rattle.tcap_dialogues.specs.Cut.{Dialogue, IdOf, has_one, ids_of, is_among, is_same}
+use Rattle.tcap_dialogues.specs.Cut.{IdOf, ids_of, is_among, is_same}
 use Rattle.tcap_dialogues.specs.Part.{carries}
 use Rattle.tcap_dialogues.proofs.CutLists.{found, finds}
 
@@ -49,14 +50,15 @@ in_among ids id has = finds (is_same id) ids id has (is_itself id)
 pub among_in : (ids : List IdOf) (id : IdOf) → is_among ids id ≡ true → Contains ids id
 among_in ids id is = let (x, has, so) = found (is_same id) ids is in subst (Contains ids) (sym (same_id id x so)) has
 
--- A dialogue that has one of these IDs has this one,
-pub one_of : (ids : List IdOf) (d : Dialogue) → has_one ids d ≡ true
-    → (id : IdOf) × (is_among ids id ≡ true) × (is_among d.ids id ≡ true)
-one_of ids d is = let (id, has, so) = found (is_among d.ids) ids is in (id, in_among ids id has, so)
+-- Where one of these IDs is one of those, this is it,
+pub one_of : (ids those : List IdOf) → list_any (is_among those) ids ≡ true
+    → (id : IdOf) × (is_among ids id ≡ true) × (is_among those id ≡ true)
+one_of ids those is = let (id, has, so) = found (is_among those) ids is in (id, in_among ids id has, so)
 
--- and one that has this one has one.
-pub one_from : (ids : List IdOf) (d : Dialogue) (id : IdOf) → is_among ids id ≡ true → is_among d.ids id ≡ true → has_one ids d ≡ true
-one_from ids d id is has = finds (is_among d.ids) ids id (among_in ids id is) has
+-- and where this one is, one is.
+pub one_from : (ids those : List IdOf) (id : IdOf) → is_among ids id ≡ true → is_among those id ≡ true
+    → list_any (is_among those) ids ≡ true
+one_from ids those id is has = finds (is_among those) ids id (among_in ids id is) has
 
 -- ---- the IDs of a message
 

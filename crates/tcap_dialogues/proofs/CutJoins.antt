@@ -1,12 +1,11 @@
 -- One message more: which dialogues there are then, and the numbers and IDs of the one that it joins.
-use Rattle.std.proofs.Common.{◌≡◌, ◌⊎◌, inl, inr, ℕ, true, false, List, [], ◌∷◌, refl, sym, ◌∙◌}
+use Rattle.std.proofs.Common.{◌≡◌, ◌⊎◌, inl, inr, ℕ, true, false, List, [], ◌∷◌, refl}
 use Rattle.std.specs.Prelude.{◌==◌, not, Contains, filter}
-use Rattle.std.specs.List.{flat_map, list_any}
-use Rattle.std.proofs.lemmas.Bool.{eq-eqb, eqb-true, false≢true, not-true, not_from_false, or_cases, or_left, or_right}
+use Rattle.std.specs.List.{list_any}
+use Rattle.std.proofs.lemmas.Bool.{eq-eqb, not-true, not_from_false, or_left}
 use Rattle.std.proofs.lemmas.List.Elements.{Contains-append_left, Contains-push, Contains-push_cases}
-use Rattle.std.proofs.lemmas.List.Folds.{list_any-append}
 use Rattle.tcap_dialogues.specs.Cut.{Dialogue, IdOf, has_one, is_among, is_of, is_same, joined, with_message}
-use Rattle.tcap_dialogues.proofs.CutLists.{found_of, finds_of, kept_in, left_in}
+use Rattle.tcap_dialogues.proofs.CutLists.{alone_is, found_more, finds_last, finds_old, kept_in, left_in}
 
 module _ (n : ℕ) (ids : List IdOf) (dialogues : List Dialogue) where
   -- those that have one of its IDs
@@ -44,50 +43,34 @@ module _ (n : ℕ) (ids : List IdOf) (dialogues : List Dialogue) where
 
   -- It has the numbers of such a one,
   pub number_stays : (d : Dialogue) (i : ℕ) → Hit d → is_of d i ≡ true → is_of new i ≡ true
-  number_stays d i h is =
-      list_any-append (λ k. k == i) (flat_map (λ e. e.numbers) hit) (n ∷ [])
-      ∙ or_left _ _ (finds_of (λ k. k == i) (λ e. e.numbers) hit d (left_in (has_one ids) dialogues d h.listed h.hit) is)
+  number_stays d i h is = finds_old (λ k. k == i) (λ e. e.numbers) hit (n ∷ []) d (left_in (has_one ids) dialogues d h.listed h.hit) is
 
   -- and that of the message,
   pub number_comes : is_of new n ≡ true
-  number_comes =
-      list_any-append (λ k. k == n) (flat_map (λ e. e.numbers) hit) (n ∷ [])
-      ∙ or_right _ _ (or_left _ _ (eq-eqb n n refl))
+  number_comes = finds_last (λ k. k == n) (λ e. e.numbers) hit (n ∷ []) (or_left _ _ (eq-eqb n n refl))
 
   -- and no other.
   pub number_of : (i : ℕ) → is_of new i ≡ true → ((d : Dialogue) × Hit d × (is_of d i ≡ true)) ⊎ (n ≡ i)
-  number_of i is = by (or_cases _ _ (sym (list_any-append (λ k. k == i) (flat_map (λ e. e.numbers) hit) (n ∷ [])) ∙ is))
+  number_of i is = by (found_more (λ k. k == i) (λ e. e.numbers) hit (n ∷ []) is)
     where
-      last : (n == i) ≡ true ⊎ (false ≡ true) → ((d : Dialogue) × Hit d × (is_of d i ≡ true)) ⊎ (n ≡ i)
-      last (inl same) = inr (eqb-true n i same)
-      last (inr bad) = absurd (false≢true bad)
-
-      by : (list_any (λ k. k == i) (flat_map (λ e. e.numbers) hit) ≡ true) ⊎ (list_any (λ k. k == i) (n ∷ []) ≡ true)
+      by : ((d : Dialogue) × Contains hit d × (is_of d i ≡ true)) ⊎ (list_any (λ k. k == i) (n ∷ []) ≡ true)
           → ((d : Dialogue) × Hit d × (is_of d i ≡ true)) ⊎ (n ≡ i)
-      by (inl some) =
-          let (d, there, so) = found_of (λ k. k == i) (λ e. e.numbers) hit some in
-          let (listed, one) = kept_in (has_one ids) dialogues d there in
-          inl (d, record { listed = listed; hit = one }, so)
-      by (inr one) = last (or_cases (n == i) false one)
+      by (inl (d, there, so)) = let (listed, one) = kept_in (has_one ids) dialogues d there in inl (d, record { listed = listed; hit = one }, so)
+      by (inr one) = inr (alone_is n i one)
 
   -- It has the IDs of such a one,
   pub id_stays : (d : Dialogue) (id : IdOf) → Hit d → is_among d.ids id ≡ true → is_among new.ids id ≡ true
-  id_stays d id h is =
-      list_any-append (is_same id) (flat_map (λ e. e.ids) hit) ids
-      ∙ or_left _ _ (finds_of (is_same id) (λ e. e.ids) hit d (left_in (has_one ids) dialogues d h.listed h.hit) is)
+  id_stays d id h is = finds_old (is_same id) (λ e. e.ids) hit ids d (left_in (has_one ids) dialogues d h.listed h.hit) is
 
   -- and those of the message,
   pub id_comes : (id : IdOf) → is_among ids id ≡ true → is_among new.ids id ≡ true
-  id_comes id is = list_any-append (is_same id) (flat_map (λ e. e.ids) hit) ids ∙ or_right _ _ is
+  id_comes id is = finds_last (is_same id) (λ e. e.ids) hit ids is
 
   -- and no other.
   pub id_from : (id : IdOf) → is_among new.ids id ≡ true → ((d : Dialogue) × Hit d × (is_among d.ids id ≡ true)) ⊎ (is_among ids id ≡ true)
-  id_from id is = by (or_cases _ _ (sym (list_any-append (is_same id) (flat_map (λ e. e.ids) hit) ids) ∙ is))
+  id_from id is = by (found_more (is_same id) (λ e. e.ids) hit ids is)
     where
-      by : (list_any (is_same id) (flat_map (λ e. e.ids) hit) ≡ true) ⊎ (is_among ids id ≡ true)
+      by : ((d : Dialogue) × Contains hit d × (is_among d.ids id ≡ true)) ⊎ (is_among ids id ≡ true)
           → ((d : Dialogue) × Hit d × (is_among d.ids id ≡ true)) ⊎ (is_among ids id ≡ true)
-      by (inl some) =
-          let (d, there, so) = found_of (is_same id) (λ e. e.ids) hit some in
-          let (listed, one) = kept_in (has_one ids) dialogues d there in
-          inl (d, record { listed = listed; hit = one }, so)
+      by (inl (d, there, so)) = let (listed, one) = kept_in (has_one ids) dialogues d there in inl (d, record { listed = listed; hit = one }, so)
       by (inr one) = inr one

@@ -163,7 +163,7 @@ module _ (items : List Item) (n : ℕ) (dialogues : List Dialogue) (sender : Sid
     where
       by : ((e : Dialogue) × Joins e × (is_among e.ids id ≡ true)) ⊎ (is_among ids id ≡ true) → ⊥
       by (inl (e, h, its)) = apart d e misses h (c.one_id d e id old h.listed is its)
-      by (inr its) = true≢false (sym (one_from ids d id its is) ∙ misses)
+      by (inr its) = true≢false (sym (one_from ids d.ids id its is) ∙ misses)
 
   -- Two with one number are one still,
   one_number_more : (d e : Dialogue) (i : ℕ) → Contains more d → Contains more e → is_of d i ≡ true → is_of e i ≡ true → d ≡ e
@@ -214,7 +214,7 @@ module _ (items : List Item) (n : ℕ) (dialogues : List Dialogue) (sender : Sid
   -- A part that shares no ID with the rest has the message where it has one of a dialogue that is joined,
   joined_whole : (keeps : ℕ → Bool) → IsClosed keeps items → (e : Dialogue) (i : ℕ) → Joins e → is_of e i ≡ true → keeps i ≡ keeps n
   joined_whole keeps closed e i h is =
-      let (id, its, hers) = one_of ids e h.hit in
+      let (id, its, hers) = one_of ids e.ids h.hit in
       let b = c.bearer e id h.listed hers in
       let shared : ShareId b.side b.message sender message =
       (id.end, id.octets, sym (among_is b.side b.message id) ∙ b.bears, sym (among_is sender message id) ∙ its) in

@@ -1,8 +1,8 @@
 -- Elements of lists: those that pass a test, and those of many lists in one.
-use Rattle.std.proofs.Common.{arith, ◌≡◌, ◌⊎◌, inl, inr, zero, suc, Bool, true, false, cond, List, [], ◌∷◌, refl, sym, ap, subst, ◌∙◌}
-use Rattle.std.specs.Prelude.{◌||◌, Contains, filter}
+use Rattle.std.proofs.Common.{arith, ◌≡◌, ◌⊎◌, inl, inr, ℕ, zero, suc, ◌+◌, Bool, true, false, cond, List, [], ◌∷◌, ◌++◌, Some, refl, sym, ap, subst, ◌∙◌}
+use Rattle.std.specs.Prelude.{◌==◌, ◌||◌, Contains, filter, slice_get}
 use Rattle.std.specs.List.{flat_map, list_any}
-use Rattle.std.proofs.lemmas.Bool.{false≢true, or_cases, or_left, or_right}
+use Rattle.std.proofs.lemmas.Bool.{eqb-true, false≢true, or_cases, or_left, or_right}
 use Rattle.std.proofs.lemmas.List.Folds.{list_any-append, list_any_at}
 
 -- ---- elements
@@ -98,3 +98,49 @@ finds_of test f (y ∷ xs) x has so =
         → (list_any test (f y) || list_any test (flat_map f xs)) ≡ true
     by (inl same) rest = or_left _ _ (ap (λ z. list_any test (f z)) same ∙ so)
     by (inr there) rest = or_right _ _ (rest there)
+
+-- What passes in many lists and one more passes in one of those, or in that,
+pub found_more : {X A : Type 0} (test : A → Bool) (f : X → List A) (xs : List X) (more : List A)
+    → list_any test (flat_map f xs ++ more) ≡ true → ((x : X) × Contains xs x × (list_any test (f x) ≡ true)) ⊎ (list_any test more ≡ true)
+found_more {X} test f xs more is = by (or_cases _ _ (sym (list_any-append test (flat_map f xs) more) ∙ is))
+  where
+    by : (list_any test (flat_map f xs) ≡ true) ⊎ (list_any test more ≡ true)
+        → ((x : X) × Contains xs x × (list_any test (f x) ≡ true)) ⊎ (list_any test more ≡ true)
+    by (inl some) = inl (found_of test f xs some)
+    by (inr one) = inr one
+
+-- and what passes in one of those passes in all,
+pub finds_old : {X A : Type 0} (test : A → Bool) (f : X → List A) (xs : List X) (more : List A) (x : X) → Contains xs x
+    → list_any test (f x) ≡ true → list_any test (flat_map f xs ++ more) ≡ true
+finds_old test f xs more x has so = list_any-append test (flat_map f xs) more ∙ or_left _ _ (finds_of test f xs x has so)
+
+-- and so does what passes in that.
+pub finds_last : {X A : Type 0} (test : A → Bool) (f : X → List A) (xs : List X) (more : List A) → list_any test more ≡ true
+    → list_any test (flat_map f xs ++ more) ≡ true
+finds_last test f xs more so = list_any-append test (flat_map f xs) more ∙ or_right _ _ so
+
+-- One number alone is that one.
+pub alone_is : (n i : ℕ) → list_any (λ k. k == i) (n ∷ []) ≡ true → n ≡ i
+alone_is n i is = by (or_cases (n == i) false is)
+  where
+    by : ((n == i) ≡ true) ⊎ (false ≡ true) → n ≡ i
+    by (inl same) = eqb-true n i same
+    by (inr bad) = absurd (false≢true bad)
+
+-- ---- what is left of a list
+
+-- Where these elements are left from a number on, the first of them stands at it,
+pub first_left : {X : Type 0} (xs left : List X) (n : ℕ) (x : X) → ((k : ℕ) → slice_get (x ∷ left) k ≡ slice_get xs (n + k))
+    → slice_get xs n ≡ Some x
+first_left xs left n x same = ap (slice_get xs) at_front ∙ sym (same 0)
+  where
+    at_front : n ≡ n + 0
+    at_front = omega arith
+
+-- and the others are left from the next one on.
+pub later_left : {X : Type 0} (xs left : List X) (n : ℕ) (x : X) → ((k : ℕ) → slice_get (x ∷ left) k ≡ slice_get xs (n + k)) → (k : ℕ)
+    → slice_get left k ≡ slice_get xs ((n + 1) + k)
+later_left xs left n x same k = same (suc k) ∙ ap (slice_get xs) further
+  where
+    further : n + suc k ≡ (n + 1) + k
+    further = omega arith

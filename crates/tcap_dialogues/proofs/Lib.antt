@@ -14,3 +14,10 @@ pub mod CutIds
 pub mod CutJoins
 pub mod CutLaws
 pub mod CutEnds
+pub mod CourseLists
+pub mod CourseJoins
+pub mod CourseLaws
+pub mod CourseMore
+pub mod CourseEnds
+pub mod AgainLaws
+pub mod OnceLaws

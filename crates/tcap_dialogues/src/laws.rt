@@ -1,13 +1,14 @@
 //! Laws over all runs. Each function says by its contract alone what holds of every run.
 
-ghost use Rattle.std.specs.Prelude.{◌≡◌, ℕ, Bool, true, List, ◌++◌, ◌∷◌, Contains, Some, slice_get};
+ghost use Rattle.std.specs.Prelude.{◌≡◌, ◌+◌, ◌<◌, ℕ, Bool, true, false, List, ◌++◌, ◌∷◌, Contains, Some, length, map, slice_get, take};
 ghost use Rattle.tcap_record.specs.declared.entry.End.{End as Side};
 ghost use Rattle.tcap_end.specs.Table.{Table};
 ghost use Rattle.tcap_model.specs.World.{Item};
 ghost use Rattle.tcap_model.specs.Run.{IsLawful, IsLawfulFor};
 ghost use Rattle.tcap_msg.specs.declared.message.Message.{Message};
-ghost use Rattle.tcap_model.specs.World.{Sent};
-ghost use Rattle.tcap_dialogues.specs.Cut.{Dialogue, dialogues_of, is_of};
+ghost use Rattle.tcap_model.specs.World.{Sent, has_quiet};
+ghost use Rattle.tcap_dialogues.specs.Course.{Course, Heading, Reuse, courses_of, has_entry, headings_of};
+ghost use Rattle.tcap_dialogues.specs.Cut.{Dialogue, IdOf, dialogues_of, is_among, is_of};
 ghost use Rattle.tcap_dialogues.specs.Part.{IsClosed, part_of};
 
 /// What an end may have sent that keeps the rules, it may have sent of each part that shares no transaction ID with the rest, with
@@ -51,4 +52,42 @@ pub fn each_message_has_one()
 pub fn dialogue_keeps_rules()
     ensures { (side : Side) (items : List Item) (table : Table) (d : Dialogue) → Contains (dialogues_of items) d
         → IsLawfulFor side items table → IsLawfulFor side (part_of (is_of d) 0 items) table }
+{}
+
+/// Where transaction IDs may come again, each entry of a stretch between quiet marks is of one dialogue, and of no other.
+pub fn each_entry_has_one()
+    ensures { (reuse : Reuse) (headings : List Heading) (n : ℕ) → n < length headings
+        → (d : Course) × Contains (courses_of reuse headings) d × (has_entry d n ≡ true)
+        × ((other : Course) → Contains (courses_of reuse headings) other → has_entry other n ≡ true → other ≡ d) }
+{}
+
+/// Where none of its IDs came again, a dialogue shares no ID with the rest of the stretch up to each of its entries.
+pub fn course_is_closed()
+    ensures { (reuse : Reuse) (items : List Item) (d : Course) (n : ℕ) → has_quiet items ≡ false
+        → Contains (courses_of reuse (headings_of items)) d → d.again ≡ false → has_entry d n ≡ true
+        → IsClosed (has_entry d) (take (n + 1) items) }
+{}
+
+/// So what an end may have sent of the stretch up to that entry that keeps the rules, it may have sent of the dialogue: what is at
+/// fault in the dialogue is at fault in the stretch.
+pub fn course_keeps_rules()
+    ensures { (side : Side) (reuse : Reuse) (items : List Item) (table : Table) (d : Course) (n : ℕ)
+        → has_quiet items ≡ false → Contains (courses_of reuse (headings_of items)) d → d.again ≡ false
+        → has_entry d n ≡ true → IsLawfulFor side (take (n + 1) items) table
+        → IsLawfulFor side (part_of (has_entry d) 0 (take (n + 1) items)) table }
+{}
+
+/// Where it is said of a dialogue that one of its IDs came again, another dialogue of the stretch has that ID.
+pub fn again_is_shared()
+    ensures { (reuse : Reuse) (headings : List Heading) (d : Course) → Contains (courses_of reuse headings) d
+        → d.again ≡ true → (e : Course) × Contains (courses_of reuse headings) e
+        × ((n : ℕ) × (has_entry e n ≡ true) × (has_entry d n ≡ false))
+        × ((id : IdOf) × (is_among d.ids id ≡ true) × (is_among e.ids id ≡ true)) }
+{}
+
+/// Where no ID comes again, the dialogues are those of the list.
+pub fn once_is_the_cut()
+    ensures { (items : List Item) → has_quiet items ≡ false
+        → map (λ d. record { numbers = d.numbers; ids = d.ids }) (courses_of Reuse.Once (headings_of items))
+        ≡ dialogues_of items }
 {}

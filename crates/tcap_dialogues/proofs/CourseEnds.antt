@@ -1,0 +1,125 @@
+-- The laws of the dialogues of a stretch in which IDs may come again, from what holds of those of each front of it.
+use Rattle.std.proofs.Common.{arith, ◌≡◌, ◌⊎◌, inl, inr, ℕ, ◌+◌, ◌<◌, ◌≤◌, ◌-◌, true, false, List, [], ◌∷◌, Some, None, length, refl, sym, ap, take, ◌∙◌}
+use Rattle.std.specs.Prelude.{Contains, slice_get}
+use Rattle.std.proofs.lemmas.Bool.{cases_lt}
+use Rattle.std.proofs.lemmas.List.Elements.{Contains-append_cases, Contains-append_left, Contains-append_right}
+use Rattle.tcap_msg.specs.declared.message.Message.{Message}
+use Rattle.tcap_record.specs.declared.entry.End.{End as Side}
+use Rattle.tcap_end.specs.Table.{Table}
+use Rattle.tcap_model.specs.World.{Item, Sent, has_quiet}
+use Rattle.tcap_model.specs.Run.{IsLawfulFor}
+use Rattle.tcap_dialogues.specs.Course.{Course, Courses, Heading, Reuse, comes, courses_behind, courses_of, has_entry, heading_of, headings_of, ids_in, is_free}
+use Rattle.tcap_dialogues.specs.Cut.{IdOf, is_among}
+use Rattle.tcap_dialogues.specs.Part.{IsClosed, ShareId, part_of}
+use Rattle.tcap_dialogues.proofs.CourseLaws.{Among, AreCourses, InOrBehind, courses_then, each_behind, no_courses}
+use Rattle.tcap_dialogues.proofs.CourseLists.{heading_at, in_front, stands}
+use Rattle.tcap_dialogues.proofs.CourseMore.{courses_more}
+use Rattle.tcap_dialogues.proofs.CutEnds.{closed_from}
+use Rattle.tcap_dialogues.proofs.CutIds.{among_is}
+use Rattle.tcap_dialogues.proofs.CutLists.{first_left, later_left}
+use Rattle.tcap_dialogues.proofs.PartLaws.{part_keeps}
+use Rattle.tcap_dialogues.proofs.PartLists.{from_zero}
+
+-- ---- the whole stretch
+
+-- What holds of the dialogues so far holds of those with one entry more.
+pub one_more : (reuse : Reuse) (headings : List Heading) (n : ℕ) (h : Heading) (s : Courses) → slice_get headings n ≡ Some h
+    → AreCourses headings n s.done s.live → AreCourses headings (n + 1) (comes reuse n h s).done (comes reuse n h s).live
+one_more reuse headings n h s here c =
+    courses_more headings n h here _ _ (courses_then headings n s.done s.live c (is_free reuse n s.live h)) _
+    (record { numbers_are = refl; ids_are = refl; again_is = refl })
+
+-- what holds where no entry is left
+record Ended (headings : List Heading) (s : Courses) : Type 0 where
+  n : ℕ
+  all : AreCourses headings n s.done s.live
+  past : (k : ℕ) → slice_get headings (n + k) ≡ None
+
+-- So it holds of the dialogues of the whole stretch, where it does of those of the entries before these.
+ended_behind : (reuse : Reuse) (headings left : List Heading) (n : ℕ) (s : Courses) → ((k : ℕ) → slice_get left k ≡ slice_get headings (n + k))
+    → AreCourses headings n s.done s.live → Ended headings (courses_behind reuse s n left)
+ended_behind reuse headings [] n s same c = record { n = n; all = c; past = λ k. sym (same k) }
+ended_behind reuse headings (h ∷ left) n s same c =
+    ended_behind reuse headings left (n + 1) (comes reuse n h s) (later_left headings left n h same)
+    (one_more reuse headings n h s (first_left headings left n h same) c)
+
+module _ (reuse : Reuse) (headings : List Heading) where
+  -- the dialogues, done or live
+  abbrev pub ended_with : Courses
+  ended_with = courses_behind reuse (record { done = []; live = [] }) 0 headings
+
+  -- It does of none before the first.
+  ended : Ended headings ended_with
+  ended = ended_behind reuse headings headings 0 (record { done = []; live = [] }) (λ k. ap (slice_get headings) (sym (from_zero k)))
+      (no_courses headings)
+
+  -- A dialogue of the stretch is done, or live,
+  pub among : (d : Course) → Contains (courses_of reuse headings) d → Among ended_with.done ended_with.live d
+  among d has = Contains-append_cases ended_with.done ended_with.live d has
+
+  -- and each such one is one of the stretch.
+  pub listed : (d : Course) → Among ended_with.done ended_with.live d → Contains (courses_of reuse headings) d
+  listed d (inl has) = Contains-append_left ended_with.done ended_with.live d has
+  listed d (inr has) = Contains-append_right ended_with.done ended_with.live d has
+
+  -- No entry is past the last.
+  within : (i : ℕ) (h : Heading) → slice_get headings i ≡ Some h → i < ended.n
+  within i h is = by (cases_lt i ended.n)
+    where
+      by : (i < ended.n) ⊎ (ended.n ≤ i) → i < ended.n
+      by (inl less) = less
+      by (inr past) =
+          let at : i ≡ ended.n + (i - ended.n) = omega arith in
+          let bad : Some h ≡ None = sym is ∙ ap (slice_get headings) at ∙ ended.past (i - ended.n) in cc
+
+  -- ---- the laws
+
+  -- Each entry is of one dialogue, and of no other.
+  pub entry_has_one : (n : ℕ) → n < length headings
+      → (d : Course) × Contains (courses_of reuse headings) d × (has_entry d n ≡ true)
+      × ((another : Course) → Contains (courses_of reuse headings) another → has_entry another n ≡ true → another ≡ d)
+  entry_has_one n less =
+      let (h, is) = stands headings n less in
+      let o = ended.all.owner n h is (within n h is) in (
+        o.course,
+        listed o.course o.listed,
+        o.has,
+        λ another has so. ended.all.one_number another o.course n (among another has) o.listed so o.has,
+      )
+
+  -- Where two entries share an ID and the first is of a dialogue none of whose IDs came again, the second is of it, or behind all of it.
+  shares_behind : (d : Course) (i j : ℕ) (g h : Heading) (id : IdOf) → Contains (courses_of reuse headings) d → d.again ≡ false
+      → slice_get headings i ≡ Some g → slice_get headings j ≡ Some h → is_among (ids_in g) id ≡ true → is_among (ids_in h) id ≡ true
+      → has_entry d i ≡ true → InOrBehind d j
+  shares_behind d i j g h id has anew is so its hers of_it =
+      let o = ended.all.owner i g is (within i g is) in
+      let same : o.course ≡ d = ended.all.one_number o.course d i o.listed (among d has) o.has of_it in
+      each_behind headings ended.n ended_with.done ended_with.live ended.all d j h id (among d has) anew so (within j h so) hers
+      (ap (λ x. is_among x.ids id) (sym same) ∙ o.all id its)
+
+-- A dialogue none of whose IDs came again shares none with the rest of the stretch up to each of its entries,
+pub course_shares_nothing : (reuse : Reuse) (items : List Item) (d : Course) (n : ℕ) → has_quiet items ≡ false
+    → Contains (courses_of reuse (headings_of items)) d → d.again ≡ false → has_entry d n ≡ true
+    → IsClosed (has_entry d) (take (n + 1) items)
+course_shares_nothing reuse items d n unmarked has anew of_it = closed_from (has_entry d) (take (n + 1) items) follows
+  where
+    by : (j : ℕ) → j < n + 1 → InOrBehind d j → has_entry d j ≡ true
+    by j less (inl so) = so
+    by j less (inr past) = let more = past n of_it in absurd (omega (arith, less, more))
+
+    follows : (i j : ℕ) (s t : Side) (m o : Message) → slice_get (take (n + 1) items) i ≡ Some (Sent s m)
+        → slice_get (take (n + 1) items) j ≡ Some (Sent t o) → ShareId s m t o → has_entry d i ≡ true → has_entry d j ≡ true
+    follows i j s t m o is so (end, id, hers, his) first =
+        let it : IdOf = record { end = end; octets = id } in
+        let (lower, there) = in_front items (n + 1) i (Sent s m) is in
+        let (less, here) = in_front items (n + 1) j (Sent t o) so in
+        by j less
+        (shares_behind reuse (headings_of items) d i j (heading_of s m) (heading_of t o) it has anew (heading_at items i s m unmarked there)
+        (heading_at items j t o unmarked here) (among_is s m it ∙ hers) (among_is t o it ∙ his) first)
+
+-- so what an end may have sent of the stretch up to there that keeps the rules, it may have sent of the dialogue.
+pub course_keeps : (side : Side) (reuse : Reuse) (items : List Item) (table : Table) (d : Course) (n : ℕ) → has_quiet items ≡ false
+    → Contains (courses_of reuse (headings_of items)) d → d.again ≡ false → has_entry d n ≡ true
+    → IsLawfulFor side (take (n + 1) items) table → IsLawfulFor side (part_of (has_entry d) 0 (take (n + 1) items)) table
+course_keeps side reuse items table d n unmarked has anew of_it lawful =
+    part_keeps side (take (n + 1) items) table (has_entry d) (course_shares_nothing reuse items d n unmarked has anew of_it) lawful

@@ -1,0 +1,32 @@
+-- The front of a list, and the headings of a list of items.
+use Rattle.std.proofs.Common.{arith, ◌≡◌, ℕ, zero, suc, ◌<◌, false, List, [], ◌∷◌, length, take, Some, refl}
+use Rattle.std.specs.Prelude.{slice_get}
+use Rattle.std.proofs.lemmas.Bool.{true≢false}
+use Rattle.tcap_msg.specs.declared.message.Message.{Message}
+use Rattle.tcap_record.specs.declared.entry.End.{End as Side}
+use Rattle.tcap_model.specs.World.{Item, Sent, has_quiet}
+use Rattle.tcap_dialogues.specs.Course.{heading_of, headings_of}
+
+-- What stands in the front of a list stands there in the whole, and its number is below the length of the front.
+pub in_front : {X : Type 0} (xs : List X) (k i : ℕ) (x : X) → slice_get (take k xs) i ≡ Some x → (i < k) × (slice_get xs i ≡ Some x)
+in_front xs zero i x is = cc
+in_front [] (suc k) i x is = cc
+in_front (y ∷ xs) (suc k) zero x is = (omega arith, is)
+in_front (y ∷ xs) (suc k) (suc i) x is = let (less, there) = in_front xs k i x is in (omega (arith, less), there)
+
+-- At each number below the length of a list an element stands.
+pub stands : {X : Type 0} (xs : List X) (i : ℕ) → i < length xs → (x : X) × (slice_get xs i ≡ Some x)
+stands [] i less = absurd (omega (arith, less))
+stands (y ∷ xs) zero less = (y, refl)
+stands (y ∷ xs) (suc i) less = stands xs i (omega (arith, less))
+
+-- Where no mark is, the heading of a message has its number.
+pub heading_at : (items : List Item) (i : ℕ) (side : Side) (m : Message) → has_quiet items ≡ false → slice_get items i ≡ Some (Sent side m)
+    → slice_get (headings_of items) i ≡ Some (heading_of side m)
+heading_at [] i side m unmarked is = cc
+heading_at (Item.Quiet ∷ items) i side m unmarked is = absurd (true≢false unmarked)
+heading_at (Sent sender first ∷ items) zero side m unmarked is =
+    let same_side : sender ≡ side = cc in
+    let same : first ≡ m = cc in
+    rw (same_side, same) refl
+heading_at (Sent sender first ∷ items) (suc i) side m unmarked is = heading_at items i side m unmarked is

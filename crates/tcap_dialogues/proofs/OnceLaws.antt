@@ -1,0 +1,110 @@
+-- Where no ID comes again, the courses of a list without quiet marks are its dialogues: no ID is ever free, so a message joins the
+-- same ones in both.
+use Rattle.std.proofs.Common.{◌≡◌, ℕ, ◌+◌, Bool, true, false, cond, List, [], ◌∷◌, ◌++◌, map, refl, sym, ap, ◌∙◌}
+use Rattle.std.specs.Prelude.{filter, not}
+use Rattle.std.specs.List.{flat_map}
+use Rattle.std.proofs.lemmas.Bool.{true≢false}
+use Rattle.std.proofs.lemmas.List.{map-append}
+use Rattle.std.proofs.lemmas.List.Folds.{flat_map-map}
+use Rattle.tcap_msg.specs.declared.message.Message.{Message}
+use Rattle.tcap_record.specs.declared.entry.End.{End as Side}
+use Rattle.tcap_model.specs.World.{Item, Sent, has_quiet}
+use Rattle.tcap_dialogues.specs.Cut.{Dialogue, dialogues_behind, dialogues_of, has_one, ids_of, joined, with_message}
+use Rattle.tcap_dialogues.specs.Course.{Course, Courses, Heading, Reuse, comes, courses_behind, courses_of, heading_of, headings_of}
+
+-- ---- lists
+
+-- To leave those that pass and then to map, or first to map, is the same.
+map_filter : {X Y : Type 0} (f : X → Y) (test : Y → Bool) (xs : List X) → map f (filter (λ x. test (f x)) xs) ≡ filter test (map f xs)
+map_filter f test [] = refl
+map_filter {X} {Y} f test (x ∷ xs) = by (test (f x)) (map_filter f test xs)
+  where
+    by : (b : Bool) → map f (filter (λ y. test (f y)) xs) ≡ filter test (map f xs)
+        → map f (cond b (x ∷ filter (λ y. test (f y)) xs) (filter (λ y. test (f y)) xs))
+        ≡ cond b (f x ∷ filter test (map f xs)) (filter test (map f xs))
+    by true rest = ap (λ ys. f x ∷ ys) rest
+    by false rest = rest
+
+-- What none passes leaves none,
+none_passes : {X : Type 0} (xs : List X) → filter (λ x. false) xs ≡ []
+none_passes [] = refl
+none_passes (x ∷ xs) = none_passes xs
+
+-- and what all pass leaves all.
+all_pass : {X : Type 0} (xs : List X) → filter (λ x. true) xs ≡ xs
+all_pass [] = refl
+all_pass (x ∷ xs) = ap (λ ys. x ∷ ys) (all_pass xs)
+
+-- ---- a message more
+
+-- of a course its numbers and IDs alone
+abbrev forget : Course → Dialogue
+forget d = record { numbers = d.numbers; ids = d.ids }
+
+-- these courses, where none is done
+abbrev only : List Course → Courses
+only live = record { done = []; live = live }
+
+module _ (n : ℕ) (side : Side) (m : Message) (live : List Course) where
+  -- the courses with the message
+  abbrev after : List Course
+  after = (comes Reuse.Once n (heading_of side m) (only live)).live
+
+  -- None of them is done,
+  none_done : comes Reuse.Once n (heading_of side m) (only live) ≡ only after
+  none_done = ap (λ ds. let s : Courses = record { done = ds; live = after } in s) (none_passes live)
+
+  -- The courses that have one of its IDs are the dialogues that have one,
+  joins_same : map forget (filter (λ d. has_one (ids_of side m) (forget d)) live) ≡ filter (has_one (ids_of side m)) (map forget live)
+  joins_same = map_filter forget (has_one (ids_of side m)) live
+
+  -- and so are those that have none.
+  stays_same : map forget (filter (λ d. not (has_one (ids_of side m) (forget d))) live)
+      ≡ filter (λ d. not (has_one (ids_of side m) d)) (map forget live)
+  stays_same = map_filter forget (λ d. not (has_one (ids_of side m) d)) live
+
+  -- the dialogue that courses are with the message
+  abbrev of_one : List Course → Dialogue
+  of_one ds = record { numbers = flat_map (λ d. d.numbers) ds ++ n ∷ []; ids = flat_map (λ d. d.ids) ds ++ ids_of side m }
+
+  -- It has the numbers and IDs of theirs.
+  one_same : (ds : List Course) → joined (map forget ds) n (ids_of side m) ≡ of_one ds
+  one_same ds = rw (flat_map-map (λ (d : Dialogue). d.numbers) forget ds, flat_map-map (λ (d : Dialogue). d.ids) forget ds) refl
+
+  -- the dialogues with the message, where these courses are not free
+  abbrev of_left : List Course → List Dialogue
+  of_left left =
+      map forget (filter (λ d. not (has_one (ids_of side m) (forget d))) left) ++ of_one (filter (λ d. has_one (ids_of side m) (forget d)) left) ∷ []
+
+  -- As no course is free, these are those of all of them,
+  after_left : map forget after ≡ of_left live
+  after_left = map-append forget _ _ ∙ ap of_left (all_pass live)
+
+  -- and the message joins the same ones.
+  after_same : map forget after ≡ with_message n (ids_of side m) (map forget live)
+  after_same =
+      after_left
+      ∙ ap (λ ds. ds ++ of_one (filter (λ d. has_one (ids_of side m) (forget d)) live) ∷ []) stays_same
+      ∙ ap (λ d. filter (λ e. not (has_one (ids_of side m) e)) (map forget live) ++ d ∷ [])
+      (sym (one_same (filter (λ d. has_one (ids_of side m) (forget d)) live)) ∙ ap (λ ds. joined ds n (ids_of side m)) joins_same)
+
+-- ---- the list
+
+-- the dialogues behind these courses
+abbrev behind : List Heading → ℕ → Courses → List Dialogue
+behind hs n s = let more = courses_behind Reuse.Once s n hs in map forget (more.done ++ more.live)
+
+-- They are those behind the dialogues of the courses,
+behind_same : (items : List Item) (n : ℕ) (live : List Course) → has_quiet items ≡ false
+    → behind (headings_of items) n (only live) ≡ dialogues_behind (map forget live) n items
+behind_same [] n live none = refl
+behind_same (Sent side m ∷ items) n live none =
+    ap (behind (headings_of items) (n + 1)) (none_done n side m live)
+    ∙ behind_same items (n + 1) (after n side m live) none
+    ∙ ap (λ ds. dialogues_behind ds (n + 1) items) (after_same n side m live)
+behind_same (Item.Quiet ∷ items) n live none = absurd (true≢false none)
+
+-- so those of the list are its dialogues.
+pub is_the_cut : (items : List Item) → has_quiet items ≡ false
+    → map (λ d. record { numbers = d.numbers; ids = d.ids }) (courses_of Reuse.Once (headings_of items)) ≡ dialogues_of items
+is_the_cut items none = behind_same items 0 [] none
