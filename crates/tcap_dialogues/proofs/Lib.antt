@@ -21,3 +21,4 @@ pub mod CourseMore
 pub mod CourseEnds
 pub mod AgainLaws
 pub mod OnceLaws
+pub mod HeadingLaws

@@ -122,6 +122,59 @@ fn rejected_by(component: Option<ComponentView>) -> &'static [What]
     }
 }
 
+/// F8: the half, as it began and went on.
+const HALF: [What; 6] = [
+    What::BeginsThere,
+    What::Refused,
+    What::ContinuesThere,
+    What::Begun,
+    What::ContinuesTold,
+    What::Unknown,
+];
+
+/// F10: own invocations of the ID, and what may have ended them.
+const INVOCATIONS: [What; 11] = [
+    What::Whole(Sort::Invokes(Class::Any)),
+    What::Invoked(Sort::Lasting(Class::Any)),
+    What::Invoked(Sort::Lasting(Class::One)),
+    What::Invoked(Sort::Lasting(Class::Three)),
+    What::Heard(Sort::LastResults),
+    What::Heard(Sort::NotLasts),
+    What::Heard(Sort::Errors),
+    What::Heard(Sort::InvokeRejects),
+    What::Heard(Sort::GeneralRejects),
+    What::Whole(Sort::ResultRejects),
+    What::Whole(Sort::GeneralRejects),
+];
+
+/// F11: the Invokes of the linked ID, and what took them away.
+const LINKED: [What; 4] = [
+    What::Heard(Sort::Invokes(Class::Any)),
+    What::Before(Sort::LastResults),
+    What::Before(Sort::Errors),
+    What::Before(Sort::InvokeRejects),
+];
+
+/// F12: the Invokes of the ID, by class, and what answered them.
+const ANSWERED: [What; 7] = [
+    What::Heard(Sort::Invokes(Class::Any)),
+    What::Heard(Sort::Invokes(Class::One)),
+    What::Heard(Sort::Invokes(Class::Two)),
+    What::Heard(Sort::Invokes(Class::Three)),
+    What::Before(Sort::LastResults),
+    What::Before(Sort::Errors),
+    What::Before(Sort::InvokeRejects),
+];
+
+/// F14: the half to which the reply goes.
+const REPLIED: [What; 5] = [
+    What::BeginsThere,
+    What::ContinuesThere,
+    What::Refused,
+    What::Unknown,
+    What::Told,
+];
+
 /// What shows a kind of a message with destination ID, by how its half began and by the component at fault.
 fn shows_to(how: How, component: Option<ComponentView>, kind: Kind) -> &'static [What]
     ensures { result.now ≡ shows_to how (option_map component_of component.entry) kind }
@@ -134,51 +187,13 @@ fn shows_to(how: How, component: Option<ComponentView>, kind: Kind) -> &'static 
         Kind::AnswersNothing => answered_by(component),
         Kind::WrongOperation => allowed_by(component),
         Kind::MisplacedDialogue => &[What::BeginsThere, What::RequestsThere],
-        Kind::WrongHalf => &[
-            What::BeginsThere,
-            What::Refused,
-            What::ContinuesThere,
-            What::Begun,
-            What::ContinuesTold,
-            What::Unknown,
-        ],
+        Kind::WrongHalf => &HALF,
         Kind::WrongDialogue => dialogue_of(how),
-        Kind::InvokeIdBusy => &[
-            What::Whole(Sort::Invokes(Class::Any)),
-            What::Invoked(Sort::Lasting(Class::Any)),
-            What::Invoked(Sort::Lasting(Class::One)),
-            What::Invoked(Sort::Lasting(Class::Three)),
-            What::Heard(Sort::LastResults),
-            What::Heard(Sort::NotLasts),
-            What::Heard(Sort::Errors),
-            What::Heard(Sort::InvokeRejects),
-            What::Heard(Sort::GeneralRejects),
-            What::Whole(Sort::ResultRejects),
-            What::Whole(Sort::GeneralRejects),
-        ],
-        Kind::BadLink => &[
-            What::Heard(Sort::Invokes(Class::Any)),
-            What::Before(Sort::LastResults),
-            What::Before(Sort::Errors),
-            What::Before(Sort::InvokeRejects),
-        ],
-        Kind::AnsweredAlready => &[
-            What::Heard(Sort::Invokes(Class::Any)),
-            What::Heard(Sort::Invokes(Class::One)),
-            What::Heard(Sort::Invokes(Class::Two)),
-            What::Heard(Sort::Invokes(Class::Three)),
-            What::Before(Sort::LastResults),
-            What::Before(Sort::Errors),
-            What::Before(Sort::InvokeRejects),
-        ],
+        Kind::InvokeIdBusy => &INVOCATIONS,
+        Kind::BadLink => &LINKED,
+        Kind::AnsweredAlready => &ANSWERED,
         Kind::RejectNotAllowed => rejected_by(component),
-        Kind::WrongReply => &[
-            What::BeginsThere,
-            What::ContinuesThere,
-            What::Refused,
-            What::Unknown,
-            What::Told,
-        ],
+        Kind::WrongReply => &REPLIED,
     }
 }
 
