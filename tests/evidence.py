@@ -382,4 +382,5 @@ def unblamed_lines(entries, table, number):
 def refuted_lines(entries, table, number, kind):
     """The lines behind REFUTED of both ends."""
     told = lines(entries, table, entries[number].end, number, kind, of_both=True)
-    return told + ([] if any(faults_in(table, entries).values()) else unblamed_lines(entries, table, number))
+    is_blamed = any(found and found[0] <= number for found in faults_in(table, entries).values())
+    return told + ([] if is_blamed else unblamed_lines(entries, table, number))

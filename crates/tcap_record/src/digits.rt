@@ -6,6 +6,7 @@ ghost use Rattle.hex.specs.Hex.{decode_of, decode_pairs, encode_lower, hex_digit
 ghost use Rattle.hex.specs.declared.error.FromHexError.{FromHexError};
 
 use std::alloc::{AllocError, Global};
+use std::str;
 
 /// So many octets are spelled one after the other.
 const FEW: usize = 8;
@@ -19,7 +20,7 @@ fn digits_of<'a>(octets: &[u8], room: &'a mut [u8; 256]) -> &'a str
     let Ok(()) = hex::encode_to_slice(octets, digits) else {
         unreachable!();
     };
-    let Ok(digits) = simdutf8::basic::from_utf8(digits) else {
+    let Ok(digits) = str::from_utf8(digits) else {
         unreachable!();
     };
     digits

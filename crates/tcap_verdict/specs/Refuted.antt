@@ -1,5 +1,5 @@
 -- The lines behind REFUTED, and those of both ends: what is blamed, and the entries that show it.
-use Rattle.std.specs.Prelude.{ℕ, Bool, true, false, List, [], ◌++◌, length, slice_get, Option, Some, None, ◌==◌, ◌&&◌, ◌||◌, cond, nat_lt, codes}
+use Rattle.std.specs.Prelude.{ℕ, Bool, true, false, List, [], ◌++◌, length, slice_get, Option, Some, None, ◌==◌, ◌&&◌, ◌||◌, cond, nat_le, nat_lt, codes}
 use Rattle.std.specs.Fmt.{decimal}
 use Rattle.tcap_record.specs.declared.entry.End.{End as Side}
 use Rattle.tcap_record.specs.declared.entry.End.TheVariants as sides
@@ -13,7 +13,7 @@ use Rattle.tcap_evidence.specs.Words.{told_text}
 use Rattle.tcap_judge.specs.declared.finding.Ends.{Ends}
 use Rattle.tcap_judge.specs.declared.finding.Finding.{Finding}
 use Rattle.tcap_judge.specs.declared.finding.Finding.TheVariants as findings
-use Rattle.tcap_judge.specs.Blamed.{ends_of, finding_line, is_blamed, stands_behind}
+use Rattle.tcap_judge.specs.Blamed.{ends_of, finding_line, stands_behind}
 
 -- the end that sent an entry; A where none did
 abbrev pub sender_at : List Entry → ℕ → Side
@@ -59,10 +59,15 @@ both_text table entries shown ends = cond (stands_behind ends.a ends.b)
     (end_text table entries shown sides.B ends.b ++ end_text table entries shown sides.A ends.a)
     (end_text table entries shown sides.A ends.a ++ end_text table entries shown sides.B ends.b)
 
--- why nobody is blamed for an entry that is refuted, where that is so
+-- whether an end is blamed, for that entry or one before it
+abbrev pub is_blamed_by : ℕ → Finding → Bool
+is_blamed_by number (findings.Blamed r) = nat_le r.entry number
+is_blamed_by number said = false
+
+-- Why nobody is blamed for an entry that is refuted, where that is so: what an end is blamed for before it is to be looked at first.
 abbrev pub unblamed_lines : Table → Side → List Entry → ℕ → Ends → List ℕ
 unblamed_lines table side entries number ends =
-    cond (is_blamed ends.a || is_blamed ends.b) [] (unblamed_text table side entries number)
+    cond (is_blamed_by number ends.a || is_blamed_by number ends.b) [] (unblamed_text table side entries number)
 
 -- the lines behind REFUTED, of both ends or of the one that is judged
 abbrev pub refuted_lines : Option Side → Table → List Entry → Refutation → List ℕ

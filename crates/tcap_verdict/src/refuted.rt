@@ -3,7 +3,7 @@
 ghost use Rattle.std.specs.Prelude.{◌≡◌, ◌++◌, ◌≤◌, None, length, IfOk, OnOk};
 ghost use Rattle.std.specs.String.{string_bytes};
 ghost use Rattle.tcap_judge.specs.Blamed.{ends_of};
-ghost use Rattle.tcap_verdict.specs.Refuted.{behind_text, both_text, end_text, is_shown, none_found_words, refuted_lines, sender_at, unblamed_lines, unblamed_words, unread_words};
+ghost use Rattle.tcap_verdict.specs.Refuted.{behind_text, both_text, end_text, is_blamed_by, is_shown, none_found_words, refuted_lines, sender_at, unblamed_lines, unblamed_words, unread_words};
 
 use std::alloc::{AllocError, Global};
 use tcap_end::Table;
@@ -146,6 +146,16 @@ pub(crate) fn push_ends(
     push_both(alloc, text, read, table, ends, None)
 }
 
+/// Whether an end is blamed, for that entry or one before it.
+fn is_blamed_by(finding: Finding, number: u64) -> bool
+    ensures { result ≡ is_blamed_by number finding }
+{
+    match finding {
+        Finding::Blamed(blamed) => blamed.entry <= number,
+        _ => false,
+    }
+}
+
 /// Appends why nobody is blamed for an entry that is refuted, where that is so.
 fn push_where_unblamed(
     alloc: Global,
@@ -159,10 +169,10 @@ fn push_where_unblamed(
     ensures { OnOk result (string_bytes text.new
         ≡ string_bytes text.old ++ unblamed_lines table.now end read.now.entries.items number ends) }
 {
-    match (ends.a, ends.b) {
-        (Finding::Blamed(_), _) | (_, Finding::Blamed(_)) => Ok(()),
-        _ => push_unblamed(alloc, text, read, table, end, number),
+    if is_blamed_by(ends.a, number) || is_blamed_by(ends.b, number) {
+        return Ok(());
     }
+    push_unblamed(alloc, text, read, table, end, number)
 }
 
 /// Appends the lines of a record that is refuted.
