@@ -9,6 +9,7 @@ import shutil
 import signal
 import subprocess
 import sys
+import tempfile
 import time
 
 import edits
@@ -64,6 +65,8 @@ def main(names):
     signal.signal(signal.SIGINT, signal.SIG_DFL)
     name, base = base_of(names or ["origin/main", "HEAD~1"])
     start, copy, rt, passed = time.monotonic(), kept.Kept(), kit.load_rt(), []
+    # What an interrupted run leaves there is removed by the next one.
+    tempfile.tempdir = copy.rooms
     print(f"What changed since {name}, from {base[:12]} on, is proved in {copy.tree}", flush=True)
     chosen = chosen_of(rt, copy, changes_since(base))
     is_proved = copy.step("every crate is proved", ["rt", "all", "check"])
