@@ -311,3 +311,15 @@ test_request-requires-clause-numbers c =
     (rows c.in_ok-command.command words m c.in_ok-command.ensures c.in_ok-matches.ensures.matches)
     (clear c.in_ok-command.command words c.in_ok-command.ensures c.in_ok-matches.ensures.kinds)
     c.in-Some.ensures.name c.in-Some.ensures.rows c.in-test.is).2
+
+pub returns-in-test-clause-faults : goal.returns-in-test-clause-faults
+returns-in-test-clause-faults c =
+    clear c.in_ok-command.command (texts c.args.words.now) c.in_ok-command.ensures c.in_ok-matches.ensures.kinds
+
+pub returns-in-test-clause-asks : goal.returns-in-test-clause-asks
+returns-in-test-clause-asks c =
+    let words = texts c.args.words.now in
+    let m = c.in_ok-matches.matches in
+    test_asked_of m words c.in-Some.name.now (found_of c.in-Some.found.now) _
+    (rows c.in_ok-command.command words m c.in_ok-command.ensures c.in_ok-matches.ensures.matches)
+    c.in-Some.ensures.name c.in-Some.ensures.rows c.in-test.is c.in_ok-test_request-in-test.ensures
