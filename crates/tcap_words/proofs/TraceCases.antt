@@ -98,7 +98,8 @@ plain_parts x rest plain =
     let p = both (not (begins_with_hyphen x)) (are_plain rest) plain in
     (is_plain x p.0, p.1)
 
-trace_rows : List Text → List Row
+-- the rows of these traces
+abbrev trace_rows : List Text → List Row
 trace_rows [] = []
 trace_rows (x ∷ xs) = row_with (codes "TRACE") (x ∷ xs) ∷ []
 
@@ -114,6 +115,7 @@ last_held seen x (y ∷ rest) = last_held (seen ++ x ∷ []) y rest
 -- what holds behind any traces holds there
 at_last : (P : Held → Type 0) → ((seen : List Text) (x : Text) → P (traces_held seen x))
     → (seen : List Text) (x : Text) (rest : List Text) → P (last_held seen x rest)
+unfolding last_held
 at_last P each seen x [] = each seen x
 at_last P each seen x (y ∷ rest) = at_last P each (seen ++ x ∷ []) y rest
 
@@ -126,6 +128,7 @@ one_more (s ∷ ss) x y = refl
 
 more_walk : (seen : List Text) (x : Text) (rest : List Text) → are_plain rest ≡ true
     → fold (walked test_built.rules []) (walk_in 1 (traces_held seen x)) rest ≡ walk_in 1 (last_held seen x rest)
+unfolding last_held
 more_walk seen x [] plain = refl
 more_walk seen x (y ∷ rest) plain =
     let p = plain_parts y rest plain in
@@ -162,6 +165,7 @@ asked_at (s ∷ ss) x = refl
 
 asked_last : (seen : List Text) (x : Text) (rest : List Text)
     → tested (finished test_built.rules (last_held seen x rest)) ≡ only_traces (seen ++ x ∷ rest)
+unfolding last_held
 asked_last seen x [] = asked_at seen x
 asked_last seen x (y ∷ rest) =
     asked_last (seen ++ x ∷ []) y rest ∙ ap only_traces (append_assoc seen (x ∷ []) (y ∷ rest))
