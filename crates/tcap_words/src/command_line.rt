@@ -111,7 +111,8 @@ fn ids_arg<'a>(alloc: Global) -> Arg<'a>
     ensures rule { placeless_rule (rule_of result) ≡ ids_rule }
     ensures local { result.global ≡ false }
 {
-    let text = "Says how IDs come again: while messages of a dialogue may still be under way, once they have settled, or not at all; again where it is left out";
+    let text =
+        "Says how the IDs of a dialogue that is over come again; `again` where it is left out";
     choice_arg(alloc, "ids", "WORD", IDS.as_slice(), text)
 }
 
@@ -276,9 +277,21 @@ fn table_command<'a>(alloc: Global) -> Result<Command<'a>, AllocError>
 fn test_command<'a>(alloc: Global) -> Result<Command<'a>, AllocError>
     ensures { IfOk result (λ c. (placeless_shape (shape_of c) ≡ test_shape) × ((out-Command c).has_globals ≡ false)) }
 {
-    let complete = flag_arg(alloc, "complete", "Takes it that no message is missing from the traces");
-    let json = file_arg(alloc, "json", "Writes the verdicts to that file, as lines of JSON");
-    let junit = file_arg(alloc, "junit", "Writes the verdicts to that file, as JUnit's XML");
+    let complete = flag_arg(
+        alloc,
+        "complete",
+        "Takes it that no message is missing from the traces",
+    );
+    let json = file_arg(
+        alloc,
+        "json",
+        "Writes the verdicts to that file, as lines of JSON",
+    );
+    let junit = file_arg(
+        alloc,
+        "junit",
+        "Writes the verdicts to that file, as JUnit's XML",
+    );
     let progress = flag_arg(alloc, "progress", "Says how far it is");
     Command::new(alloc, "test")
         .about("Judges each dialogue of traces")

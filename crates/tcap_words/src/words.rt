@@ -449,14 +449,14 @@ pub fn request<'a>(alloc: Global, words: &'a [&'a str]) -> Result<Request<'a>, W
         ∷ codes "--json" ∷ f ∷ codes "--junit" ∷ g ∷ codes "--progress" ∷ x ∷ y ∷ []
         → are_plain (t ∷ u ∷ n ∷ f ∷ g ∷ x ∷ y ∷ []) ≡ true → is_number n ≡ true
         → MatchResult result (IsTest (record (only_traces (x ∷ y ∷ [])) {
-            side = Some (letter side);
-            tables = t ∷ u ∷ [];
-            ids = ids_word ids;
-            complete = true;
-            linger = number_of n;
-            json = Some f;
-            junit = Some g;
-            progress = true;
+          side = Some (letter side);
+          tables = t ∷ u ∷ [];
+          ids = ids_word ids;
+          complete = true;
+          linger = number_of n;
+          json = Some f;
+          junit = Some g;
+          progress = true;
         })) IsMemory }
     ensures test_of_wrong { (program word x : Text)
         → texts words.entry.now ≡ program ∷ codes "test" ∷ codes "--of" ∷ word ∷ x ∷ []
