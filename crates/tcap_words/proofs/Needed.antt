@@ -1,6 +1,5 @@
 -- What a subcommand needs is there, behind words at which the command line has no fault.
-use Rattle.std.proofs.Common.{◌≡◌, ◌∙◌, ◌&&◌, ap, ap₂, sym, subst, Bool, true, false, List, [], ◌∷◌, Option, Some, None, is_some, inl, inr, refl, codes}
-use Rattle.std.specs.List.{list_all}
+use Rattle.std.proofs.Common.{◌≡◌, ◌∙◌, ◌&&◌, ap₂, subst, Bool, true, false, List, [], ◌∷◌, Option, Some, None, is_some, inl, inr, refl, codes}
 use Rattle.std.specs.Prelude.{IfSome, if◌then◌else◌, drop}
 use Rattle.std.specs.Str.{bytes_eq}
 use Rattle.clap.specs.Kinds.{value_kinds, values_kinds}
@@ -12,7 +11,7 @@ use Rattle.clap.specs.Takes.{is_given}
 use Rattle.clap.specs.Walk.{Row, Rule, Text, first_of, nothing_held, rows_after, settled, walk, walk_from}
 use Rattle.clap.specs.declared.builder.value_parser.ValueParser.{ValueParser}
 use Rattle.clap.specs.declared.error.kind.ErrorKind.TheVariants as kind
-use Rattle.tcap_words.specs.CommandLine.{blame_shape, check_shape, choice_parser, end_rule, explain_shape, file_rule, flag_rule, ids_rule, ids_word, judge_shape, left_out_rule, letters, linger_rule, needed_rule, number_parser, show_shape, table_shape, tables_rule, test_shape, tool, traces_rule, with_path}
+use Rattle.tcap_words.specs.CommandLine.{blame_shape, check_shape, choice_parser, end_rule, explain_shape, file_rule, flag_rule, ids_rule, judge_shape, left_out_rule, letters, linger_rule, needed_rule, number_parser, show_shape, table_shape, tables_rule, test_shape, tool, traces_rule, with_path}
 use Rattle.tcap_words.specs.Words.{is_ids_word, is_letter, is_number}
 use Rattle.tcap_words.proofs.Help.{or_empty}
 use Rattle.tcap_words.proofs.Letters.{may_have, may_have_all, may_have_any, test_of}

@@ -1,11 +1,11 @@
 -- What the command line makes of the words of `test` with its options, after the program's name.
-use Rattle.std.proofs.Common.{◌≡◌, ◌∙◌, ◌&&◌, Bool, true, false, List, [], ◌∷◌, Option, Some, None, ap, refl, codes}
+use Rattle.std.proofs.Common.{◌≡◌, ◌∙◌, ◌&&◌, Bool, true, false, List, [], ◌∷◌, Option, Some, ap, refl, codes}
 use Rattle.clap.proofs.OnLiterals.{clap_on_literals}
 use Rattle.std.specs.Prelude.{fold, if◌then◌else◌}
 use Rattle.clap.specs.Faults.{fault_of, turn_fault, walk_fault}
 use Rattle.clap.specs.Kinds.{or_else}
 use Rattle.clap.specs.Takes.{takes, turn_passes, walk_passes}
-use Rattle.clap.specs.Walk.{Held, Row, Text, Walk, finished, nothing_held, walk_from, walked}
+use Rattle.clap.specs.Walk.{Row, Text, Walk, finished, nothing_held, walk_from, walked}
 use Rattle.clap.specs.declared.error.kind.ErrorKind.{ErrorKind}
 use Rattle.clap.specs.declared.error.kind.ErrorKind.TheVariants as kind
 use Rattle.tcap_record.specs.declared.entry.End.{End as Side}

@@ -5,7 +5,7 @@ use Rattle.clap.proofs.WalkLemmas.{both}
 use Rattle.std.specs.List.{list_all}
 use Rattle.std.specs.Prelude.{fold, option_map}
 use Rattle.clap.specs.Faults.{fault_of}
-use Rattle.clap.specs.Simple.{App, Shape, built, entered, names_of, subcommand_of}
+use Rattle.clap.specs.Simple.{Shape, built, entered, names_of, subcommand_of}
 use Rattle.clap.specs.Takes.{default_passes, entered_passes, is_valid, level_passes, settle_passes, takes, walk_passes}
 use Rattle.clap.specs.Walk.{Held, Names, Row, Rule, Text, Walk, arg_by_index, finished, nothing_held, rows_after, to_positional, walk, walk_from, walked}
 use Rattle.clap.specs.declared.builder.value_parser.Reading.TheVariants.{AsWritten}

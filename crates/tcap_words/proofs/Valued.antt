@@ -1,5 +1,5 @@
 -- Behind words that fail by nothing, each row has a value, and none that its argument may not have.
-use Rattle.std.proofs.Common.{◌≡◌, ◌&&◌, ◌⊎◌, ◌++◌, ℕ, zero, suc, inl, inr, Bool, true, false, List, [], ◌∷◌, Option, Some, None, is_some, codes, refl, subst, sym}
+use Rattle.std.proofs.Common.{◌≡◌, ◌&&◌, ◌⊎◌, ◌++◌, ℕ, zero, suc, inl, inr, Bool, true, false, List, [], ◌∷◌, Option, Some, None, is_some, refl, subst, sym}
 use Rattle.std.proofs.lemmas.Slice.Eq.{bytes_eq-Decides}
 use Rattle.std.specs.Prelude.{⊤, IfSome, find, fold, if◌then◌else◌, length, nat_lt, option_and_then, slice_get}
 use Rattle.std.specs.Option.{option_map_or}

@@ -1,5 +1,5 @@
 -- What the words of `test` ask for.
-use Rattle.std.specs.Prelude.{Bool, List, Option, None, Some, [], ◌∷◌, ℕ, codes, map, option_map, unwrap_or, false}
+use Rattle.std.specs.Prelude.{Bool, List, Option, None, Some, [], ◌∷◌, ℕ, codes, option_map, unwrap_or, false}
 use Rattle.std.specs.Borrow.{Bor}
 use Rattle.std.specs.List.{list_any}
 use Rattle.std.specs.Str.{bytes_eq}

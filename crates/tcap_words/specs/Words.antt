@@ -1,6 +1,5 @@
 -- What the words of the command line of `tcapjudge` ask for.
 use Rattle.std.specs.Prelude.{◌≡◌, ◌≢◌, ◌==◌, Bool, true, false, not, List, [], ◌∷◌, ℕ, Option, Some, None, codes, option_and_then, option_map, if◌then◌else◌}
-use Rattle.std.specs.Borrow.{Bor}
 use Rattle.std.specs.List.{list_all, list_any}
 use Rattle.std.specs.Str.{bytes_eq}
 use Rattle.clap.specs.Words.{Kinds, IsAmong, Row, Text, first_of, kind_of, subcommand_of}
