@@ -1,11 +1,11 @@
 -- What the command line makes of the words of `test` with its options, after the program's name.
-use Rattle.std.proofs.Common.{◌≡◌, ◌∙◌, ◌&&◌, Bool, true, false, List, [], ◌∷◌, Option, Some, ap, refl, codes}
+use Rattle.std.proofs.Common.{◌≡◌, ◌∙◌, ◌&&◌, ◌++◌, Bool, true, false, List, [], ◌∷◌, Option, Some, ap, refl, codes}
 use Rattle.clap.proofs.OnLiterals.{clap_on_literals}
 use Rattle.std.specs.Prelude.{fold, if◌then◌else◌}
 use Rattle.clap.specs.Faults.{fault_of, turn_fault, walk_fault}
 use Rattle.clap.specs.Kinds.{or_else}
 use Rattle.clap.specs.Takes.{takes, turn_passes, walk_passes}
-use Rattle.clap.specs.Walk.{Row, Text, Walk, finished, nothing_held, walk_from, walked}
+use Rattle.clap.specs.Walk.{Row, Text, Walk, after_step, finished, nothing_held, option, plain_word, walk_from, walked}
 use Rattle.clap.specs.declared.error.kind.ErrorKind.{ErrorKind}
 use Rattle.clap.specs.declared.error.kind.ErrorKind.TheVariants as kind
 use Rattle.tcap_record.specs.declared.entry.End.{End as Side}
@@ -42,6 +42,23 @@ waits_for rows id = walk_waiting id 1 (held_with rows id [])
 abbrev has_value : List Row → Text → Text → Walk
 has_value rows id word = walk_at 1 (held_with rows id (word ∷ []))
 
+-- a word that is no flag is the value of the option
+abbrev IsValue : List Row → Text → Text → Type 0
+IsValue rows id word =
+    let step = plain_word test_built.rules (option id) word (held_with rows id []) in
+    after_step test_built.rules word (waits_for rows id) step.0 step.1 ≡ has_value rows id word
+
+-- an option and its value
+option_goes : (w : Walk) (rows : List Row) (flag id word : Text) (rest : List Text) (end : Walk)
+    → walked test_built.rules [] w flag ≡ waits_for rows id → turn_passes test_built [] w flag ≡ true
+    → begins_with_hyphen word ≡ false → IsValue rows id word → Goes (has_value rows id word) rest end
+    → Goes w (flag ∷ word ∷ rest) end
+option_goes w rows flag id word rest end waits turned plain is_value later =
+    goes_on w (waits_for rows id) end flag (word ∷ rest) waits turned
+    (goes_on (waits_for rows id) (has_value rows id word) end word rest
+    (option_moved word plain id test_built.rules 1 (held_with rows id []) ∙ is_value)
+    (option_turned word plain id test_built 1 (held_with rows id [])) later)
+
 -- and where it stands behind a flag
 abbrev no_more : List Row → Walk
 no_more rows = walk_at 1 (record nothing_held { rows = rows })
@@ -55,50 +72,66 @@ module _ (side : Side) (t u : Text) (ids : Ids) (n f g x y : Text) (plain_t : be
     (plain_u : begins_with_hyphen u ≡ false) (plain_n : begins_with_hyphen n ≡ false) (number : is_number n ≡ true)
     (plain_f : begins_with_hyphen f ≡ false) (plain_g : begins_with_hyphen g ≡ false)
     (plain_x : begins_with_hyphen x ≡ false) (plain_y : begins_with_hyphen y ≡ false) where
-  abbrev side_row : Row
-  side_row = row_with (codes "of") (letter side ∷ [])
+  -- the rows behind each option, in turn
+  abbrev side_rows : List Row
+  side_rows = row_with (codes "of") (letter side ∷ []) ∷ []
 
-  abbrev tables_row : Row
-  tables_row = row_with (codes "table") (t ∷ u ∷ [])
+  abbrev table_rows : List Row
+  table_rows = side_rows ++ row_with (codes "table") (t ∷ []) ∷ []
 
-  abbrev ids_row : Row
-  ids_row = row_with (codes "ids") (ids_word ids ∷ [])
+  abbrev tables_rows : List Row
+  tables_rows = side_rows ++ row_with (codes "table") (t ∷ u ∷ []) ∷ []
 
-  abbrev complete_row : Row
-  complete_row = row_with (codes "complete") (codes "true" ∷ [])
+  abbrev ids_rows : List Row
+  ids_rows = tables_rows ++ row_with (codes "ids") (ids_word ids ∷ []) ∷ []
 
-  abbrev linger_row : Row
-  linger_row = row_with (codes "linger") (n ∷ [])
+  abbrev complete_rows : List Row
+  complete_rows = ids_rows ++ row_with (codes "complete") (codes "true" ∷ []) ∷ []
 
-  abbrev json_row : Row
-  json_row = row_with (codes "json") (f ∷ [])
+  abbrev linger_rows : List Row
+  linger_rows = complete_rows ++ row_with (codes "linger") (n ∷ []) ∷ []
 
-  abbrev junit_row : Row
-  junit_row = row_with (codes "junit") (g ∷ [])
+  abbrev json_rows : List Row
+  json_rows = linger_rows ++ row_with (codes "json") (f ∷ []) ∷ []
 
-  abbrev progress_row : Row
-  progress_row = row_with (codes "progress") (codes "true" ∷ [])
-
-  abbrev first_rows : List Row
-  first_rows = side_row ∷ tables_row ∷ ids_row ∷ complete_row ∷ []
+  abbrev junit_rows : List Row
+  junit_rows = json_rows ++ row_with (codes "junit") (g ∷ []) ∷ []
 
   abbrev all_rows : List Row
-  all_rows = side_row ∷ tables_row ∷ ids_row ∷ complete_row ∷ linger_row ∷ json_row ∷ junit_row ∷ progress_row ∷ []
+  all_rows = junit_rows ++ row_with (codes "progress") (codes "true" ∷ []) ∷ []
 
+  -- where the walk ends
   abbrev end_walk : Walk
   end_walk =
-      walk_in 1 (held_with (side_row ∷ tables_row ∷ ids_row ∷ complete_row ∷ linger_row ∷ json_row ∷ junit_row
-      ∷ progress_row ∷ row_with (codes "TRACE") (x ∷ []) ∷ []) (codes "TRACE") (y ∷ []))
+      walk_in 1 (held_with (all_rows ++ row_with (codes "TRACE") (x ∷ []) ∷ []) (codes "TRACE") (y ∷ []))
 
+  -- the words behind each option, in turn
   abbrev trace_words : List Text
   trace_words = x ∷ y ∷ []
 
-  abbrev later_words : List Text
-  later_words = codes "--linger" ∷ n ∷ codes "--json" ∷ f ∷ codes "--junit" ∷ g ∷ codes "--progress" ∷ trace_words
+  abbrev progress_words : List Text
+  progress_words = codes "--progress" ∷ trace_words
+
+  abbrev junit_words : List Text
+  junit_words = codes "--junit" ∷ g ∷ progress_words
+
+  abbrev json_words : List Text
+  json_words = codes "--json" ∷ f ∷ junit_words
+
+  abbrev linger_words : List Text
+  linger_words = codes "--linger" ∷ n ∷ json_words
+
+  abbrev complete_words : List Text
+  complete_words = codes "--complete" ∷ linger_words
+
+  abbrev ids_words : List Text
+  ids_words = codes "--ids" ∷ ids_word ids ∷ complete_words
+
+  abbrev table_words : List Text
+  table_words = codes "--table" ∷ u ∷ ids_words
 
   abbrev all_words : List Text
-  all_words = codes "--of" ∷ letter side ∷ codes "--table" ∷ t ∷ codes "--table" ∷ u ∷ codes "--ids" ∷ ids_word ids
-      ∷ codes "--complete" ∷ later_words
+  all_words = codes "--of" ∷ letter side ∷ codes "--table" ∷ t ∷ table_words
 
   traces_go : Goes (no_more all_rows) trace_words end_walk
   unfolding tool clap_on_literals
@@ -111,31 +144,17 @@ module _ (side : Side) (t u : Text) (ids : Ids) (n f g x y : Text) (plain_t : be
       (turned_in y plain_y test_built 1 (held_with all_rows (codes "TRACE") (x ∷ [])))
       (goes_nowhere end_walk))
 
-  later_go : Goes (no_more first_rows) later_words end_walk
+  later_go : Goes (no_more complete_rows) linger_words end_walk
   unfolding tool clap_on_literals
   later_go =
-      goes_on (no_more first_rows) (waits_for (first_rows) (codes "linger")) end_walk (codes "--linger") (n ∷ codes "--json" ∷ f ∷ codes "--junit" ∷ g ∷ codes "--progress" ∷ trace_words)
-      (refl)
-      (refl)
-      (goes_on (waits_for (first_rows) (codes "linger")) (has_value (first_rows) (codes "linger") (n)) end_walk (n) (codes "--json" ∷ f ∷ codes "--junit" ∷ g ∷ codes "--progress" ∷ trace_words)
-      (option_moved (n) (plain_n) (codes "linger") test_built.rules 1 (held_with (first_rows) (codes "linger") []))
-      (option_turned (n) (plain_n) (codes "linger") test_built 1 (held_with (first_rows) (codes "linger") []))
-      (goes_on (has_value (first_rows) (codes "linger") (n)) (waits_for (side_row ∷ tables_row ∷ ids_row ∷ complete_row ∷ linger_row ∷ []) (codes "json")) end_walk (codes "--json") (f ∷ codes "--junit" ∷ g ∷ codes "--progress" ∷ trace_words)
-      (refl)
-      (ap (λ b. (b && true) && true) number)
-      (goes_on (waits_for (side_row ∷ tables_row ∷ ids_row ∷ complete_row ∷ linger_row ∷ []) (codes "json")) (has_value (side_row ∷ tables_row ∷ ids_row ∷ complete_row ∷ linger_row ∷ []) (codes "json") (f)) end_walk (f) (codes "--junit" ∷ g ∷ codes "--progress" ∷ trace_words)
-      (option_moved (f) (plain_f) (codes "json") test_built.rules 1 (held_with (side_row ∷ tables_row ∷ ids_row ∷ complete_row ∷ linger_row ∷ []) (codes "json") []))
-      (option_turned (f) (plain_f) (codes "json") test_built 1 (held_with (side_row ∷ tables_row ∷ ids_row ∷ complete_row ∷ linger_row ∷ []) (codes "json") []))
-      (goes_on (has_value (side_row ∷ tables_row ∷ ids_row ∷ complete_row ∷ linger_row ∷ []) (codes "json") (f)) (waits_for (side_row ∷ tables_row ∷ ids_row ∷ complete_row ∷ linger_row ∷ json_row ∷ []) (codes "junit")) end_walk (codes "--junit") (g ∷ codes "--progress" ∷ trace_words)
-      (refl)
-      (refl)
-      (goes_on (waits_for (side_row ∷ tables_row ∷ ids_row ∷ complete_row ∷ linger_row ∷ json_row ∷ []) (codes "junit")) (has_value (side_row ∷ tables_row ∷ ids_row ∷ complete_row ∷ linger_row ∷ json_row ∷ []) (codes "junit") (g)) end_walk (g) (codes "--progress" ∷ trace_words)
-      (option_moved (g) (plain_g) (codes "junit") test_built.rules 1 (held_with (side_row ∷ tables_row ∷ ids_row ∷ complete_row ∷ linger_row ∷ json_row ∷ []) (codes "junit") []))
-      (option_turned (g) (plain_g) (codes "junit") test_built 1 (held_with (side_row ∷ tables_row ∷ ids_row ∷ complete_row ∷ linger_row ∷ json_row ∷ []) (codes "junit") []))
-      (goes_on (has_value (side_row ∷ tables_row ∷ ids_row ∷ complete_row ∷ linger_row ∷ json_row ∷ []) (codes "junit") (g)) (no_more (all_rows)) end_walk (codes "--progress") (trace_words)
-      (refl)
-      (refl)
-      (traces_go)))))))
+      option_goes (no_more complete_rows) complete_rows (codes "--linger") (codes "linger") n json_words end_walk
+      refl refl plain_n refl
+      (option_goes (has_value complete_rows (codes "linger") n) linger_rows (codes "--json") (codes "json") f junit_words
+      end_walk refl (ap (λ b. (b && true) && true) number) plain_f refl
+      (option_goes (has_value linger_rows (codes "json") f) json_rows (codes "--junit") (codes "junit") g progress_words
+      end_walk refl refl plain_g refl
+      (goes_on (has_value json_rows (codes "junit") g) (no_more all_rows) end_walk (codes "--progress") trace_words
+      refl refl traces_go)))
 
   -- `--table` behind `--of`, and `--complete` behind `--ids`
   side_turned : (side : Side) → turn_passes test_built [] (has_value [] (codes "of") (letter side)) (codes "--table") ≡ true
@@ -144,8 +163,7 @@ module _ (side : Side) (t u : Text) (ids : Ids) (n f g x y : Text) (plain_t : be
   side_turned sides.B = refl
 
   ids_turned : (ids : Ids)
-      → turn_passes test_built [] (has_value (side_row ∷ tables_row ∷ []) (codes "ids") (ids_word ids)) (codes "--complete")
-      ≡ true
+      → turn_passes test_built [] (has_value tables_rows (codes "ids") (ids_word ids)) (codes "--complete") ≡ true
   unfolding tool clap_on_literals
   ids_turned Again = refl
   ids_turned Settled = refl
@@ -154,34 +172,16 @@ module _ (side : Side) (t u : Text) (ids : Ids) (n f g x y : Text) (plain_t : be
   all_go : Goes (walk_from nothing_held) all_words end_walk
   unfolding tool clap_on_literals
   all_go =
-      goes_on (walk_from nothing_held) (waits_for ([]) (codes "of")) end_walk (codes "--of") (letter side ∷ codes "--table" ∷ t ∷ codes "--table" ∷ u ∷ codes "--ids" ∷ ids_word ids ∷ codes "--complete" ∷ later_words)
-      (refl)
-      (refl)
-      (goes_on (waits_for ([]) (codes "of")) (has_value ([]) (codes "of") (letter side)) end_walk (letter side) (codes "--table" ∷ t ∷ codes "--table" ∷ u ∷ codes "--ids" ∷ ids_word ids ∷ codes "--complete" ∷ later_words)
-      (option_moved (letter side) (letter_plain side) (codes "of") test_built.rules 1 (held_with ([]) (codes "of") []))
-      (option_turned (letter side) (letter_plain side) (codes "of") test_built 1 (held_with ([]) (codes "of") []))
-      (goes_on (has_value ([]) (codes "of") (letter side)) (waits_for (side_row ∷ []) (codes "table")) end_walk (codes "--table") (t ∷ codes "--table" ∷ u ∷ codes "--ids" ∷ ids_word ids ∷ codes "--complete" ∷ later_words)
-      (refl)
-      (side_turned side)
-      (goes_on (waits_for (side_row ∷ []) (codes "table")) (has_value (side_row ∷ []) (codes "table") (t)) end_walk (t) (codes "--table" ∷ u ∷ codes "--ids" ∷ ids_word ids ∷ codes "--complete" ∷ later_words)
-      (option_moved (t) (plain_t) (codes "table") test_built.rules 1 (held_with (side_row ∷ []) (codes "table") []))
-      (option_turned (t) (plain_t) (codes "table") test_built 1 (held_with (side_row ∷ []) (codes "table") []))
-      (goes_on (has_value (side_row ∷ []) (codes "table") (t)) (waits_for (side_row ∷ row_with (codes "table") (t ∷ []) ∷ []) (codes "table")) end_walk (codes "--table") (u ∷ codes "--ids" ∷ ids_word ids ∷ codes "--complete" ∷ later_words)
-      (refl)
-      (refl)
-      (goes_on (waits_for (side_row ∷ row_with (codes "table") (t ∷ []) ∷ []) (codes "table")) (has_value (side_row ∷ row_with (codes "table") (t ∷ []) ∷ []) (codes "table") (u)) end_walk (u) (codes "--ids" ∷ ids_word ids ∷ codes "--complete" ∷ later_words)
-      (option_moved (u) (plain_u) (codes "table") test_built.rules 1 (held_with (side_row ∷ row_with (codes "table") (t ∷ []) ∷ []) (codes "table") []))
-      (option_turned (u) (plain_u) (codes "table") test_built 1 (held_with (side_row ∷ row_with (codes "table") (t ∷ []) ∷ []) (codes "table") []))
-      (goes_on (has_value (side_row ∷ row_with (codes "table") (t ∷ []) ∷ []) (codes "table") (u)) (waits_for (side_row ∷ tables_row ∷ []) (codes "ids")) end_walk (codes "--ids") (ids_word ids ∷ codes "--complete" ∷ later_words)
-      (refl)
-      (refl)
-      (goes_on (waits_for (side_row ∷ tables_row ∷ []) (codes "ids")) (has_value (side_row ∷ tables_row ∷ []) (codes "ids") (ids_word ids)) end_walk (ids_word ids) (codes "--complete" ∷ later_words)
-      (option_moved (ids_word ids) (ids_plain ids) (codes "ids") test_built.rules 1 (held_with (side_row ∷ tables_row ∷ []) (codes "ids") []))
-      (option_turned (ids_word ids) (ids_plain ids) (codes "ids") test_built 1 (held_with (side_row ∷ tables_row ∷ []) (codes "ids") []))
-      (goes_on (has_value (side_row ∷ tables_row ∷ []) (codes "ids") (ids_word ids)) (no_more (first_rows)) end_walk (codes "--complete") (later_words)
-      (refl)
-      (ids_turned ids)
-      (later_go)))))))))
+      option_goes (walk_from nothing_held) [] (codes "--of") (codes "of") (letter side) (codes "--table" ∷ t ∷ table_words)
+      end_walk refl refl (letter_plain side) refl
+      (option_goes (has_value [] (codes "of") (letter side)) side_rows (codes "--table") (codes "table") t table_words
+      end_walk refl (side_turned side) plain_t refl
+      (option_goes (has_value side_rows (codes "table") t) table_rows (codes "--table") (codes "table") u ids_words
+      end_walk refl refl plain_u refl
+      (option_goes (has_value table_rows (codes "table") u) tables_rows (codes "--ids") (codes "ids") (ids_word ids)
+      complete_words end_walk refl refl (ids_plain ids) refl
+      (goes_on (has_value tables_rows (codes "ids") (ids_word ids)) (no_more complete_rows) end_walk
+      (codes "--complete") linger_words refl (ids_turned ids) later_go))))
 
   pub all_taken : (program : Text) → takes tool (program ∷ codes "test" ∷ all_words) ≡ true
   unfolding tool clap_on_literals
