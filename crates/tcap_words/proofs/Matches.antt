@@ -1,6 +1,7 @@
 -- What the matches of words with no fault have, and what the words ask for by them.
-use Rattle.std.proofs.Common.{◌≡◌, ◌∙◌, Bool, List, [], Option, Some, None, is_some, inl, inr, ap, ap₂, sym, subst, codes, true, refl}
-use Rattle.std.specs.Prelude.{IfSome, option_and_then, option_map}
+use Rattle.std.proofs.Common.{◌≡◌, ◌∙◌, Bool, List, [], ◌∷◌, Option, Some, None, is_some, inl, inr, ap, ap₂, sym, subst, codes, true, refl}
+use Rattle.std.specs.Prelude.{◌≢◌, IfSome, find, option_and_then, option_map, slice_get, unwrap_or}
+use Rattle.std.specs.Str.{bytes_eq}
 use Rattle.std.specs.Borrow.{Bor}
 use Rattle.clap.proofs.WalkLemmas.{first_value-rows}
 use Rattle.clap.specs.Faults.{fault_of}
@@ -13,6 +14,7 @@ use Rattle.clap.specs.declared.parser.matches.Found.{Found}
 use Rattle.tcap_record.specs.declared.entry.End.{End as Side}
 use Rattle.tcap_record.specs.Ends.{letter}
 use Rattle.tcap_words.specs.CommandLine.{tool}
+use Rattle.tcap_words.specs.Tests.{values_of}
 use Rattle.tcap_words.specs.Words.{Asks, Explains, Tested, blamed_paths, checked_paths, end_value, explained_paths, is_ids_word, is_letter, is_number, is_set, judged_paths, named_with, named_with_flag, named_with_flags, named_with_paths, named_with_traces, named_with_two, path_text, shown_path, tested}
 use Rattle.tcap_words.specs.declared.asked.Request.{Request}
 use Rattle.tcap_words.specs.declared.asked.Request.TheVariants.{Show, Pack, Check, CheckEnd, Judge, JudgeEnd, Explain, Blame, Table, Test}
@@ -290,16 +292,32 @@ blame_asked_of m words name f x y same is_name is_rows is_blame is_x is_y =
     both : Option Text → Option Text → Option (Text × (Option Text × Option Text))
     both a b = Some (codes "blame", (a, b))
 
+-- an argument with a first value has values
+some_values : (id : Text) (rows : List Row) → is_some (first_of id rows) ≡ true → values_of id rows ≢ []
+some_values id rows there none = go (find (λ (r : Row). bytes_eq r.id id) rows) there none
+  where
+    at : (vs : List Text) → is_some (slice_get vs 0) ≡ true → vs ≡ [] → ⊥
+    at [] there none = cc
+    at (v ∷ vs) there none = cc
+
+    go : (o : Option Row) → is_some (option_and_then (λ (r : Row). slice_get r.values 0) o) ≡ true
+        → unwrap_or (option_map (λ (r : Row). r.values) o) [] ≡ [] → ⊥
+    go None there none = cc
+    go (Some r) there none = at r.values there none
+
 pub test_asked_of : (m : ArgMatches) (words : List Text) (name : Text) (f : Found) (x : Tested)
     → subcommand_rows_of m ≡ subcommand_of tool words
+    → fault_of tool words ≡ []
     → Some name ≡ subcommand_name_of m
     → Some (rows_of f) ≡ option_map (λ p. p.1) (subcommand_rows_of m) → name ≡ codes "test"
     → x ≡ tested (rows_of f)
-    → named_with_traces words ≡ Some (codes "test", x)
-test_asked_of m words name f x same is_name is_rows is_test is =
-    ap (option_map (λ p. (p.0, tested p.1)))
-    (entered_at m words name (codes "test") f same is_name is_rows is_test)
-    ∙ ap (λ (y : Tested). asks y) (sym is)
+    → (named_with_traces words ≡ Some (codes "test", x)) × (x.traces ≢ [])
+test_asked_of m words name f x same clear is_name is_rows is_test is =
+    let entered = entered_at m words name (codes "test") f same is_name is_rows is_test in
+    let there = (needed_there words (codes "test", rows_of f) clear entered).5 refl in (
+      ap (option_map (λ p. (p.0, tested p.1))) entered ∙ ap (λ (y : Tested). asks y) (sym is),
+      λ none. some_values (codes "TRACE") (rows_of f) there.3 (sym (ap (λ (y : Tested). y.traces) is) ∙ none),
+    )
   where
     asks : Tested → Option (Text × Tested)
     asks y = Some (codes "test", y)

@@ -50,11 +50,12 @@ HasTwoPaths rows = (is_some (first_of (codes "RECORD") rows) ≡ true)
 abbrev pub HasLetter : List Row → Type 0
 HasLetter rows = IfSome (first_of (codes "end") rows) (λ word. is_letter word ≡ true)
 
--- what `test` is asked by an end, by a word for IDs and by a number, is that
+-- what `test` is asked by an end, by a word for IDs and by a number, is that; and a trace is there
 abbrev pub HasAsked : List Row → Type 0
 HasAsked rows = IfSome (first_of (codes "of") rows) (λ word. is_letter word ≡ true)
     × IfSome (first_of (codes "ids") rows) (λ word. is_ids_word word ≡ true)
     × IfSome (first_of (codes "linger") rows) (λ word. is_number word ≡ true)
+    × (is_some (first_of (codes "TRACE") rows) ≡ true)
 
 -- and that of a certificate, which `check` needs too
 abbrev pub HasPaths : List Row → Type 0
@@ -107,6 +108,13 @@ one_given : (rows : List Row) (x : Bool) → is_given (codes "TABLE") rows ≡ x
 unfolding tool
 one_given rows true is_x e = refl
 one_given rows false is_x e =
+    let bad : kind.MissingRequiredArgument ∷ [] ≡ [] = rw is_x at e in cc
+
+trace_given : (rows : List Row) (x : Bool) → is_given (codes "TRACE") rows ≡ x → check_fault test_built rows false ≡ []
+    → x ≡ true
+unfolding tool
+trace_given rows true is_x e = refl
+trace_given rows false is_x e =
     let bad : kind.MissingRequiredArgument ∷ [] ≡ [] = rw is_x at e in cc
 
 -- the values that pass a parser are those that the argument may have
@@ -310,8 +318,12 @@ test_asked : (words : List Text) → level_fault test_built [] nothing_held word
     → HasAsked (rows_after test_built.rules [] words)
 test_asked words e =
     let rows = rows_after test_built.rules [] words in
-    let level = level_valued test_built test_good words e in
-    (first_fits (codes "of") rows level.0, first_fits (codes "ids") rows level.0, first_fits (codes "linger") rows level.0)
+    let level = level_valued test_built test_good words e in (
+      first_fits (codes "of") rows level.0,
+      first_fits (codes "ids") rows level.0,
+      first_fits (codes "linger") rows level.0,
+      first_there (codes "TRACE") rows level.0 (trace_given rows _ refl level.1),
+    )
 
 same_some : {X : Type 0} (x y : X) → Some x ≡ Some y → x ≡ y
 same_some x y e = cc

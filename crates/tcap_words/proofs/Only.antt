@@ -63,7 +63,7 @@ word_asked words (JudgeEnd side x y flag) asks = name_kept judged_paths (subcomm
 word_asked words (Explain x y z side file) asks = name_kept explained_paths (subcommand_of tool words) ∙ ap name_in asks.0
 word_asked words (Blame x y) asks = name_kept blamed_paths (subcommand_of tool words) ∙ ap name_in asks
 word_asked words (Table x) asks = name_kept (first_of (codes "TABLE")) (subcommand_of tool words) ∙ ap name_in asks
-word_asked words (Test x) asks = name_kept tested (subcommand_of tool words) ∙ ap name_in asks
+word_asked words (Test x) asks = name_kept tested (subcommand_of tool words) ∙ ap name_in asks.0
 
 -- words name one subcommand
 one_word : {X : Type 0} (reads : List Row → X) (words : List Text) (name : Text) (x : X) (r : Request)
@@ -362,7 +362,7 @@ table_only words x (Test t) is asks =
 
 pub test_only : (words : List Text) (x : Tested) (r : Request) → named_with_traces words ≡ Some (codes "test", x)
     → Asks words r → IsTest x r
-test_only words x (Test t) is asks = some_same _ _ (ap value_in (sym asks ∙ is))
+test_only words x (Test t) is asks = some_same _ _ (ap value_in (sym asks.0 ∙ is))
 test_only words x (Show path why lines) is asks =
     apart (codes "test") (codes "show") refl refl (one_word tested words _ _ (Show path why lines) is asks)
 test_only words x (Pack path) is asks =

@@ -98,7 +98,8 @@ Asks words (Explain taken table cert side chart) =
     × (end_value words ≡ option_map letter side)
 Asks words (Blame taken table) = named_with_two words ≡ Some (codes "blame", (Some taken.now, Some table.now))
 Asks words (Table table) = named_with (codes "TABLE") words ≡ Some (codes "table", Some table.now)
-Asks words (Test test) = named_with_traces words ≡ Some (codes "test", requested test)
+Asks words (Test test) =
+    (named_with_traces words ≡ Some (codes "test", requested test)) × ((requested test).traces ≢ [])
 
 -- to show what this path names, with these flags
 abbrev pub IsShow : Option Text → Bool → Bool → Request → Type 0

@@ -322,4 +322,5 @@ returns-in-test-clause-asks c =
     let m = c.in_ok-matches.matches in
     test_asked_of m words c.in-Some.name.now (found_of c.in-Some.found.now) _
     (rows c.in_ok-command.command words m c.in_ok-command.ensures c.in_ok-matches.ensures.matches)
+    (clear c.in_ok-command.command words c.in_ok-command.ensures c.in_ok-matches.ensures.kinds)
     c.in-Some.ensures.name c.in-Some.ensures.rows c.in-test.is c.in_ok-test_request-in-test.ensures
