@@ -1,0 +1,2 @@
+-- Books.
+use Rattle.std.proofs.Common.{◌≡◌, refl}
