@@ -1,5 +1,6 @@
 -- A book of operation tables: which of them a dialogue is judged by, and the names of operations.
-use Rattle.std.specs.Prelude.{ℕ, Bool, true, false, List, [], ◌∷◌, length, Option, Some, None, option_or, cond, nat_lt, ◌==◌}
+use Rattle.std.specs.Prelude.{ℕ, Bool, true, false, List, [], ◌∷◌, length, Option, Some, None, cond, nat_lt, ◌==◌}
+use Rattle.std.specs.Option.{option_or}
 use Rattle.std.specs.List.{starts_with}
 use Rattle.std.specs.Map.{lookup}
 use Rattle.std.specs.BTreeMap.{is_at}

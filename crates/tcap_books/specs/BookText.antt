@@ -8,7 +8,7 @@ use Rattle.serde_json.specs.Find.{get}
 use Rattle.tcap_parts.specs.declared.code.Code.{Code}
 use Rattle.tcap_end.specs.declared.table.TableFault.{TableFault}
 use Rattle.tcap_end.specs.Table.{Table}
-use Rattle.tcap_end.specs.TableText.{IsJson, code_in, count_items, has_only, table_in, then_ok}
+use Rattle.tcap_end.specs.TableText.{IsJson, code_in, count_items, table_in, then_ok}
 use Rattle.tcap_books.specs.declared.fault.BookFault.{BookFault}
 use Rattle.tcap_books.specs.declared.fault.BookFault.TheVariants as faults
 use Rattle.tcap_books.specs.Book.{NamedTable}
@@ -19,9 +19,19 @@ tables_limit = 100
 
 -- ---- a table without what only a book has
 
+-- the members without those of some keys, each value made by its key
+abbrev pub kept : (List ℕ → Bool) → (List ℕ → Data → Data) → Members → Members
+kept drops make no_members = no_members
+kept drops make (member key d more) = cond (drops key) (kept drops make more) (member key (make key d) (kept drops make more))
+
+abbrev pub is_name : List ℕ → Bool
+is_name key = bytes_eq key (codes "name")
+
+abbrev pub same : List ℕ → Data → Data
+same key d = d
+
 abbrev pub without_name : Members → Members
-without_name no_members = no_members
-without_name (member key d more) = cond (bytes_eq key (codes "name")) (without_name more) (member key d (without_name more))
+without_name members = kept is_name same members
 
 -- a row without its name
 abbrev pub bare_row : Data → Data
@@ -38,14 +48,13 @@ bare_rows d = d
 
 -- whether a key is one that only a table of a book has
 abbrev pub is_books : List ℕ → Bool
-is_books key = bytes_eq key (codes "name") || bytes_eq key (codes "contexts")
+is_books key = is_name key || bytes_eq key (codes "contexts")
 
 abbrev pub bare_value : List ℕ → Data → Data
 bare_value key d = cond (bytes_eq key (codes "operations")) (bare_rows d) d
 
 abbrev pub bare_members : Members → Members
-bare_members no_members = no_members
-bare_members (member key d more) = cond (is_books key) (bare_members more) (member key (bare_value key d) (bare_members more))
+bare_members members = kept is_books bare_value members
 
 -- a table without its name, its contexts and the names of its rows
 abbrev pub bare_table : Data → Data
@@ -137,16 +146,14 @@ tables_in _ = Err faults.NoTables
 abbrev pub plain : Table → NamedTable
 plain table = record { name = None; contexts = []; table = table; names = [] }
 
-abbrev pub book_keys : List (List ℕ)
-book_keys = codes "tables" ∷ []
-
-abbrev pub only_tables : Data → Bool
-only_tables (object members) = has_only book_keys members
-only_tables _ = false
+-- whether data is an object of one key
+abbrev pub has_one_key : Data → Bool
+has_one_key (object (member key d no_members)) = true
+has_one_key _ = false
 
 abbrev pub book_by : Data → Option Data → Result (List NamedTable) BookFault
 book_by d None = then_ok (refused_table 0 (table_in d)) (λ table. Ok (plain table ∷ []))
-book_by d (Some tables) = cond (only_tables d) (tables_in tables) (Err faults.OtherKey)
+book_by d (Some tables) = cond (has_one_key d) (tables_in tables) (Err faults.OtherKey)
 
 -- The book that the data is, or the first fault. Data without a key "tables" is a book of one table.
 abbrev pub book_in : Data → Result (List NamedTable) BookFault

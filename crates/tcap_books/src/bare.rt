@@ -1,13 +1,18 @@
 //! A table without what only a book has: its name, its contexts, and the names of its rows.
 
-ghost use Rattle.std.specs.Prelude.{◌≡◌, IfOk, codes, ◌||◌};
-ghost use Rattle.std.specs.Str.{bytes_eq};
-ghost use Rattle.serde_json.specs.Data.{array};
-ghost use Rattle.serde_json.specs.View.{view, items_view, members_view};
-ghost use Rattle.tcap_books.specs.BookText.{bare_items, bare_members, bare_row, bare_rows, bare_table, bare_value, is_books, without_name};
+ghost use Rattle.std.specs.Prelude.{◌≡◌, IfOk, map};
+ghost use Rattle.serde_json.specs.View.{view, members_view};
+ghost use Rattle.tcap_books.specs.BookText.{bare_members, bare_row, bare_rows, bare_table, bare_value, is_books, is_name, without_name};
 
 use serde_json::{Map, Value};
 use std::alloc::{AllocError, Global};
+
+/// Whether a key is that of a name.
+fn is_name(key: &str) -> bool
+    ensures { result ≡ is_name key.now }
+{
+    key == "name"
+}
 
 /// The members of a row without its name.
 fn without_name(
@@ -18,10 +23,11 @@ fn without_name(
 {
     let mut kept = Map::new(alloc);
     for (key, value) in members.iter() {
-        if key.as_str() != "name" {
-            let name = key.clone()?;
-            drop(kept.insert(name, value.clone()?)?);
+        if is_name(key.as_str()) {
+            continue;
         }
+        let name = key.clone()?;
+        drop(kept.insert(name, value.clone()?)?);
     }
     Ok(kept)
 }
@@ -38,7 +44,7 @@ fn bare_row(alloc: Global, row: &Value) -> Result<Value, AllocError>
 
 /// Rows without their names.
 fn bare_items(alloc: Global, rows: &Vec<Value>) -> Result<Vec<Value>, AllocError>
-    ensures { IfOk result (λ v. items_view v.items ≡ bare_items (items_view rows.now.items)) }
+    ensures { IfOk result (λ v. map view v.items ≡ map (λ row. bare_row (view row)) rows.now.items) }
 {
     let mut bare = Vec::new(alloc);
     for row in rows {
@@ -61,7 +67,7 @@ fn bare_rows(alloc: Global, rows: &Value) -> Result<Value, AllocError>
 fn is_books(key: &str) -> bool
     ensures { result ≡ is_books key.now }
 {
-    key == "name" || key == "contexts"
+    is_name(key) || key == "contexts"
 }
 
 /// The value of a key of a table, without the names of rows.
@@ -84,11 +90,12 @@ fn bare_members(
 {
     let mut kept = Map::new(alloc);
     for (key, value) in members.iter() {
-        if !is_books(key.as_str()) {
-            let name = key.clone()?;
-            let bare = bare_value(alloc, key.as_str(), value)?;
-            drop(kept.insert(name, bare)?);
+        if is_books(key.as_str()) {
+            continue;
         }
+        let name = key.clone()?;
+        let bare = bare_value(alloc, key.as_str(), value)?;
+        drop(kept.insert(name, bare)?);
     }
     Ok(kept)
 }

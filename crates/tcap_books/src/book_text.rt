@@ -2,7 +2,7 @@
 
 ghost use Rattle.std.specs.Prelude.{◌≡◌, ◌∷◌, ◌≢◌, ◌≤◌, ◌↔◌, [], Some, None, Ok, Err, IfOk, OnOk, codes, map, option_map, option_and_then, string_bytes};
 ghost use Rattle.hex.specs.Hex.{decode_of};
-ghost use Rattle.serde_json.specs.Data.{Data, depth, items_depth};
+ghost use Rattle.serde_json.specs.Data.{Data, array, depth, items_depth};
 ghost use Rattle.serde_json.specs.Find.{get};
 ghost use Rattle.serde_json.specs.Read.{max_depth};
 ghost use Rattle.serde_json.specs.View.{view, items_view, members_view};
@@ -12,7 +12,7 @@ ghost use Rattle.tcap_books.specs.declared.fault.BookFault.TheVariants as BookFa
 ghost use Rattle.tcap_books.specs.Book.{NamedTable as Meant};
 ghost use Rattle.tcap_books.specs.declared.fault.BookFault.{BookFault as Fault};
 ghost use Rattle.tcap_books.specs.BookText.{IsBookOf, IsPlain, bare_table, book_in, context_in, contexts_in, contexts_with, name_in, named_table_in};
-ghost use Rattle.tcap_books.specs.BookText.{names_in, names_with, only_tables, plain, refused_table, tables_in, tables_with, with_name};
+ghost use Rattle.tcap_books.specs.BookText.{has_one_key, names_in, names_with, plain, refused_table, tables_in, tables_with, with_name};
 
 use crate::bare::bare_table;
 use crate::book::{Book, Context, NamedTable};
@@ -238,14 +238,12 @@ fn tables_with(alloc: Global, items: &[Value]) -> Result<Book, BookFault>
     Ok(book)
 }
 
-/// The book of the tables that a value is.
-fn tables_in(alloc: Global, value: &Value) -> Result<Book, BookFault>
-    requires nests { depth (view value.now) ≤ max_depth }
-    ensures { result ≢ Err BookFault.Memory → result ≡ tables_in (view value.now) }
+/// The book of the tables of a list.
+#[tactic(auto, using(crate::proofs::BookLaws::tables_within, crate::proofs::BookLaws::tables_beyond, crate::proofs::BookLaws::no_tables))]
+fn tables_of(alloc: Global, items: &[Value]) -> Result<Book, BookFault>
+    requires nests { items_depth (items_view items.now) ≤ max_depth }
+    ensures { result ≢ Err BookFault.Memory → result ≡ tables_in (array (items_view items.now)) }
 {
-    let Some(items) = value.as_array() else {
-        return Err(BookFault::NoTables);
-    };
     if items.is_empty() {
         return Err(BookFault::NoTables);
     }
@@ -255,19 +253,27 @@ fn tables_in(alloc: Global, value: &Value) -> Result<Book, BookFault>
     tables_with(alloc, items)
 }
 
-/// Whether a value is an object that has no key but `"tables"`.
-fn only_tables(value: &Value) -> bool
-    ensures { result ≡ only_tables (view value.now) }
+/// The book of the tables that a value is.
+#[tactic(auto, using(crate::proofs::BookLaws::of_array, crate::proofs::BookLaws::no_array, crate::proofs::DepthLaws::array_depth))]
+fn tables_in(alloc: Global, value: &Value) -> Result<Book, BookFault>
+    requires nests { depth (view value.now) ≤ max_depth }
+    ensures { result ≢ Err BookFault.Memory → result ≡ tables_in (view value.now) }
 {
-    let Some(members) = value.as_object() else {
-        return false;
-    };
-    for key in members.keys() {
-        if key.as_str() != "tables" {
-            return false;
-        }
+    match value.as_array() {
+        Some(items) => tables_of(alloc, items),
+        None => Err(BookFault::NoTables),
     }
-    true
+}
+
+/// Whether a value is an object of one key.
+#[tactic(auto, using(crate::proofs::BookLaws::one_key, crate::proofs::BookLaws::no_key))]
+fn has_one_key(value: &Value) -> bool
+    ensures { result ≡ has_one_key (view value.now) }
+{
+    match value.as_object() {
+        Some(members) => members.len() == 1,
+        None => false,
+    }
 }
 
 /// The book of one table that has neither a name nor contexts.
@@ -285,6 +291,7 @@ fn plain(alloc: Global, table: Table) -> Result<Book, AllocError>
 }
 
 /// The book that a text is, of which this is the value.
+#[tactic(auto, using(crate::proofs::DepthLaws::get_depth))]
 fn book_in(alloc: Global, octets: &[u8], value: &Value) -> Result<Book, BookFault>
     requires nests { depth (view value.now) ≤ max_depth }
     requires value { IsJson octets.now (view value.now) }
@@ -292,7 +299,7 @@ fn book_in(alloc: Global, octets: &[u8], value: &Value) -> Result<Book, BookFaul
 {
     match value.get("tables") {
         None => Ok(plain(alloc, read_table(alloc, 0, octets)?)?),
-        Some(_) if !only_tables(value) => Err(BookFault::OtherKey),
+        Some(_) if !has_one_key(value) => Err(BookFault::OtherKey),
         Some(tables) => tables_in(alloc, tables),
     }
 }

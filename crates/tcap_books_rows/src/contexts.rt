@@ -84,10 +84,21 @@ fn choices(rt: HostRuntime) -> Result<(), Fail> {
 
 /// The columns: an application context name, and the table of the carried book.
 const CARRIED: &str = r#"
-# networkUnstructuredSsContext-v2
+# MAP: networkLocUpContext-v3, networkUnstructuredSsContext-v2, vcsgLocationCancellationContext-v3.
+04000001000103;MAP
 04000001001302;MAP
-# CAP
-04000001150334;CAP
+04000001002f03;MAP
+# CAP of phases 1 to 4.
+04000001003200;CAP
+04000001003201;CAP
+04000001150304;CAP
+04000001170304;CAP
+04000001170308;CAP
+0400000117033d;CAP
+# Neither, and none.
+04000001003000;-
+040000010032;CAP
+0400000100;-
 2a0304;-
 "#;
 
@@ -108,6 +119,13 @@ impl Row for Carried {
 
 #[test]
 fn of_carried(rt: HostRuntime) -> Result<(), Fail> {
-    assert_eq!(rt; each_row::<Carried>(rt.alloc(), CARRIED)?, 3);
+    assert_eq!(rt; each_row::<Carried>(rt.alloc(), CARRIED)?, 13);
+    Ok(())
+}
+
+#[test]
+fn without_context(rt: HostRuntime) -> Result<(), Fail> {
+    let book = book_of(rt.alloc(), CARRIED_BOOK)?;
+    assert!(rt; book.table_of(None).is_none());
     Ok(())
 }
