@@ -4,6 +4,8 @@
 mod doubts;
 mod judging;
 mod said;
+#[cfg(test)]
+mod tests;
 mod verdict;
 
 pub use judging::{Ends, judge_dialogue};

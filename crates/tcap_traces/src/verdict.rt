@@ -1,7 +1,7 @@
 //! Verdicts, in the words of TTCN-3 (ES 201 873-1).
 
 ghost use Rattle.std.specs.Prelude.{◌≡◌};
-ghost use Rattle.tcap_traces.specs.Verdict.{rank, status_of, trace_verdict, worse};
+ghost use Rattle.tcap_traces.specs.Verdict.{rank, status_of, trace_verdict, word_of, worse};
 
 /// The verdict on an end, a dialogue, a trace or all of them, from the best to the worst.
 #[derive(Clone, Copy, Debug, PartialEq, Eq)]
@@ -53,7 +53,9 @@ impl Verdict {
     }
 
     /// Its word.
-    pub fn word(self) -> &'static str {
+    pub fn word(self) -> &'static str
+        ensures { result.now ≡ word_of self }
+    {
         match self {
             Verdict::Pass => "pass",
             Verdict::Inconclusive => "inconc",

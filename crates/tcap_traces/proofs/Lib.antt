@@ -1,0 +1,2 @@
+pub mod DoubtLaws
+pub mod JudgingLaws
