@@ -1,5 +1,5 @@
 -- Both ends agree which entry is the first that is no message, so the entries before it are judged once for both.
-use Rattle.std.proofs.Common.{◌≡◌, ℕ, ◌==◌, cond, List, length, map, Option, Some, None, refl, sym, ap}
+use Rattle.std.proofs.Common.{◌≡◌, ℕ, ◌==◌, cond, List, length, map, Option, Some, None, refl, sym, ap, ◌∙◌}
 use Rattle.tcap_record.specs.declared.entry.End.{End as Side}
 use Rattle.tcap_record.specs.declared.entry.End.TheVariants as sides
 use Rattle.tcap_record.specs.declared.entry.Entry.{Entry}
@@ -18,7 +18,7 @@ use Rattle.tcap_traces.specs.Verdict.{found_before, no_message_at, said_by, said
 
 -- ---- of so many entries none is blamed: those before the first that is no message
 
-number_in : ℕ → Finding → ℕ
+abbrev number_in : ℕ → Finding → ℕ
 number_in count (NotBlamed n) = n
 number_in count found = count
 
@@ -49,13 +49,17 @@ module _ (n all : ℕ) where
       → or_else (cond (n == all) None (Some n)) (no_message_at found all) ≡ cond (n == all) None (Some n)
   or_behind (Blamed r) is = or_none (cond (n == all) None (Some n))
   or_behind (Lawful count unheard) is = or_none (cond (n == all) None (Some n))
-  or_behind (NotBlamed m) is = rw is (or_same (cond (n == all) None (Some n)))
+  or_behind (NotBlamed m) is =
+      ap (λ k. or_else (cond (n == all) None (Some n)) (cond (k == all) None (Some k))) is
+      ∙ or_same (cond (n == all) None (Some n))
 
   or_before : (found : Finding) → number_in n found ≡ n
       → or_else (no_message_at found all) (cond (n == all) None (Some n)) ≡ cond (n == all) None (Some n)
   or_before (Blamed r) is = refl
   or_before (Lawful count unheard) is = refl
-  or_before (NotBlamed m) is = rw is (or_same (cond (n == all) None (Some n)))
+  or_before (NotBlamed m) is =
+      ap (λ k. or_else (cond (k == all) None (Some k)) (cond (n == all) None (Some n))) is
+      ∙ or_same (cond (n == all) None (Some n))
 
 -- ---- what is said
 

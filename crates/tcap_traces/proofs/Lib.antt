@@ -1,2 +1,1 @@
-pub mod DoubtLaws
 pub mod JudgingLaws

@@ -1,6 +1,6 @@
 -- The verdict on a dialogue, which is judged as a record of its own, in the words of TTCN-3 (ES 201 873-1): what is said of each
 -- end that is asked, and where a blame rests on what the bench said and not on the end alone.
-use Rattle.std.specs.Prelude.{ℕ, ℤ, Bool, true, false, List, [], ◌∷◌, length, map, take, drop, slice_get, Option, Some, None, is_none, Result, Ok, Err, ◌==◌, ◌&&◌, ◌||◌, not, nat_le, cond, codes}
+use Rattle.std.specs.Prelude.{ℕ, ℤ, Bool, true, false, List, [], ◌∷◌, length, map, take, drop, slice_get, Option, Some, None, is_none, Result, Ok, ◌==◌, ◌&&◌, ◌||◌, not, nat_le, cond, codes}
 use Rattle.std.specs.List.{list_any}
 use Rattle.tcap_parts.specs.declared.component.Component.{Component}
 use Rattle.tcap_parts.specs.declared.component.Component.TheVariants.{Invoke, ReturnResult, ReturnError, Reject}
@@ -23,6 +23,7 @@ use Rattle.tcap_refute.specs.declared.kind.Refutation.{Refutation}
 use Rattle.tcap_refute.specs.Before.{is_a}
 use Rattle.tcap_refute.specs.Kind.{is_unknown_operation}
 use Rattle.tcap_faults.specs.Counts.{invokes_so}
+use Rattle.tcap_faults.specs.Fault.{is_entry_of}
 use Rattle.tcap_faults.specs.Subject.{subject_of}
 use Rattle.tcap_evidence.specs.Evidence.{component_at}
 use Rattle.tcap_judge.specs.declared.finding.Finding.{Finding}
@@ -146,12 +147,8 @@ doubt_of table c side entries r =
 -- ---- what is said of an end
 
 -- whether that end sent an entry
-abbrev pub is_sender : Side → Option Side → Bool
-is_sender side None = false
-is_sender side (Some sender) = is_side side sender
-
 abbrev pub is_of : Side → Entry → Bool
-is_of side entry = is_sender side entry.side
+is_of side entry = is_entry_of side entry.side
 
 -- that it passes, but for what the bench asks beside
 abbrev pub passes : Circumstances → ℕ → Said

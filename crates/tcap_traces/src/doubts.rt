@@ -115,7 +115,9 @@ fn invokes_lacking(table: &Table, id: i8, component: ComponentView) -> bool
 {
     match component {
         ComponentView::Invoke {
-            id: other, code, ..
+            id: other,
+            code,
+            ..
         } => other == id && lacks(table, code),
         _ => false,
     }
@@ -188,8 +190,10 @@ fn rests_on_lack(
         return Ok(false);
     };
     let before = entries_before(read, at.entry);
-    Ok(is_unknown_operation(table, component)
-        || lacks_heard(table, end, before, heard_id(at.kind, component)))
+    Ok(
+        is_unknown_operation(table, component)
+            || lacks_heard(table, end, before, heard_id(at.kind, component)),
+    )
 }
 
 /// Whether there is an ID and it is that one.
@@ -256,8 +260,7 @@ fn may_be_over(read: &Record, table: &Table, end: End, at: Refutation) -> bool
     match message_at(read, at.entry) {
         Some(message) => {
             let before = entries_before(read, at.entry);
-            is_begin(message)
-                && (table.prearranged() || is_silent(end, message.otid(), before))
+            is_begin(message) && (table.prearranged() || is_silent(end, message.otid(), before))
         }
         None => false,
     }

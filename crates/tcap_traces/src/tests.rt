@@ -12,8 +12,7 @@ use tcap_refute::{Kind, Refutation};
 const TABLE: &[u8] = b"{\"operations\":[{\"class\":1,\"code\":45}]}";
 
 /// The same, with prearranged ends.
-const PREARRANGED: &[u8] =
-    b"{\"operations\":[{\"class\":1,\"code\":45}],\"prearranged\":true}";
+const PREARRANGED: &[u8] = b"{\"operations\":[{\"class\":1,\"code\":45}],\"prearranged\":true}";
 
 /// A sends a Begin with an Invoke, and B an End with its result.
 const LAWFUL: &[u8] =
@@ -28,8 +27,7 @@ const LACKING: &[u8] =
     b"\x41\x62\x0d\x48\x01\x01\x6c\x08\xa1\x06\x02\x01\x01\x02\x01\x2e\x42\x64\x0a\x49\x01\x01\x6c\x05\xa2\x03\x02\x01\x01";
 
 /// A begins from 01, B continues from 02, and a quiet mark.
-const OPEN: &[u8] =
-    b"\x41\x62\x03\x48\x01\x01\x42\x65\x06\x48\x01\x02\x49\x01\x01\x51";
+const OPEN: &[u8] = b"\x41\x62\x03\x48\x01\x01\x42\x65\x06\x48\x01\x02\x49\x01\x01\x51";
 
 /// A begins from 01, and again.
 const TWICE: &[u8] = b"\x41\x62\x03\x48\x01\x01\x41\x62\x03\x48\x01\x01";
@@ -53,12 +51,7 @@ const ALONE: Circumstances = Circumstances {
 };
 
 /// What is said of the ends of a record.
-fn said(
-    alloc: Global,
-    octets: &[u8],
-    table: &[u8],
-    circumstances: Circumstances,
-) -> Option<Ends> {
+fn said(alloc: Global, octets: &[u8], table: &[u8], circumstances: Circumstances) -> Option<Ends> {
     let table = Table::from_json(alloc, table).ok()?;
     let mut reader = Counted::new(octets);
     let mut read = read_record(alloc, &mut reader).ok()?;
@@ -112,7 +105,13 @@ fn fails(rt: HostRuntime) -> Result<(), Fail> {
         ..ALONE
     };
     let found = said(alloc, TO_NINE, TABLE, again);
-    assert!(rt; says(found, Said::Pass(0), Said::Doubtful(fault, Doubt::CameAgain)));
+    assert!(rt;
+        says(
+            found,
+            Said::Pass(0),
+            Said::Doubtful(fault, Doubt::CameAgain)
+        )
+    );
     let unread = Circumstances {
         unread_from: Some(1),
         ..ALONE
@@ -160,8 +159,9 @@ fn begins_again(rt: HostRuntime) -> Result<(), Fail> {
     let fault = at(2, Kind::ReusedId);
     let found = said(alloc, HEARD, TABLE, ALONE);
     assert!(rt; says_of_a(found, Said::Fail(fault)));
+    // With prearranged ends that may be another transaction: nobody is blamed.
     let found = said(alloc, HEARD, PREARRANGED, ALONE);
-    assert!(rt; says_of_a(found, Said::Doubtful(fault, Doubt::MaybeOver)));
+    assert!(rt; says_of_a(found, Said::Undecided));
     Ok(())
 }
 
