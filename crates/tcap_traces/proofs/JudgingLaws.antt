@@ -18,7 +18,7 @@ use Rattle.tcap_traces.specs.Verdict.{found_before, no_message_at, said_by, said
 
 -- ---- of so many entries none is blamed: those before the first that is no message
 
-abbrev number_in : ℕ → Finding → ℕ
+abbrev pub number_in : ℕ → Finding → ℕ
 number_in count (NotBlamed n) = n
 number_in count found = count
 
@@ -30,7 +30,7 @@ counted_by count (outcomes.Refuted r) = refl
 counted_by count (outcomes.Undecided fault) = refl
 counted_by count (outcomes.Faulty number place) = refl
 
-counted : (table : Table) (entries : List Entry) (side : Side)
+pub counted : (table : Table) (entries : List Entry) (side : Side)
     → number_in (items_before (map item_of entries)) (finding table entries side) ≡ items_before (map item_of entries)
 counted table entries side = counted_by (items_before (map item_of entries)) (verdict_for side table entries)
 
@@ -45,7 +45,7 @@ or_same None = refl
 or_same (Some n) = refl
 
 module _ (n all : ℕ) where
-  or_behind : (found : Finding) → number_in n found ≡ n
+  pub or_behind : (found : Finding) → number_in n found ≡ n
       → or_else (cond (n == all) None (Some n)) (no_message_at found all) ≡ cond (n == all) None (Some n)
   or_behind (Blamed r) is = or_none (cond (n == all) None (Some n))
   or_behind (Lawful count unheard) is = or_none (cond (n == all) None (Some n))
@@ -53,7 +53,7 @@ module _ (n all : ℕ) where
       ap (λ k. or_else (cond (n == all) None (Some n)) (cond (k == all) None (Some k))) is
       ∙ or_same (cond (n == all) None (Some n))
 
-  or_before : (found : Finding) → number_in n found ≡ n
+  pub or_before : (found : Finding) → number_in n found ≡ n
       → or_else (no_message_at found all) (cond (n == all) None (Some n)) ≡ cond (n == all) None (Some n)
   or_before (Blamed r) is = refl
   or_before (Lawful count unheard) is = refl

@@ -4,7 +4,8 @@ ghost use Rattle.std.specs.Prelude.{◌≡◌, ◌≤◌, drop, length, take, If
 ghost use Rattle.std.specs.List.{list_any};
 ghost use Rattle.tcap_record.specs.declared.entry.End.TheVariants as sides;
 ghost use Rattle.tcap_refute.specs.Kind.{or_else};
-ghost use Rattle.tcap_judge.specs.Blamed.{finding};
+ghost use Rattle.tcap_judge.specs.Blamed.{IsFound, finding};
+ghost use Rattle.tcap_traces.specs.Shown.{IsFoundBefore, IsSo};
 ghost use Rattle.tcap_traces.specs.Verdict.{found_before, is_of, no_message_at, passes, said_before, said_by, said_of, verdict_asked};
 
 use crate::doubts::{doubt_of, is_side};
@@ -12,6 +13,7 @@ use crate::said::{Circumstances, Said};
 use crate::verdict::Verdict;
 use std::alloc::{AllocError, Global};
 use tcap_end::Table;
+use tcap_faults::laws;
 use tcap_judge::{Ends as Found, Finding, blame_record};
 use tcap_record::{End, Entry, Record};
 
@@ -95,8 +97,10 @@ fn entries_from(read: &Record, number: usize) -> &[Entry]
 /// What `blame` says of both ends of a record. `AllocError` where memory ran out.
 fn find_both(alloc: Global, read: &Record, table: &Table) -> Result<Found, AllocError>
     requires few { length read.now.entries.items ≤ 100000 }
-    ensures { IfOk result (λ found. (found.a ≡ finding table.now read.now.entries.items sides.A)
+    ensures found { IfOk result (λ found. (found.a ≡ finding table.now read.now.entries.items sides.A)
         × (found.b ≡ finding table.now read.now.entries.items sides.B)) }
+    ensures shown { IfOk result (λ found. IsFound sides.A table.now read.now.entries.items found.a
+        × IsFound sides.B table.now read.now.entries.items found.b) }
 {
     match blame_record(alloc, read, table)?.ends {
         Some(found) => Ok(found),
@@ -114,6 +118,8 @@ fn find_before(
     requires few { length read.old.entries.items ≤ 100000 }
     ensures found { IfOk result (λ found. (found.a ≡ finding table.now (take number read.old.entries.items) sides.A)
         × (found.b ≡ finding table.now (take number read.old.entries.items) sides.B)) }
+    ensures shown { IfOk result (λ found. IsFound sides.A table.now (take number read.old.entries.items) found.a
+        × IsFound sides.B table.now (take number read.old.entries.items) found.b) }
     ensures stays { OnOk result (read.new.entries.items ≡ read.old.entries.items) }
 {
     let mut behind = read.entries.split_off(read.entries.len().min(number))?;
@@ -132,6 +138,8 @@ fn found_before(
     requires few { length read.old.entries.items ≤ 100000 }
     ensures found { IfOk result (λ found. (found.0 ≡ found_before table.now read.old.entries.items sides.A number)
         × (found.1 ≡ found_before table.now read.old.entries.items sides.B number)) }
+    ensures shown { IfOk result (λ found. IsFoundBefore sides.A table.now read.old.entries.items number found.0
+        × IsFoundBefore sides.B table.now read.old.entries.items number found.1) }
     ensures stays { OnOk result (read.new.entries.items ≡ read.old.entries.items) }
 {
     match number {
@@ -219,8 +227,11 @@ pub fn judge_dialogue(
     requires few { length read.old.entries.items ≤ 100000 }
     ensures a { IfOk result (λ ends. ends.a ≡ said_of table.now circumstances read.old.entries.items sides.A) }
     ensures b { IfOk result (λ ends. ends.b ≡ said_of table.now circumstances read.old.entries.items sides.B) }
+    ensures so { IfOk result (λ ends. IsSo sides.A table.now read.old.entries.items ends.a
+        × IsSo sides.B table.now read.old.entries.items ends.b) }
     ensures stays { OnOk result (read.new.entries.items ≡ read.old.entries.items) }
 {
+    laws::blamed_is_at_fault();
     let found = find_both(alloc, read, table)?;
     let number = no_message_of(found, read.entries.len());
     let (a, b) = found_before(alloc, read, table, number)?;
