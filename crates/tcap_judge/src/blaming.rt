@@ -205,7 +205,8 @@ fn blame_by_search(alloc: Global, read: &Record, table: &Table) -> Result<Blame,
 }
 
 /// What is said of a record and of its ends.
-fn blame_record(alloc: Global, read: &Record, table: &Table) -> Result<Blame, AllocError>
+/// `AllocError` where memory ran out.
+pub fn blame_record(alloc: Global, read: &Record, table: &Table) -> Result<Blame, AllocError>
     requires few { length read.now.entries.items ≤ 100000 }
     ensures { IfOk result (λ said. AreBlamed table.now read.now.entries.items said.outcome said.ends) }
 {

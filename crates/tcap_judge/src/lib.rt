@@ -17,7 +17,7 @@ mod status;
 mod text_reading;
 mod verdicts;
 
-pub use blaming::{Blame, blame_outcome, find_both, run_blame};
+pub use blaming::{Blame, blame_outcome, blame_record, find_both, run_blame};
 pub use checking::{check_outcome, run_check, run_check_end};
 pub use fault_lines::MEMORY_LINE;
 pub use finding::{Ends, Finding, blame_status, push_finding, stands_behind};

@@ -17,6 +17,7 @@ mod parts;
 mod record;
 mod refute;
 mod search;
+mod traces;
 mod verdict;
 mod words;
 
@@ -35,5 +36,6 @@ pub use parts::first_component;
 pub use record::{entries_of, ids_of};
 pub use refute::no_certificate_helps;
 pub use search::is_shown_lawful;
+pub use traces::verdict_on;
 pub use verdict::told_why;
 pub use words::status_of_words;

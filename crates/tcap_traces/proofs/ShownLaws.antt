@@ -1,0 +1,153 @@
+-- What is said of an end is so, where what `blame` found is so.
+use Rattle.std.proofs.Common.{◌≡◌, inl, inr, ℕ, Bool, true, false, cond, ◌==◌, List, drop, length, map, take, Option, Some, None, Result, Ok, Err, refl, sym, ap, ◌∙◌, subst}
+use Rattle.std.specs.List.{list_any}
+use Rattle.tcap_record.specs.declared.entry.End.{End as Side}
+use Rattle.tcap_record.specs.declared.entry.End.TheVariants as sides
+use Rattle.tcap_record.specs.declared.entry.Entry.{Entry}
+use Rattle.tcap_end.specs.Table.{Table}
+use Rattle.tcap_check.specs.declared.fault.CheckFault.{CheckFault}
+use Rattle.tcap_model.specs.Run.{Event}
+use Rattle.tcap_model.specs.Entries.{item_of}
+use Rattle.tcap_refute.specs.declared.kind.Refutation.{Refutation}
+use Rattle.tcap_refute.specs.Kind.{or_else}
+use Rattle.tcap_faults.specs.AtFault.{IsAtFaultOf}
+use Rattle.tcap_faults.specs.Fault.{blamed}
+use Rattle.tcap_judge.specs.declared.finding.Finding.{Finding}
+use Rattle.tcap_judge.specs.declared.finding.Finding.TheVariants.{Blamed, Lawful, NotBlamed}
+use Rattle.tcap_judge.specs.Blamed.{IsFound, finding, finding_by, items_before}
+use Rattle.tcap_judge.specs.Judged.{AreLawful, replayed_by}
+use Rattle.tcap_judge.specs.Verdict.{proposed_by, verdict_by}
+use Rattle.tcap_traces.specs.declared.said.Circumstances.{Circumstances}
+use Rattle.tcap_traces.specs.declared.said.Doubt.{Doubt}
+use Rattle.tcap_traces.specs.declared.said.Said.{Said}
+use Rattle.tcap_traces.specs.declared.said.Said.TheVariants as saids
+use Rattle.tcap_traces.specs.Shown.{IsFoundBefore, IsSo, MayHaveSent}
+use Rattle.tcap_traces.specs.Verdict.{doubt_of, fails, found_before, is_of, no_message_at, passes, said_before, said_by}
+use Rattle.tcap_traces.proofs.JudgingLaws.{counted, number_in, or_before, or_behind}
+
+-- ---- what is blamed
+
+abbrev named_in : Finding → Option Refutation
+named_in (Blamed r) = Some r
+named_in found = None
+
+named_by_all : (side : Side) (count all : ℕ) (named : Option Refutation) (replay : Result (List Event) CheckFault)
+    → named_in (finding_by count (verdict_by (Some side) all named replay)) ≡ named
+named_by_all side count all (Some r) replay = refl
+named_by_all side count all None (Ok events) = refl
+named_by_all side count all None (Err fault) = refl
+
+named_is : (table : Table) (entries : List Entry) (side : Side)
+    → named_in (finding table entries side) ≡ blamed table side entries
+named_is table entries side =
+    named_by_all side (items_before (map item_of entries)) (length entries) (blamed table side entries)
+    (replayed_by (Some side) table (proposed_by (Some side) entries) entries)
+
+-- ---- what is said
+
+module _ (table : Table) (c : Circumstances) (entries : List Entry) (side : Side) where
+  passes_so : (cut over : Bool) (unheard : ℕ) → MayHaveSent side table entries
+      → IsSo side table entries (cond cut saids.TooLong (cond over saids.Open (saids.Pass unheard)))
+  passes_so true over unheard may = may
+  passes_so false true unheard may = may
+  passes_so false false unheard may = may
+
+  fails_so : (r : Refutation) (doubt : Option Doubt) → IsAtFaultOf table side entries r
+      → IsSo side table entries (fails r doubt)
+  fails_so r None at_fault = at_fault
+  fails_so r (Some doubt) at_fault = at_fault
+
+  behind_so : (number unheard : ℕ) (own : Bool) → list_any (is_of side) (drop number entries) ≡ own
+      → AreLawful (Some side) table (take number entries)
+      → IsSo side table entries (cond own (saids.Behind number) (passes c unheard))
+  behind_so number unheard true is lawful = lawful
+  behind_so number unheard false is lawful = passes_so c.cut c.open unheard (inr (number, lawful, is))
+
+  before_so : (number : ℕ) (earlier : Option Finding) → IsFoundBefore side table entries (Some number) earlier
+      → IsSo side table entries (said_before c side entries number earlier)
+  before_so number None so = tt
+  before_so number (Some (Blamed r)) so = tt
+  before_so number (Some (NotBlamed n)) so = tt
+  before_so number (Some (Lawful n unheard)) so =
+      behind_so number unheard (list_any (is_of side) (drop number entries)) refl so
+
+  -- By what was found of all entries, and of those before the first that is no message, it is so;
+  said_so : ((r : Refutation) → blamed table side entries ≡ Some r → IsAtFaultOf table side entries r)
+      → (found : Finding) → found ≡ finding table entries side → IsFound side table entries found
+      → (earlier : Option Finding)
+      → ((n : ℕ) → found ≡ NotBlamed n → IsFoundBefore side table entries (Some n) earlier)
+      → IsSo side table entries (said_by table c side entries found earlier)
+  said_so at_fault (Blamed r) is so earlier are =
+      fails_so r (doubt_of table c side entries r)
+      (at_fault r (sym (named_is table entries side) ∙ sym (ap named_in is)))
+  said_so at_fault (Lawful n unheard) is so earlier are = passes_so c.cut c.open unheard (inl so)
+  said_so at_fault (NotBlamed n) is so earlier are = before_so n earlier (are n refl)
+
+-- ---- those before the first that is no message, as both ends have it
+
+module _ (table : Table) (entries : List Entry) (side : Side) (earlier : Option Finding) where
+  at_number : (n : ℕ) (is_all : Bool) → earlier ≡ found_before table entries side (cond is_all None (Some n))
+      → IsFoundBefore side table entries (cond is_all None (Some n)) earlier
+      → IsFoundBefore side table entries (Some n) earlier
+  at_number n true is so = subst (IsFoundBefore side table entries (Some n)) (sym is) tt
+  at_number n false is so = so
+
+  module _ (count all : ℕ) (a b : Finding) (of_a : number_in count a ≡ count) (of_b : number_in count b ≡ count)
+      (is : earlier ≡ found_before table entries side (or_else (no_message_at a all) (no_message_at b all)))
+      (so : IsFoundBefore side table entries (or_else (no_message_at a all) (no_message_at b all)) earlier) where
+    at_own : (n : ℕ) → or_else (no_message_at a all) (no_message_at b all) ≡ cond (n == all) None (Some n)
+        → IsFoundBefore side table entries (Some n) earlier
+    at_own n own =
+        at_number n (n == all) (is ∙ ap (found_before table entries side) own)
+        (subst (λ o. IsFoundBefore side table entries o earlier) own so)
+
+    pub first_so : (n : ℕ) → a ≡ NotBlamed n → IsFoundBefore side table entries (Some n) earlier
+    first_so n found =
+        let same : count ≡ n = sym of_a ∙ ap (number_in count) found in
+        at_own n
+        (ap (λ x. or_else (no_message_at x all) (no_message_at b all)) found
+        ∙ or_behind n all b (subst (λ k. number_in k b ≡ k) same of_b))
+
+    pub second_so : (n : ℕ) → b ≡ NotBlamed n → IsFoundBefore side table entries (Some n) earlier
+    second_so n found =
+        let same : count ≡ n = sym of_b ∙ ap (number_in count) found in
+        at_own n
+        (ap (λ x. or_else (no_message_at a all) (no_message_at x all)) found
+        ∙ or_before n all a (subst (λ k. number_in k a ≡ k) same of_a))
+
+module _ (at_fault : (table : Table) (side : Side) (entries : List Entry) (r : Refutation)
+    → blamed table side entries ≡ Some r → IsAtFaultOf table side entries r)
+    (table : Table) (c : Circumstances) (entries now : List Entry) (a b : Finding) (number : Option ℕ) where
+  -- so of A,
+  pub so_of_a : now ≡ entries → a ≡ finding table entries sides.A → b ≡ finding table entries sides.B
+      → IsFound sides.A table entries a
+      → number ≡ or_else (no_message_at a (length entries)) (no_message_at b (length entries))
+      → (earlier : Option Finding) → earlier ≡ found_before table entries sides.A number
+      → IsFoundBefore sides.A table entries number earlier
+      → (said : Said) → said ≡ said_by table c sides.A now a earlier → IsSo sides.A table entries said
+  so_of_a stays of_a of_b so is earlier is_earlier earlier_so said said_is =
+      subst (IsSo sides.A table entries)
+      (sym (said_is ∙ ap (λ es. said_by table c sides.A es a earlier) stays))
+      (said_so table c entries sides.A (at_fault table sides.A entries) a of_a so earlier
+      (first_so table entries sides.A earlier (items_before (map item_of entries)) (length entries) a b
+      (ap (number_in (items_before (map item_of entries))) of_a ∙ counted table entries sides.A)
+      (ap (number_in (items_before (map item_of entries))) of_b ∙ counted table entries sides.B)
+      (is_earlier ∙ ap (found_before table entries sides.A) is)
+      (subst (λ o. IsFoundBefore sides.A table entries o earlier) is earlier_so)))
+
+  -- and of B.
+  pub so_of_b : now ≡ entries → a ≡ finding table entries sides.A → b ≡ finding table entries sides.B
+      → IsFound sides.B table entries b
+      → number ≡ or_else (no_message_at a (length entries)) (no_message_at b (length entries))
+      → (earlier : Option Finding) → earlier ≡ found_before table entries sides.B number
+      → IsFoundBefore sides.B table entries number earlier
+      → (said : Said) → said ≡ said_by table c sides.B now b earlier → IsSo sides.B table entries said
+  so_of_b stays of_a of_b so is earlier is_earlier earlier_so said said_is =
+      subst (IsSo sides.B table entries)
+      (sym (said_is ∙ ap (λ es. said_by table c sides.B es b earlier) stays))
+      (said_so table c entries sides.B (at_fault table sides.B entries) b of_b so earlier
+      (second_so table entries sides.B earlier (items_before (map item_of entries)) (length entries) a b
+      (ap (number_in (items_before (map item_of entries))) of_a ∙ counted table entries sides.A)
+      (ap (number_in (items_before (map item_of entries))) of_b ∙ counted table entries sides.B)
+      (is_earlier ∙ ap (found_before table entries sides.B) is)
+      (subst (λ o. IsFoundBefore sides.B table entries o earlier) is earlier_so)))

@@ -1,0 +1,13 @@
+-- The cursor's item of that number.
+use Rattle.std.proofs.Common.{sym, ap, ◌∙◌}
+use Rattle.std.proofs.lemmas.Iterator.Consumers.{nth_from_yields_List, YieldsList-from_first}
+use Rattle.tcap_parts.specs.Meaning.{component_of, components_left}
+use Rattle.tcap_msg.specs.Parts.{components_in}
+use Rattle.tcap_evidence.specs.Evidence.{component_at}
+use Rattle.tcap_traces.proofs.doubts.component_at.Goals as goal
+
+pub returns : goal.returns
+returns c =
+    nth_from_yields_List c.nth.result c.nth.new.self c.in_ok-number.field-0 c.nth.ensures.ran
+    (YieldsList-from_first component_of components_left (components_in c.args.message.now) c.components.ensures)
+    ∙ ap (λ n. component_at n (components_in c.args.message.now)) (sym c.in_ok-number.was)

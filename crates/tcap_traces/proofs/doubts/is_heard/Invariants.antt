@@ -1,0 +1,10 @@
+-- What is left decides, by whether it is so now.
+use Rattle.std.proofs.Common.{◌≡◌, false, drop, map}
+use Rattle.tcap_model.specs.Entries.{item_of}
+use Rattle.tcap_traces.specs.Verdict.{is_heard}
+use Rattle.tcap_traces.proofs.doubts.is_heard.Given as goal
+
+abbrev pub invariant-loop-entry : goal.invariant-loop-entry
+invariant-loop-entry l =
+    is_heard l.end l.id.octets.now l.so (map item_of (drop l.entry-index l.before))
+    ≡ is_heard l.end l.id.octets.now false (map item_of l.before)

@@ -1,0 +1,4 @@
+pub mod Verdict
+pub mod Asked
+pub mod Shown
+pub mod WorkedVerdicts

@@ -1,0 +1,231 @@
+-- The verdict on a dialogue, which is judged as a record of its own, in the words of TTCN-3 (ES 201 873-1): what is said of each
+-- end that is asked, and where a blame rests on what the bench said and not on the end alone.
+use Rattle.std.specs.Prelude.{ℕ, ℤ, Bool, true, false, List, [], ◌∷◌, length, map, take, drop, slice_get, Option, Some, None, is_none, Result, Ok, ◌==◌, ◌&&◌, ◌||◌, not, nat_le, cond, codes}
+use Rattle.std.specs.List.{list_any}
+use Rattle.tcap_parts.specs.declared.component.Component.{Component}
+use Rattle.tcap_parts.specs.declared.component.Component.TheVariants.{Invoke, ReturnResult, ReturnError, Reject}
+use Rattle.tcap_parts.specs.declared.problem.Problem.TheVariants as problems
+use Rattle.tcap_msg.specs.declared.kind.Kind.TheVariants as forms
+use Rattle.tcap_msg.specs.declared.message.Message.{Message}
+use Rattle.tcap_msg.specs.Parts.{components_in, dtid_in, otid_in}
+use Rattle.tcap_record.specs.declared.entry.End.{End as Side}
+use Rattle.tcap_record.specs.declared.entry.End.TheVariants as sides
+use Rattle.tcap_record.specs.declared.entry.Entry.{Entry}
+use Rattle.tcap_record.specs.Ends.{other}
+use Rattle.tcap_end.specs.End.{is_id}
+use Rattle.tcap_end.specs.Table.{Table, operation_of}
+use Rattle.tcap_model.specs.declared.reason.Reason.{Reason}
+use Rattle.tcap_model.specs.World.{Item, Sent, is_side}
+use Rattle.tcap_model.specs.Entries.{item_of}
+use Rattle.tcap_refute.specs.declared.kind.Kind.{Kind}
+use Rattle.tcap_refute.specs.declared.kind.Kind.TheVariants as kinds
+use Rattle.tcap_refute.specs.declared.kind.Refutation.{Refutation}
+use Rattle.tcap_refute.specs.Before.{is_a}
+use Rattle.tcap_refute.specs.Kind.{is_unknown_operation}
+use Rattle.tcap_faults.specs.Counts.{invokes_so}
+use Rattle.tcap_faults.specs.Fault.{is_entry_of}
+use Rattle.tcap_faults.specs.Subject.{subject_of}
+use Rattle.tcap_evidence.specs.Evidence.{component_at}
+use Rattle.tcap_judge.specs.declared.finding.Finding.{Finding}
+use Rattle.tcap_judge.specs.declared.finding.Finding.TheVariants as findings
+use Rattle.tcap_judge.specs.Blamed.{finding}
+use Rattle.tcap_traces.specs.declared.verdict.Verdict.{Verdict}
+use Rattle.tcap_traces.specs.declared.verdict.Verdict.TheVariants as verdicts
+use Rattle.tcap_traces.specs.declared.said.Doubt.{Doubt}
+use Rattle.tcap_traces.specs.declared.said.Doubt.TheVariants as doubts
+use Rattle.tcap_traces.specs.declared.said.Said.{Said}
+use Rattle.tcap_traces.specs.declared.said.Said.TheVariants as saids
+use Rattle.tcap_traces.specs.declared.said.Circumstances.{Circumstances}
+
+-- ---- what a blame may rest on beside the end
+
+-- the message of an entry, where it is one
+abbrev pub message_in : Result Item Reason → Option Message
+message_in (Ok (Sent sender m)) = Some m
+message_in item = None
+
+abbrev pub message_of : Option Entry → Option Message
+message_of None = None
+message_of (Some entry) = message_in (item_of entry)
+
+abbrev pub message_at : List Entry → ℕ → Option Message
+message_at entries number = message_of (slice_get entries number)
+
+-- what the entries before that number are: items, or why they are none
+abbrev pub read_before : List Entry → ℕ → List (Result Item Reason)
+read_before entries number = map item_of (take number entries)
+
+-- the component at fault
+abbrev pub component_in : Option ℕ → Option Message → Option Component
+component_in number None = None
+component_in number (Some m) = component_at number (components_in m)
+
+abbrev pub faulty_component : Table → Side → List Entry → Refutation → Option Component
+faulty_component table side entries r =
+    component_in (subject_of true table side entries r).component (message_at entries r.entry)
+
+-- the ID of an Invoke of the peer that it answers, or rejects, or is badly linked to
+abbrev pub heard_id : Kind → Component → Option ℤ
+heard_id kinds.BadLink (Invoke id linked code parameter) = linked
+heard_id kind (ReturnResult last id body) = Some id
+heard_id kind (ReturnError id code parameter) = Some id
+heard_id kind (Reject id (problems.Invoke n)) = id
+heard_id kind c = None
+
+-- whether a component is an Invoke of that ID of an operation that the table lacks
+abbrev pub invokes_lacking : Table → ℤ → Component → Bool
+invokes_lacking table id c = invokes_so id (λ code. is_none (operation_of table code)) c
+
+-- whether that end sent such a one in an entry
+abbrev pub sends_lacking : Table → Side → ℤ → Result Item Reason → Bool
+sends_lacking table side id (Ok (Sent sender m)) =
+    is_side side sender && list_any (invokes_lacking table id) (components_in m)
+sends_lacking table side id item = false
+
+-- whether the peer sent one among these entries
+abbrev pub lacks_heard : Table → Side → Option ℤ → List (Result Item Reason) → Bool
+lacks_heard table side None items = false
+lacks_heard table side (Some id) items = list_any (sends_lacking table (other side) id) items
+
+-- An operation that the table lacks: it is invoked at fault, or what is at fault answers one that the peer invoked before.
+abbrev pub rests_by : Table → Side → List (Result Item Reason) → Kind → Option Component → Bool
+rests_by table side items kind None = false
+rests_by table side items kind (Some c) = is_unknown_operation table c || lacks_heard table side (heard_id kind c) items
+
+abbrev pub rests_on_lack : Table → Side → List Entry → Refutation → Bool
+rests_on_lack table side entries r =
+    rests_by table side (read_before entries r.entry) r.kind (faulty_component table side entries r)
+
+-- Whether the peer sent something to an ID since the end began a transaction from it, or, where it has not, at all: behind one entry
+-- more, by whether it had before; and behind these.
+abbrev pub is_heard_with : Side → List ℕ → Bool → Result Item Reason → Bool
+is_heard_with side id so (Ok (Sent sender m)) =
+    cond (is_side side sender) (so && not (is_a forms.Begin m && is_id id (otid_in m))) (so || is_id id (dtid_in m))
+is_heard_with side id so item = so
+
+abbrev pub is_heard : Side → List ℕ → Bool → List (Result Item Reason) → Bool
+is_heard side id so [] = so
+is_heard side id so (item ∷ items) = is_heard side id (is_heard_with side id so item) items
+
+-- whether there is an ID to which it sent nothing
+abbrev pub is_silent : Side → Option (List ℕ) → List (Result Item Reason) → Bool
+is_silent side None items = false
+is_silent side (Some id) items = not (is_heard side id false items)
+
+-- A Begin whose ID is used already, which its peer sent nothing to: that transaction may have been given up, or, where the table
+-- has prearranged ends, may have ended, in silence.
+abbrev pub may_be_over_by : Table → Side → List (Result Item Reason) → Kind → Option Message → Bool
+may_be_over_by table side items kinds.ReusedId (Some m) =
+    is_a forms.Begin m && (table.prearranged || is_silent side (otid_in m) items)
+may_be_over_by table side items kind m = false
+
+abbrev pub may_be_over : Table → Side → List Entry → Refutation → Bool
+may_be_over table side entries r =
+    may_be_over_by table side (read_before entries r.entry) r.kind (message_at entries r.entry)
+
+-- whether it is of a quiet mark
+abbrev pub is_of_mark : Kind → Bool
+is_of_mark kinds.OpenAtMark = true
+is_of_mark kind = false
+
+-- whether an entry is that one or behind it
+abbrev pub is_from : Option ℕ → ℕ → Bool
+is_from None number = false
+is_from (Some first) number = nat_le first number
+
+-- The first that is so of what makes a blame inconclusive: it is of a quiet mark; of an operation that the table lacks; of an ID
+-- whose transaction may be over; of a dialogue in which an ID came again; or it stands behind an entry that may have been one of
+-- this dialogue.
+abbrev pub doubt_of : Table → Circumstances → Side → List Entry → Refutation → Option Doubt
+doubt_of table c side entries r =
+    cond (is_of_mark r.kind) (Some doubts.AtMark)
+    (cond (rests_on_lack table side entries r) (Some doubts.LackingOperation)
+    (cond (may_be_over table side entries r) (Some doubts.MaybeOver)
+    (cond c.again (Some doubts.CameAgain)
+    (cond (is_from c.unread_from r.entry) (Some doubts.Unread) None))))
+
+-- ---- what is said of an end
+
+-- whether that end sent an entry
+abbrev pub is_of : Side → Entry → Bool
+is_of side entry = is_entry_of side entry.side
+
+-- that it passes, but for what the bench asks beside
+abbrev pub passes : Circumstances → ℕ → Said
+passes c unheard = cond c.cut saids.TooLong (cond c.open saids.Open (saids.Pass unheard))
+
+-- that it fails, or what makes that doubtful
+abbrev pub fails : Refutation → Option Doubt → Said
+fails r None = saids.Fail r
+fails r (Some doubt) = saids.Doubtful r doubt
+
+-- By what is found of the entries before one that is no message, of which nobody is blamed: it passes, where no entry of its own is
+-- there or behind.
+abbrev pub said_before : Circumstances → Side → List Entry → ℕ → Option Finding → Said
+said_before c side entries number (Some (findings.Lawful count unheard)) =
+    cond (list_any (is_of side) (drop number entries)) (saids.Behind number) (passes c unheard)
+said_before c side entries number found = saids.Undecided
+
+-- by what is found of all entries, and of those before one that is no message
+abbrev pub said_by : Table → Circumstances → Side → List Entry → Finding → Option Finding → Said
+said_by table c side entries (findings.Blamed r) earlier = fails r (doubt_of table c side entries r)
+said_by table c side entries (findings.Lawful count unheard) earlier = passes c unheard
+said_by table c side entries (findings.NotBlamed count) earlier = said_before c side entries count earlier
+
+-- the number of the first entry that is no message, where there is such and the end is not blamed for it or one before it
+abbrev pub no_message_at : Finding → ℕ → Option ℕ
+no_message_at (findings.NotBlamed count) all = cond (count == all) None (Some count)
+no_message_at found all = None
+
+-- what is found of the entries before that one, where there is such
+abbrev pub found_before : Table → List Entry → Side → Option ℕ → Option Finding
+found_before table entries side None = None
+found_before table entries side (Some number) = Some (finding table (take number entries) side)
+
+-- What is said of an end of a dialogue, by what `blame` answers of its entries.
+abbrev pub said_of : Table → Circumstances → List Entry → Side → Said
+said_of table c entries side =
+    said_by table c side entries (finding table entries side)
+    (found_before table entries side (no_message_at (finding table entries side) (length entries)))
+
+-- ---- verdicts
+
+abbrev pub verdict_of : Said → Verdict
+verdict_of (saids.Pass unheard) = verdicts.Pass
+verdict_of (saids.Fail r) = verdicts.Fail
+verdict_of said = verdicts.Inconclusive
+
+-- how bad a verdict is
+abbrev pub rank : Verdict → ℕ
+rank verdicts.Pass = 0
+rank verdicts.Inconclusive = 1
+rank verdicts.Fail = 2
+rank verdicts.Error = 3
+
+-- the worse of two
+abbrev pub worse : Verdict → Verdict → Verdict
+worse a b = cond (nat_le (rank a) (rank b)) b a
+
+-- that of a dialogue: the worse one of the ends that are asked
+abbrev pub verdict_asked : Option Side → Said → Said → Verdict
+verdict_asked None a b = worse (verdict_of a) (verdict_of b)
+verdict_asked (Some sides.A) a b = verdict_of a
+verdict_asked (Some sides.B) a b = verdict_of b
+
+-- that of a trace, of so many messages, by the worst of its dialogues: a fault of its form is an error, and so is that there is none
+abbrev pub trace_verdict : Bool → ℕ → Verdict → Verdict
+trace_verdict is_faulty messages worst = cond (is_faulty || messages == 0) verdicts.Error worst
+
+-- the exit status of a run by its worst verdict
+abbrev pub status_of : Verdict → ℕ
+status_of verdicts.Pass = 0
+status_of verdicts.Fail = 1
+status_of verdicts.Inconclusive = 2
+status_of verdicts.Error = 3
+
+-- its word
+abbrev pub word_of : Verdict → List ℕ
+word_of verdicts.Pass = codes "pass"
+word_of verdicts.Inconclusive = codes "inconc"
+word_of verdicts.Fail = codes "fail"
+word_of verdicts.Error = codes "error"

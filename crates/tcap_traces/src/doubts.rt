@@ -1,0 +1,306 @@
+//! What a blame rests on beside the end that is blamed.
+
+ghost use Rattle.std.specs.Prelude.{◌≡◌, IfOk, false, is_none, map, option_map, slice_get, take};
+ghost use Rattle.std.specs.List.{list_any};
+ghost use Rattle.tcap_parts.specs.Meaning.{code_of, component_of};
+ghost use Rattle.tcap_msg.specs.declared.kind.Kind.TheVariants as forms;
+ghost use Rattle.tcap_msg.specs.Meaning.{id_of};
+ghost use Rattle.tcap_msg.specs.Parts.{components_in};
+ghost use Rattle.tcap_end.specs.End.{is_id};
+ghost use Rattle.tcap_end.specs.Table.{operation_of};
+ghost use Rattle.tcap_model.specs.Entries.{item_of};
+ghost use Rattle.tcap_model.specs.World.{is_side};
+ghost use Rattle.tcap_refute.specs.Before.{is_a};
+ghost use Rattle.tcap_refute.specs.Kind.{is_unknown_operation};
+ghost use Rattle.tcap_evidence.specs.Evidence.{component_at};
+ghost use Rattle.tcap_traces.specs.Verdict.{doubt_of, faulty_component, heard_id, invokes_lacking, is_from, is_heard, is_heard_with, is_silent, lacks_heard, may_be_over, message_at, rests_on_lack, sends_lacking};
+
+use crate::said::{Circumstances, Doubt};
+use std::alloc::{AllocError, Global};
+use tcap_end::Table;
+use tcap_faults::subject_of;
+use tcap_msg::{Message, MessageParts, TransactionIdView};
+use tcap_parts::{CodeView, ComponentView, ProblemView};
+use tcap_record::{Body, End, Entry, Record};
+use tcap_refute::{Kind, Refutation};
+
+/// The entry of that number.
+fn entry_at(read: &Record, number: u64) -> Option<&Entry>
+    ensures { option_map (λ e. e.now) result ≡ slice_get read.now.entries.items number }
+{
+    read.entries.get(number as usize)
+}
+
+/// The message of that entry, where it is one.
+fn message_at(read: &Record, number: u64) -> Option<&Message>
+    ensures { option_map (λ m. m.now) result ≡ message_at read.now.entries.items number }
+{
+    let entry = entry_at(read, number)?;
+    match (entry.side, &entry.body) {
+        (Some(_), Body::Good(message)) => Some(message),
+        _ => None,
+    }
+}
+
+/// The entries before that number.
+fn entries_before(read: &Record, number: u64) -> &[Entry]
+    ensures { result.now ≡ take number read.now.entries.items }
+{
+    let entries = read.entries.as_slice();
+    &entries[..entries.len().min(number as usize)]
+}
+
+/// The component of that number.
+fn component_at(message: &Message, number: Option<u64>) -> Option<ComponentView<'_>>
+    ensures { option_map component_of result ≡ component_at number (components_in message.now) }
+{
+    message.components().nth(number? as usize)
+}
+
+/// The component at fault.
+fn faulty_component<'a>(
+    alloc: Global,
+    read: &'a Record,
+    table: &Table,
+    end: End,
+    at: Refutation,
+) -> Result<Option<ComponentView<'a>>, AllocError>
+    ensures { IfOk result (λ c.
+        option_map component_of c ≡ faulty_component table.now end read.now.entries.items at) }
+{
+    let Ok(about) = subject_of(alloc, read, table, end, at, true) else {
+        return Err(AllocError);
+    };
+    match message_at(read, at.entry) {
+        Some(message) => Ok(component_at(message, about.component)),
+        None => Ok(None),
+    }
+}
+
+/// The ID of an Invoke of the peer that a component answers, or rejects, or is badly linked to.
+fn heard_id(kind: Kind, component: ComponentView) -> Option<i8>
+    ensures { result ≡ heard_id kind (component_of component.entry) }
+{
+    match component {
+        ComponentView::Invoke { linked, .. } if kind == Kind::BadLink => linked,
+        ComponentView::Invoke { .. } => None,
+        ComponentView::ReturnResult { id, .. } | ComponentView::ReturnError { id, .. } => Some(id),
+        ComponentView::Reject { id, problem } => match problem {
+            ProblemView::Invoke(_) => id,
+            _ => None,
+        },
+    }
+}
+
+/// Whether the table lacks an operation.
+fn lacks(table: &Table, code: CodeView) -> bool
+    ensures { result ≡ is_none (operation_of table.now (code_of code.entry)) }
+{
+    table.class_of(code).is_none()
+}
+
+/// Whether a component is an Invoke of an operation that the table lacks.
+fn is_unknown_operation(table: &Table, component: ComponentView) -> bool
+    ensures { result ≡ is_unknown_operation table.now (component_of component.entry) }
+{
+    match component {
+        ComponentView::Invoke { code, .. } => lacks(table, code),
+        _ => false,
+    }
+}
+
+/// Whether it is one, of that ID.
+fn invokes_lacking(table: &Table, id: i8, component: ComponentView) -> bool
+    ensures { result ≡ invokes_lacking table.now id (component_of component.entry) }
+{
+    match component {
+        ComponentView::Invoke {
+            id: other,
+            code,
+            ..
+        } => other == id && lacks(table, code),
+        _ => false,
+    }
+}
+
+/// Whether one of a message's components is.
+fn has_lacking(table: &Table, id: i8, message: &Message) -> bool
+    ensures { result ≡ list_any (invokes_lacking table.now id) (components_in message.now) }
+{
+    for component in message.components() {
+        if invokes_lacking(table, id, component) {
+            return true;
+        }
+    }
+    false
+}
+
+/// Whether it is that end.
+pub(crate) fn is_side(end: End, side: End) -> bool
+    ensures { result ≡ is_side end side }
+{
+    end == side
+}
+
+/// Whether that end sent such a one in an entry.
+fn sends_lacking(table: &Table, end: End, id: i8, entry: &Entry) -> bool
+    ensures { result ≡ sends_lacking table.now end id (item_of entry.now) }
+{
+    match (entry.side, &entry.body) {
+        (Some(sender), Body::Good(message)) => {
+            is_side(end, sender) && has_lacking(table, id, message)
+        }
+        _ => false,
+    }
+}
+
+/// Whether that end sent such a one in one of these entries.
+fn some_sends_lacking(table: &Table, end: End, id: i8, before: &[Entry]) -> bool
+    ensures { result ≡ list_any (sends_lacking table.now end id) (map item_of before.now) }
+{
+    for entry in before {
+        if sends_lacking(table, end, id, entry) {
+            return true;
+        }
+    }
+    false
+}
+
+/// Whether the peer sent, in these entries, an Invoke of that ID of an operation that the table lacks.
+fn lacks_heard(table: &Table, end: End, before: &[Entry], id: Option<i8>) -> bool
+    ensures { result ≡ lacks_heard table.now end id (map item_of before.now) }
+{
+    match id {
+        Some(id) => some_sends_lacking(table, end.other(), id, before),
+        None => false,
+    }
+}
+
+/// Whether what is at fault invokes an operation that the table lacks, or answers one.
+fn rests_on_lack(
+    alloc: Global,
+    read: &Record,
+    table: &Table,
+    end: End,
+    at: Refutation,
+) -> Result<bool, AllocError>
+    ensures { IfOk result (λ so. so ≡ rests_on_lack table.now end read.now.entries.items at) }
+{
+    let Some(component) = faulty_component(alloc, read, table, end, at)? else {
+        return Ok(false);
+    };
+    let before = entries_before(read, at.entry);
+    Ok(
+        is_unknown_operation(table, component)
+            || lacks_heard(table, end, before, heard_id(at.kind, component)),
+    )
+}
+
+/// Whether there is an ID and it is that one.
+fn is_that(found: Option<TransactionIdView>, id: TransactionIdView) -> bool
+    ensures { result ≡ is_id id.entry.octets.now (id_of found.entry) }
+{
+    match found {
+        Some(found) => id.octets == found.octets,
+        None => false,
+    }
+}
+
+/// Whether a message is a Begin.
+fn is_begin(message: &Message) -> bool
+    ensures { result ≡ is_a forms.Begin message.now }
+{
+    matches!(message, Message::Begin { .. })
+}
+
+/// Whether the peer sent something to an ID behind an entry, by whether it had before.
+fn is_heard_with(end: End, id: TransactionIdView, so: bool, entry: &Entry) -> bool
+    ensures { result ≡ is_heard_with end id.entry.octets.now so (item_of entry.now) }
+{
+    match (entry.side, &entry.body) {
+        (Some(sender), Body::Good(message)) => {
+            if is_side(end, sender) {
+                so && !(is_begin(message) && is_that(message.otid(), id))
+            } else {
+                so || is_that(message.dtid(), id)
+            }
+        }
+        _ => so,
+    }
+}
+
+/// Whether the peer sent something to an ID since the end began a transaction from it, or, where it has not, at all.
+fn is_heard(end: End, id: TransactionIdView, before: &[Entry]) -> bool
+    ensures { result ≡ is_heard end id.entry.octets.now false (map item_of before.now) }
+{
+    let mut so = false;
+    for entry in before {
+        so = is_heard_with(end, id, so, entry);
+    }
+    so
+}
+
+/// Whether there is an ID to which it sent nothing.
+fn is_silent(end: End, id: Option<TransactionIdView>, before: &[Entry]) -> bool
+    ensures { result ≡ is_silent end (id_of id.entry) (map item_of before.now) }
+{
+    match id {
+        Some(id) => !is_heard(end, id, before),
+        None => false,
+    }
+}
+
+/// Whether it is a Begin whose ID is used already, of a transaction that may be over in silence.
+fn may_be_over(read: &Record, table: &Table, end: End, at: Refutation) -> bool
+    ensures { result ≡ may_be_over table.now end read.now.entries.items at }
+{
+    if at.kind != Kind::ReusedId {
+        return false;
+    }
+    match message_at(read, at.entry) {
+        Some(message) => {
+            let before = entries_before(read, at.entry);
+            is_begin(message) && (table.prearranged() || is_silent(end, message.otid(), before))
+        }
+        None => false,
+    }
+}
+
+/// Whether an entry is that one or behind it.
+fn is_from(first: Option<u64>, number: u64) -> bool
+    ensures { result ≡ is_from first number }
+{
+    match first {
+        Some(first) => first <= number,
+        None => false,
+    }
+}
+
+/// What makes a blame inconclusive, the first that is so. `AllocError` where memory ran out.
+pub(crate) fn doubt_of(
+    alloc: Global,
+    read: &Record,
+    table: &Table,
+    circumstances: Circumstances,
+    end: End,
+    at: Refutation,
+) -> Result<Option<Doubt>, AllocError>
+    ensures { IfOk result (λ doubt. doubt ≡ doubt_of table.now circumstances end read.now.entries.items at) }
+{
+    if at.kind == Kind::OpenAtMark {
+        return Ok(Some(Doubt::AtMark));
+    }
+    if rests_on_lack(alloc, read, table, end, at)? {
+        return Ok(Some(Doubt::LackingOperation));
+    }
+    if may_be_over(read, table, end, at) {
+        return Ok(Some(Doubt::MaybeOver));
+    }
+    if circumstances.again {
+        return Ok(Some(Doubt::CameAgain));
+    }
+    if is_from(circumstances.unread_from, at.entry) {
+        return Ok(Some(Doubt::Unread));
+    }
+    Ok(None)
+}

@@ -1,0 +1,242 @@
+//! Judging a dialogue.
+
+ghost use Rattle.std.specs.Prelude.{◌≡◌, ◌≤◌, drop, length, take, IfOk, OnOk};
+ghost use Rattle.std.specs.List.{list_any};
+ghost use Rattle.tcap_record.specs.declared.entry.End.TheVariants as sides;
+ghost use Rattle.tcap_refute.specs.Kind.{or_else};
+ghost use Rattle.tcap_judge.specs.Blamed.{IsFound, finding};
+ghost use Rattle.tcap_traces.specs.Shown.{IsFoundBefore, IsSo};
+ghost use Rattle.tcap_traces.specs.Verdict.{found_before, is_of, no_message_at, passes, said_before, said_by, said_of, verdict_asked};
+
+use crate::doubts::{doubt_of, is_side};
+use crate::said::{Circumstances, Said};
+use crate::verdict::Verdict;
+use std::alloc::{AllocError, Global};
+use tcap_end::Table;
+use tcap_faults::laws;
+use tcap_judge::{Ends as Found, Finding, blame_record};
+use tcap_record::{End, Entry, Record};
+
+/// What is said of both ends of a dialogue.
+#[derive(Clone, Copy, Debug, PartialEq, Eq)]
+pub struct Ends {
+    /// Of A.
+    pub a: Said,
+    /// Of B.
+    pub b: Said,
+}
+
+impl Ends {
+    ghost use Rattle.tcap_traces.specs.Asked.{said_at};
+
+    /// What is said of an end.
+    pub fn of(self, end: End) -> Said
+        ensures { result ≡ said_at end self }
+    {
+        match end {
+            End::A => self.a,
+            End::B => self.b,
+        }
+    }
+
+    /// The verdict on the dialogue: the worse one of the ends that are asked, of both where none is named.
+    pub fn verdict(self, asked: Option<End>) -> Verdict
+        ensures { result ≡ verdict_asked asked self.a self.b }
+    {
+        match asked {
+            None => self.a.verdict().worse(self.b.verdict()),
+            Some(End::A) => self.a.verdict(),
+            Some(End::B) => self.b.verdict(),
+        }
+    }
+}
+
+/// That an end passes, but for what the bench asks beside.
+fn passes(circumstances: Circumstances, unheard: u64) -> Said
+    ensures { result ≡ passes circumstances unheard }
+{
+    if circumstances.cut {
+        Said::TooLong
+    } else if circumstances.open {
+        Said::Open
+    } else {
+        Said::Pass(unheard)
+    }
+}
+
+/// Whether that end sent an entry.
+fn is_of(end: End, entry: &Entry) -> bool
+    ensures { result ≡ is_of end entry.now }
+{
+    match entry.side {
+        Some(sender) => is_side(end, sender),
+        None => false,
+    }
+}
+
+/// Whether an entry of that end stands among these.
+fn has_own(end: End, entries: &[Entry]) -> bool
+    ensures { result ≡ list_any (is_of end) entries.now }
+{
+    for entry in entries {
+        if is_of(end, entry) {
+            return true;
+        }
+    }
+    false
+}
+
+/// The entries from that number on.
+fn entries_from(read: &Record, number: usize) -> &[Entry]
+    ensures { result.now ≡ drop number read.now.entries.items }
+{
+    let entries = read.entries.as_slice();
+    &entries[entries.len().min(number)..]
+}
+
+/// What `blame` says of both ends of a record. `AllocError` where memory ran out.
+fn find_both(alloc: Global, read: &Record, table: &Table) -> Result<Found, AllocError>
+    requires few { length read.now.entries.items ≤ 100000 }
+    ensures found { IfOk result (λ found. (found.a ≡ finding table.now read.now.entries.items sides.A)
+        × (found.b ≡ finding table.now read.now.entries.items sides.B)) }
+    ensures shown { IfOk result (λ found. IsFound sides.A table.now read.now.entries.items found.a
+        × IsFound sides.B table.now read.now.entries.items found.b) }
+{
+    match blame_record(alloc, read, table)?.ends {
+        Some(found) => Ok(found),
+        None => unreachable!(),
+    }
+}
+
+/// What `blame` says of both ends of the entries before that number; all stay as they are.
+fn find_before(
+    alloc: Global,
+    read: &mut Record,
+    table: &Table,
+    number: usize,
+) -> Result<Found, AllocError>
+    requires few { length read.old.entries.items ≤ 100000 }
+    ensures found { IfOk result (λ found. (found.a ≡ finding table.now (take number read.old.entries.items) sides.A)
+        × (found.b ≡ finding table.now (take number read.old.entries.items) sides.B)) }
+    ensures shown { IfOk result (λ found. IsFound sides.A table.now (take number read.old.entries.items) found.a
+        × IsFound sides.B table.now (take number read.old.entries.items) found.b) }
+    ensures stays { OnOk result (read.new.entries.items ≡ read.old.entries.items) }
+{
+    let mut behind = read.entries.split_off(read.entries.len().min(number))?;
+    let found = find_both(alloc, read, table)?;
+    read.entries.append(&mut behind)?;
+    Ok(found)
+}
+
+/// The same, where there is such a number.
+fn found_before(
+    alloc: Global,
+    read: &mut Record,
+    table: &Table,
+    number: Option<usize>,
+) -> Result<(Option<Finding>, Option<Finding>), AllocError>
+    requires few { length read.old.entries.items ≤ 100000 }
+    ensures found { IfOk result (λ found. (found.0 ≡ found_before table.now read.old.entries.items sides.A number)
+        × (found.1 ≡ found_before table.now read.old.entries.items sides.B number)) }
+    ensures shown { IfOk result (λ found. IsFoundBefore sides.A table.now read.old.entries.items number found.0
+        × IsFoundBefore sides.B table.now read.old.entries.items number found.1) }
+    ensures stays { OnOk result (read.new.entries.items ≡ read.old.entries.items) }
+{
+    match number {
+        Some(number) => {
+            let found = find_before(alloc, read, table, number)?;
+            Ok((Some(found.a), Some(found.b)))
+        }
+        None => Ok((None, None)),
+    }
+}
+
+/// The number of the first entry that is no message, where there is such and an end is not blamed for it or one before it.
+fn no_message_at(found: Finding, all: usize) -> Option<usize>
+    ensures { result ≡ no_message_at found all }
+{
+    match found {
+        Finding::NotBlamed(count) if count != all => Some(count),
+        _ => None,
+    }
+}
+
+/// The same, where one of both ends is not.
+fn no_message_of(found: Found, all: usize) -> Option<usize>
+    ensures { result ≡ or_else (no_message_at found.a all) (no_message_at found.b all) }
+{
+    match no_message_at(found.a, all) {
+        Some(number) => Some(number),
+        None => no_message_at(found.b, all),
+    }
+}
+
+/// What is said of an end by what is found of the entries before one that is no message, of which nobody is blamed.
+fn said_before(
+    read: &Record,
+    circumstances: Circumstances,
+    end: End,
+    number: usize,
+    found: Option<Finding>,
+) -> Said
+    ensures { result ≡ said_before circumstances end read.now.entries.items number found }
+{
+    match found {
+        Some(Finding::Lawful(_, unheard)) => {
+            if has_own(end, entries_from(read, number)) {
+                Said::Behind(number as u64)
+            } else {
+                passes(circumstances, unheard)
+            }
+        }
+        _ => Said::Undecided,
+    }
+}
+
+/// What is said of an end by what is found of all entries, and of those before one that is no message.
+fn said_by(
+    alloc: Global,
+    read: &Record,
+    table: &Table,
+    circumstances: Circumstances,
+    end: End,
+    found: Finding,
+    earlier: Option<Finding>,
+) -> Result<Said, AllocError>
+    ensures { IfOk result (λ said.
+        said ≡ said_by table.now circumstances end read.now.entries.items found earlier) }
+{
+    match found {
+        Finding::Blamed(at) => match doubt_of(alloc, read, table, circumstances, end, at)? {
+            None => Ok(Said::Fail(at)),
+            Some(doubt) => Ok(Said::Doubtful(at, doubt)),
+        },
+        Finding::Lawful(_, unheard) => Ok(passes(circumstances, unheard)),
+        Finding::NotBlamed(count) => Ok(said_before(read, circumstances, end, count, earlier)),
+    }
+}
+
+/// What is said of both ends of a dialogue, whose entries are those of `read`, at most 100,000; which stay as they are.
+/// `AllocError` where memory ran out: then they may be fewer.
+pub fn judge_dialogue(
+    alloc: Global,
+    read: &mut Record,
+    table: &Table,
+    circumstances: Circumstances,
+) -> Result<Ends, AllocError>
+    requires few { length read.old.entries.items ≤ 100000 }
+    ensures a { IfOk result (λ ends. ends.a ≡ said_of table.now circumstances read.old.entries.items sides.A) }
+    ensures b { IfOk result (λ ends. ends.b ≡ said_of table.now circumstances read.old.entries.items sides.B) }
+    ensures so { IfOk result (λ ends. IsSo sides.A table.now read.old.entries.items ends.a
+        × IsSo sides.B table.now read.old.entries.items ends.b) }
+    ensures stays { OnOk result (read.new.entries.items ≡ read.old.entries.items) }
+{
+    laws::blamed_is_at_fault();
+    let found = find_both(alloc, read, table)?;
+    let number = no_message_of(found, read.entries.len());
+    let (a, b) = found_before(alloc, read, table, number)?;
+    Ok(Ends {
+        a: said_by(alloc, read, table, circumstances, End::A, found.a, a)?,
+        b: said_by(alloc, read, table, circumstances, End::B, found.b, b)?,
+    })
+}

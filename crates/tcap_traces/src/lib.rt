@@ -1,0 +1,13 @@
+//! Traces of TCAP messages, judged dialogue by dialogue: what `tcapjudge test` says.
+#![tactic(auto)]
+
+mod doubts;
+mod judging;
+mod said;
+#[cfg(test)]
+mod tests;
+mod verdict;
+
+pub use judging::{Ends, judge_dialogue};
+pub use said::{Circumstances, Doubt, Said};
+pub use verdict::{Verdict, trace_verdict};
