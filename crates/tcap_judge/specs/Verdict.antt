@@ -86,6 +86,17 @@ IsVerdict judged table with_certificate entries outcome behind =
     (outcome ≡ verdict_of judged table entries)
     × (behind ≡ certificate_line judged with_certificate entries outcome) × IsShown judged table entries outcome
 
+-- what is said where nothing is named: lawful by the certificate that is proposed, or not shown by it
+abbrev pub verdict_by_search : Option Side → Table → List Entry → Outcome
+verdict_by_search judged table entries =
+    verdict_by judged (length entries) None (replayed_by judged table (proposed_by judged entries) entries)
+
+-- That is said, and is so; and behind it stands the certificate where it is asked for.
+abbrev pub IsVerdictBySearch : Option Side → Table → Bool → List Entry → Outcome → List ℕ → Type 0
+IsVerdictBySearch judged table with_certificate entries outcome behind =
+    (outcome ≡ verdict_by_search judged table entries)
+    × (behind ≡ certificate_line judged with_certificate entries outcome) × IsShown judged table entries outcome
+
 -- What the reader told is entries and the end behind them, and what is said is the verdict on them, and is so, and the
 -- certificate where it is asked for.
 pub record SaysVerdict (judged : Option Side) (table : Table) (with_certificate : Bool) (d : Device) (outcome : Outcome)

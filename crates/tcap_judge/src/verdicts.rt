@@ -1,13 +1,14 @@
 //! The verdict on a record that is there: on both ends, or on one alone.
 
-ghost use Rattle.std.specs.Prelude.{◌≡◌, ◌≢◌, [], ◌≤◌, length, None, Err, IfOk};
+ghost use Rattle.std.specs.Prelude.{◌≡◌, ◌≢◌, [], ◌≤◌, length, Some, Err, IfOk};
 ghost use Rattle.std.specs.String.{string_bytes};
 ghost use Rattle.tcap_check.specs.Checking.{map_ok};
 ghost use Rattle.tcap_check.specs.Replayed.{fault_at};
 ghost use Rattle.tcap_model.specs.declared.reason.Reason.TheVariants as reasons;
 ghost use Rattle.tcap_judge.specs.Judged.{IsShown, lawful_by, replayed_by};
-ghost use Rattle.tcap_judge.specs.Verdict.{IsVerdict, line_asked, line_of_certificate, named_by, proposed_by};
+ghost use Rattle.tcap_judge.specs.Verdict.{IsVerdict, IsVerdictBySearch, line_asked, line_of_certificate, named_by, proposed_by};
 
+use crate::laws;
 use crate::outcome::Outcome;
 use std::alloc::{AllocError, Global};
 use tcap_check::{Certificate, CheckFault, Reason, check, check_end};
@@ -124,7 +125,7 @@ fn shown(
     })
 }
 
-/// What is said of a record of which no entry is named: what the certificate that is proposed shows.
+/// What is said of a record where no entry is named: what the certificate that is proposed shows.
 pub(crate) fn judge_by_search(
     alloc: Global,
     read: &Record,
@@ -133,8 +134,7 @@ pub(crate) fn judge_by_search(
     with_certificate: bool,
 ) -> Result<Said, AllocError>
     requires few { length read.now.entries.items ≤ 100000 }
-    requires sound { named_by judged table.now read.now.entries.items ≡ None }
-    ensures { IfOk result (λ said. IsVerdict judged table.now with_certificate read.now.entries.items said.outcome
+    ensures { IfOk result (λ said. IsVerdictBySearch judged table.now with_certificate read.now.entries.items said.outcome
         (string_bytes said.behind)) }
 {
     let certificate = propose(alloc, read, judged)?;
@@ -143,6 +143,30 @@ pub(crate) fn judge_by_search(
         Err(fault) if matches!(fault.reason, Reason::Memory) => Err(AllocError),
         Err(fault) => Ok(Said::alone(alloc, Outcome::Undecided(fault))),
     }
+}
+
+/// What is said of one end alone. Where the certificate that is proposed gives a run, nothing is blamed on the end, so it is
+/// asked what is blamed only where it gives none.
+fn judge_end(
+    alloc: Global,
+    read: &Record,
+    table: &Table,
+    end: End,
+    with_certificate: bool,
+) -> Result<Said, AllocError>
+    requires few { length read.now.entries.items ≤ 100000 }
+    ensures { IfOk result (λ said. IsVerdict (Some end) table.now with_certificate read.now.entries.items said.outcome
+        (string_bytes said.behind)) }
+{
+    laws::blamed_is_never_given();
+    let said = judge_by_search(alloc, read, table, Some(end), with_certificate)?;
+    if let Outcome::LawfulFor(_, _) = said.outcome {
+        return Ok(said);
+    }
+    if let Some(refutation) = named(alloc, read, table, Some(end))? {
+        return Ok(Said::alone(alloc, Outcome::Refuted(refutation)));
+    }
+    Ok(said)
 }
 
 /// What is said of a record, of at most 100,000 entries, of one end alone, or, where none is named, of both: that an entry is
@@ -158,6 +182,9 @@ pub fn judge_record(
     ensures { IfOk result (λ said. IsVerdict judged table.now with_certificate read.now.entries.items said.outcome
         (string_bytes said.behind)) }
 {
+    if let Some(end) = judged {
+        return judge_end(alloc, read, table, end, with_certificate);
+    }
     match named(alloc, read, table, judged)? {
         Some(refutation) => Ok(Said::alone(alloc, Outcome::Refuted(refutation))),
         None => judge_by_search(alloc, read, table, judged, with_certificate),
