@@ -21,7 +21,7 @@ mod tables;
 mod told;
 mod why;
 
-pub use hints::write_hint;
+pub use hints::{hint_of, write_hint};
 pub use kept::Kept;
 pub use lines::run_lines;
 pub use names::name_of;

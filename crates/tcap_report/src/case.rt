@@ -23,6 +23,17 @@ pub(crate) struct Held {
     pub(crate) comment: Vec<u8>,
 }
 
+/// What stands behind a dialogue.
+#[derive(Clone, Copy, Debug, PartialEq, Eq)]
+pub(crate) enum Behind {
+    /// Other entries of its stretch.
+    More,
+    /// A quiet mark, with its line, where it has one.
+    Mark(u64),
+    /// The end of the trace.
+    End,
+}
+
 /// A dialogue that is judged, with its entries.
 #[derive(Debug, Drop)]
 pub(crate) struct Case {
@@ -34,10 +45,10 @@ pub(crate) struct Case {
     pub(crate) gathered: Gathered,
     /// How many entries of the trace stand before its stretch.
     pub(crate) before: u64,
-    /// Whether a quiet mark ends the stretch.
-    pub(crate) marked: bool,
-    /// Whether the trace ends behind it.
-    pub(crate) ended: bool,
+    /// How it came to be judged.
+    pub(crate) behind: Behind,
+    /// The earlier dialogue of the stretch that had one of its IDs.
+    pub(crate) earlier: Option<u64>,
     /// The number of the first entry in the stretch of which nothing can be read.
     pub(crate) unread: Option<u64>,
 }
@@ -78,7 +89,7 @@ impl Case {
 
     /// Whether its trace ended before its transaction did, where that can end.
     pub(crate) fn is_open(&self) -> bool {
-        self.ended && self.gathered.over.is_none()
+        self.behind == Behind::End && self.gathered.over.is_none()
     }
 
     /// The octets of the record of it.
@@ -87,7 +98,7 @@ impl Case {
         for held in self.entries.iter().take(MOST) {
             octets.extend_from_slice(&held.octets)?;
         }
-        if self.marked && self.entries.len() < MOST {
+        if matches!(self.behind, Behind::Mark(_)) && self.entries.len() < MOST {
             octets.push(b'Q')?;
         }
         Ok(octets)

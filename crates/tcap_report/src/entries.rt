@@ -3,7 +3,7 @@
 use crate::fault::{FormFault, Halt};
 use std::alloc::{AllocError, Global};
 use tcap_ber::{Outer, outer};
-use tcap_explain::{LINE_LIMIT, broken_by, name_of, push_broken_rule};
+use tcap_explain::{LINE_LIMIT, broken_by, hint_of, name_of, push_broken_rule};
 
 /// What a trace is, by its first octets.
 #[derive(Clone, Copy, Debug, PartialEq, Eq)]
@@ -18,8 +18,8 @@ enum Form {
 pub(crate) enum Piece {
     /// An entry, as a record has it: the octet of its end and an element. With its line, where it has one, and the comment above it.
     Entry(Vec<u8>, u64, Vec<u8>),
-    /// A quiet mark.
-    Mark,
+    /// A quiet mark, with its line, where it has one.
+    Mark(u64),
 }
 
 /// A trace that is read.
@@ -38,14 +38,20 @@ pub(crate) struct Entries {
     comment: Vec<u8>,
     // Whether all was read.
     ended: bool,
+    // The first octets.
+    first: Vec<u8>,
 }
+
+/// So many of the first octets are kept.
+const FIRST: usize = 64;
 
 /// The form of a trace that begins so, where it can be told.
 fn form_of(first: &[u8], ended: bool) -> Form {
     match first {
         [b'#' | b'\n' | b'\r', ..] => Form::Lines,
-        [b'A' | b'B', b' ', ..] => Form::Lines,
-        [b'Q', b'\n' | b'\r', ..] => Form::Lines,
+        // No message's tag is the code of a digit.
+        [b'A' | b'B', b' ' | b'0'..=b'9', ..] => Form::Lines,
+        [b'Q', b'\n' | b'\r' | b' ', ..] => Form::Lines,
         [b'A' | b'B' | b'Q'] if !ended => Form::Unknown,
         [b'A' | b'B' | b'Q', ..] => Form::Record,
         [] => Form::Unknown,
@@ -111,6 +117,7 @@ impl Entries {
             place: 0,
             comment: Vec::new(alloc),
             ended: false,
+            first: Vec::new(alloc),
         }
     }
 
@@ -122,10 +129,17 @@ impl Entries {
         self.from = 0;
         self.ended = octets.is_empty();
         self.held.extend_from_slice(octets)?;
+        let room = FIRST.saturating_sub(self.first.len()).min(octets.len());
+        self.first.extend_from_slice(&octets[..room])?;
         if self.form == Form::Unknown {
             self.form = form_of(&self.held, self.ended);
         }
         Ok(())
+    }
+
+    /// What the first octets look like, where that is neither lines of digits nor a record.
+    pub(crate) fn hint(&self) -> Option<&'static str> {
+        hint_of(&self.first)
     }
 
     /// What is held.
@@ -167,7 +181,7 @@ impl Entries {
                         self.comment.clone()?,
                     ))
                 }
-                [b'Q', ..] => Some(Piece::Mark),
+                [b'Q', ..] => Some(Piece::Mark(self.lines.saturating_add(1))),
                 _ => None,
             };
             let mut comment = Vec::new(self.alloc);
@@ -200,7 +214,7 @@ impl Entries {
             [] => return Ok(None),
             [b'Q', ..] => {
                 self.pass(1);
-                return Ok(Some(Piece::Mark));
+                return Ok(Some(Piece::Mark(0)));
             }
             [b'A' | b'B', element @ ..] => match outer(element) {
                 Ok(Outer::Whole(len)) => len,

@@ -2,9 +2,10 @@
 
 use crate::case::{Case, Judged};
 use crate::sum::Counts;
-use crate::text::{is_asked, push_behind, push_reason};
-use crate::words::{comment_of, doubt_words, ids_of, letter, line_of, undecided_words};
+use crate::text::{is_asked, push_behind, push_doubt, push_reason, push_undecided};
+use crate::words::{comment_of, ids_of, letter, line_of};
 use std::alloc::{AllocError, Global};
+use tcap_evidence::{find_evidence, push_what};
 use tcap_record::{End, push_hex};
 use tcap_refute::Refutation;
 use tcap_traces::{Said, Verdict};
@@ -87,7 +88,76 @@ fn push_blamed(
     }
     let mut text = String::new(alloc);
     push_reason(alloc, &mut text, judged, end, at)?;
-    push_named(json, "text", &text)
+    push_named(json, "text", &text)?;
+    push_evidence(alloc, json, judged, end, at)
+}
+
+/// Appends a number with its name, where there is one.
+fn push_some(json: &mut String, name: &str, number: Option<i64>) -> Result<(), AllocError> {
+    match number {
+        Some(number) => write!(json, "\"{name}\":{number},"),
+        None => Ok(()),
+    }
+}
+
+/// Appends numbers as a list.
+fn push_numbers(json: &mut String, numbers: &[u64]) -> Result<(), AllocError> {
+    json.push_str("[")?;
+    let mut first = true;
+    for number in numbers {
+        json.push_str(if first { "" } else { "," })?;
+        write!(json, "{number}")?;
+        first = false;
+    }
+    json.push_str("]")
+}
+
+/// Appends what a blame rests on: the component at fault, the invoke ID that is counted, and what entries show.
+fn push_evidence(
+    alloc: Global,
+    json: &mut String,
+    judged: &Judged,
+    end: End,
+    at: Refutation,
+) -> Result<(), AllocError> {
+    let Some(table) = judged.table else {
+        return Ok(());
+    };
+    let Ok(found) = find_evidence(alloc, &judged.record, table.table(), end, at, true) else {
+        return Err(AllocError);
+    };
+    json.push_str(",\"evidence\":{")?;
+    push_some(json, "component", number_of(found.about.component))?;
+    push_some(json, "invoke", id_of(found.id))?;
+    json.push_str("\"shows\":[")?;
+    let mut first = true;
+    for ground in &found.grounds {
+        let mut what = String::new(alloc);
+        push_what(&mut what, end, ground.what, found.id)?;
+        json.push_str(if first { "{\"what\":" } else { ",{\"what\":" })?;
+        push_text(json, &what)?;
+        json.push_str(",\"entries\":")?;
+        push_numbers(json, &ground.entries)?;
+        json.push_str("}")?;
+        first = false;
+    }
+    json.push_str("]}")
+}
+
+/// The number of a component.
+fn number_of(component: Option<u64>) -> Option<i64> {
+    match component {
+        Some(number) => i64::try_from(number).ok(),
+        None => None,
+    }
+}
+
+/// An invoke ID.
+fn id_of(id: Option<i8>) -> Option<i64> {
+    match id {
+        Some(id) => Some(i64::from(id)),
+        None => None,
+    }
 }
 
 /// Appends what is said of an end.
@@ -107,9 +177,15 @@ fn push_end(
         Said::Fail(at) => push_blamed(alloc, json, case, judged, end, at)?,
         Said::Doubtful(at, doubt) => {
             push_blamed(alloc, json, case, judged, end, at)?;
-            push_named(json, "doubt", doubt_words(doubt))?;
+            let mut text = String::new(alloc);
+            push_doubt(&mut text, case, doubt)?;
+            push_named(json, "doubt", &text)?;
         }
-        _ => push_named(json, "text", undecided_words(said))?,
+        _ => {
+            let mut text = String::new(alloc);
+            push_undecided(&mut text, case, judged, said)?;
+            push_named(json, "text", &text)?;
+        }
     }
     json.push_str("}")
 }
@@ -177,7 +253,7 @@ pub(crate) fn push_case(
     json.push_str("}\n")
 }
 
-/// Appends the object of a trace.
+/// Appends the object of a trace, but for its end.
 pub(crate) fn push_trace(
     json: &mut String,
     trace: &str,
@@ -185,7 +261,6 @@ pub(crate) fn push_trace(
     messages: u64,
     dialogues: &Counts,
     unheard: u64,
-    fault: Option<(Option<u64>, &str)>,
 ) -> Result<(), AllocError> {
     json.push_str("{\"trace\":")?;
     push_text(json, trace)?;
@@ -193,12 +268,16 @@ pub(crate) fn push_trace(
     let Counts { pass, inconc, fail, error, .. } = *dialogues;
     write!(json, ",\"messages\":{messages},\"dialogues\":{{\"pass\":{pass},")?;
     write!(json, "\"inconc\":{inconc},\"fail\":{fail},\"error\":{error}}},")?;
-    write!(json, "\"unheard\":{unheard}")?;
-    if let Some((line, text)) = fault {
-        push_named(json, "text", text)?;
-        if let Some(line) = line {
-            write!(json, ",\"line\":{line}")?;
-        }
+    write!(json, "\"unheard\":{unheard}")
+}
+
+/// Appends what is wrong with a trace, where something is, and its line, and ends the object.
+pub(crate) fn push_fault(json: &mut String, why: &str, line: Option<u64>) -> Result<(), AllocError> {
+    if !why.is_empty() {
+        push_named(json, "text", why)?;
+    }
+    if let Some(line) = line {
+        write!(json, ",\"line\":{line}")?;
     }
     json.push_str("}\n")
 }

@@ -2,6 +2,7 @@
 #![tactic(auto)]
 
 mod case;
+mod earlier;
 mod entries;
 mod fault;
 mod json;

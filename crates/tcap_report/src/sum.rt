@@ -3,6 +3,28 @@
 use std::alloc::AllocError;
 use tcap_traces::Verdict;
 
+/// Appends how many there are of a thing.
+pub(crate) fn push_count(text: &mut String, count: u64, thing: &str) -> Result<(), AllocError> {
+    write!(text, "{count} ")?;
+    text.push_str(thing)?;
+    text.push_str(if count == 1 { "" } else { "s" })
+}
+
+/// Appends how many messages and dialogues there are, and what of.
+pub(crate) fn push_counts(
+    text: &mut String,
+    messages: u64,
+    dialogues: &Counts,
+    unheard: u64,
+) -> Result<(), AllocError> {
+    push_count(text, messages, "message")?;
+    text.push_str(", ")?;
+    push_count(text, dialogues.all(), "dialogue")?;
+    text.push_str(": ")?;
+    dialogues.push(text)?;
+    writeln!(text, "; {unheard} pass with messages unheard")
+}
+
 /// How many there are of each verdict, and the worst.
 #[derive(Clone, Copy, Debug)]
 pub(crate) struct Counts {
@@ -87,12 +109,10 @@ impl Sum {
 
     /// Appends the lines of all traces.
     pub fn push(&self, text: &mut String) -> Result<(), AllocError> {
-        let traces = self.traces.all();
-        write!(text, "{traces} traces: ")?;
+        push_count(text, self.traces.all(), "trace")?;
+        text.push_str(": ")?;
         self.traces.push(text)?;
-        let (messages, dialogues, unheard) = (self.messages, self.dialogues.all(), self.unheard);
-        write!(text, "; {messages} messages, {dialogues} dialogues: ")?;
-        self.dialogues.push(text)?;
-        writeln!(text, "; {unheard} pass with messages unheard")
+        text.push_str("; ")?;
+        push_counts(text, self.messages, &self.dialogues, self.unheard)
     }
 }

@@ -6,11 +6,12 @@ use crate::words::{comment_of, doubt_words, ids_of, letter, line_of, push_ids, u
 use std::alloc::{AllocError, Global};
 use tcap_books::NamedTable;
 use tcap_evidence::push_why;
+use tcap_explain::name_of;
 use tcap_msg::MessageParts;
 use tcap_parts::{CodeView, ComponentView};
 use tcap_record::{Body, End, push_head, push_hex};
 use tcap_refute::Refutation;
-use tcap_traces::{Said, Verdict};
+use tcap_traces::{Doubt, Said, Verdict};
 
 /// The most entries that are listed.
 const LISTED: usize = 24;
@@ -101,6 +102,37 @@ pub(crate) fn push_reason(
     }
 }
 
+/// Appends what makes a blame inconclusive.
+pub(crate) fn push_doubt(text: &mut String, case: &Case, doubt: Doubt) -> Result<(), AllocError> {
+    text.push_str(doubt_words(doubt))?;
+    match case.earlier {
+        Some(earlier) if doubt == Doubt::CameAgain => {
+            let number = case.number;
+            write!(text, "; this is dialogue {number}, and that was dialogue {earlier}")
+        }
+        _ => Ok(()),
+    }
+}
+
+/// Appends why nothing is shown of an end, and no entry is blamed on it.
+pub(crate) fn push_undecided(
+    text: &mut String,
+    case: &Case,
+    judged: &Judged,
+    said: Said,
+) -> Result<(), AllocError> {
+    if let Said::Behind(entry) = said {
+        let line = line_of(case, entry);
+        write!(text, "entry {entry} of the dialogue, line {line}, ")?;
+    }
+    text.push_str(undecided_words(said))?;
+    text.push_str("\n")?;
+    match said {
+        Said::Open => push_waiting(text, judged),
+        _ => Ok(()),
+    }
+}
+
 /// Appends what is said of an end that does not pass.
 fn push_end(
     alloc: Global,
@@ -119,7 +151,7 @@ fn push_end(
         Said::Doubtful(at, doubt) => {
             push_blamed(alloc, text, case, end, said.verdict(), at)?;
             text.push_str("  that is inconclusive: ")?;
-            text.push_str(doubt_words(doubt))?;
+            push_doubt(text, case, doubt)?;
             text.push_str("\n")?;
             push_reason(alloc, text, judged, end, at)
         }
@@ -127,8 +159,7 @@ fn push_end(
             text.push_str("  ")?;
             text.push_str(letter(end))?;
             text.push_str(": inconc: ")?;
-            text.push_str(undecided_words(said))?;
-            text.push_str("\n")
+            push_undecided(text, case, judged, said)
         }
     }
 }
@@ -171,7 +202,7 @@ fn push_component(
 }
 
 /// Appends what an entry is.
-fn push_body(text: &mut String, table: Option<&NamedTable>, body: &Body) -> Result<(), AllocError> {
+fn push_body(text: &mut String, table: Option<&NamedTable>, place: u64, body: &Body) -> Result<(), AllocError> {
     match body {
         Body::Good(message) => {
             push_head(text, message)?;
@@ -180,7 +211,12 @@ fn push_body(text: &mut String, table: Option<&NamedTable>, body: &Body) -> Resu
             }
             Ok(())
         }
-        Body::Bad(_) => text.push_str("no message"),
+        Body::Bad(fault) => {
+            text.push_str("no message: ")?;
+            text.push_str(name_of(fault.reason))?;
+            let place = fault.place.saturating_sub(place);
+            write!(text, ", at octet {place} of it")
+        }
         Body::Quiet => text.push_str("quiet mark"),
     }
 }
@@ -200,7 +236,7 @@ fn push_entries(alloc: Global, text: &mut String, case: &Case, judged: &Judged) 
             text.push_str(letter(end))?;
             text.push_str(" ")?;
         }
-        push_body(text, judged.table, &entry.body)?;
+        push_body(text, judged.table, entry.place, &entry.body)?;
         text.push_str("\n")?;
     }
     Ok(())
@@ -252,9 +288,6 @@ pub(crate) fn push_behind(
         if is_asked(of, end) {
             push_end(alloc, text, case, judged, end, ends.of(end))?;
         }
-    }
-    if ends.a == Said::Open || ends.b == Said::Open {
-        push_waiting(text, judged)?;
     }
     Ok(())
 }

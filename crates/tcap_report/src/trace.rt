@@ -1,10 +1,11 @@
 //! A trace, judged dialogue by dialogue as it is read.
 
-use crate::case::{Case, Held, Judged, Rules, judge};
+use crate::case::{Behind, Case, Held, Judged, Rules, judge};
+use crate::earlier::Earlier;
 use crate::entries::{Entries, Piece};
 use crate::fault::{FormFault, Halt, Stop};
 use crate::junit::Junit;
-use crate::sum::{Counts, Sum};
+use crate::sum::{Counts, Sum, push_counts};
 use crate::{json, text};
 use std::alloc::{AllocError, Global};
 use std::collections::BTreeMap;
@@ -65,6 +66,8 @@ struct Trace<'a> {
     count: u64,
     before: u64,
     unread: Option<u64>,
+    // Which dialogues of the stretch had which IDs, of those that are judged.
+    earlier: Earlier,
     messages: u64,
     dialogues: Counts,
     unheard: u64,
@@ -115,6 +118,7 @@ impl<'a> Trace<'a> {
             count: 0,
             before: 0,
             unread: None,
+            earlier: Earlier::new(alloc),
             messages: 0,
             dialogues: Counts::new(),
             unheard: 0,
@@ -141,22 +145,27 @@ impl<'a> Trace<'a> {
         self.count = self.count.saturating_add(1);
         self.messages = self.messages.saturating_add(1);
         for gathered in done {
-            self.judge(gathered, false, false, sinks)?;
+            self.judge(gathered, Behind::More, sinks)?;
         }
         Ok(())
     }
 
     /// The stretch ends: by a quiet mark, or with the trace.
-    fn end_stretch<W: Write, J: Write, P: Watch>(&mut self, ended: bool, sinks: &mut Sinks<W, J, P>) -> Result<(), Stop> {
+    fn end_stretch<W: Write, J: Write, P: Watch>(
+        &mut self,
+        behind: Behind,
+        sinks: &mut Sinks<W, J, P>,
+    ) -> Result<(), Stop> {
         let mut done = Vec::new(self.alloc);
         let cut = mem::replace(&mut self.cut, Cut::new(self.alloc, self.asked.reuse));
         cut.finish(&mut done)?;
         for gathered in done {
-            self.judge(gathered, !ended, ended, sinks)?;
+            self.judge(gathered, behind, sinks)?;
         }
         self.before = self.before.saturating_add(self.count).saturating_add(1);
         self.count = 0;
         self.unread = None;
+        self.earlier = Earlier::new(self.alloc);
         Ok(())
     }
 
@@ -175,18 +184,22 @@ impl<'a> Trace<'a> {
     fn judge<W: Write, J: Write, P: Watch>(
         &mut self,
         gathered: Gathered,
-        marked: bool,
-        ended: bool,
+        behind: Behind,
         sinks: &mut Sinks<W, J, P>,
     ) -> Result<(), Stop> {
         let entries = self.taken(&gathered)?;
+        let number = self.dialogues.all();
+        let earlier = self.earlier.of(&gathered);
+        if behind == Behind::More {
+            self.earlier.note(&gathered, number)?;
+        }
         let case = Case {
-            number: self.dialogues.all(),
+            number,
             entries,
             gathered,
             before: self.before,
-            marked,
-            ended,
+            behind,
+            earlier,
             unread: self.unread,
         };
         let rules = Rules {
@@ -235,7 +248,7 @@ impl<'a> Trace<'a> {
         for _ in 0..u64::MAX {
             match entries.next()? {
                 Some(Piece::Entry(octets, line, comment)) => self.enter(octets, line, comment, sinks)?,
-                Some(Piece::Mark) => self.end_stretch(false, sinks)?,
+                Some(Piece::Mark(line)) => self.end_stretch(Behind::Mark(line), sinks)?,
                 None => return Ok(()),
             }
         }
@@ -246,9 +259,9 @@ impl<'a> Trace<'a> {
     fn read_all<R: Read, W: Write, J: Write, P: Watch>(
         &mut self,
         reader: &mut R,
+        entries: &mut Entries,
         sinks: &mut Sinks<W, J, P>,
     ) -> Result<(), Halt> {
-        let mut entries = Entries::new(self.alloc);
         let mut piece = [0; PIECE_LEN];
         for _ in 0..u64::MAX {
             let told = match reader.read(&mut piece) {
@@ -256,13 +269,13 @@ impl<'a> Trace<'a> {
                 Err(Failed) => return Err(self.unreadable()?),
             };
             entries.feed(&piece[..told])?;
-            self.read_on(&mut entries, sinks)?;
+            self.read_on(entries, sinks)?;
             sinks.watch.look(&self.so_far(sinks.sum));
             if told == 0 {
                 break;
             }
         }
-        self.end_stretch(true, sinks)?;
+        self.end_stretch(Behind::End, sinks)?;
         Ok(())
     }
 
@@ -286,6 +299,7 @@ impl<'a> Trace<'a> {
     fn end<W: Write, J: Write, P: Watch>(
         &self,
         fault: Option<FormFault>,
+        hint: Option<&str>,
         sinks: &mut Sinks<W, J, P>,
     ) -> Result<Verdict, Stop> {
         let verdict = trace_verdict(fault.is_some(), self.messages, self.dialogues.worst);
@@ -293,26 +307,40 @@ impl<'a> Trace<'a> {
         push_fault(&mut why, &fault, self.messages)?;
         let mut line = String::new(self.alloc);
         self.push_line(&mut line, verdict, &why)?;
+        line.push_str(hint.unwrap_or(""))?;
         write_text(sinks.text, &line)?;
+        self.tell_end(verdict, &fault, &why, sinks)?;
+        *sinks.sum = self.so_far(sinks.sum);
+        sinks.sum.traces.add(verdict);
+        Ok(verdict)
+    }
+
+    /// Says the same as JSON and as JUnit XML.
+    fn tell_end<W: Write, J: Write, P: Watch>(
+        &self,
+        verdict: Verdict,
+        fault: &Option<FormFault>,
+        why: &str,
+        sinks: &mut Sinks<W, J, P>,
+    ) -> Result<(), Stop> {
+        let name = self.asked.name;
         if let Some(writer) = &mut sinks.json {
             let mut line = String::new(self.alloc);
-            let number = match &fault {
+            let number = match fault {
                 Some(fault) => fault.line,
                 None => None,
             };
-            let told = if why.is_empty() { None } else { Some((number, why.as_str())) };
-            json::push_trace(&mut line, self.asked.name, verdict, self.messages, &self.dialogues, self.unheard, told)?;
+            json::push_trace(&mut line, name, verdict, self.messages, &self.dialogues, self.unheard)?;
+            json::push_fault(&mut line, why, number)?;
             write_text(*writer, &line)?;
         }
         if let Some(junit) = &mut sinks.junit {
             if !why.is_empty() {
-                junit.add_fault(self.asked.name, &why)?;
+                junit.add_fault(name, why)?;
             }
-            junit.end_trace(self.asked.name, &self.dialogues)?;
+            junit.end_trace(name, &self.dialogues)?;
         }
-        *sinks.sum = self.so_far(sinks.sum);
-        sinks.sum.traces.add(verdict);
-        Ok(verdict)
+        Ok(())
     }
 
     /// Appends the line of the trace.
@@ -324,10 +352,8 @@ impl<'a> Trace<'a> {
             text.push_str(": ")?;
             text.push_str(why)?;
         }
-        let (messages, dialogues, unheard) = (self.messages, self.dialogues.all(), self.unheard);
-        write!(text, "; {messages} messages, {dialogues} dialogues: ")?;
-        self.dialogues.push(text)?;
-        writeln!(text, "; {unheard} pass with messages unheard")
+        text.push_str("; ")?;
+        push_counts(text, self.messages, &self.dialogues, self.unheard)
     }
 }
 
@@ -358,9 +384,10 @@ pub fn run_trace<R: Read, W: Write, J: Write, P: Watch>(
     sinks: &mut Sinks<W, J, P>,
 ) -> Result<Verdict, Stop> {
     let mut trace = Trace::new(alloc, asked);
-    match trace.read_all(reader, sinks) {
-        Ok(()) => trace.end(None, sinks),
-        Err(Halt::Form(fault)) => trace.end(Some(fault), sinks),
+    let mut entries = Entries::new(alloc);
+    match trace.read_all(reader, &mut entries, sinks) {
+        Ok(()) => trace.end(None, None, sinks),
+        Err(Halt::Form(fault)) => trace.end(Some(fault), entries.hint(), sinks),
         Err(Halt::Stop(stop)) => Err(stop),
     }
 }
@@ -374,5 +401,5 @@ pub fn tell_unread<W: Write, J: Write, P: Watch>(
 ) -> Result<Verdict, Stop> {
     let mut text = String::new(alloc);
     text.push_str(why)?;
-    Trace::new(alloc, asked).end(Some(FormFault { line: None, text }), sinks)
+    Trace::new(alloc, asked).end(Some(FormFault { line: None, text }), None, sinks)
 }

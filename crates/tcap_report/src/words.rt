@@ -1,6 +1,6 @@
 //! Words for what is said.
 
-use crate::case::Case;
+use crate::case::{Behind, Case};
 use std::alloc::{AllocError, Global};
 use std::collections::BTreeSet;
 use tcap_msg::{Message, MessageParts, TransactionId};
@@ -37,7 +37,7 @@ pub(crate) fn doubt_words(doubt: Doubt) -> &'static str {
         Doubt::AtMark => "the trace's quiet mark is the bench's word, and it may stand too early",
         Doubt::LackingOperation => "the table lacks the operation",
         Doubt::MaybeOver => "the transaction of the ID that is begun again may have been given up or may have ended in silence",
-        Doubt::CameAgain => "an ID of the dialogue was one of an earlier dialogue, and a message of that may have been under way (--ids settled says that none was)",
+        Doubt::CameAgain => "an ID of the dialogue was one of an earlier one, of which a message may have been under way (--ids settled says that none was)",
         Doubt::Unread => "an entry before it can't be read, and may have been one of this dialogue",
     }
 }
@@ -46,7 +46,7 @@ pub(crate) fn doubt_words(doubt: Doubt) -> &'static str {
 pub(crate) fn undecided_words(said: Said) -> &'static str {
     match said {
         Said::Undecided => "it is not found how it can have sent its part, and no entry of it is blamed",
-        Said::Behind(_) => "an entry is no message that is judged, and entries of its own stand there or behind it",
+        Said::Behind(_) => "is no message that is judged, and is its own or stands before others of its own",
         Said::TooLong => "the dialogue has more than 100,000 entries, and of those nothing is blamed",
         Said::Open => "the dialogue is open at the end of the trace",
         _ => "",
@@ -74,7 +74,10 @@ pub(crate) fn push_ids(text: &mut String, case: &Case, end: End) -> Result<(), A
 pub(crate) fn line_of(case: &Case, entry: u64) -> u64 {
     match case.entries.get(entry as usize) {
         Some(held) => held.line,
-        None => 0,
+        None => match case.behind {
+            Behind::Mark(line) => line,
+            _ => 0,
+        },
     }
 }
 

@@ -44,7 +44,7 @@ impl Watch for Progress<'_> {
 fn book_of(rt: &HostRuntime, paths: &[&str]) -> Option<Book> {
     let alloc = rt.alloc();
     if paths.is_empty() {
-        return Book::from_json(alloc, CARRIED_BOOK.as_bytes()).ok();
+        return read_book(rt, "the book that the program carries", CARRIED_BOOK.as_bytes());
     }
     let mut all = None;
     for path in paths {
@@ -55,17 +55,12 @@ fn book_of(rt: &HostRuntime, paths: &[&str]) -> Option<Book> {
                 return None;
             }
         };
-        let book = match Book::from_json(alloc, &octets) {
-            Ok(book) => book,
-            Err(fault) => {
-                let _ = eprintln!(rt; "error: {path}: {fault}");
-                return None;
-            }
-        };
+        let book = read_book(rt, *path, &octets)?;
         all = match all {
             None => Some(book),
             Some(mut books) => {
                 if Book::add(&mut books, book).is_err() {
+                    let _ = eprintln!(rt; "error: out of memory");
                     return None;
                 }
                 Some(books)
@@ -73,6 +68,37 @@ fn book_of(rt: &HostRuntime, paths: &[&str]) -> Option<Book> {
         };
     }
     all
+}
+
+/// The book of that text. What is wrong with it is said.
+fn read_book(rt: &HostRuntime, name: &str, text: &[u8]) -> Option<Book> {
+    match Book::from_json(rt.alloc(), text) {
+        Ok(book) => Some(book),
+        Err(fault) => {
+            let _ = eprintln!(rt; "error: {name}: {fault}");
+            None
+        }
+    }
+}
+
+/// Whether that path is a directory's.
+fn is_folder(rt: &HostRuntime, path: &str) -> bool {
+    match fs::metadata(rt, path) {
+        Ok(found) => found.is_dir(),
+        Err(_) => false,
+    }
+}
+
+/// Whether a file that is written is one of those that are read, by its path, or both are one.
+fn is_overwritten(test: &Test) -> bool {
+    for path in [test.json, test.junit] {
+        if let Some(path) = path {
+            if test.traces.iter().any(|trace| *trace == path) || test.tables.iter().any(|table| *table == path) {
+                return true;
+            }
+        }
+    }
+    test.json.is_some() && test.json == test.junit
 }
 
 /// Judges the trace of that path.
@@ -87,6 +113,7 @@ fn test_path<W: Write, J: Write, P: Watch>(
         return run_trace(alloc, &mut Counted::new(rt.reader()), asked, sinks);
     }
     match fs::open(rt, path) {
+        Ok(file) if is_folder(rt, path) => tell_unread(alloc, asked, "it is a directory", sinks),
         Ok(file) => run_trace(alloc, &mut Counted::new(file), asked, sinks),
         Err(error) => {
             let mut text = String::new(alloc);
@@ -191,8 +218,19 @@ fn tested(rt: &HostRuntime, test: &Test, book: &Book) -> Result<Verdict, Stop> {
     }
 }
 
+/// The exit status where the words are wrong.
+const WRONG_WORDS: u8 = 4;
+
 /// Judges each dialogue of the traces, and answers the exit status: that of the worst verdict.
 pub(crate) fn test(rt: &HostRuntime, test: &Test) -> u8 {
+    if test.traces.iter().filter(|path| **path == "-").count() > 1 {
+        let _ = eprintln!(rt; "error: the standard input can be read once");
+        return WRONG_WORDS;
+    }
+    if is_overwritten(test) {
+        let _ = eprintln!(rt; "error: what is said would be written over a file that is read, or twice into one");
+        return Verdict::Error.status();
+    }
     let Some(book) = book_of(rt, &test.tables) else {
         return Verdict::Error.status();
     };
