@@ -20,7 +20,7 @@ fn last_of(numbers: &Numbers, ids: &BTreeSet<TransactionId>) -> Option<u64> {
     let mut last = None;
     for id in ids {
         if let Some(number) = numbers.get(id) {
-            last = Some(number.max(last.unwrap_or(0)));
+            last = Some(u64::max(*number, last.unwrap_or(0)));
         }
     }
     last
@@ -48,7 +48,7 @@ impl Earlier {
     /// The number of the last dialogue that had an ID of this one.
     pub(crate) fn of(&self, gathered: &Gathered) -> Option<u64> {
         match (last_of(&self.a, &gathered.a), last_of(&self.b, &gathered.b)) {
-            (Some(a), Some(b)) => Some(a.max(b)),
+            (Some(a), Some(b)) => Some(u64::max(a, b)),
             (Some(number), None) | (None, Some(number)) => Some(number),
             (None, None) => None,
         }
