@@ -455,6 +455,7 @@ STATUSES = """Exit statuses:
   2  NOT SHOWN, UNDECIDED, or refuted where `blame` blames nobody
   3  a line of fault was printed, or the output could not be written
   4  the words of the command are wrong
+Of `test` 0 says that all pass, 1 that a dialogue fails, 2 that one is inconclusive, 3 that there is an error
 """
 # Words, and what the help of them ends with.
 HELP = [
@@ -478,7 +479,7 @@ EXPLAIN = [
     "--end <END>",
     "--chart <FILE>",
 ]
-SUBCOMMANDS = ["show", "pack", "check", "judge", "explain", "blame", "table", "help"]
+SUBCOMMANDS = ["show", "pack", "check", "judge", "explain", "blame", "table", "test", "help"]
 
 # Words that are wrong, and what is said of them.
 REFUSED = [

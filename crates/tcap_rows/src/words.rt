@@ -4,11 +4,12 @@ use std::alloc::Global;
 use std::test::Fail;
 use tcap_msg_rows::{Row, each_row};
 use tcap_record::End;
-use tcap_words::{Request, request};
+use tcap_words::{Ids, Request, Test, request};
 
 /// The columns: what the words ask for, or `wrong` or `printed`; the file that is named, or the files with blanks
 /// between them, an equals sign in front, a dash for none, or what the text has to contain; and the words, each behind
-/// a comma. Of `explain` the files behind the first two have their names in front.
+/// a comma. Of `explain` the files behind the first two have their names in front, and of `test` all that stands behind
+/// the traces.
 const WORDS: &str = "
 show;-;,tcapjudge,show
 show;=x;,tcapjudge,show,x
@@ -78,6 +79,42 @@ blame;=x y;,tcapjudge,blame,x,y
 blame;=blame -y;,tcapjudge,blame,blame,--,-y
 wrong;<TABLE>;,tcapjudge,blame,x
 wrong;unexpected argument '--cert';,tcapjudge,blame,x,y,--cert
+test;=x ids=again linger=10000;,tcapjudge,test,x
+test;=z y x ids=again linger=10000;,tcapjudge,test,z,y,x
+test;=- ids=again linger=10000;,tcapjudge,test,-
+test;=x - ids=again linger=10000;,tcapjudge,test,x,-
+test;=test show ids=again linger=10000;,tcapjudge,test,test,show
+test;=x -y ids=again linger=10000;,tcapjudge,test,x,--,-y
+test;=x y table=t ids=again linger=10000;,tcapjudge,test,x,--table,t,y
+test;=x y table=u table=t ids=again linger=10000;,tcapjudge,test,--table=u,x,--table,t,y
+test-end-a;=x ids=again linger=10000;,tcapjudge,test,--of,A,x
+test-end-b;=x ids=again linger=10000;,tcapjudge,test,x,--of=B
+test;=x ids=again linger=10000;,tcapjudge,test,--ids,again,x
+test;=x ids=settled linger=10000;,tcapjudge,test,--ids,settled,x
+test;=x ids=once linger=10000;,tcapjudge,test,x,--ids=once
+test;=x ids=again linger=0;,tcapjudge,test,--linger,0,x
+test;=x ids=again linger=18446744073709551615;,tcapjudge,test,x,--linger,18446744073709551615
+test;=x ids=again linger=10000 complete;,tcapjudge,test,--complete,x
+test;=x ids=again linger=10000 progress;,tcapjudge,test,x,--progress
+test;=x ids=again linger=10000 json=f;,tcapjudge,test,--json,f,x
+test;=x ids=again linger=10000 junit=g;,tcapjudge,test,x,--junit=g
+test-end-b;=x y table=t table=u ids=once linger=7 json=f junit=g complete progress;,tcapjudge,test,--progress,--junit,g,--json,f,--table,t,--linger,7,x,--complete,--table,u,--ids,once,y,--of,B
+wrong;<TRACE>;,tcapjudge,test
+wrong;<TRACE>;,tcapjudge,test,--table,t
+wrong;invalid value 'C' for '--of <END>';,tcapjudge,test,--of,C,x
+wrong;[possible values: A, B];,tcapjudge,test,--of,a,x
+wrong;[possible values: again, settled, once];,tcapjudge,test,--ids,never,x
+wrong;invalid value 'many' for '--linger <N>';,tcapjudge,test,--linger,many,x
+wrong;invalid value '18446744073709551616' for '--linger <N>';,tcapjudge,test,--linger,18446744073709551616,x
+wrong;invalid value '1.5' for '--linger <N>';,tcapjudge,test,--linger,1.5,x
+wrong;a value is required for '--table <FILE>';,tcapjudge,test,x,--table
+wrong;a value is required for '--json <FILE>';,tcapjudge,test,x,--json
+wrong;cannot be used multiple times;,tcapjudge,test,--ids,once,--ids,once,x
+wrong;cannot be used multiple times;,tcapjudge,test,--linger,1,--linger,1,x
+wrong;cannot be used multiple times;,tcapjudge,test,--json,f,--json,g,x
+wrong;cannot be used multiple times;,tcapjudge,test,--complete,--complete,x
+wrong;unexpected argument '--end';,tcapjudge,test,--end,A,x
+wrong;unexpected argument '--of';,tcapjudge,judge,--of,A,x,y
 wrong;requires a subcommand;,tcapjudge
 wrong;unrecognized subcommand 'shew';,tcapjudge,shew
 wrong;unexpected argument 'y';,tcapjudge,show,x,y
@@ -112,6 +149,10 @@ printed;Example: tcapjudge judge record table.json --cert;,tcapjudge,judge,-h
 printed;Example: tcapjudge explain record table.json --chart run.svg;,tcapjudge,explain,-h
 printed;Example: tcapjudge blame record table.json;,tcapjudge,blame,-h
 printed;Example: tcapjudge table table.json;,tcapjudge,table,--help
+printed;Usage: tcapjudge test [OPTIONS] <TRACE>...;,tcapjudge,test,--help
+printed;Judges each dialogue of traces;,tcapjudge,help,test
+printed;Example: tcapjudge test --table map.json traces/*.hex;,tcapjudge,test,-h
+printed;[possible values: again, settled, once];,tcapjudge,test,--help
 ";
 
 /// The kind of a request to judge, with the certificate or without.
@@ -162,6 +203,52 @@ fn is_explained<'a>(
     Ok(is_kind && files.as_str() == wanted)
 }
 
+/// The word of `--ids`.
+fn ids_word(ids: Ids) -> &'static str {
+    match ids {
+        Ids::Again => "again",
+        Ids::Settled => "settled",
+        Ids::Once => "once",
+    }
+}
+
+/// Whether a request to judge the dialogues of traces is the wanted one.
+fn is_tested<'a>(
+    alloc: Global,
+    test: &Test<'a>,
+    kind: &str,
+    wanted: &str,
+) -> Result<bool, Fail> {
+    let mut asked = format!(in alloc; "=")?;
+    let mut between = "";
+    for trace in test.traces.iter() {
+        write!(asked, "{between}{trace}")?;
+        between = " ";
+    }
+    for table in test.tables.iter() {
+        write!(asked, " table={table}")?;
+    }
+    let word = ids_word(test.ids);
+    write!(asked, " ids={word} linger={}", test.linger)?;
+    if let Some(json) = test.json {
+        write!(asked, " json={json}")?;
+    }
+    if let Some(junit) = test.junit {
+        write!(asked, " junit={junit}")?;
+    }
+    if test.complete {
+        write!(asked, " complete")?;
+    }
+    if test.progress {
+        write!(asked, " progress")?;
+    }
+    let is_kind = match test.of {
+        Some(end) => is_of_end(kind, "test", end),
+        None => kind == "test",
+    };
+    Ok(is_kind && asked.as_str() == wanted)
+}
+
 /// Whether the request, or the fault, is the wanted one.
 fn is_answered<'a>(
     alloc: Global,
@@ -208,6 +295,7 @@ fn is_answered<'a>(
             Ok(kind == "blame" && Some(files.as_str()) == wanted.strip_prefix("="))
         }
         Ok(Request::Table(file)) => Ok(kind == "table" && Some(file) == wanted.strip_prefix("=")),
+        Ok(Request::Test(test)) => is_tested(alloc, &test, kind, wanted),
         Err(fault) => {
             let said = format!(in alloc; "{fault}")?;
             let is_kind = kind
@@ -238,6 +326,6 @@ impl Row for WordsRow {
 
 #[test]
 fn words(rt: HostRuntime) -> Result<(), Fail> {
-    assert_eq!(rt; each_row::<WordsRow>(rt.alloc(), WORDS)?, 102);
+    assert_eq!(rt; each_row::<WordsRow>(rt.alloc(), WORDS)?, 142);
     Ok(())
 }

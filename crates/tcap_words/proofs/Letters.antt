@@ -1,15 +1,23 @@
--- The values that the argument of an id may have.
-use Rattle.std.proofs.Common.{◌≡◌, ◌&&◌, ◌++◌, Bool, true, false, List, [], ◌∷◌, ap₂, codes, refl}
+-- Which values the argument of an id may have.
+use Rattle.std.proofs.Common.{◌≡◌, ◌&&◌, ◌++◌, Bool, true, List, [], ◌∷◌, Option, Some, None, ap₂, codes, refl}
 use Rattle.std.specs.List.{list_all}
+use Rattle.std.specs.Option.{option_map_or}
 use Rattle.std.specs.Prelude.{if◌then◌else◌}
 use Rattle.std.specs.Str.{bytes_eq}
 use Rattle.clap.proofs.WalkLemmas.{both}
 use Rattle.clap.specs.Walk.{Text}
-use Rattle.tcap_words.specs.Words.{is_letter}
+use Rattle.tcap_words.specs.Words.{is_ids_word, is_letter, is_number}
 
--- the argument of this id may have this value: that of `--end` the letter of an end, another any
+-- the test of the values of `--end` and `--of`, of `--ids` and of `--linger`
+abbrev pub test_of : Text → Option (Text → Bool)
+test_of id = if bytes_eq (codes "end") id then Some is_letter
+    else (if bytes_eq (codes "of") id then Some is_letter
+    else (if bytes_eq (codes "ids") id then Some is_ids_word
+    else (if bytes_eq (codes "linger") id then Some is_number else None)))
+
+-- the argument of this id may have this value
 abbrev pub may_have : Text → Text → Bool
-may_have id word = if bytes_eq (codes "end") id then is_letter word else true
+may_have id word = option_map_or (λ test. test word) (test_of id) true
 
 abbrev pub may_have_all : Text → List Text → Bool
 may_have_all id = list_all (may_have id)
@@ -21,9 +29,9 @@ more_may_have id (x ∷ xs) ys is_xs is_ys =
     let p = both (may_have id x) (may_have_all id xs) is_xs in
     ap₂ (λ b d. b && d) p.0 (more_may_have id xs ys p.1 is_ys)
 
--- an argument that is not `--end` may have any value
-pub may_have_any : (id : Text) → bytes_eq (codes "end") id ≡ false → (values : List Text)
-    → may_have_all id values ≡ true
-may_have_any id other [] = refl
-may_have_any id other (v ∷ vs) =
-    ap₂ (λ b d. (if b then is_letter v else true) && d) other (may_have_any id other vs)
+-- an argument with no test may have any value
+pub may_have_any : (id : Text) → test_of id ≡ None → (values : List Text) → may_have_all id values ≡ true
+may_have_any id none [] = refl
+may_have_any id none (v ∷ vs) =
+    ap₂ (λ (o : Option (Text → Bool)) (b : Bool). option_map_or (λ test. test v) o true && b) none
+    (may_have_any id none vs)

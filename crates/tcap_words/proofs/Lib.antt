@@ -18,3 +18,5 @@ pub mod BlameCases
 pub mod EndCases
 pub mod JudgeEndCases
 pub mod FlagCases
+pub mod TraceCases
+pub mod TestCases

@@ -13,9 +13,9 @@ use Rattle.clap.specs.declared.parser.matches.Found.{Found}
 use Rattle.tcap_record.specs.declared.entry.End.{End as Side}
 use Rattle.tcap_record.specs.Ends.{letter}
 use Rattle.tcap_words.specs.CommandLine.{tool}
-use Rattle.tcap_words.specs.Words.{Asks, Explains, blamed_paths, checked_paths, end_value, explained_paths, is_letter, is_set, judged_paths, named_with, named_with_flag, named_with_flags, named_with_paths, named_with_two, path_text, shown_path}
+use Rattle.tcap_words.specs.Words.{Asks, Explains, Tested, blamed_paths, checked_paths, end_value, explained_paths, is_ids_word, is_letter, is_number, is_set, judged_paths, named_with, named_with_flag, named_with_flags, named_with_paths, named_with_traces, named_with_two, path_text, shown_path, tested}
 use Rattle.tcap_words.specs.declared.asked.Request.{Request}
-use Rattle.tcap_words.specs.declared.asked.Request.TheVariants.{Show, Pack, Check, CheckEnd, Judge, JudgeEnd, Explain, Blame, Table}
+use Rattle.tcap_words.specs.declared.asked.Request.TheVariants.{Show, Pack, Check, CheckEnd, Judge, JudgeEnd, Explain, Blame, Table, Test}
 use Rattle.tcap_words.proofs.Only.{some_same}
 use Rattle.tcap_words.proofs.Tool.{IsKnown, fused, named}
 use Rattle.tcap_words.proofs.Needed.{needed_there}
@@ -65,25 +65,29 @@ no_name o (inr (inr (inl is))) none = let bad : None ≡ Some (codes "check") = 
 no_name o (inr (inr (inr (inl is)))) none = let bad : None ≡ Some (codes "judge") = none ∙ is in cc
 no_name o (inr (inr (inr (inr (inl is))))) none = let bad : None ≡ Some (codes "explain") = none ∙ is in cc
 no_name o (inr (inr (inr (inr (inr (inl is)))))) none = let bad : None ≡ Some (codes "blame") = none ∙ is in cc
-no_name o (inr (inr (inr (inr (inr (inr is)))))) none = let bad : None ≡ Some (codes "table") = none ∙ is in cc
+no_name o (inr (inr (inr (inr (inr (inr (inl is))))))) none = let bad : None ≡ Some (codes "table") = none ∙ is in cc
+no_name o (inr (inr (inr (inr (inr (inr (inr is))))))) none = let bad : None ≡ Some (codes "test") = none ∙ is in cc
 
 pub other_name : (o : Option Text) (name : Text) → IsKnown o → Some name ≡ o → (name ≡ codes "show" → ⊥)
     → (name ≡ codes "pack" → ⊥) → (name ≡ codes "check" → ⊥) → (name ≡ codes "judge" → ⊥)
-    → (name ≡ codes "explain" → ⊥) → (name ≡ codes "blame" → ⊥) → (name ≡ codes "table" → ⊥) → ⊥
-other_name o name (inl is) at not_show not_pack not_check not_judge not_explain not_blame not_table =
+    → (name ≡ codes "explain" → ⊥) → (name ≡ codes "blame" → ⊥) → (name ≡ codes "table" → ⊥)
+    → (name ≡ codes "test" → ⊥) → ⊥
+other_name o name (inl is) at not_show not_pack not_check not_judge not_explain not_blame not_table not_test =
     not_show (some_same _ _ (at ∙ is))
-other_name o name (inr (inl is)) at not_show not_pack not_check not_judge not_explain not_blame not_table =
+other_name o name (inr (inl is)) at not_show not_pack not_check not_judge not_explain not_blame not_table not_test =
     not_pack (some_same _ _ (at ∙ is))
-other_name o name (inr (inr (inl is))) at not_show not_pack not_check not_judge not_explain not_blame not_table =
+other_name o name (inr (inr (inl is))) at not_show not_pack not_check not_judge not_explain not_blame not_table not_test =
     not_check (some_same _ _ (at ∙ is))
-other_name o name (inr (inr (inr (inl is)))) at not_show not_pack not_check not_judge not_explain not_blame not_table =
+other_name o name (inr (inr (inr (inl is)))) at not_show not_pack not_check not_judge not_explain not_blame not_table not_test =
     not_judge (some_same _ _ (at ∙ is))
-other_name o name (inr (inr (inr (inr (inl is))))) at not_show not_pack not_check not_judge not_explain not_blame not_table =
+other_name o name (inr (inr (inr (inr (inl is))))) at not_show not_pack not_check not_judge not_explain not_blame not_table not_test =
     not_explain (some_same _ _ (at ∙ is))
-other_name o name (inr (inr (inr (inr (inr (inl is)))))) at not_show not_pack not_check not_judge not_explain not_blame not_table =
+other_name o name (inr (inr (inr (inr (inr (inl is)))))) at not_show not_pack not_check not_judge not_explain not_blame not_table not_test =
     not_blame (some_same _ _ (at ∙ is))
-other_name o name (inr (inr (inr (inr (inr (inr is)))))) at not_show not_pack not_check not_judge not_explain not_blame not_table =
+other_name o name (inr (inr (inr (inr (inr (inr (inl is))))))) at not_show not_pack not_check not_judge not_explain not_blame not_table not_test =
     not_table (some_same _ _ (at ∙ is))
+other_name o name (inr (inr (inr (inr (inr (inr (inr is))))))) at not_show not_pack not_check not_judge not_explain not_blame not_table not_test =
+    not_test (some_same _ _ (at ∙ is))
 
 -- ---- the matches of each subcommand
 
@@ -96,9 +100,10 @@ entered_at : (m : ArgMatches) (words : List Text) (name known : Text) (f : Found
 entered_at m words name known f same is_name is_rows is_known =
     entered_as m words name f same is_name is_rows ∙ ap (λ (n : Text). Some (n, rows_of f)) is_known
 
-letter_read : (f : Found) → IfSome (first_of (codes "end") (rows_of f)) (λ word. is_letter word ≡ true)
-    → IfSome (first_value f (codes "end")) (λ word. is_letter word ≡ true)
-letter_read f = subst (λ o. IfSome o (λ word. is_letter word ≡ true)) (sym (first_value-rows f (codes "end")))
+-- what holds of the first value of its rows, holds of that of the matches
+fits_read : (f : Found) (id : Text) (test : Text → Bool) → IfSome (first_of id (rows_of f)) (λ word. test word ≡ true)
+    → IfSome (first_value f id) (λ word. test word ≡ true)
+fits_read f id test = subst (λ o. IfSome o (λ word. test word ≡ true)) (sym (first_value-rows f id))
 
 -- the paths that they give are there, and where an end is named, its letter
 pub check_there : (m : ArgMatches) (words : List Text) (name : Text) (f : Found)
@@ -115,7 +120,7 @@ check_there m words name f same clear is_name is_rows is_check =
       ap is_some (first_value-rows f (codes "RECORD")) ∙ there.0.1.0,
       ap is_some (first_value-rows f (codes "TABLE")) ∙ there.0.1.1,
       ap is_some (first_value-rows f (codes "CERT")) ∙ there.0.0,
-      letter_read f there.1,
+      fits_read f (codes "end") is_letter there.1,
     )
 
 pub judge_there : (m : ArgMatches) (words : List Text) (name : Text) (f : Found)
@@ -130,7 +135,7 @@ judge_there m words name f same clear is_name is_rows is_judge =
     (entered_at m words name (codes "judge") f same is_name is_rows is_judge)).1 refl in (
       ap is_some (first_value-rows f (codes "RECORD")) ∙ there.0.0,
       ap is_some (first_value-rows f (codes "TABLE")) ∙ there.0.1,
-      letter_read f there.1,
+      fits_read f (codes "end") is_letter there.1,
     )
 
 pub explain_there : (m : ArgMatches) (words : List Text) (name : Text) (f : Found)
@@ -145,7 +150,7 @@ explain_there m words name f same clear is_name is_rows is_explain =
     (entered_at m words name (codes "explain") f same is_name is_rows is_explain)).2 refl in (
       ap is_some (first_value-rows f (codes "RECORD")) ∙ there.0.0,
       ap is_some (first_value-rows f (codes "TABLE")) ∙ there.0.1,
-      letter_read f there.1,
+      fits_read f (codes "end") is_letter there.1,
     )
 
 pub blame_there : (m : ArgMatches) (words : List Text) (name : Text) (f : Found)
@@ -171,6 +176,22 @@ table_there m words name f same clear is_name is_rows is_table =
     ap is_some (first_value-rows f (codes "TABLE"))
     ∙ (needed_there words (codes "table", rows_of f) clear
     (entered_at m words name (codes "table") f same is_name is_rows is_table)).4 refl
+
+pub test_there : (m : ArgMatches) (words : List Text) (name : Text) (f : Found)
+    → subcommand_rows_of m ≡ subcommand_of tool words
+    → fault_of tool words ≡ []
+    → Some name ≡ subcommand_name_of m
+    → Some (rows_of f) ≡ option_map (λ p. p.1) (subcommand_rows_of m) → name ≡ codes "test"
+    → IfSome (first_value f (codes "of")) (λ word. is_letter word ≡ true)
+    × IfSome (first_value f (codes "ids")) (λ word. is_ids_word word ≡ true)
+    × IfSome (first_value f (codes "linger")) (λ word. is_number word ≡ true)
+test_there m words name f same clear is_name is_rows is_test =
+    let there = (needed_there words (codes "test", rows_of f) clear
+    (entered_at m words name (codes "test") f same is_name is_rows is_test)).5 refl in (
+      fits_read f (codes "of") is_letter there.0,
+      fits_read f (codes "ids") is_ids_word there.1,
+      fits_read f (codes "linger") is_number there.2,
+    )
 
 -- and they are what the words ask for
 pub show_asked_of : (m : ArgMatches) (words : List Text) (name : Text) (f : Found) (r : Option (Bor Text)) (b d : Bool)
@@ -269,6 +290,20 @@ blame_asked_of m words name f x y same is_name is_rows is_blame is_x is_y =
     both : Option Text → Option Text → Option (Text × (Option Text × Option Text))
     both a b = Some (codes "blame", (a, b))
 
+pub test_asked_of : (m : ArgMatches) (words : List Text) (name : Text) (f : Found) (x : Tested)
+    → subcommand_rows_of m ≡ subcommand_of tool words
+    → Some name ≡ subcommand_name_of m
+    → Some (rows_of f) ≡ option_map (λ p. p.1) (subcommand_rows_of m) → name ≡ codes "test"
+    → x ≡ tested (rows_of f)
+    → named_with_traces words ≡ Some (codes "test", x)
+test_asked_of m words name f x same is_name is_rows is_test is =
+    ap (option_map (λ p. (p.0, tested p.1)))
+    (entered_at m words name (codes "test") f same is_name is_rows is_test)
+    ∙ ap (λ (y : Tested). asks y) (sym is)
+  where
+    asks : Tested → Option (Text × Tested)
+    asks y = Some (codes "test", y)
+
 -- the end that they give is the one that the words name
 pub end_named : (m : ArgMatches) (words : List Text) (name known : Text) (f : Found) (o : Option Side)
     → subcommand_rows_of m ≡ subcommand_of tool words
@@ -327,3 +362,4 @@ explain_asked_of m words name f (Judge x y flag) same is_name is_rows is_explain
 explain_asked_of m words name f (JudgeEnd side x y flag) same is_name is_rows is_explain explains = absurd explains
 explain_asked_of m words name f (Blame x y) same is_name is_rows is_explain explains = absurd explains
 explain_asked_of m words name f (Table x) same is_name is_rows is_explain explains = absurd explains
+explain_asked_of m words name f (Test x) same is_name is_rows is_explain explains = absurd explains

@@ -1,19 +1,21 @@
 -- What a subcommand needs is there, behind words at which the command line has no fault.
-use Rattle.std.proofs.Common.{◌≡◌, ◌∙◌, ◌&&◌, ap, ap₂, sym, subst, Bool, true, false, List, [], ◌∷◌, Option, Some, None, is_some, inl, inr, refl, codes}
-use Rattle.std.specs.List.{list_all}
+use Rattle.std.proofs.Common.{◌≡◌, ◌∙◌, ◌&&◌, ap₂, subst, Bool, true, false, List, [], ◌∷◌, Option, Some, None, is_some, inl, inr, refl, codes}
 use Rattle.std.specs.Prelude.{IfSome, if◌then◌else◌, drop}
 use Rattle.std.specs.Str.{bytes_eq}
 use Rattle.clap.specs.Kinds.{value_kinds, values_kinds}
+use Rattle.clap.specs.ValueTests.{accepts}
+use Rattle.clap.specs.Values.{refused_kind}
 use Rattle.clap.specs.Faults.{check_fault, defaults_fault, entered_fault, fault_of, level_fault, settle_fault, walk_fault}
 use Rattle.clap.specs.Simple.{Shape, built, built_leaf, entered, filled, help_rule, help_shape, inherited, marked_built, names_of, on_top, rows_at, subcommand_of, with_leaf_noted}
 use Rattle.clap.specs.Takes.{is_given}
 use Rattle.clap.specs.Walk.{Row, Rule, Text, first_of, nothing_held, rows_after, settled, walk, walk_from}
+use Rattle.clap.specs.declared.builder.value_parser.ValueParser.{ValueParser}
 use Rattle.clap.specs.declared.error.kind.ErrorKind.TheVariants as kind
-use Rattle.tcap_words.specs.CommandLine.{blame_shape, chart_rule, check_shape, explain_shape, end_rule, ends_parser, flag_rule, judge_shape, left_out_rule, needed_rule, show_shape, table_shape, tool, with_path}
-use Rattle.tcap_words.specs.Words.{is_letter}
+use Rattle.tcap_words.specs.CommandLine.{blame_shape, check_shape, choice_parser, end_rule, explain_shape, file_rule, flag_rule, ids_rule, judge_shape, left_out_rule, letters, linger_rule, needed_rule, number_parser, show_shape, table_shape, tables_rule, test_shape, tool, traces_rule, with_path}
+use Rattle.tcap_words.specs.Words.{is_ids_word, is_letter, is_number}
 use Rattle.tcap_words.proofs.Help.{or_empty}
-use Rattle.tcap_words.proofs.Letters.{may_have, may_have_any}
-use Rattle.tcap_words.proofs.Valued.{AllGood, Fits, Valued, end_valued, first_there, letter_there}
+use Rattle.tcap_words.proofs.Letters.{may_have, may_have_all, may_have_any, test_of}
+use Rattle.tcap_words.proofs.Valued.{AllGood, Fits, Valued, end_valued, first_fits, first_there}
 use Rattle.tcap_words.proofs.Tool.{apart}
 
 -- a subcommand, as a parse builds it
@@ -36,6 +38,9 @@ blame_built = sub_built blame_shape
 abbrev pub table_built : Shape
 table_built = sub_built table_shape
 
+abbrev pub test_built : Shape
+test_built = sub_built test_shape
+
 -- the paths that all need are there
 abbrev pub HasTwoPaths : List Row → Type 0
 HasTwoPaths rows = (is_some (first_of (codes "RECORD") rows) ≡ true)
@@ -44,6 +49,12 @@ HasTwoPaths rows = (is_some (first_of (codes "RECORD") rows) ≡ true)
 -- where an end is named, its letter is
 abbrev pub HasLetter : List Row → Type 0
 HasLetter rows = IfSome (first_of (codes "end") rows) (λ word. is_letter word ≡ true)
+
+-- what `test` is asked by an end, by a word for IDs and by a number, is that
+abbrev pub HasAsked : List Row → Type 0
+HasAsked rows = IfSome (first_of (codes "of") rows) (λ word. is_letter word ≡ true)
+    × IfSome (first_of (codes "ids") rows) (λ word. is_ids_word word ≡ true)
+    × IfSome (first_of (codes "linger") rows) (λ word. is_number word ≡ true)
 
 -- and that of a certificate, which `check` needs too
 abbrev pub HasPaths : List Row → Type 0
@@ -98,27 +109,41 @@ one_given rows true is_x e = refl
 one_given rows false is_x e =
     let bad : kind.MissingRequiredArgument ∷ [] ≡ [] = rw is_x at e in cc
 
--- the values that pass the parser of `--end` are letters of ends
-ends_fit : (ignore_case : Bool) (values : List Text) → ignore_case ≡ false
-    → values_kinds ignore_case ends_parser values ≡ [] → list_all (may_have (codes "end")) values ≡ true
-ends_fit ignore_case [] is e = refl
-ends_fit ignore_case (v ∷ vs) is e =
-    let p = or_empty (value_kinds ignore_case ends_parser v) (values_kinds ignore_case ends_parser vs) e in
-    ap₂ (λ b d. b && d) (accepted (is_letter v) (ap (λ i. value_kinds i ends_parser v) (sym is) ∙ p.0))
-    (ends_fit ignore_case vs is p.1)
+-- the values that pass a parser are those that the argument may have
+parser_fits : (id : Text) (ignore_case : Bool) (parser : ValueParser)
+    → ((v : Text) → may_have id v ≡ accepts ignore_case parser v) → (values : List Text)
+    → values_kinds ignore_case parser values ≡ [] → may_have_all id values ≡ true
+parser_fits id ignore_case parser same [] e = refl
+parser_fits id ignore_case parser same (v ∷ vs) e =
+    let p = or_empty (value_kinds ignore_case parser v) (values_kinds ignore_case parser vs) e in
+    ap₂ (λ b d. b && d) (same v ∙ accepted (accepts ignore_case parser v) p.0)
+    (parser_fits id ignore_case parser same vs p.1)
   where
-    accepted : (b : Bool) → (if b then [] else kind.InvalidValue ∷ []) ≡ [] → b ≡ true
+    accepted : (b : Bool) → (if b then [] else refused_kind parser ∷ []) ≡ [] → b ≡ true
     accepted true none = refl
     accepted false none = cc
 
-other_fits : (a : Rule) → bytes_eq (codes "end") a.id ≡ false → Fits a
-other_fits a other = (λ values e. may_have_any a.id other values, may_have_any a.id other a.defaults)
+other_fits : (a : Rule) → test_of a.id ≡ None → Fits a
+other_fits a none = (λ values e. may_have_any a.id none values, may_have_any a.id none a.defaults)
 
-abbrev end_fits : Fits (filled end_rule)
-end_fits = (λ values e. ends_fit false values refl e, refl)
+abbrev end_fits : Fits (filled (end_rule (codes "end")))
+end_fits = (λ values e. parser_fits (codes "end") false (choice_parser letters) (λ v. refl) values e, refl)
 
-path_fits : (id : Text) → bytes_eq (codes "end") id ≡ false → Fits (filled (needed_rule id))
-path_fits id other = other_fits (filled (needed_rule id)) other
+abbrev of_fits : Fits (filled (end_rule (codes "of")))
+of_fits = (λ values e. parser_fits (codes "of") false (choice_parser letters) (λ v. refl) values e, refl)
+
+abbrev ids_fits : Fits (filled ids_rule)
+ids_fits = (
+  λ values e. parser_fits (codes "ids") false (choice_parser (codes "again" ∷ codes "settled" ∷ codes "once" ∷ []))
+      (λ v. refl) values e,
+  refl,
+)
+
+abbrev linger_fits : Fits (filled linger_rule)
+linger_fits = (λ values e. parser_fits (codes "linger") false number_parser (λ v. refl) values e, refl)
+
+path_fits : (id : Text) → test_of id ≡ None → Fits (filled (needed_rule id))
+path_fits id none = other_fits (filled (needed_rule id)) none
 
 help_fits : Fits (filled help_rule)
 help_fits = other_fits (filled help_rule) refl
@@ -166,7 +191,7 @@ explain_good = (
       (
         (end_fits, inl refl),
         (
-          (other_fits (filled chart_rule) refl, inl refl),
+          (other_fits (filled (file_rule (codes "chart"))) refl, inl refl),
           ((help_fits, inr (inl refl)), tt),
         ),
       ),
@@ -191,6 +216,37 @@ table_good = (
   ((help_fits, inr (inl refl)), tt),
 )
 
+test_good : AllGood test_built.rules
+unfolding tool
+test_good = (
+  (other_fits (filled traces_rule) refl, inl refl),
+  (
+    (of_fits, inl refl),
+    (
+      (other_fits (filled tables_rule) refl, inl refl),
+      (
+        (ids_fits, inl refl),
+        (
+          (other_fits (filled (flag_rule (codes "complete"))) refl, inr (inr refl)),
+          (
+            (linger_fits, inl refl),
+            (
+              (other_fits (filled (file_rule (codes "json"))) refl, inl refl),
+              (
+                (other_fits (filled (file_rule (codes "junit"))) refl, inl refl),
+                (
+                  (other_fits (filled (flag_rule (codes "progress"))) refl, inr (inr refl)),
+                  ((help_fits, inr (inl refl)), tt),
+                ),
+              ),
+            ),
+          ),
+        ),
+      ),
+    ),
+  ),
+)
+
 -- behind words at which a subcommand has no fault, its rows have values, and its last checks find nothing
 level_valued : (s : Shape) → AllGood s.rules → (words : List Text) → level_fault s [] nothing_held words false [] ≡ []
     → Valued (rows_after s.rules [] words) × (check_fault s (rows_after s.rules [] words) false ≡ [])
@@ -212,7 +268,7 @@ check_paths words e =
         first_there (codes "CERT") rows level.0 given.2,
         (first_there (codes "RECORD") rows level.0 given.0, first_there (codes "TABLE") rows level.0 given.1),
       ),
-      letter_there rows level.0,
+      first_fits (codes "end") rows level.0,
     )
 
 judge_paths : (words : List Text) → level_fault judge_built [] nothing_held words false [] ≡ []
@@ -222,7 +278,7 @@ judge_paths words e =
     let level = level_valued judge_built judge_good words e in
     let given = both_given rows _ _ refl refl level.1 in (
       (first_there (codes "RECORD") rows level.0 given.0, first_there (codes "TABLE") rows level.0 given.1),
-      letter_there rows level.0,
+      first_fits (codes "end") rows level.0,
     )
 
 explain_paths : (words : List Text) → level_fault explain_built [] nothing_held words false [] ≡ []
@@ -232,7 +288,7 @@ explain_paths words e =
     let level = level_valued explain_built explain_good words e in
     let given = explain_given rows _ _ refl refl level.1 in (
       (first_there (codes "RECORD") rows level.0 given.0, first_there (codes "TABLE") rows level.0 given.1),
-      letter_there rows level.0,
+      first_fits (codes "end") rows level.0,
     )
 
 blame_paths : (words : List Text) → level_fault blame_built [] nothing_held words false [] ≡ []
@@ -250,6 +306,13 @@ table_path words e =
     let level = level_valued table_built table_good words e in
     first_there (codes "TABLE") rows level.0 (one_given rows _ refl level.1)
 
+test_asked : (words : List Text) → level_fault test_built [] nothing_held words false [] ≡ []
+    → HasAsked (rows_after test_built.rules [] words)
+test_asked words e =
+    let rows = rows_after test_built.rules [] words in
+    let level = level_valued test_built test_good words e in
+    (first_fits (codes "of") rows level.0, first_fits (codes "ids") rows level.0, first_fits (codes "linger") rows level.0)
+
 same_some : {X : Type 0} (x y : X) → Some x ≡ Some y → x ≡ y
 same_some x y e = cc
 
@@ -263,16 +326,19 @@ HasNeeded found = (found.0 ≡ codes "check" → HasPaths found.1 × HasLetter f
     × (found.0 ≡ codes "explain" → HasTwoPaths found.1 × HasLetter found.1)
     × (found.0 ≡ codes "blame" → HasTwoPaths found.1)
     × (found.0 ≡ codes "table" → is_some (first_of (codes "TABLE") found.1) ≡ true)
+    × (found.0 ≡ codes "test" → HasAsked found.1)
 
 -- another subcommand needs nothing
 needs_nothing : (found : Text × List Row) → (found.0 ≡ codes "check" → ⊥) → (found.0 ≡ codes "judge" → ⊥)
-    → (found.0 ≡ codes "explain" → ⊥) → (found.0 ≡ codes "blame" → ⊥) → (found.0 ≡ codes "table" → ⊥) → HasNeeded found
-needs_nothing found not_check not_judge not_explain not_blame not_table = (
+    → (found.0 ≡ codes "explain" → ⊥) → (found.0 ≡ codes "blame" → ⊥) → (found.0 ≡ codes "table" → ⊥)
+    → (found.0 ≡ codes "test" → ⊥) → HasNeeded found
+needs_nothing found not_check not_judge not_explain not_blame not_table not_test = (
   λ e. absurd (not_check e),
   λ e. absurd (not_judge e),
   λ e. absurd (not_explain e),
   λ e. absurd (not_blame e),
   λ e. absurd (not_table e),
+  λ e. absurd (not_test e),
 )
 
 -- words with no fault give what the subcommand needs
@@ -288,18 +354,19 @@ needed_there words found e is =
     let b = or_empty (entered_fault (built tool) stop) _ a.1 in
     go stop b.0 is
   where
-    at : (p : Text × List Text) (show pack check judge explain blame table help : Bool) → bytes_eq (codes "show") p.0 ≡ show
+    at : (p : Text × List Text) (show pack check judge explain blame table test help : Bool) → bytes_eq (codes "show") p.0 ≡ show
         → bytes_eq (codes "pack") p.0 ≡ pack
         → bytes_eq (codes "check") p.0 ≡ check
         → bytes_eq (codes "judge") p.0 ≡ judge
         → bytes_eq (codes "explain") p.0 ≡ explain
         → bytes_eq (codes "blame") p.0 ≡ blame
         → bytes_eq (codes "table") p.0 ≡ table
+        → bytes_eq (codes "test") p.0 ≡ test
         → bytes_eq (codes "help") p.0 ≡ help
         → entered_fault (built tool) (Some p) ≡ []
         → entered (built tool) (Some p) ≡ Some found → HasNeeded found
-    at p true pack check judge explain blame table help
-        is_show is_pack is_check is_judge is_explain is_blame is_table is_help e is =
+    at p true pack check judge explain blame table test help
+        is_show is_pack is_check is_judge is_explain is_blame is_table is_test is_help e is =
         let rows = rows_at (sub_built show_shape) p.1 in
         let it : Some rows ≡ Some found =
         rw is_show at is in
@@ -308,9 +375,10 @@ needed_there words found e is =
         (apart (codes "show") (codes "judge") refl refl)
         (apart (codes "show") (codes "explain") refl refl)
         (apart (codes "show") (codes "blame") refl refl)
-        (apart (codes "show") (codes "table") refl refl))
-    at p false true check judge explain blame table help
-        is_show is_pack is_check is_judge is_explain is_blame is_table is_help e is =
+        (apart (codes "show") (codes "table") refl refl)
+        (apart (codes "show") (codes "test") refl refl))
+    at p false true check judge explain blame table test help
+        is_show is_pack is_check is_judge is_explain is_blame is_table is_test is_help e is =
         let rows = rows_at (sub_built (with_path (codes "pack") (codes "LINES"))) p.1 in
         let it : Some rows ≡ Some found =
         rw (is_show, is_pack) at is in
@@ -319,9 +387,10 @@ needed_there words found e is =
         (apart (codes "pack") (codes "judge") refl refl)
         (apart (codes "pack") (codes "explain") refl refl)
         (apart (codes "pack") (codes "blame") refl refl)
-        (apart (codes "pack") (codes "table") refl refl))
-    at p false false true judge explain blame table help
-        is_show is_pack is_check is_judge is_explain is_blame is_table is_help e is =
+        (apart (codes "pack") (codes "table") refl refl)
+        (apart (codes "pack") (codes "test") refl refl))
+    at p false false true judge explain blame table test help
+        is_show is_pack is_check is_judge is_explain is_blame is_table is_test is_help e is =
         let it : Some (rows_at check_built p.1) ≡ Some found = rw (is_show, is_pack, is_check) at is in
         let clear : level_fault check_built [] nothing_held p.1 false [] ≡ [] =
         rw (is_show, is_pack, is_check) at e in
@@ -331,9 +400,10 @@ needed_there words found e is =
           λ e. absurd (apart (codes "check") (codes "explain") refl refl e),
           λ e. absurd (apart (codes "check") (codes "blame") refl refl e),
           λ e. absurd (apart (codes "check") (codes "table") refl refl e),
+          λ e. absurd (apart (codes "check") (codes "test") refl refl e),
         )
-    at p false false false true explain blame table help
-        is_show is_pack is_check is_judge is_explain is_blame is_table is_help e is =
+    at p false false false true explain blame table test help
+        is_show is_pack is_check is_judge is_explain is_blame is_table is_test is_help e is =
         let it : Some (rows_at judge_built p.1) ≡ Some found = rw (is_show, is_pack, is_check, is_judge) at is in
         let clear : level_fault judge_built [] nothing_held p.1 false [] ≡ [] =
         rw (is_show, is_pack, is_check, is_judge) at e in
@@ -343,9 +413,10 @@ needed_there words found e is =
           λ e. absurd (apart (codes "judge") (codes "explain") refl refl e),
           λ e. absurd (apart (codes "judge") (codes "blame") refl refl e),
           λ e. absurd (apart (codes "judge") (codes "table") refl refl e),
+          λ e. absurd (apart (codes "judge") (codes "test") refl refl e),
         )
-    at p false false false false true blame table help
-        is_show is_pack is_check is_judge is_explain is_blame is_table is_help e is =
+    at p false false false false true blame table test help
+        is_show is_pack is_check is_judge is_explain is_blame is_table is_test is_help e is =
         let it : Some (rows_at explain_built p.1) ≡ Some found = rw (is_show, is_pack, is_check, is_judge, is_explain) at is in
         let clear : level_fault explain_built [] nothing_held p.1 false [] ≡ [] =
         rw (is_show, is_pack, is_check, is_judge, is_explain) at e in
@@ -355,9 +426,10 @@ needed_there words found e is =
           λ e. explain_paths p.1 clear,
           λ e. absurd (apart (codes "explain") (codes "blame") refl refl e),
           λ e. absurd (apart (codes "explain") (codes "table") refl refl e),
+          λ e. absurd (apart (codes "explain") (codes "test") refl refl e),
         )
-    at p false false false false false true table help
-        is_show is_pack is_check is_judge is_explain is_blame is_table is_help e is =
+    at p false false false false false true table test help
+        is_show is_pack is_check is_judge is_explain is_blame is_table is_test is_help e is =
         let it : Some (rows_at blame_built p.1) ≡ Some found = rw (is_show, is_pack, is_check, is_judge, is_explain, is_blame) at is in
         let clear : level_fault blame_built [] nothing_held p.1 false [] ≡ [] =
         rw (is_show, is_pack, is_check, is_judge, is_explain, is_blame) at e in
@@ -367,9 +439,10 @@ needed_there words found e is =
           λ e. absurd (apart (codes "blame") (codes "explain") refl refl e),
           λ e. blame_paths p.1 clear,
           λ e. absurd (apart (codes "blame") (codes "table") refl refl e),
+          λ e. absurd (apart (codes "blame") (codes "test") refl refl e),
         )
-    at p false false false false false false true help
-        is_show is_pack is_check is_judge is_explain is_blame is_table is_help e is =
+    at p false false false false false false true test help
+        is_show is_pack is_check is_judge is_explain is_blame is_table is_test is_help e is =
         let it : Some (rows_at table_built p.1) ≡ Some found = rw (is_show, is_pack, is_check, is_judge, is_explain, is_blame, is_table) at is in
         let clear : level_fault table_built [] nothing_held p.1 false [] ≡ [] =
         rw (is_show, is_pack, is_check, is_judge, is_explain, is_blame, is_table) at e in
@@ -379,21 +452,37 @@ needed_there words found e is =
           λ e. absurd (apart (codes "table") (codes "explain") refl refl e),
           λ e. absurd (apart (codes "table") (codes "blame") refl refl e),
           λ e. table_path p.1 clear,
+          λ e. absurd (apart (codes "table") (codes "test") refl refl e),
         )
-    at p false false false false false false false true
-        is_show is_pack is_check is_judge is_explain is_blame is_table is_help e is =
+    at p false false false false false false false true help
+        is_show is_pack is_check is_judge is_explain is_blame is_table is_test is_help e is =
+        let it : Some (rows_at test_built p.1) ≡ Some found =
+        rw (is_show, is_pack, is_check, is_judge, is_explain, is_blame, is_table, is_test) at is in
+        let clear : level_fault test_built [] nothing_held p.1 false [] ≡ [] =
+        rw (is_show, is_pack, is_check, is_judge, is_explain, is_blame, is_table, is_test) at e in
+        subst HasNeeded (same_some _ _ it) (
+          λ e. absurd (apart (codes "test") (codes "check") refl refl e),
+          λ e. absurd (apart (codes "test") (codes "judge") refl refl e),
+          λ e. absurd (apart (codes "test") (codes "explain") refl refl e),
+          λ e. absurd (apart (codes "test") (codes "blame") refl refl e),
+          λ e. absurd (apart (codes "test") (codes "table") refl refl e),
+          λ e. test_asked p.1 clear,
+        )
+    at p false false false false false false false false true
+        is_show is_pack is_check is_judge is_explain is_blame is_table is_test is_help e is =
         let rows = rows_at (sub_built help_shape) p.1 in
         let it : Some rows ≡ Some found =
-        rw (is_show, is_pack, is_check, is_judge, is_explain, is_blame, is_table, is_help) at is in
+        rw (is_show, is_pack, is_check, is_judge, is_explain, is_blame, is_table, is_test, is_help) at is in
         subst HasNeeded (same_some rows found it)
         (needs_nothing rows (apart (codes "help") (codes "check") refl refl)
         (apart (codes "help") (codes "judge") refl refl)
         (apart (codes "help") (codes "explain") refl refl)
         (apart (codes "help") (codes "blame") refl refl)
-        (apart (codes "help") (codes "table") refl refl))
-    at p false false false false false false false false
-        is_show is_pack is_check is_judge is_explain is_blame is_table is_help e is =
-        absurd (not_some found (rw (is_show, is_pack, is_check, is_judge, is_explain, is_blame, is_table, is_help)
+        (apart (codes "help") (codes "table") refl refl)
+        (apart (codes "help") (codes "test") refl refl))
+    at p false false false false false false false false false
+        is_show is_pack is_check is_judge is_explain is_blame is_table is_test is_help e is =
+        absurd (not_some found (rw (is_show, is_pack, is_check, is_judge, is_explain, is_blame, is_table, is_test, is_help)
         at is))
 
     go : (stop : Option (Text × List Text)) → entered_fault (built tool) stop ≡ []
@@ -402,4 +491,5 @@ needed_there words found e is =
     go (Some p) e is =
         at p (bytes_eq (codes "show") p.0) (bytes_eq (codes "pack") p.0) (bytes_eq (codes "check") p.0)
         (bytes_eq (codes "judge") p.0) (bytes_eq (codes "explain") p.0) (bytes_eq (codes "blame") p.0)
-        (bytes_eq (codes "table") p.0) (bytes_eq (codes "help") p.0) refl refl refl refl refl refl refl refl e is
+        (bytes_eq (codes "table") p.0) (bytes_eq (codes "test") p.0) (bytes_eq (codes "help") p.0)
+        refl refl refl refl refl refl refl refl refl e is

@@ -7,9 +7,9 @@ use Rattle.tcap_record.specs.declared.entry.End.{End as Side}
 use Rattle.tcap_record.specs.declared.entry.End.TheVariants as sides
 use Rattle.tcap_record.specs.Ends.{letter}
 use Rattle.tcap_words.specs.CommandLine.{tool}
-use Rattle.tcap_words.specs.Words.{Asks, IsBlame, IsCheck, IsCheckEnd, IsExplain, IsJudge, IsJudgeEnd, IsPack, IsShow, IsTable, blamed_paths, checked_paths, end_value, explained_paths, judged_paths, named_with, named_with_chart, named_with_flag, named_with_flags, named_with_paths, named_with_two, path_text, shown_path}
+use Rattle.tcap_words.specs.Words.{Asks, IsBlame, IsCheck, IsCheckEnd, IsExplain, IsJudge, IsJudgeEnd, IsPack, IsShow, IsTable, IsTest, Tested, blamed_paths, checked_paths, end_value, explained_paths, judged_paths, named_with, named_with_chart, named_with_flag, named_with_flags, named_with_paths, named_with_traces, named_with_two, path_text, shown_path, tested}
 use Rattle.tcap_words.specs.declared.asked.Request.{Request}
-use Rattle.tcap_words.specs.declared.asked.Request.TheVariants.{Show, Pack, Check, CheckEnd, Judge, JudgeEnd, Explain, Blame, Table}
+use Rattle.tcap_words.specs.declared.asked.Request.TheVariants.{Show, Pack, Check, CheckEnd, Judge, JudgeEnd, Explain, Blame, Table, Test}
 use Rattle.tcap_words.proofs.Tool.{apart}
 
 pub some_same : {X : Type 0} (a b : X) → Some a ≡ Some b → a ≡ b
@@ -51,6 +51,7 @@ word_of (JudgeEnd side x y flag) = codes "judge"
 word_of (Explain x y z side file) = codes "explain"
 word_of (Blame x y) = codes "blame"
 word_of (Table x) = codes "table"
+word_of (Test x) = codes "test"
 
 word_asked : (words : List Text) (r : Request) → Asks words r → name_in (subcommand_of tool words) ≡ Some (word_of r)
 word_asked words (Show path why lines) asks = name_kept shown_path (subcommand_of tool words) ∙ ap name_in asks
@@ -62,6 +63,7 @@ word_asked words (JudgeEnd side x y flag) asks = name_kept judged_paths (subcomm
 word_asked words (Explain x y z side file) asks = name_kept explained_paths (subcommand_of tool words) ∙ ap name_in asks.0
 word_asked words (Blame x y) asks = name_kept blamed_paths (subcommand_of tool words) ∙ ap name_in asks
 word_asked words (Table x) asks = name_kept (first_of (codes "TABLE")) (subcommand_of tool words) ∙ ap name_in asks
+word_asked words (Test x) asks = name_kept tested (subcommand_of tool words) ∙ ap name_in asks
 
 -- words name one subcommand
 one_word : {X : Type 0} (reads : List Row → X) (words : List Text) (name : Text) (x : X) (r : Request)
@@ -105,6 +107,8 @@ show_only words text f g (Explain a b z side file) is asks =
     (one_word shown_path words _ _ (Explain a b z side file) is asks)
 show_only words text f g (Blame a b) is asks =
     apart (codes "show") (codes "blame") refl refl (one_word shown_path words _ _ (Blame a b) is asks)
+show_only words text b d (Test t) is asks =
+    apart (codes "show") (codes "test") refl refl (one_word shown_path words _ _ (Test t) is asks)
 
 pub pack_only : (words : List Text) (text : Option Text) (r : Request)
     → named_with (codes "LINES") words ≡ Some (codes "pack", text) → Asks words r → IsPack text r
@@ -129,6 +133,8 @@ pack_only words text (Blame a b) is asks =
     apart (codes "pack") (codes "blame") refl refl (one_word (first_of (codes "LINES")) words _ _ (Blame a b) is asks)
 pack_only words text (Table t) is asks =
     apart (codes "pack") (codes "table") refl refl (one_word (first_of (codes "LINES")) words _ _ (Table t) is asks)
+pack_only words text (Test t) is asks =
+    apart (codes "pack") (codes "test") refl refl (one_word (first_of (codes "LINES")) words _ _ (Test t) is asks)
 
 -- the three paths of `check`
 abbrev three : Text → Text → Text → Option (Text × (Option Text × Option Text × Option Text))
@@ -161,6 +167,8 @@ check_only words x y z (Explain a b d side file) is none asks =
     (one_word checked_paths words _ _ (Explain a b d side file) is asks)
 check_only words x y z (Blame a b) is none asks =
     apart (codes "check") (codes "blame") refl refl (one_word checked_paths words _ _ (Blame a b) is asks)
+check_only words x y z (Test t) is none asks =
+    apart (codes "check") (codes "test") refl refl (one_word checked_paths words _ _ (Test t) is asks)
 
 pub check_end_only : (words : List Text) (side : Side) (x y z : Text) (r : Request)
     → named_with_paths words ≡ Some (codes "check", (Some x, Some y, Some z)) → end_value words ≡ Some (letter side)
@@ -184,6 +192,8 @@ check_end_only words other x y z (Explain a b d side file) is at asks =
     (one_word checked_paths words _ _ (Explain a b d side file) is asks)
 check_end_only words other x y z (Blame a b) is at asks =
     apart (codes "check") (codes "blame") refl refl (one_word checked_paths words _ _ (Blame a b) is asks)
+check_end_only words side x y z (Test t) is at asks =
+    apart (codes "check") (codes "test") refl refl (one_word checked_paths words _ _ (Test t) is asks)
 
 -- the two paths of `judge`, and its flag
 abbrev two : Text → Text → Bool → Option (Text × (Option Text × Option Text × Bool))
@@ -217,6 +227,8 @@ judge_only words x y flag (Explain a b z side file) is none asks =
     (one_word judged_paths words _ _ (Explain a b z side file) is asks)
 judge_only words x y flag (Blame a b) is none asks =
     apart (codes "judge") (codes "blame") refl refl (one_word judged_paths words _ _ (Blame a b) is asks)
+judge_only words x y flag (Test t) is none asks =
+    apart (codes "judge") (codes "test") refl refl (one_word judged_paths words _ _ (Test t) is asks)
 
 pub judge_end_only : (words : List Text) (side : Side) (x y : Text) (flag : Bool) (r : Request)
     → named_with_flag words ≡ Some (codes "judge", (Some x, Some y, flag)) → end_value words ≡ Some (letter side)
@@ -240,6 +252,8 @@ judge_end_only words other x y flag (Explain a b z side file) is at asks =
     (one_word judged_paths words _ _ (Explain a b z side file) is asks)
 judge_end_only words other x y flag (Blame a b) is at asks =
     apart (codes "judge") (codes "blame") refl refl (one_word judged_paths words _ _ (Blame a b) is asks)
+judge_end_only words side x y flag (Test t) is at asks =
+    apart (codes "judge") (codes "test") refl refl (one_word judged_paths words _ _ (Test t) is asks)
 
 -- the two paths of `blame`
 abbrev pair_of : Text → Text → Option (Text × (Option Text × Option Text))
@@ -271,6 +285,8 @@ blame_only words x y (Explain a b z side file) is asks =
     (one_word blamed_paths words _ _ (Explain a b z side file) is asks)
 blame_only words x y (JudgeEnd side a b set) is asks =
     apart (codes "blame") (codes "judge") refl refl (one_word blamed_paths words _ _ (JudgeEnd side a b set) is asks)
+blame_only words x y (Test t) is asks =
+    apart (codes "blame") (codes "test") refl refl (one_word blamed_paths words _ _ (Test t) is asks)
 
 -- the paths of `explain`, and the file of its chart
 abbrev four : Option Text → Option Text → Option Text → Option Text
@@ -314,6 +330,8 @@ explain_only words x y z side file (JudgeEnd other a b set) is at asks =
     apart (codes "explain") (codes "judge") refl refl (one_word explained_paths words _ _ (JudgeEnd other a b set) is asks)
 explain_only words x y z side file (Blame a b) is at asks =
     apart (codes "explain") (codes "blame") refl refl (one_word explained_paths words _ _ (Blame a b) is asks)
+explain_only words x y z side file (Test t) is at asks =
+    apart (codes "explain") (codes "test") refl refl (one_word explained_paths words _ _ (Test t) is asks)
 
 pub table_only : (words : List Text) (x : Text) (r : Request)
     → named_with (codes "TABLE") words ≡ Some (codes "table", Some x) → Asks words r → IsTable x r
@@ -339,3 +357,27 @@ table_only words x (Explain a b z side file) is asks =
     (one_word (first_of (codes "TABLE")) words _ _ (Explain a b z side file) is asks)
 table_only words x (Blame a b) is asks =
     apart (codes "table") (codes "blame") refl refl (one_word (first_of (codes "TABLE")) words _ _ (Blame a b) is asks)
+table_only words x (Test t) is asks =
+    apart (codes "table") (codes "test") refl refl (one_word (first_of (codes "TABLE")) words _ _ (Test t) is asks)
+
+pub test_only : (words : List Text) (x : Tested) (r : Request) → named_with_traces words ≡ Some (codes "test", x)
+    → Asks words r → IsTest x r
+test_only words x (Test t) is asks = some_same _ _ (ap value_in (sym asks ∙ is))
+test_only words x (Show path why lines) is asks =
+    apart (codes "test") (codes "show") refl refl (one_word tested words _ _ (Show path why lines) is asks)
+test_only words x (Pack path) is asks =
+    apart (codes "test") (codes "pack") refl refl (one_word tested words _ _ (Pack path) is asks)
+test_only words x (Check a b c) is asks =
+    apart (codes "test") (codes "check") refl refl (one_word tested words _ _ (Check a b c) is asks)
+test_only words x (CheckEnd side a b c) is asks =
+    apart (codes "test") (codes "check") refl refl (one_word tested words _ _ (CheckEnd side a b c) is asks)
+test_only words x (Judge a b set) is asks =
+    apart (codes "test") (codes "judge") refl refl (one_word tested words _ _ (Judge a b set) is asks)
+test_only words x (JudgeEnd side a b set) is asks =
+    apart (codes "test") (codes "judge") refl refl (one_word tested words _ _ (JudgeEnd side a b set) is asks)
+test_only words x (Explain a b z side file) is asks =
+    apart (codes "test") (codes "explain") refl refl (one_word tested words _ _ (Explain a b z side file) is asks)
+test_only words x (Blame a b) is asks =
+    apart (codes "test") (codes "blame") refl refl (one_word tested words _ _ (Blame a b) is asks)
+test_only words x (Table t) is asks =
+    apart (codes "test") (codes "table") refl refl (one_word tested words _ _ (Table t) is asks)

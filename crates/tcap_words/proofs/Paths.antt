@@ -9,7 +9,7 @@ use Rattle.clap.specs.Kinds.{Kinds, or_else}
 use Rattle.clap.specs.Lexer.{long_of, long_of_rest, short_of, short_of_rest, strip_byte}
 use Rattle.clap.specs.Simple.{Shape}
 use Rattle.clap.specs.Takes.{bundle_passes, default_passes, flag_word_passes, is_valid, level_passes, settle_passes, step_passes, turn_passes, walk_passes, word_passes}
-use Rattle.clap.specs.Walk.{Held, Rule, Step, Text, Walk, arg_by_index, finished, idle, long_or_other, nothing_held, option, plain_word, short_or_plain, to_positional, trailing, value, walk_from, walked, word_met, after_step}
+use Rattle.clap.specs.Walk.{Held, Rule, Step, Text, Walk, arg_by_index, finished, idle, long_or_other, nothing_held, option, plain_word, positional, short_or_plain, to_positional, trailing, value, walk_from, walked, word_met, after_step}
 use Rattle.clap.specs.declared.error.kind.ErrorKind.{ErrorKind}
 use Rattle.tcap_words.specs.Words.{begins_with_hyphen}
 
@@ -88,6 +88,29 @@ module _ (word : Text) (plain : begins_with_hyphen word ≡ false) where
       (to_positional s.rules (arg_by_index s.rules 1) word (walk_from nothing_held) nothing_held)
   unfolding walk_passes
   level s = ap₂ (passes_with s) (turned s) (moved s.rules)
+
+-- where a walk stands behind a word for a positional argument that takes several
+abbrev pub walk_in : ℕ → Held → Walk
+walk_in n h = record (walk_at n h) { waiting = positional }
+
+-- a word that begins with no hyphen is one more for it
+module _ (word : Text) (plain : begins_with_hyphen word ≡ false) where
+  is_one_more : (c : List Rule) (n : ℕ) (h : Held) → word_met c [] false positional n word h ≡ (h, value)
+  is_one_more c n h =
+      ap (λ (b : Bool). if b then (h, trailing n) else long_or_other c positional word (long_of word) h)
+      (not_hyphens word plain)
+      ∙ ap (λ o. long_or_other c positional word o h) (not_long word plain)
+      ∙ ap (λ o. short_or_plain c positional word o h) (not_short word plain)
+
+  pub moved_in : (c : List Rule) (n : ℕ) (h : Held)
+      → walked c [] (walk_in n h) word ≡ to_positional c (arg_by_index c n) word (walk_in n h) h
+  unfolding walked
+  moved_in c n h = ap (λ (p : Held × Step). after_step c word (walk_in n h) p.0 p.1) (is_one_more c n h)
+
+  pub turned_in : (s : Shape) (n : ℕ) (h : Held) → turn_passes s [] (walk_in n h) word ≡ step_passes s n h value
+  turned_in s n h =
+      ap₂ (λ (b : Bool) (p : Held × Step). b && step_passes s n p.0 p.1) (is_no_flag word plain s h)
+      (is_one_more s.rules n h)
 
 -- where a walk stands that waits for the value of this option
 abbrev pub walk_waiting : Text → ℕ → Held → Walk

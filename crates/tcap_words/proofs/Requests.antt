@@ -8,10 +8,10 @@ use Rattle.clap.specs.declared.error.kind.ErrorKind.{ErrorKind}
 use Rattle.tcap_record.specs.declared.entry.End.{End as Side}
 use Rattle.tcap_record.specs.Ends.{letter}
 use Rattle.tcap_words.specs.CommandLine.{tool}
-use Rattle.tcap_words.specs.Words.{Asks, IsBlame, IsCheck, IsCheckEnd, IsExplain, IsFaultOf, IsJudge, IsJudgeEnd, IsMemory, IsPack, IsShow, IsTable, end_value, named_with, named_with_chart, named_with_flag, named_with_flags, named_with_paths, named_with_two}
+use Rattle.tcap_words.specs.Words.{Asks, IsBlame, IsCheck, IsCheckEnd, IsExplain, IsFaultOf, IsJudge, IsJudgeEnd, IsMemory, IsPack, IsShow, IsTable, IsTest, Tested, end_value, named_with, named_with_chart, named_with_flag, named_with_flags, named_with_paths, named_with_traces, named_with_two}
 use Rattle.tcap_words.specs.declared.asked.Request.{Request}
 use Rattle.tcap_words.specs.declared.words.WordsFault.{WordsFault}
-use Rattle.tcap_words.proofs.Only.{blame_only, check_end_only, check_only, explain_only, judge_end_only, judge_only, pack_only, show_only, table_only}
+use Rattle.tcap_words.proofs.Only.{blame_only, check_end_only, check_only, explain_only, judge_end_only, judge_only, pack_only, show_only, table_only, test_only}
 
 -- words that are taken, and ask for nothing but this
 module _ (words known : List Text) (r : Result Request WordsFault) (is : words ≡ known)
@@ -74,6 +74,9 @@ module _ (words known : List Text) (r : Result Request WordsFault) (is : words �
   pub table_asked : (x : Text) → named_with (codes "TABLE") known ≡ Some (codes "table", Some x)
       → MatchResult r (IsTable x) IsMemory
   table_asked x named = asked (IsTable x) (λ a. table_only words x a (ap (named_with (codes "TABLE")) is ∙ named))
+
+  pub test_asked : (x : Tested) → named_with_traces known ≡ Some (codes "test", x) → MatchResult r (IsTest x) IsMemory
+  test_asked x named = asked (IsTest x) (λ a. test_only words x a (ap named_with_traces is ∙ named))
 
 -- words with a fault are refused by it
 pub refused_by : (words known : List Text) (k : ErrorKind) (r : Result Request WordsFault) → words ≡ known

@@ -58,13 +58,13 @@ level_clear s names words has below e =
 pub apart : (a b : Text) → bytes_eq a a ≡ true → bytes_eq a b ≡ false → a ≡ b → ⊥
 apart a b same other e = let bad : true ≡ false = sym same ∙ ap (bytes_eq a) e ∙ other in cc
 
--- the subcommand is one of the seven
+-- the subcommand is one of the eight
 abbrev pub IsKnown : Option Text → Type 0
 IsKnown name = (name ≡ Some (codes "show"))
     ⊎ ((name ≡ Some (codes "pack"))
     ⊎ ((name ≡ Some (codes "check")) ⊎ ((name ≡ Some (codes "judge"))
     ⊎ ((name ≡ Some (codes "explain"))
-    ⊎ ((name ≡ Some (codes "blame")) ⊎ (name ≡ Some (codes "table")))))))
+    ⊎ ((name ≡ Some (codes "blame")) ⊎ ((name ≡ Some (codes "table")) ⊎ (name ≡ Some (codes "test"))))))))
 
 abbrev name_of : Option (Text × List Row) → Option Text
 name_of = option_map (λ p. p.0)
@@ -81,7 +81,7 @@ named words e =
     go stop (finished top.rules (walk top.rules names nothing_held args).held)
     (walk_not top names (walk_from nothing_held) args refl tt clear.0) clear.1
   where
-    at : (p : Text × List Text) (rows : List Row) (show pack check judge explain blame table help : Bool)
+    at : (p : Text × List Text) (rows : List Row) (show pack check judge explain blame table test help : Bool)
         → bytes_eq (codes "show") p.0 ≡ show
         → bytes_eq (codes "pack") p.0 ≡ pack
         → bytes_eq (codes "check") p.0 ≡ check
@@ -89,36 +89,41 @@ named words e =
         → bytes_eq (codes "explain") p.0 ≡ explain
         → bytes_eq (codes "blame") p.0 ≡ blame
         → bytes_eq (codes "table") p.0 ≡ table
+        → bytes_eq (codes "test") p.0 ≡ test
         → bytes_eq (codes "help") p.0 ≡ help → help ≡ false
         → check_fault (built tool).top rows (is_some (entered (built tool) (Some p))) ≡ []
         → IsKnown (name_of (entered (built tool) (Some p)))
-    at p rows true pack check judge explain blame table help
-        is_show is_pack is_check is_judge is_explain is_blame is_table is_help off e =
+    at p rows true pack check judge explain blame table test help
+        is_show is_pack is_check is_judge is_explain is_blame is_table is_test is_help off e =
         inl (rw is_show refl)
-    at p rows false true check judge explain blame table help
-        is_show is_pack is_check is_judge is_explain is_blame is_table is_help off e =
+    at p rows false true check judge explain blame table test help
+        is_show is_pack is_check is_judge is_explain is_blame is_table is_test is_help off e =
         inr (inl (rw (is_show, is_pack) refl))
-    at p rows false false true judge explain blame table help
-        is_show is_pack is_check is_judge is_explain is_blame is_table is_help off e =
+    at p rows false false true judge explain blame table test help
+        is_show is_pack is_check is_judge is_explain is_blame is_table is_test is_help off e =
         inr (inr (inl (rw (is_show, is_pack, is_check) refl)))
-    at p rows false false false true explain blame table help
-        is_show is_pack is_check is_judge is_explain is_blame is_table is_help off e =
+    at p rows false false false true explain blame table test help
+        is_show is_pack is_check is_judge is_explain is_blame is_table is_test is_help off e =
         inr (inr (inr (inl (rw (is_show, is_pack, is_check, is_judge) refl))))
-    at p rows false false false false true blame table help
-        is_show is_pack is_check is_judge is_explain is_blame is_table is_help off e =
+    at p rows false false false false true blame table test help
+        is_show is_pack is_check is_judge is_explain is_blame is_table is_test is_help off e =
         inr (inr (inr (inr (inl (rw (is_show, is_pack, is_check, is_judge, is_explain) refl)))))
-    at p rows false false false false false true table help
-        is_show is_pack is_check is_judge is_explain is_blame is_table is_help off e =
+    at p rows false false false false false true table test help
+        is_show is_pack is_check is_judge is_explain is_blame is_table is_test is_help off e =
         inr (inr (inr (inr (inr (inl (rw (is_show, is_pack, is_check, is_judge, is_explain, is_blame) refl))))))
-    at p rows false false false false false false true help
-        is_show is_pack is_check is_judge is_explain is_blame is_table is_help off e =
-        inr (inr (inr (inr (inr (inr (rw (is_show, is_pack, is_check, is_judge, is_explain, is_blame, is_table) refl))))))
-    at p rows false false false false false false false true
-        is_show is_pack is_check is_judge is_explain is_blame is_table is_help off e = cc
-    at p rows false false false false false false false false
-        is_show is_pack is_check is_judge is_explain is_blame is_table is_help off e =
+    at p rows false false false false false false true test help
+        is_show is_pack is_check is_judge is_explain is_blame is_table is_test is_help off e =
+        inr (inr (inr (inr (inr (inr (inl (rw (is_show, is_pack, is_check, is_judge, is_explain, is_blame, is_table) refl)))))))
+    at p rows false false false false false false false true help
+        is_show is_pack is_check is_judge is_explain is_blame is_table is_test is_help off e =
+        inr (inr (inr (inr (inr (inr (inr
+        (rw (is_show, is_pack, is_check, is_judge, is_explain, is_blame, is_table, is_test) refl)))))))
+    at p rows false false false false false false false false true
+        is_show is_pack is_check is_judge is_explain is_blame is_table is_test is_help off e = cc
+    at p rows false false false false false false false false false
+        is_show is_pack is_check is_judge is_explain is_blame is_table is_test is_help off e =
         let bad : kind.MissingSubcommand ∷ [] ≡ [] =
-        rw (is_show, is_pack, is_check, is_judge, is_explain, is_blame, is_table, is_help) at e in cc
+        rw (is_show, is_pack, is_check, is_judge, is_explain, is_blame, is_table, is_test, is_help) at e in cc
 
     differs : (p : Text × List Text) → NotHelp (Some p) → (help : Bool) → bytes_eq (codes "help") p.0 ≡ help
         → help ≡ false
@@ -135,4 +140,5 @@ named words e =
     go (Some p) rows not_help e =
         at p rows (bytes_eq (codes "show") p.0) (bytes_eq (codes "pack") p.0) (bytes_eq (codes "check") p.0)
         (bytes_eq (codes "judge") p.0) (bytes_eq (codes "explain") p.0) (bytes_eq (codes "blame") p.0)
-        (bytes_eq (codes "table") p.0) (bytes_eq (codes "help") p.0) refl refl refl refl refl refl refl refl (differs p not_help (bytes_eq (codes "help") p.0) refl) e
+        (bytes_eq (codes "table") p.0) (bytes_eq (codes "test") p.0) (bytes_eq (codes "help") p.0)
+        refl refl refl refl refl refl refl refl refl (differs p not_help (bytes_eq (codes "help") p.0) refl) e

@@ -1,5 +1,5 @@
--- Behind words that fail by nothing, each row has a value, and a row of `--end` the letters of ends.
-use Rattle.std.proofs.Common.{◌≡◌, ◌&&◌, ◌⊎◌, ◌++◌, ℕ, zero, suc, inl, inr, Bool, true, false, List, [], ◌∷◌, Option, Some, None, is_some, codes, refl, subst, sym}
+-- Behind words that fail by nothing, each row has a value, and none that its argument may not have.
+use Rattle.std.proofs.Common.{◌≡◌, ◌&&◌, ◌⊎◌, ◌++◌, ℕ, zero, suc, inl, inr, Bool, true, false, List, [], ◌∷◌, Option, Some, None, is_some, refl, subst, sym}
 use Rattle.std.proofs.lemmas.Slice.Eq.{bytes_eq-Decides}
 use Rattle.std.specs.Prelude.{⊤, IfSome, find, fold, if◌then◌else◌, length, nat_lt, option_and_then, slice_get}
 use Rattle.std.specs.Option.{option_map_or}
@@ -19,7 +19,6 @@ use Rattle.clap.specs.declared.builder.value_parser.Reading.{Reading}
 use Rattle.clap.specs.declared.error.kind.ErrorKind.TheVariants as kind
 use Rattle.clap.specs.declared.parser.matches.ValueSource.{ValueSource}
 use Rattle.clap.specs.declared.parser.matches.ValueSource.TheVariants.{DefaultValue, CommandLine}
-use Rattle.tcap_words.specs.Words.{is_letter}
 use Rattle.tcap_words.proofs.Help.{or_empty}
 use Rattle.tcap_words.proofs.Letters.{may_have, may_have_all, more_may_have}
 
@@ -372,24 +371,22 @@ first_there id (r ∷ rs) ok e = go (bytes_eq r.id id) (first_there id rs ok.1) 
     go true later e = has r.values ok.0.0
     go false later e = later e
 
--- the first value of `--end` is the letter of an end
-pub letter_there : (rows : List Row) → Valued rows
-    → IfSome (first_of (codes "end") rows) (λ word. is_letter word ≡ true)
-letter_there [] ok = tt
-letter_there (r ∷ rs) ok = go (bytes_eq r.id (codes "end")) refl (letter_there rs ok.1)
+-- the first value of an argument is one that it may have
+pub first_fits : (id : Text) (rows : List Row) → Valued rows
+    → IfSome (first_of id rows) (λ word. may_have id word ≡ true)
+first_fits id [] ok = tt
+first_fits id (r ∷ rs) ok = go (bytes_eq r.id id) refl (first_fits id rs ok.1)
   where
-    first : (vs : List Text) → may_have_all (codes "end") vs ≡ true
-        → IfSome (slice_get vs 0) (λ word. is_letter word ≡ true)
+    first : (vs : List Text) → may_have_all id vs ≡ true → IfSome (slice_get vs 0) (λ word. may_have id word ≡ true)
     first [] fits = tt
-    first (v ∷ vs) fits = (both (may_have (codes "end") v) (may_have_all (codes "end") vs) fits).0
+    first (v ∷ vs) fits = (both (may_have id v) (may_have_all id vs) fits).0
 
-    go : (b : Bool) → bytes_eq r.id (codes "end") ≡ b
+    go : (b : Bool) → bytes_eq r.id id ≡ b
+        → IfSome (option_and_then (λ (r : Row). slice_get r.values 0) (find (λ (r : Row). bytes_eq r.id id) rs))
+        (λ word. may_have id word ≡ true)
         → IfSome (option_and_then (λ (r : Row). slice_get r.values 0)
-        (find (λ (r : Row). bytes_eq r.id (codes "end")) rs))
-        (λ word. is_letter word ≡ true)
-        → IfSome (option_and_then (λ (r : Row). slice_get r.values 0)
-        (if b then Some r else find (λ (r : Row). bytes_eq r.id (codes "end")) rs)) (λ word. is_letter word ≡ true)
+        (if b then Some r else find (λ (r : Row). bytes_eq r.id id) rs)) (λ word. may_have id word ≡ true)
     go true same later =
         first r.values
-        (subst (λ id. may_have_all id r.values ≡ true) ((bytes_eq-Decides r.id (codes "end")).0 same) ok.0.1)
+        (subst (λ i. may_have_all i r.values ≡ true) ((bytes_eq-Decides r.id id).0 same) ok.0.1)
     go false same later = later

@@ -1,13 +1,15 @@
 -- The command line of `tcapjudge`, which a parse by clap reads.
-use Rattle.std.specs.Prelude.{[], ◌∷◌, Some, codes, map, option_map, true}
+use Rattle.std.specs.Prelude.{[], ◌∷◌, List, Some, codes, map, option_map, true}
 use Rattle.std.specs.Borrow.{Bor}
 use Rattle.clap.specs.Words.{App, Rule, Shape, Text, new_app, new_rule, with_subcommand}
 use Rattle.clap.specs.Simple.{new_shape, on_top}
-use Rattle.clap.specs.declared.builder.action.ArgAction.TheVariants.{Set, SetTrue}
+use Rattle.clap.specs.declared.builder.action.ArgAction.TheVariants.{Append, Set, SetTrue}
 use Rattle.clap.specs.declared.builder.value_parser.ValueParser.{ValueParser}
 use Rattle.clap.specs.declared.builder.value_parser.ValueParser.TheVariants as vp
 use Rattle.tcap_record.specs.declared.entry.End.TheVariants as sides
 use Rattle.tcap_record.specs.Ends.{letter}
+use Rattle.tcap_words.specs.declared.asked.Ids.{Ids}
+use Rattle.tcap_words.specs.declared.asked.Ids.TheVariants.{Again, Settled, Once}
 
 -- what stands at the first place
 abbrev pub at_first : {X : Type 0} → X → Bor X
@@ -33,39 +35,48 @@ needed_rule id = record (new_rule id) { action = Some Set; required = true }
 abbrev pub flag_rule : Text → Rule
 flag_rule name = record (new_rule name) { long = Some name; action = Some SetTrue }
 
--- the letters of the ends are the values that an option may have
-abbrev pub ends_parser : ValueParser
-ends_parser = vp.Names (at_first (at_first (letter sides.A) ∷ at_first (letter sides.B) ∷ []))
+-- the values that an option may have are these
+abbrev pub choice_parser : List Text → ValueParser
+choice_parser choices = vp.Names (at_first (map at_first choices))
 
--- an option whose value is the letter of an end
-abbrev pub end_rule : Rule
-end_rule = record (new_rule (codes "end")) {
-  long = Some (codes "end");
+-- an option of this name, whose value is one of these
+abbrev pub choice_rule : Text → List Text → Rule
+choice_rule name choices = record (new_rule name) {
+  long = Some name;
   action = Some Set;
   value_names = 1;
-  parser = Some ends_parser;
+  parser = Some (choice_parser choices);
 }
+
+-- the letters of the ends
+abbrev pub letters : List Text
+letters = letter sides.A ∷ letter sides.B ∷ []
+
+-- an option of this name, whose value is the letter of an end
+abbrev pub end_rule : Text → Rule
+end_rule name = choice_rule name letters
+
+-- an option of this name, whose value is the path of a file
+abbrev pub file_rule : Text → Rule
+file_rule name = record (new_rule name) { long = Some name; action = Some Set; value_names = 1 }
 
 -- the subcommand of three paths and an end
 abbrev pub check_shape : Shape
 check_shape = record (new_shape (codes "check")) {
-  rules = needed_rule (codes "RECORD") ∷ needed_rule (codes "TABLE") ∷ needed_rule (codes "CERT") ∷ end_rule ∷ [];
+  rules = needed_rule (codes "RECORD") ∷ needed_rule (codes "TABLE") ∷ needed_rule (codes "CERT") ∷ end_rule (codes "end") ∷ [];
 }
 
 -- the subcommand of two paths, a flag and an end
 abbrev pub judge_shape : Shape
 judge_shape = record (new_shape (codes "judge")) {
-  rules = needed_rule (codes "RECORD") ∷ needed_rule (codes "TABLE") ∷ flag_rule (codes "cert") ∷ end_rule ∷ [];
+  rules = needed_rule (codes "RECORD") ∷ needed_rule (codes "TABLE") ∷ flag_rule (codes "cert") ∷ end_rule (codes "end") ∷ [];
 }
-
--- an option whose value is the path of a file
-abbrev pub chart_rule : Rule
-chart_rule = record (new_rule (codes "chart")) { long = Some (codes "chart"); action = Some Set; value_names = 1 }
 
 -- the subcommand of two paths and one that may be left out, an end and a chart
 abbrev pub explain_shape : Shape
 explain_shape = record (new_shape (codes "explain")) {
-  rules = needed_rule (codes "RECORD") ∷ needed_rule (codes "TABLE") ∷ left_out_rule (codes "CERT") ∷ end_rule ∷ chart_rule ∷ [];
+  rules = needed_rule (codes "RECORD") ∷ needed_rule (codes "TABLE") ∷ left_out_rule (codes "CERT")
+      ∷ end_rule (codes "end") ∷ file_rule (codes "chart") ∷ [];
 }
 
 -- the subcommand of two paths
@@ -84,15 +95,55 @@ show_shape = record (new_shape (codes "show")) {
 abbrev pub table_shape : Shape
 table_shape = record (new_shape (codes "table")) { rules = needed_rule (codes "TABLE") ∷ [] }
 
+-- the words of `--ids`
+abbrev pub ids_word : Ids → Text
+ids_word Again = codes "again"
+ids_word Settled = codes "settled"
+ids_word Once = codes "once"
+
+-- the option whose value is one of them
+abbrev pub ids_rule : Rule
+ids_rule = choice_rule (codes "ids") (map ids_word (Again ∷ Settled ∷ Once ∷ []))
+
+-- the option that may stand several times, with the path of a file each time
+abbrev pub tables_rule : Rule
+tables_rule =
+    record (new_rule (codes "table")) { long = Some (codes "table"); action = Some Append; value_names = 1 }
+
+-- a number of `u64`
+abbrev pub number_parser : ValueParser
+number_parser = vp.Unsigned 0 18446744073709551615
+
+-- the option whose value is such a number
+abbrev pub linger_rule : Rule
+linger_rule = record (new_rule (codes "linger")) {
+  long = Some (codes "linger");
+  action = Some Set;
+  value_names = 1;
+  parser = Some number_parser;
+}
+
+-- the positional arguments of which there is one or more
+abbrev pub traces_rule : Rule
+traces_rule = record (new_rule (codes "TRACE")) { action = Some Append; required = true }
+
+-- the subcommand of one path or more, an end, tables, what becomes of IDs, a number, two files and two flags
+abbrev pub test_shape : Shape
+test_shape = record (new_shape (codes "test")) {
+  rules = traces_rule ∷ end_rule (codes "of") ∷ tables_rule ∷ ids_rule ∷ flag_rule (codes "complete") ∷ linger_rule
+      ∷ file_rule (codes "json") ∷ file_rule (codes "junit") ∷ flag_rule (codes "progress") ∷ [];
+}
+
 -- the program with its subcommands
 unfoldable pub tool : App
 tool = with_subcommand (with_subcommand (with_subcommand (with_subcommand (with_subcommand (with_subcommand
-    (with_subcommand bare_tool show_shape) (with_path (codes "pack") (codes "LINES")))
+    (with_subcommand (with_subcommand bare_tool show_shape) (with_path (codes "pack") (codes "LINES")))
     check_shape)
     judge_shape)
     explain_shape)
     blame_shape)
-    table_shape
+    table_shape)
+    test_shape
 
 -- ---- the same command line, wherever the values of its options stand
 

@@ -1,7 +1,6 @@
 -- What the words of the command line of `tcapjudge` ask for.
-use Rattle.std.specs.Prelude.{◌≡◌, ◌≢◌, ◌==◌, Bool, true, false, List, [], ◌∷◌, ℕ, Option, Some, None, codes, option_and_then, option_map, if◌then◌else◌}
-use Rattle.std.specs.Borrow.{Bor}
-use Rattle.std.specs.List.{list_any}
+use Rattle.std.specs.Prelude.{◌≡◌, ◌≢◌, ◌==◌, Bool, true, false, not, List, [], ◌∷◌, ℕ, Option, Some, None, codes, option_and_then, option_map, if◌then◌else◌}
+use Rattle.std.specs.List.{list_all, list_any}
 use Rattle.std.specs.Str.{bytes_eq}
 use Rattle.clap.specs.Words.{Kinds, IsAmong, Row, Text, first_of, kind_of, subcommand_of}
 use Rattle.clap.specs.declared.error.kind.ErrorKind.{ErrorKind}
@@ -11,8 +10,9 @@ use Rattle.tcap_record.specs.declared.entry.End.{End as Side}
 use Rattle.tcap_record.specs.declared.entry.End.TheVariants as sides
 use Rattle.tcap_record.specs.Ends.{letter}
 use Rattle.tcap_words.specs.CommandLine.{tool}
+pub use Rattle.tcap_words.specs.Tests.{Tested, is_ids_word, is_number, is_set, number_of, only_traces, path_text, requested, tested}
 use Rattle.tcap_words.specs.declared.asked.Request.{Request}
-use Rattle.tcap_words.specs.declared.asked.Request.TheVariants.{Show, Pack, Check, CheckEnd, Judge, JudgeEnd, Explain, Blame, Table}
+use Rattle.tcap_words.specs.declared.asked.Request.TheVariants.{Show, Pack, Check, CheckEnd, Judge, JudgeEnd, Explain, Blame, Table, Test}
 use Rattle.tcap_words.specs.declared.words.WordsFault.{WordsFault}
 use Rattle.tcap_words.specs.declared.words.WordsFault.TheVariants.{Words, Memory}
 
@@ -27,11 +27,6 @@ checked_paths rows = (first_of (codes "RECORD") rows, first_of (codes "TABLE") r
 -- the subcommand that the words name, and the first values of the arguments of `check`
 abbrev pub named_with_paths : List Text → Option (Text × (Option Text × Option Text × Option Text))
 named_with_paths words = option_map (λ p. (p.0, checked_paths p.1)) (subcommand_of tool words)
-
--- whether a flag is set: its value is the word `true`
-abbrev pub is_set : Option Text → Bool
-is_set None = false
-is_set (Some value) = bytes_eq value (codes "true")
 
 -- the first values of the arguments of `judge`, and whether its flag is set
 abbrev pub judged_paths : List Row → Option Text × Option Text × Bool
@@ -76,9 +71,9 @@ shown_path rows =
 abbrev pub named_with_flags : List Text → Option (Text × (Option Text × Bool × Bool))
 named_with_flags words = option_map (λ p. (p.0, shown_path p.1)) (subcommand_of tool words)
 
--- the text of a path
-abbrev pub path_text : Option (Bor Text) → Option Text
-path_text = option_map (λ s. s.now)
+-- the subcommand that the words name, and what the values of the arguments of `test` ask
+abbrev pub named_with_traces : List Text → Option (Text × Tested)
+named_with_traces words = option_map (λ p. (p.0, tested p.1)) (subcommand_of tool words)
 
 -- the words ask for this
 abbrev pub Asks : List Text → Request → Type 0
@@ -103,6 +98,7 @@ Asks words (Explain taken table cert side chart) =
     × (end_value words ≡ option_map letter side)
 Asks words (Blame taken table) = named_with_two words ≡ Some (codes "blame", (Some taken.now, Some table.now))
 Asks words (Table table) = named_with (codes "TABLE") words ≡ Some (codes "table", Some table.now)
+Asks words (Test test) = named_with_traces words ≡ Some (codes "test", requested test)
 
 -- to show what this path names, with these flags
 abbrev pub IsShow : Option Text → Bool → Bool → Request → Type 0
@@ -161,10 +157,19 @@ abbrev pub IsTable : Text → Request → Type 0
 IsTable x (Table path) = path.now ≡ x
 IsTable x _ = ⊥
 
+-- to judge the dialogues of traces, where that is asked of them
+abbrev pub IsTest : Tested → Request → Type 0
+IsTest asked (Test test) = requested test ≡ asked
+IsTest asked _ = ⊥
+
 -- the word begins with a hyphen (45), so that it may be no path
 abbrev pub begins_with_hyphen : Text → Bool
 begins_with_hyphen [] = false
 begins_with_hyphen (x ∷ xs) = x == 45
+
+-- none of the words does
+abbrev pub are_plain : List Text → Bool
+are_plain = list_all (λ word. not (begins_with_hyphen word))
 
 -- the word is the letter of an end
 abbrev pub is_letter : Text → Bool

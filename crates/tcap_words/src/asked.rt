@@ -2,8 +2,42 @@
 
 use tcap_record::End;
 
-/// What the program is asked to do.
+/// What becomes of the IDs of a dialogue that is over, as `--ids` has it.
 #[derive(Clone, Copy, Debug, PartialEq, Eq)]
+pub enum Ids {
+    /// They may come again, while messages of that dialogue are still under way.
+    Again,
+    /// They may come again once nothing of that dialogue is under way.
+    Settled,
+    /// Each is used once.
+    Once,
+}
+
+/// What is asked of traces.
+#[derive(Debug, Drop)]
+pub struct Test<'a> {
+    /// The end whose verdicts are asked; both where it is none.
+    pub of: Option<End>,
+    /// The paths of the operation tables or books of them, in order.
+    pub tables: Vec<&'a str>,
+    /// What becomes of the IDs of a dialogue that is over.
+    pub ids: Ids,
+    /// Whether the traces are complete.
+    pub complete: bool,
+    /// The number of entries behind which a dialogue that is over is judged.
+    pub linger: u64,
+    /// The path of the file that the verdicts go to as JSON, where it is asked for.
+    pub json: Option<&'a str>,
+    /// The path of the file that the verdicts go to as JUnit's XML, where it is asked for.
+    pub junit: Option<&'a str>,
+    /// Whether it is said how far the judging is.
+    pub progress: bool,
+    /// The paths of the traces, in order; `-` is the standard input.
+    pub traces: Vec<&'a str>,
+}
+
+/// What the program is asked to do.
+#[derive(Debug, Drop)]
 pub enum Request<'a> {
     /// Print the entries of the record in the file of this path, or on standard input; whether it is said why an entry
     /// or the record is refused; and whether the file holds the lines of hex digits of a record.
@@ -32,4 +66,6 @@ pub enum Request<'a> {
     Blame(&'a str, &'a str),
     /// Print the rows of the operation table in the file of this path.
     Table(&'a str),
+    /// Judge each dialogue of traces.
+    Test(Test<'a>),
 }

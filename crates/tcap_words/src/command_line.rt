@@ -1,13 +1,15 @@
 //! The command line of the program: its subcommands, and the arguments of each.
 
 ghost use Rattle.std.specs.Prelude.{◌≡◌, IfOk, codes, false};
+ghost use Rattle.clap.specs.Walk.{texts};
 ghost use Rattle.clap.specs.Words.{app_of, rule_of, shape_of};
 ghost use Rattle.clap.specs.declared.builder.command.Command.TheViews.{out-Command};
-ghost use Rattle.tcap_words.specs.CommandLine.{blame_shape, chart_rule, check_shape, end_rule, explain_shape, flag_rule};
-ghost use Rattle.tcap_words.specs.CommandLine.{judge_shape, left_out_rule, needed_rule, show_shape, table_shape, with_path};
+ghost use Rattle.tcap_words.specs.CommandLine.{blame_shape, check_shape, choice_rule, end_rule, explain_shape, file_rule};
+ghost use Rattle.tcap_words.specs.CommandLine.{flag_rule, ids_rule, judge_shape, left_out_rule, linger_rule, needed_rule, show_shape};
+ghost use Rattle.tcap_words.specs.CommandLine.{table_shape, tables_rule, test_shape, traces_rule, with_path};
 ghost use Rattle.tcap_words.specs.CommandLine.{placeless, placeless_rule, placeless_shape, tool};
 
-use clap::{Arg, ArgAction, Command};
+use clap::{Arg, ArgAction, Command, value_parser};
 use std::alloc::{AllocError, Global};
 
 /// What the exit statuses mean.
@@ -16,7 +18,8 @@ static STATUSES: &str = "Exit statuses:
   1  REFUTED; of `blame` only BLAMED
   2  NOT SHOWN, UNDECIDED, or refuted where `blame` blames nobody
   3  a line of fault was printed, or the output could not be written
-  4  the words of the command are wrong";
+  4  the words of the command are wrong
+Of `test` 0 says that all pass, 1 that a dialogue fails, 2 that one is inconclusive, 3 that there is an error";
 
 /// A positional argument that may not be left out.
 fn needed_arg<'a>(alloc: Global, id: &'a str, text: &'a str) -> Arg<'a>
@@ -51,29 +54,102 @@ fn flag_arg<'a>(alloc: Global, name: &'a str, text: &'a str) -> Arg<'a>
 /// The letters of the ends, as the words have them.
 static LETTERS: [&str; 2] = ["A", "B"];
 
-/// The option `--end`, whose value is the letter of an end.
-fn end_arg<'a>(alloc: Global) -> Arg<'a>
-    ensures rule { placeless_rule (rule_of result) ≡ end_rule }
+/// The words of the option `--ids`.
+static IDS: [&str; 3] = ["again", "settled", "once"];
+
+/// The option of this name, whose value is one of these.
+fn choice_arg<'a>(
+    alloc: Global,
+    name: &'a str,
+    value: &'a str,
+    choices: &'a [&'a str],
+    text: &'a str,
+) -> Arg<'a>
+    ensures rule { placeless_rule (rule_of result) ≡ choice_rule name.entry.now (texts choices.entry.now) }
     ensures local { result.global ≡ false }
 {
-    Arg::new(alloc, "end")
-        .long("end")
+    Arg::new(alloc, name)
+        .long(name)
         .action(ArgAction::Set)
-        .value_name("END")
-        .value_parser(LETTERS.as_slice())
-        .help("Judges that end alone, whatever its peer sends")
+        .value_name(value)
+        .value_parser(choices)
+        .help(text)
 }
 
-/// The option `--chart`, whose value is the path of a file.
-fn chart_arg<'a>(alloc: Global) -> Arg<'a>
-    ensures rule { rule_of result ≡ chart_rule }
+/// The option `--end`, whose value is the letter of an end.
+fn end_arg<'a>(alloc: Global) -> Arg<'a>
+    ensures rule { placeless_rule (rule_of result) ≡ end_rule (codes "end") }
     ensures local { result.global ≡ false }
 {
-    Arg::new(alloc, "chart")
-        .long("chart")
+    let text = "Judges that end alone, whatever its peer sends";
+    choice_arg(alloc, "end", "END", LETTERS.as_slice(), text)
+}
+
+/// The option of this name, whose value is the path of a file.
+fn file_arg<'a>(alloc: Global, name: &'a str, text: &'a str) -> Arg<'a>
+    ensures rule { rule_of result ≡ file_rule name.entry.now }
+    ensures local { result.global ≡ false }
+{
+    Arg::new(alloc, name)
+        .long(name)
         .action(ArgAction::Set)
         .value_name("FILE")
-        .help("Writes a chart of the run, an SVG, to that file")
+        .help(text)
+}
+
+/// The option `--of`, whose value is the letter of an end.
+fn of_arg<'a>(alloc: Global) -> Arg<'a>
+    ensures rule { placeless_rule (rule_of result) ≡ end_rule (codes "of") }
+    ensures local { result.global ≡ false }
+{
+    let text = "Asks for the verdicts on that end alone; on both where it is left out";
+    choice_arg(alloc, "of", "END", LETTERS.as_slice(), text)
+}
+
+/// The option `--ids`, whose value is one of three words.
+fn ids_arg<'a>(alloc: Global) -> Arg<'a>
+    ensures rule { placeless_rule (rule_of result) ≡ ids_rule }
+    ensures local { result.global ≡ false }
+{
+    let text =
+        "Says how the IDs of a dialogue that is over come again; `again` where it is left out";
+    choice_arg(alloc, "ids", "WORD", IDS.as_slice(), text)
+}
+
+/// The option `--table`, which may stand several times, with the path of a file each time.
+fn tables_arg<'a>(alloc: Global) -> Arg<'a>
+    ensures rule { rule_of result ≡ tables_rule }
+    ensures local { result.global ≡ false }
+{
+    Arg::new(alloc, "table")
+        .long("table")
+        .action(ArgAction::Append)
+        .value_name("FILE")
+        .help("The file of an operation table, or of a book of them; it may stand several times")
+}
+
+/// The option `--linger`, whose value is a number.
+fn linger_arg<'a>(alloc: Global) -> Arg<'a>
+    ensures rule { rule_of result ≡ linger_rule }
+    ensures local { result.global ≡ false }
+{
+    Arg::new(alloc, "linger")
+        .long("linger")
+        .action(ArgAction::Set)
+        .value_name("N")
+        .value_parser(value_parser!(u64))
+        .help("Judges a dialogue that many entries after it is over; 10000 where it is left out")
+}
+
+/// The paths of traces, one or more.
+fn traces_arg<'a>(alloc: Global) -> Arg<'a>
+    ensures rule { rule_of result ≡ traces_rule }
+    ensures local { result.global ≡ false }
+{
+    Arg::new(alloc, "TRACE")
+        .required(true)
+        .action(ArgAction::Append)
+        .help("The file of a trace; the standard input where it is -")
 }
 
 /// The subcommand `check`.
@@ -119,6 +195,11 @@ fn explain_command<'a>(alloc: Global) -> Result<Command<'a>, AllocError>
         "CERT",
         "The file of a certificate to replay; one is searched for where it is left out",
     );
+    let chart = file_arg(
+        alloc,
+        "chart",
+        "Writes a chart of the run, an SVG, to that file",
+    );
     Command::new(alloc, "explain")
         .about("Says in words why a record is lawful, refuted or undecided")
         .after_help("Example: tcapjudge explain record table.json --chart run.svg")
@@ -126,7 +207,7 @@ fn explain_command<'a>(alloc: Global) -> Result<Command<'a>, AllocError>
         .arg(table)?
         .arg(cert)?
         .arg(end_arg(alloc))?
-        .arg(chart_arg(alloc))
+        .arg(chart)
 }
 
 /// The subcommand `blame`.
@@ -192,6 +273,40 @@ fn table_command<'a>(alloc: Global) -> Result<Command<'a>, AllocError>
         .arg(table)
 }
 
+/// The subcommand `test`.
+fn test_command<'a>(alloc: Global) -> Result<Command<'a>, AllocError>
+    ensures { IfOk result (λ c. (placeless_shape (shape_of c) ≡ test_shape) × ((out-Command c).has_globals ≡ false)) }
+{
+    let complete = flag_arg(
+        alloc,
+        "complete",
+        "Takes it that no message is missing from the traces",
+    );
+    let json = file_arg(
+        alloc,
+        "json",
+        "Writes the verdicts to that file, as lines of JSON",
+    );
+    let junit = file_arg(
+        alloc,
+        "junit",
+        "Writes the verdicts to that file, as JUnit's XML",
+    );
+    let progress = flag_arg(alloc, "progress", "Says how far it is");
+    Command::new(alloc, "test")
+        .about("Judges each dialogue of traces")
+        .after_help("Example: tcapjudge test --table map.json traces/*.hex")
+        .arg(traces_arg(alloc))?
+        .arg(of_arg(alloc))?
+        .arg(tables_arg(alloc))?
+        .arg(ids_arg(alloc))?
+        .arg(complete)?
+        .arg(linger_arg(alloc))?
+        .arg(json)?
+        .arg(junit)?
+        .arg(progress)
+}
+
 /// The command line that the program takes.
 pub(crate) fn command<'a>(alloc: Global) -> Result<Command<'a>, AllocError>
     ensures { IfOk result (λ c. placeless (app_of c) ≡ tool) }
@@ -203,6 +318,7 @@ pub(crate) fn command<'a>(alloc: Global) -> Result<Command<'a>, AllocError>
     let explain = explain_command(alloc)?;
     let blame = blame_command(alloc)?;
     let table = table_command(alloc)?;
+    let test = test_command(alloc)?;
     Command::new(alloc, "tcapjudge")
         .about("Judges records of TCAP messages")
         .version("0.1.0")
@@ -214,5 +330,6 @@ pub(crate) fn command<'a>(alloc: Global) -> Result<Command<'a>, AllocError>
         .subcommand(judge)?
         .subcommand(explain)?
         .subcommand(blame)?
-        .subcommand(table)
+        .subcommand(table)?
+        .subcommand(test)
 }

@@ -5,5 +5,5 @@ mod asked;
 mod command_line;
 mod words;
 
-pub use asked::Request;
+pub use asked::{Ids, Request, Test};
 pub use words::{WordsFault, request};

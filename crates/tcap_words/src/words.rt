@@ -1,19 +1,21 @@
 //! What the words of the command line ask for.
 
-ghost use Rattle.std.specs.Prelude.{◌≡◌, ◌∷◌, [], IfErr, IfOk, IfSome, IsErrAnd, MatchResult, None, Some, codes, false, is_some};
-ghost use Rattle.std.specs.Prelude.{option_map, true};
+ghost use Rattle.std.specs.Prelude.{◌≡◌, ◌∷◌, [], IfErr, IfOk, IfSome, IsErrAnd, List, MatchResult, None, Some, codes, false};
+ghost use Rattle.std.specs.Prelude.{is_some, option_map, true};
 ghost use Rattle.clap.specs.Words.{fault_of, first_value, found_of, takes};
-ghost use Rattle.clap.specs.Walk.{Text, texts};
-ghost use Rattle.clap.specs.declared.error.kind.ErrorKind.TheVariants.{DisplayVersion, InvalidValue, MissingRequiredArgument};
+ghost use Rattle.clap.specs.Walk.{Text, rows_of, texts};
+ghost use Rattle.clap.specs.declared.error.kind.ErrorKind.TheVariants.{DisplayVersion, InvalidValue, MissingRequiredArgument, ValueValidation};
 ghost use Rattle.tcap_record.specs.declared.entry.End.{End as Side};
 ghost use Rattle.tcap_record.specs.Ends.{letter};
-ghost use Rattle.tcap_words.specs.CommandLine.{tool};
+ghost use Rattle.tcap_words.specs.CommandLine.{ids_word, tool};
+ghost use Rattle.tcap_words.specs.Tests.{ids_value, linger_value, values_of};
 ghost use Rattle.tcap_words.specs.Words.{Asks, Becomes, Explains, IsBlame, IsCheck, IsCheckEnd, IsExplain, IsFaultOf, IsJudge};
-ghost use Rattle.tcap_words.specs.Words.{IsJudgeEnd, IsMemory, IsPack, IsShow, IsTable, begins_with_hyphen, is_letter, is_printed};
-ghost use Rattle.tcap_words.specs.Words.{is_set, words_status};
+ghost use Rattle.tcap_words.specs.Words.{IsJudgeEnd, IsMemory, IsPack, IsShow, IsTable, IsTest, are_plain, begins_with_hyphen};
+ghost use Rattle.tcap_words.specs.Words.{is_letter, is_printed, only_traces};
+ghost use Rattle.tcap_words.specs.Words.{is_ids_word, is_number, is_set, number_of, requested, tested, words_status};
 ghost use Rattle.tcap_words.specs.declared.asked.Request.TheVariants as asked;
 
-use crate::asked::Request;
+use crate::asked::{Ids, Request, Test};
 use crate::command_line::command;
 use clap::error::ErrorKind;
 use clap::{ArgMatches, Error};
@@ -120,15 +122,109 @@ fn end_of(word: &str) -> End
     }
 }
 
+/// The end that the option `id` names, where it is given.
+fn end_named(found: &ArgMatches, id: &str) -> Option<End>
+    requires { IfSome (first_value (found_of found.now) id.now) (λ word. is_letter word ≡ true) }
+    ensures { option_map letter result ≡ first_value (found_of found.now) id.now }
+{
+    match found.get_str(id) {
+        Some(word) => Some(end_of(word)),
+        None => None,
+    }
+}
+
 /// The end that the option `--end` names, where it is given.
 fn end_given(found: &ArgMatches) -> Option<End>
     requires { IfSome (first_value (found_of found.now) (codes "end")) (λ word. is_letter word ≡ true) }
     ensures { option_map letter result ≡ first_value (found_of found.now) (codes "end") }
 {
-    match found.get_str("end") {
-        Some(word) => Some(end_of(word)),
-        None => None,
+    end_named(found, "end")
+}
+
+/// What becomes of the IDs of a dialogue that is over, by this word of `--ids`.
+fn ids_of(word: &str) -> Ids
+    requires { is_ids_word word.now ≡ true }
+    ensures { ids_word result ≡ word.now }
+{
+    match word {
+        "again" => Ids::Again,
+        "settled" => Ids::Settled,
+        "once" => Ids::Once,
+        _ => unreachable!(),
     }
+}
+
+/// The same, by the option `--ids`.
+fn ids_given(found: &ArgMatches) -> Ids
+    requires { IfSome (first_value (found_of found.now) (codes "ids")) (λ word. is_ids_word word ≡ true) }
+    ensures { ids_word result ≡ ids_value (first_value (found_of found.now) (codes "ids")) }
+{
+    match found.get_str("ids") {
+        Some(word) => ids_of(word),
+        None => Ids::Again,
+    }
+}
+
+/// The number that this word is.
+fn number_of(word: &str) -> u64
+    requires { is_number word.now ≡ true }
+    ensures { result ≡ number_of word.now }
+{
+    let Ok(number) = word.parse::<u64>() else {
+        unreachable!()
+    };
+    number
+}
+
+/// The number of entries behind which a dialogue that is over is judged, where `--linger` is left out.
+const LINGER: u64 = 10_000;
+
+/// That number, by the option `--linger`.
+fn linger_given(found: &ArgMatches) -> u64
+    requires { IfSome (first_value (found_of found.now) (codes "linger")) (λ word. is_number word ≡ true) }
+    ensures { result ≡ linger_value (first_value (found_of found.now) (codes "linger")) }
+{
+    match found.get_str("linger") {
+        Some(word) => number_of(word),
+        None => LINGER,
+    }
+}
+
+/// All values of the argument `id`, in order.
+fn all_values<'a>(
+    alloc: Global,
+    found: &ArgMatches<'a>,
+    id: &str,
+) -> Result<Vec<&'a str>, AllocError>
+    ensures { IfOk result (λ values. texts values.items ≡ values_of id.now (rows_of (found_of found.now))) }
+{
+    let mut values = Vec::new(alloc);
+    if let Some(given) = found.get_strs(id) {
+        values.extend_from_slice(given)?;
+    }
+    Ok(values)
+}
+
+/// The request to judge the dialogues of traces, with what is given.
+fn test_request<'a>(alloc: Global, found: &ArgMatches<'a>) -> Result<Test<'a>, AllocError>
+    requires letters { IfSome (first_value (found_of found.now) (codes "of")) (λ word. is_letter word ≡ true) }
+    requires ids { IfSome (first_value (found_of found.now) (codes "ids")) (λ word. is_ids_word word ≡ true) }
+    requires numbers { IfSome (first_value (found_of found.now) (codes "linger")) (λ word. is_number word ≡ true) }
+    ensures { IfOk result (λ test. requested test ≡ tested (rows_of (found_of found.now))) }
+{
+    let tables = all_values(alloc, found, "table")?;
+    let traces = all_values(alloc, found, "TRACE")?;
+    Ok(Test {
+        of: end_named(found, "of"),
+        tables,
+        ids: ids_given(found),
+        complete: is_set(found, "complete"),
+        linger: linger_given(found),
+        json: found.get_str("json"),
+        junit: found.get_str("junit"),
+        progress: is_set(found, "progress"),
+        traces,
+    })
 }
 
 /// The request to replay a certificate, for one end where it is given.
@@ -228,6 +324,7 @@ fn parsed_request<'a>(alloc: Global, words: &'a [&'a str]) -> Result<Request<'a>
             let table = needed(found, "TABLE");
             Ok(Request::Table(table))
         }
+        "test" => Ok(Request::Test(test_request(alloc, found)?)),
         _ => unreachable!(),
     }
 }
@@ -340,6 +437,40 @@ pub fn request<'a>(alloc: Global, words: &'a [&'a str]) -> Result<Request<'a>, W
         → texts words.entry.now ≡ program ∷ codes "table" ∷ path ∷ []
         → begins_with_hyphen path ≡ false → MatchResult result (IsTable path) IsMemory }
     ensures table_alone { (program : Text) → texts words.entry.now ≡ program ∷ codes "table" ∷ []
+        → IsErrAnd result (IsFaultOf (MissingRequiredArgument ∷ [])) }
+    ensures test_traces { (program x : Text) (rest : List Text)
+        → texts words.entry.now ≡ program ∷ codes "test" ∷ x ∷ rest → are_plain (x ∷ rest) ≡ true
+        → MatchResult result (IsTest (only_traces (x ∷ rest))) IsMemory }
+    ensures test_input { (program : Text) → texts words.entry.now ≡ program ∷ codes "test" ∷ codes "-" ∷ []
+        → MatchResult result (IsTest (only_traces (codes "-" ∷ []))) IsMemory }
+    ensures test_all { (program t u n f g x y : Text) (side : Side) (ids : Ids)
+        → texts words.entry.now ≡ program ∷ codes "test" ∷ codes "--of" ∷ letter side ∷ codes "--table" ∷ t
+        ∷ codes "--table" ∷ u ∷ codes "--ids" ∷ ids_word ids ∷ codes "--complete" ∷ codes "--linger" ∷ n
+        ∷ codes "--json" ∷ f ∷ codes "--junit" ∷ g ∷ codes "--progress" ∷ x ∷ y ∷ []
+        → are_plain (t ∷ u ∷ n ∷ f ∷ g ∷ x ∷ y ∷ []) ≡ true → is_number n ≡ true
+        → MatchResult result (IsTest (record (only_traces (x ∷ y ∷ [])) {
+          side = Some (letter side);
+          tables = t ∷ u ∷ [];
+          ids = ids_word ids;
+          complete = true;
+          linger = number_of n;
+          json = Some f;
+          junit = Some g;
+          progress = true;
+        })) IsMemory }
+    ensures test_of_wrong { (program word x : Text)
+        → texts words.entry.now ≡ program ∷ codes "test" ∷ codes "--of" ∷ word ∷ x ∷ []
+        → begins_with_hyphen word ≡ false → begins_with_hyphen x ≡ false → is_letter word ≡ false
+        → IsErrAnd result (IsFaultOf (InvalidValue ∷ [])) }
+    ensures test_ids_wrong { (program word x : Text)
+        → texts words.entry.now ≡ program ∷ codes "test" ∷ codes "--ids" ∷ word ∷ x ∷ []
+        → begins_with_hyphen word ≡ false → begins_with_hyphen x ≡ false → is_ids_word word ≡ false
+        → IsErrAnd result (IsFaultOf (InvalidValue ∷ [])) }
+    ensures test_linger_wrong { (program word x : Text)
+        → texts words.entry.now ≡ program ∷ codes "test" ∷ codes "--linger" ∷ word ∷ x ∷ []
+        → begins_with_hyphen word ≡ false → begins_with_hyphen x ≡ false → is_number word ≡ false
+        → IsErrAnd result (IsFaultOf (ValueValidation ∷ [])) }
+    ensures test_alone { (program : Text) → texts words.entry.now ≡ program ∷ codes "test" ∷ []
         → IsErrAnd result (IsFaultOf (MissingRequiredArgument ∷ [])) }
     ensures version { (program : Text) → texts words.entry.now ≡ program ∷ codes "--version" ∷ []
         → IsErrAnd result (IsFaultOf (DisplayVersion ∷ [])) }

@@ -2,18 +2,19 @@ use Rattle.std.proofs.Common.{◌≡◌, ◌∙◌, ap, ap₂, true, codes}
 use Rattle.std.proofs.lemmas.Result.{IfOk-weaker}
 use Rattle.clap.specs.Words.{App, Shape, app_of, shape_of, with_subcommand}
 use Rattle.clap.specs.Simple.{app_of_fields}
-use Rattle.tcap_words.specs.CommandLine.{bare_tool, blame_shape, check_shape, placeless, placeless_shape, show_shape, table_shape, tool, with_path}
+use Rattle.tcap_words.specs.CommandLine.{bare_tool, blame_shape, check_shape, explain_shape, judge_shape, placeless, placeless_shape, show_shape, table_shape, tool, with_path}
 use Rattle.tcap_words.proofs.command_line.command.Goals as goal
 
--- the tool with these three subcommands
-abbrev with_three : Shape → Shape → Shape → App
-with_three check judge explain = with_subcommand (with_subcommand (with_subcommand (with_subcommand (with_subcommand
-    (with_subcommand (with_subcommand bare_tool show_shape) (with_path (codes "pack") (codes "LINES")))
+-- the tool with these four subcommands
+abbrev with_four : Shape → Shape → Shape → Shape → App
+with_four check judge explain test = with_subcommand (with_subcommand (with_subcommand (with_subcommand (with_subcommand
+    (with_subcommand (with_subcommand (with_subcommand bare_tool show_shape) (with_path (codes "pack") (codes "LINES")))
     check)
     judge)
     explain)
     blame_shape)
-    table_shape
+    table_shape)
+    test
 
 pub returns : goal.returns
 unfolding tool
@@ -31,13 +32,17 @@ returns c =
     let explain_is = c.in_ok-explain.ensures in
     let blame_is = c.in_ok-blame.ensures in
     let table_is = c.in_ok-table.ensures in
+    let test_is = c.in_ok-test.ensures in
     let with_show = c.in_ok-subcommand.ensures.shape show_is.1 ∙ ap₂ with_subcommand bare_is show_is.0 in
     let with_pack = c.in_ok-subcommand-2.ensures.shape pack_is.1 ∙ ap₂ with_subcommand with_show pack_is.0 in
     let with_check = c.in_ok-subcommand-3.ensures.shape check_is.1 ∙ ap (λ a. with_subcommand a (shape_of c.in_ok-check.check)) with_pack in
     let with_judge = c.in_ok-subcommand-4.ensures.shape judge_is.1 ∙ ap (λ a. with_subcommand a (shape_of c.in_ok-judge.judge)) with_check in
     let with_explain = c.in_ok-subcommand-5.ensures.shape explain_is.1 ∙ ap (λ a. with_subcommand a (shape_of c.in_ok-explain.explain)) with_judge in
     let with_blame = c.in_ok-subcommand-6.ensures.shape blame_is.1 ∙ ap₂ with_subcommand with_explain blame_is.0 in
-    IfOk-weaker c.subcommand-7.result _ _
-    (λ r h. ap placeless (h.shape table_is.1 ∙ ap₂ with_subcommand with_blame table_is.0)
-    ∙ ap (λ s. with_three s (placeless_shape (shape_of c.in_ok-judge.judge)) (placeless_shape (shape_of c.in_ok-explain.explain))) check_is.0
-    ∙ ap₂ (with_three check_shape) judge_is.0 explain_is.0) c.subcommand-7.ensures
+    let with_table = c.in_ok-subcommand-7.ensures.shape table_is.1 ∙ ap₂ with_subcommand with_blame table_is.0 in
+    IfOk-weaker c.subcommand-8.result _ _
+    (λ r h. ap placeless (h.shape test_is.1 ∙ ap (λ a. with_subcommand a (shape_of c.in_ok-test.test)) with_table)
+    ∙ ap (λ s. with_four s (placeless_shape (shape_of c.in_ok-judge.judge)) (placeless_shape (shape_of c.in_ok-explain.explain))
+    (placeless_shape (shape_of c.in_ok-test.test))) check_is.0
+    ∙ ap₂ (λ s t. with_four check_shape s t (placeless_shape (shape_of c.in_ok-test.test))) judge_is.0 explain_is.0
+    ∙ ap (with_four check_shape judge_shape explain_shape) test_is.0) c.subcommand-8.ensures

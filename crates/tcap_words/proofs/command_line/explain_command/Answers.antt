@@ -4,13 +4,13 @@ use Rattle.clap.specs.Words.{App, Rule, Shape, app_of, rule_of, with_rule}
 use Rattle.clap.specs.Simple.{app_of_fields, new_app, new_shape}
 use Rattle.clap.specs.declared.builder.command.Command.{Command}
 use Rattle.clap.specs.declared.builder.command.Command.TheOpen.{Command-F}
-use Rattle.tcap_words.specs.CommandLine.{chart_rule, left_out_rule, needed_rule, placeless_shape}
+use Rattle.tcap_words.specs.CommandLine.{file_rule, left_out_rule, needed_rule, placeless_shape}
 use Rattle.tcap_words.proofs.command_line.explain_command.Goals as goal
 
 -- the command with this argument before that of the chart
 abbrev with_end : Rule → Shape
 with_end side = record (new_shape (codes "explain")) {
-  rules = needed_rule (codes "RECORD") ∷ needed_rule (codes "TABLE") ∷ left_out_rule (codes "CERT") ∷ side ∷ chart_rule ∷ [];
+  rules = needed_rule (codes "RECORD") ∷ needed_rule (codes "TABLE") ∷ left_out_rule (codes "CERT") ∷ side ∷ file_rule (codes "chart") ∷ [];
 }
 
 pub returns : goal.returns
@@ -29,7 +29,7 @@ returns c =
     let cert_local = c.in_ok-arg-3.ensures.globals ∙ ap₂ (λ a b. a || b) table_local c.left_out_arg-cert.ensures.local in
     let end_local = c.in_ok-arg-4.ensures.globals ∙ ap₂ (λ a b. a || b) cert_local c.end_arg.ensures.local in
     IfOk-weaker c.arg-5.result _ _ (λ r h. (
-      ap (λ (a : App). placeless_shape a.top) (h.shape c.chart_arg.ensures.local ∙ ap₂ with_rule then_end c.chart_arg.ensures.rule)
+      ap (λ (a : App). placeless_shape a.top) (h.shape c.file_arg-chart.ensures.local ∙ ap₂ with_rule then_end c.file_arg-chart.ensures.rule)
           ∙ ap with_end c.end_arg.ensures.rule,
-      h.globals ∙ ap₂ (λ a b. a || b) end_local c.chart_arg.ensures.local,
+      h.globals ∙ ap₂ (λ a b. a || b) end_local c.file_arg-chart.ensures.local,
     )) c.arg-5.ensures

@@ -8,7 +8,7 @@ use Rattle.clap.specs.Simple.{HasMatchesOf, subcommand_of, subcommand_rows_of}
 use Rattle.clap.specs.declared.builder.command.Command.{Command}
 use Rattle.clap.specs.declared.parser.matches.ArgMatches.{ArgMatches}
 use Rattle.tcap_words.specs.CommandLine.{placeless, tool}
-use Rattle.tcap_words.proofs.Matches.{asked_of, blame_asked_of, blame_there, check_asked_of, check_made, check_there, end_named, explain_asked_of, explain_there, has_name, judge_asked_of, judge_made, judge_there, no_name, other_name, show_asked_of, table_asked_of, table_there}
+use Rattle.tcap_words.proofs.Matches.{asked_of, blame_asked_of, blame_there, check_asked_of, check_made, check_there, end_named, explain_asked_of, explain_there, has_name, judge_asked_of, judge_made, judge_there, no_name, other_name, show_asked_of, table_asked_of, table_there, test_asked_of, test_there}
 use Rattle.tcap_words.proofs.PlacelessCommands.{fault_of_same, simple_and_free_same, simple_same, subcommand_same, takes_same}
 use Rattle.tcap_words.proofs.Tool.{IsKnown, as_fault, became_memory, tool_simple, tool_is_simple}
 use Rattle.tcap_words.proofs.words.parsed_request.Goals as goal
@@ -64,6 +64,7 @@ unreachable-requires-in_default-name c =
     (known c.in_ok-command.command (texts c.args.words.now) c.in_ok-matches.matches c.in_ok-command.ensures met.matches met.kinds)
     c.in-Some.ensures.name c.in_default-name.not-show c.in_default-name.not-pack c.in_default-name.not-check
     c.in_default-name.not-judge c.in_default-name.not-explain c.in_default-name.not-blame c.in_default-name.not-table
+    c.in_default-name.not-test
 
 pub returns-in-show-clause-asks : goal.returns-in-show-clause-asks
 returns-in-show-clause-asks c =
@@ -283,3 +284,42 @@ returns-in-table-clause-asks c =
     table_asked_of m words c.in-Some.name.now (found_of c.in-Some.found.now) c.needed-table-in-table.result.now
     (rows c.in_ok-command.command words m c.in_ok-command.ensures c.in_ok-matches.ensures.matches)
     c.in-Some.ensures.name c.in-Some.ensures.rows c.in-table.is c.needed-table-in-table.ensures
+
+pub test_request-requires-clause-letters : goal.test_request-requires-clause-letters
+test_request-requires-clause-letters c =
+    let words = texts c.args.words.now in
+    let m = c.in_ok-matches.matches in
+    (test_there m words c.in-Some.name.now (found_of c.in-Some.found.now)
+    (rows c.in_ok-command.command words m c.in_ok-command.ensures c.in_ok-matches.ensures.matches)
+    (clear c.in_ok-command.command words c.in_ok-command.ensures c.in_ok-matches.ensures.kinds)
+    c.in-Some.ensures.name c.in-Some.ensures.rows c.in-test.is).0
+
+pub test_request-requires-clause-ids : goal.test_request-requires-clause-ids
+test_request-requires-clause-ids c =
+    let words = texts c.args.words.now in
+    let m = c.in_ok-matches.matches in
+    (test_there m words c.in-Some.name.now (found_of c.in-Some.found.now)
+    (rows c.in_ok-command.command words m c.in_ok-command.ensures c.in_ok-matches.ensures.matches)
+    (clear c.in_ok-command.command words c.in_ok-command.ensures c.in_ok-matches.ensures.kinds)
+    c.in-Some.ensures.name c.in-Some.ensures.rows c.in-test.is).1
+
+pub test_request-requires-clause-numbers : goal.test_request-requires-clause-numbers
+test_request-requires-clause-numbers c =
+    let words = texts c.args.words.now in
+    let m = c.in_ok-matches.matches in
+    (test_there m words c.in-Some.name.now (found_of c.in-Some.found.now)
+    (rows c.in_ok-command.command words m c.in_ok-command.ensures c.in_ok-matches.ensures.matches)
+    (clear c.in_ok-command.command words c.in_ok-command.ensures c.in_ok-matches.ensures.kinds)
+    c.in-Some.ensures.name c.in-Some.ensures.rows c.in-test.is).2
+
+pub returns-in-test-clause-faults : goal.returns-in-test-clause-faults
+returns-in-test-clause-faults c =
+    clear c.in_ok-command.command (texts c.args.words.now) c.in_ok-command.ensures c.in_ok-matches.ensures.kinds
+
+pub returns-in-test-clause-asks : goal.returns-in-test-clause-asks
+returns-in-test-clause-asks c =
+    let words = texts c.args.words.now in
+    let m = c.in_ok-matches.matches in
+    test_asked_of m words c.in-Some.name.now (found_of c.in-Some.found.now) _
+    (rows c.in_ok-command.command words m c.in_ok-command.ensures c.in_ok-matches.ensures.matches)
+    c.in-Some.ensures.name c.in-Some.ensures.rows c.in-test.is c.in_ok-test_request-in-test.ensures

@@ -1,6 +1,7 @@
-use Rattle.std.proofs.Common.{Some, None, true, false}
+use Rattle.std.proofs.Common.{Some, None, true, false, [], ◌∷◌, codes}
 use Rattle.clap.specs.Walk.{texts}
-use Rattle.tcap_words.proofs.Requests.{blame_asked, check_asked, check_end_asked, explain_asked, judge_asked, judge_end_asked, pack_asked, refused_by, show_asked, table_asked}
+use Rattle.tcap_words.specs.Words.{only_traces}
+use Rattle.tcap_words.proofs.Requests.{blame_asked, check_asked, check_end_asked, explain_asked, judge_asked, judge_end_asked, pack_asked, refused_by, show_asked, table_asked, test_asked}
 use Rattle.tcap_words.proofs.Cases.{check_alone_missing, check_named, check_no_end, check_one_missing, check_taken, check_two_missing, long_version, pack_named, pack_path_named, pack_path_taken, pack_taken, show_named, show_path_named, show_path_taken, show_taken}
 use Rattle.tcap_words.proofs.BlameCases.{blame_alone_missing, blame_named, blame_one_missing, blame_taken}
 use Rattle.tcap_words.proofs.ExplainCases.{explain_alone_missing, explain_cert_named, explain_cert_no_end, explain_cert_taken, explain_chart_named, explain_chart_no_end, explain_chart_taken, explain_end_named, explain_end_refused, explain_end_taken, explain_end_value, explain_named, explain_no_end, explain_one_missing, explain_taken}
@@ -8,7 +9,9 @@ use Rattle.tcap_words.proofs.FlagCases.{show_lines_named, show_lines_taken, show
 use Rattle.tcap_words.proofs.JudgeCases.{judge_alone_missing, judge_cert_named, judge_cert_no_end, judge_cert_taken, judge_named, judge_no_end, judge_one_missing, judge_taken}
 use Rattle.tcap_words.proofs.EndCases.{check_end_named, check_end_refused, check_end_taken, check_end_value}
 use Rattle.tcap_words.proofs.JudgeEndCases.{judge_end_cert_named, judge_end_cert_taken, judge_end_cert_value, judge_end_named, judge_end_refused, judge_end_taken, judge_end_value}
-use Rattle.clap.specs.declared.error.kind.ErrorKind.TheVariants.{DisplayVersion, InvalidValue, MissingRequiredArgument}
+use Rattle.tcap_words.proofs.TestCases.{all_asked, all_named, all_taken, ids_refused, linger_refused, of_refused}
+use Rattle.tcap_words.proofs.TraceCases.{input_named, input_taken, plain_parts, test_alone_missing, traces_named, traces_taken}
+use Rattle.clap.specs.declared.error.kind.ErrorKind.TheVariants.{DisplayVersion, InvalidValue, MissingRequiredArgument, ValueValidation}
 use Rattle.tcap_words.proofs.words.request.Goals as goal
 
 pub returns-clause-show : goal.returns-clause-show
@@ -193,4 +196,49 @@ returns-clause-table_alone c program is =
 pub returns-clause-version : goal.returns-clause-version
 returns-clause-version c program is =
     refused_by (texts c.args.words.now) _ DisplayVersion c.parsed_request.result is (long_version program)
+    c.parsed_request.ensures.faults
+
+pub returns-clause-test_traces : goal.returns-clause-test_traces
+returns-clause-test_traces c program x rest is plain =
+    test_asked (texts c.args.words.now) _ c.parsed_request.result is (traces_taken x rest plain program)
+    c.parsed_request.ensures.asks c.parsed_request.ensures.taken (only_traces (x ∷ rest)) (traces_named x rest plain program)
+
+pub returns-clause-test_input : goal.returns-clause-test_input
+returns-clause-test_input c program is =
+    test_asked (texts c.args.words.now) _ c.parsed_request.result is (input_taken program)
+    c.parsed_request.ensures.asks c.parsed_request.ensures.taken (only_traces (codes "-" ∷ [])) (input_named program)
+
+pub returns-clause-test_all : goal.returns-clause-test_all
+returns-clause-test_all c program t u n f g x y side ids is plain number =
+    let p = plain_parts t (u ∷ n ∷ f ∷ g ∷ x ∷ y ∷ []) plain in
+    let q = plain_parts u (n ∷ f ∷ g ∷ x ∷ y ∷ []) p.1 in
+    let r = plain_parts n (f ∷ g ∷ x ∷ y ∷ []) q.1 in
+    let s = plain_parts f (g ∷ x ∷ y ∷ []) r.1 in
+    let v = plain_parts g (x ∷ y ∷ []) s.1 in
+    let w = plain_parts x (y ∷ []) v.1 in
+    let z = plain_parts y [] w.1 in
+    test_asked (texts c.args.words.now) _ c.parsed_request.result is
+    (all_taken side t u ids n f g x y p.0 q.0 r.0 number s.0 v.0 w.0 z.0 program)
+    c.parsed_request.ensures.asks c.parsed_request.ensures.taken
+    (all_asked side t u ids n f g x y p.0 q.0 r.0 number s.0 v.0 w.0 z.0)
+    (all_named side t u ids n f g x y p.0 q.0 r.0 number s.0 v.0 w.0 z.0 program)
+
+pub returns-clause-test_of_wrong : goal.returns-clause-test_of_wrong
+returns-clause-test_of_wrong c program word x is plain plain_x other =
+    refused_by (texts c.args.words.now) _ InvalidValue c.parsed_request.result is
+    (of_refused word x plain plain_x other program) c.parsed_request.ensures.faults
+
+pub returns-clause-test_ids_wrong : goal.returns-clause-test_ids_wrong
+returns-clause-test_ids_wrong c program word x is plain plain_x other =
+    refused_by (texts c.args.words.now) _ InvalidValue c.parsed_request.result is
+    (ids_refused word x plain plain_x other program) c.parsed_request.ensures.faults
+
+pub returns-clause-test_linger_wrong : goal.returns-clause-test_linger_wrong
+returns-clause-test_linger_wrong c program word x is plain plain_x other =
+    refused_by (texts c.args.words.now) _ ValueValidation c.parsed_request.result is
+    (linger_refused word x plain plain_x other program) c.parsed_request.ensures.faults
+
+pub returns-clause-test_alone : goal.returns-clause-test_alone
+returns-clause-test_alone c program is =
+    refused_by (texts c.args.words.now) _ MissingRequiredArgument c.parsed_request.result is (test_alone_missing program)
     c.parsed_request.ensures.faults

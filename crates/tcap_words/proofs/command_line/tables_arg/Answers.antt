@@ -1,15 +1,15 @@
 use Rattle.std.proofs.Common.{◌∙◌, ap, codes, Some}
 use Rattle.clap.specs.Words.{Rule, rule_of}
 use Rattle.clap.specs.declared.builder.arg.Arg.{Arg}
-use Rattle.clap.specs.declared.builder.action.ArgAction.TheVariants.{Set}
-use Rattle.tcap_words.proofs.command_line.chart_arg.Goals as goal
+use Rattle.clap.specs.declared.builder.action.ArgAction.TheVariants.{Append}
+use Rattle.tcap_words.proofs.command_line.tables_arg.Goals as goal
 
 pub returns-clause-rule : goal.returns-clause-rule
 returns-clause-rule c =
     ap rule_of c.help.ensures ∙ ap rule_of c.value_name.ensures
     ∙ ap (λ (a : Arg). record (rule_of a) { value_names = 1 }) c.action.ensures
-    ∙ ap (λ (a : Arg). record (rule_of a) { action = Some Set; value_names = 1 }) c.long.ensures
-    ∙ ap (λ (r : Rule). record r { long = Some (codes "chart"); action = Some Set; value_names = 1 }) c.new.ensures.rule
+    ∙ ap (λ (a : Arg). record (rule_of a) { action = Some Append; value_names = 1 }) c.long.ensures
+    ∙ ap (λ (r : Rule). record r { long = Some (codes "table"); action = Some Append; value_names = 1 }) c.new.ensures.rule
 
 pub returns-clause-local : goal.returns-clause-local
 returns-clause-local c =

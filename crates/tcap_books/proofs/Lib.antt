@@ -1,0 +1,3 @@
+pub mod BareLaws
+pub mod DepthLaws
+pub mod BookLaws

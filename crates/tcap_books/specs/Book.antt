@@ -1,0 +1,75 @@
+-- A book of operation tables: which of them a dialogue is judged by, and the names of operations.
+use Rattle.std.specs.Prelude.{ℕ, Bool, true, false, List, [], ◌∷◌, length, Option, Some, None, cond, nat_lt, ◌==◌}
+use Rattle.std.specs.Option.{option_or}
+use Rattle.std.specs.List.{starts_with}
+use Rattle.std.specs.Map.{lookup}
+use Rattle.std.specs.BTreeMap.{is_at}
+use Rattle.tcap_parts.specs.declared.code.Code.{Code}
+use Rattle.tcap_end.specs.Table.{Table, code_cmp}
+
+-- A table of a book: its name, if it has one; the beginnings of application context names, each as the octets of an
+-- OBJECT IDENTIFIER's content; the operations; and the names of operations by their codes, in the order of the rows.
+pub record NamedTable : Type 0 where
+  pub name : Option (List ℕ)
+  pub contexts : List (List ℕ)
+  pub table : Table
+  pub names : List (Code × List ℕ)
+
+-- the name of an operation: that of the first row with its code that has a name
+abbrev pub name_of : NamedTable → Code → Option (List ℕ)
+name_of table code = lookup (is_at (code_cmp code)) table.names
+
+-- ---- which table is that of a dialogue
+
+-- A context fits where the one that is asked for begins with it: by how many octets.
+abbrev pub fit : List ℕ → List ℕ → Option ℕ
+fit asked context = cond (starts_with (λ x y. x == y) asked context) (Some (length context)) None
+
+-- whether the first fits better: any context that fits does so better than none, and a longer one better than a shorter
+abbrev pub is_better : Option ℕ → Option ℕ → Bool
+is_better None other = false
+is_better (Some n) None = true
+is_better (Some n) (Some m) = nat_lt m n
+
+abbrev pub better : Option ℕ → Option ℕ → Option ℕ
+better a b = cond (is_better a b) a b
+
+-- how the best of these contexts fits, or of what was before
+abbrev pub best_fit : List ℕ → Option ℕ → List (List ℕ) → Option ℕ
+best_fit asked before [] = before
+best_fit asked before (context ∷ more) = best_fit asked (better (fit asked context) before) more
+
+abbrev pub table_fit : List ℕ → NamedTable → Option ℕ
+table_fit asked table = best_fit asked None table.contexts
+
+-- the first of the tables that fits best, where it fits better than the one that was found before
+abbrev pub best : List ℕ → Option ℕ → Option NamedTable → List NamedTable → Option NamedTable
+best asked before found [] = found
+best asked before found (table ∷ more) =
+    cond (is_better (table_fit asked table) before)
+    (best asked (table_fit asked table) (Some table) more)
+    (best asked before found more)
+
+abbrev pub has_none : {X : Type 0} → List X → Bool
+has_none [] = true
+has_none (first ∷ more) = false
+
+-- the first table without contexts
+abbrev pub first_without : List NamedTable → Option NamedTable
+first_without [] = None
+first_without (table ∷ more) = cond (has_none table.contexts) (Some table) (first_without more)
+
+-- the one table of a book, where it has no contexts
+abbrev pub sole : List NamedTable → Option NamedTable
+sole (table ∷ []) = cond (has_none table.contexts) (Some table) None
+sole _ = None
+
+abbrev pub by_context : List NamedTable → Option (List ℕ) → Option NamedTable
+by_context tables None = first_without tables
+by_context tables (Some asked) = best asked None None tables
+
+-- The table of a dialogue whose Begin asks for that application context, or for none. One table alone without contexts
+-- is that of all dialogues. Else, of one without a context it is the first table that has none; of one with a context, the
+-- table that has the longest beginning of it, the first of these where there are several.
+abbrev pub table_of : List NamedTable → Option (List ℕ) → Option NamedTable
+table_of tables context = option_or (sole tables) (by_context tables context)

@@ -1,0 +1,225 @@
+//! A book: operation tables, the dialogues that each is for, and the names of operations.
+
+ghost use Rattle.std.specs.Prelude.{◌≡◌, ◌∷◌, [], ◌++◌, None, OnOk, OnErr, option_copied, option_map};
+ghost use Rattle.tcap_parts.specs.Meaning.{code_of};
+ghost use Rattle.tcap_books.specs.Book.{best, first_without, fit, is_better, name_of, sole, table_fit, table_of};
+
+use crate::names::Names;
+use std::alloc::{AllocError, Global};
+use std::marker::Model;
+use tcap_end::Table;
+use tcap_parts::CodeView;
+
+/// A beginning of application context names: octets of the content of an OBJECT IDENTIFIER.
+#[derive(Debug, Drop)]
+pub struct Context {
+    pub(crate) octets: Vec<u8>,
+}
+
+impl Model for Context {
+    ghost use Rattle.std.specs.Prelude.{ℕ, List};
+
+    ghost Value = { List ℕ };
+
+    ghost view = { λ a. a.octets.items };
+}
+
+/// A table of a book: its name, the contexts that it is for, the operations, and their names.
+#[derive(Debug, Drop)]
+pub struct NamedTable {
+    pub(crate) name: Option<String>,
+    pub(crate) contexts: Vec<Context>,
+    pub(crate) table: Table,
+    pub(crate) names: Names,
+}
+
+impl Model for NamedTable {
+    ghost use Rattle.std.specs.Prelude.{option_map, string_bytes};
+    ghost use Rattle.tcap_books.specs.Book.{NamedTable as Meant};
+
+    ghost Value = { Meant };
+
+    ghost view = { λ a. record {
+        name = option_map string_bytes a.name; contexts = a.contexts.items; table = a.table; names = a.names } };
+}
+
+/// The tables of a book, in the order of its text.
+#[derive(Debug, Drop)]
+pub struct Book {
+    pub(crate) tables: Vec<NamedTable>,
+}
+
+impl Model for Book {
+    ghost use Rattle.std.specs.Prelude.{List};
+    ghost use Rattle.tcap_books.specs.Book.{NamedTable as Meant};
+
+    ghost Value = { List Meant };
+
+    ghost view = { λ a. a.tables.items };
+}
+
+impl Context {
+    /// The octets.
+    pub fn octets(&self) -> &[u8]
+        ensures { result.now ≡ self.now }
+    {
+        self.octets.as_slice()
+    }
+}
+
+impl NamedTable {
+    /// The name of the table, where it has one.
+    pub fn name(&self) -> Option<&str>
+        ensures { option_map (λ s. s.now) result ≡ self.now.name }
+    {
+        match &self.name {
+            Some(name) => Some(name.as_str()),
+            None => None,
+        }
+    }
+
+    /// The beginnings of the application context names of the dialogues that it is for, in the order of the text.
+    pub fn contexts(&self) -> &[Context]
+        ensures { result.now ≡ self.now.contexts }
+    {
+        self.contexts.as_slice()
+    }
+
+    /// The operations.
+    pub fn table(&self) -> &Table
+        ensures { result.now ≡ self.now.table }
+    {
+        &self.table
+    }
+
+    /// The name of an operation, where it has one. It goes through the names.
+    pub fn name_of(&self, code: CodeView) -> Option<&str>
+        ensures { option_map (λ s. s.now) result ≡ name_of self.now (code_of code.entry) }
+    {
+        self.names.name_of(code)
+    }
+}
+
+/// By how many octets a context fits the one that is asked for.
+fn fit(asked: &[u8], context: &[u8]) -> Option<usize>
+    ensures { result ≡ fit asked.now context.now }
+{
+    if asked.starts_with(context) {
+        Some(context.len())
+    } else {
+        None
+    }
+}
+
+/// Whether the first fits better.
+fn is_better(a: Option<usize>, b: Option<usize>) -> bool
+    ensures { result ≡ is_better a b }
+{
+    match (a, b) {
+        (None, _) => false,
+        (Some(_), None) => true,
+        (Some(n), Some(m)) => m < n,
+    }
+}
+
+/// How the best of the contexts of a table fits.
+fn table_fit(asked: &[u8], table: &NamedTable) -> Option<usize>
+    ensures { result ≡ table_fit asked.now table.now }
+{
+    let mut best = None;
+    for context in &table.contexts {
+        let now = fit(asked, &context.octets);
+        if is_better(now, best) {
+            best = now;
+        }
+    }
+    best
+}
+
+/// The first of the tables that fits best.
+fn best<'a>(asked: &[u8], tables: &'a [NamedTable]) -> Option<&'a NamedTable>
+    ensures { option_copied result ≡ best asked.now None None tables.now }
+{
+    let mut least = None;
+    let mut found = None;
+    for table in tables {
+        let now = table_fit(asked, table);
+        if is_better(now, least) {
+            least = now;
+            found = Some(table);
+        }
+    }
+    found
+}
+
+/// The first table without contexts.
+fn first_without(tables: &[NamedTable]) -> Option<&NamedTable>
+    ensures { option_copied result ≡ first_without tables.now }
+{
+    for table in tables {
+        if table.contexts.is_empty() {
+            return Some(table);
+        }
+    }
+    None
+}
+
+/// The one table, where it has no contexts.
+fn sole(tables: &[NamedTable]) -> Option<&NamedTable>
+    ensures { option_copied result ≡ sole tables.now }
+{
+    match tables {
+        [table] if table.contexts.is_empty() => Some(table),
+        _ => None,
+    }
+}
+
+impl Book {
+    /// A book of no tables.
+    pub(crate) fn new(alloc: Global) -> Book
+        ensures { result ≡ [] }
+    {
+        Book {
+            tables: Vec::new(alloc),
+        }
+    }
+
+    /// One table more, behind the others.
+    pub(crate) fn push(&mut self, table: NamedTable) -> Result<(), AllocError>
+        ensures { OnOk result (self.new ≡ self.old ++ table ∷ []) }
+    {
+        self.tables.push(table)?;
+        Ok(())
+    }
+
+    /// The tables, in the order of the text.
+    pub fn tables(&self) -> &[NamedTable]
+        ensures { result.now ≡ self.now }
+    {
+        self.tables.as_slice()
+    }
+
+    /// The tables of another book too, behind its own.
+    pub fn add(&mut self, other: Book) -> Result<(), AllocError>
+        ensures added { OnOk result (self.new ≡ self.old ++ other) }
+        ensures kept { OnErr result (self.new ≡ self.old) }
+    {
+        let mut tables = other.tables;
+        self.tables.append(&mut tables)
+    }
+
+    /// The table by which a dialogue is judged whose Begin asks for that application context name, given as the octets of
+    /// the content of its OBJECT IDENTIFIER; `None` where it asks for none.
+    pub fn table_of(&self, context: Option<&[u8]>) -> Option<&NamedTable>
+        ensures { option_copied result ≡ table_of self.now (option_copied context.entry) }
+    {
+        let tables = self.tables.as_slice();
+        if let Some(table) = sole(tables) {
+            return Some(table);
+        }
+        match context {
+            Some(asked) => best(asked, tables),
+            None => first_without(tables),
+        }
+    }
+}

@@ -1,0 +1,74 @@
+//! Why a text is no book.
+
+ghost use Rattle.std.specs.Prelude.{◌≡◌};
+ghost use Rattle.tcap_books.specs.declared.fault.BookFault.TheVariants as BookFault;
+
+use std::alloc::AllocError;
+use std::fmt;
+use tcap_end::{TableFault, TableReason};
+
+/// Why a text is refused as a book. Tables, and the rows of each, are counted from 0.
+#[derive(Clone, Copy, Debug, PartialEq, Eq)]
+pub enum BookFault {
+    /// It is no text of JSON (RFC 8259), or not UTF-8.
+    NotJson,
+    /// Beside `"tables"` the book has another key.
+    OtherKey,
+    /// `"tables"` is no list, or an empty one.
+    NoTables,
+    /// There are over 100 tables, this profile's limit.
+    TooManyTables,
+    /// The table of that number is refused, for this reason and in this row; a text that is no book is table 0.
+    Table(u64, TableFault),
+    /// The name of the table of that number is no text.
+    TableName(u64),
+    /// The contexts of the table of that number are no list of texts of hex digits, two for each octet.
+    Contexts(u64),
+    /// In the table of that number, the name of the row of that number is no text.
+    RowName(u64, u64),
+    /// Memory ran out.
+    Memory,
+}
+
+impl From<AllocError> for BookFault {
+    ghost from_gives = { λ _ fault. fault ≡ BookFault.Memory };
+
+    fn from(_: AllocError) -> BookFault {
+        BookFault::Memory
+    }
+}
+
+/// What is wrong with a table, in words.
+fn words_of(reason: TableReason) -> &'static str {
+    match reason {
+        TableReason::NotJson => "the text is no JSON",
+        TableReason::TableShape => "it has not the shape of a table, or of a row",
+        TableReason::DoubleCode => "an earlier row has this \"code\"",
+        TableReason::BadClass => "\"class\" is not 1, 2, 3 or 4",
+        TableReason::TooManyRows => "there are over 1,000 rows",
+        TableReason::Memory => "out of memory",
+    }
+}
+
+impl fmt::Display for BookFault {
+    fn fmt<W: fmt::Write>(&self, f: &mut fmt::Formatter<W>) -> fmt::Result {
+        match self {
+            BookFault::NotJson => f.write_str("the text is no JSON, or not UTF-8"),
+            BookFault::OtherKey => f.write_str("beside \"tables\" the book has another key"),
+            BookFault::NoTables => f.write_str("\"tables\" is no list, or an empty one"),
+            BookFault::TooManyTables => f.write_str("there are over 100 tables"),
+            BookFault::Table(table, fault) => {
+                write!(f, "table {table}, row {}: {}", fault.place, words_of(fault.reason))
+            }
+            BookFault::TableName(table) => write!(f, "table {table}: \"name\" is no text"),
+            BookFault::Contexts(table) => write!(
+                f,
+                "table {table}: \"contexts\" is no list of hex digits, two for each octet"
+            ),
+            BookFault::RowName(table, row) => {
+                write!(f, "table {table}, row {row}: \"name\" is no text")
+            }
+            BookFault::Memory => f.write_str("out of memory"),
+        }
+    }
+}

@@ -1,0 +1,13 @@
+//! Books of operation tables: which table a dialogue is judged by, and the names of operations.
+#![tactic(auto)]
+
+mod bare;
+mod book;
+mod book_text;
+mod carried;
+mod fault;
+mod names;
+
+pub use book::{Book, Context, NamedTable};
+pub use carried::CARRIED_BOOK;
+pub use fault::BookFault;

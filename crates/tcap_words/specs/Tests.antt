@@ -1,0 +1,106 @@
+-- What the words of `test` ask for.
+use Rattle.std.specs.Prelude.{Bool, List, Option, None, Some, [], ◌∷◌, ℕ, codes, option_map, unwrap_or, false}
+use Rattle.std.specs.Borrow.{Bor}
+use Rattle.std.specs.List.{list_any}
+use Rattle.std.specs.Str.{bytes_eq}
+use Rattle.std.specs.Str.Parse.{digits_value, without_leading_plus}
+use Rattle.clap.specs.ValueTests.{accepts}
+use Rattle.clap.specs.Walk.{texts}
+use Rattle.clap.specs.Words.{Row, Text, all_of, first_of}
+use Rattle.tcap_record.specs.Ends.{letter}
+use Rattle.tcap_words.specs.CommandLine.{ids_word, number_parser}
+use Rattle.tcap_words.specs.declared.asked.Ids.TheVariants.{Again, Settled, Once}
+use Rattle.tcap_words.specs.declared.asked.Test.{Test}
+
+-- whether a flag is set: its value is the word `true`
+abbrev pub is_set : Option Text → Bool
+is_set None = false
+is_set (Some value) = bytes_eq value (codes "true")
+
+-- the text of a path
+abbrev pub path_text : Option (Bor Text) → Option Text
+path_text = option_map (λ s. s.now)
+
+-- the word is one of `--ids`
+abbrev pub is_ids_word : Text → Bool
+is_ids_word word = list_any (λ ids. bytes_eq (ids_word ids) word) (Again ∷ Settled ∷ Once ∷ [])
+
+-- the word is a number of `u64` in decimal digits, before which a plus may stand
+abbrev pub is_number : Text → Bool
+is_number = accepts false number_parser
+
+-- that number
+abbrev pub number_of : Text → ℕ
+number_of word = digits_value 10 (without_leading_plus word)
+
+-- the word behind `--ids`, which is `again` where that is left out
+abbrev pub ids_value : Option Text → Text
+ids_value value = unwrap_or value (codes "again")
+
+-- the number behind `--linger`, which is 10,000 where that is left out
+abbrev pub linger_value : Option Text → ℕ
+linger_value None = 10000
+linger_value (Some word) = number_of word
+
+-- all values of an argument, in order
+abbrev pub values_of : Text → List Row → List Text
+values_of id rows = unwrap_or (all_of id rows) []
+
+-- what `test` is asked
+pub record Tested : Type 0 where
+  -- the letter of the end whose verdicts are asked
+  pub side : Option Text
+  -- the paths of the tables
+  pub tables : List Text
+  -- the word behind `--ids`
+  pub ids : Text
+  pub complete : Bool
+  pub linger : ℕ
+  -- the paths of the files that verdicts go to
+  pub json : Option Text
+  pub junit : Option Text
+  pub progress : Bool
+  -- the paths of the traces
+  pub traces : List Text
+
+-- by the values of its arguments
+abbrev pub tested : List Row → Tested
+tested rows = record {
+  side = first_of (codes "of") rows;
+  tables = values_of (codes "table") rows;
+  ids = ids_value (first_of (codes "ids") rows);
+  complete = is_set (first_of (codes "complete") rows);
+  linger = linger_value (first_of (codes "linger") rows);
+  json = first_of (codes "json") rows;
+  junit = first_of (codes "junit") rows;
+  progress = is_set (first_of (codes "progress") rows);
+  traces = values_of (codes "TRACE") rows;
+}
+
+-- by a request
+abbrev pub requested : Test → Tested
+requested t = record {
+  side = option_map letter t.of;
+  tables = texts t.tables.items;
+  ids = ids_word t.ids;
+  complete = t.complete;
+  linger = t.linger;
+  json = path_text t.json;
+  junit = path_text t.junit;
+  progress = t.progress;
+  traces = texts t.traces.items;
+}
+
+-- what is asked where nothing but traces is given
+abbrev pub only_traces : List Text → Tested
+only_traces paths = record {
+  side = None;
+  tables = [];
+  ids = codes "again";
+  complete = false;
+  linger = 10000;
+  json = None;
+  junit = None;
+  progress = false;
+  traces = paths;
+}
