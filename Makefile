@@ -1,4 +1,4 @@
-# make demo      shows what the program says of the records of examples/: compiled unproved, which takes two minutes on four
+# make demo      judges the traces of examples/ by `tcapjudge test`: compiled unproved, which takes two minutes on four
 #                processors, once for the same sources (tools/unproved.py)
 # make quick     runs all tests that need the program and no proof, side by side, over the same unproved program: five minutes
 #                from a fresh clone. At its end it says what that does not show

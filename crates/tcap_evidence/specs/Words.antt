@@ -221,10 +221,14 @@ abbrev pub is_empty : {A : Type 0} → List A → Bool
 is_empty [] = true
 is_empty (a ∷ more) = false
 
+-- what entries show, of which end
+abbrev pub what_words : Side → Option ℤ → What → List ℕ
+what_words side id what =
+    letter (sender_of side what) ++ codes ": " ++ sorted_in (sort_in what) id ++ place_words what
+
 abbrev pub ground_line : Side → Option ℤ → What × List ℕ → List ℕ
 ground_line side id g = cond (is_empty g.1 && not (is_told_empty g.0)) []
-    (codes "  " ++ letter (sender_of side g.0) ++ codes ": " ++ sorted_in (sort_in g.0) id ++ place_words g.0 ++ codes ": "
-    ++ entries_words g.1 ++ line_end)
+    (codes "  " ++ what_words side id g.0 ++ codes ": " ++ entries_words g.1 ++ line_end)
 
 -- ---- what else may be so
 

@@ -15,6 +15,6 @@ mod what;
 mod words;
 
 pub use finding::{Evidence, Ground, find_evidence};
-pub use telling::{push_evidence, push_why};
+pub use telling::{push_evidence, push_what, push_why};
 pub use unblamed::push_unblamed;
 pub use what::What;

@@ -7,9 +7,10 @@ ghost use Rattle.tcap_parts.specs.Meaning.{component_of};
 ghost use Rattle.tcap_msg.specs.Parts.{dtid_in};
 ghost use Rattle.tcap_record.specs.Ends.{letter};
 ghost use Rattle.tcap_record.specs.Lines.{head_text, line_end};
-ghost use Rattle.tcap_evidence.specs.Words.{component_shown, component_words, doubt_lines, entries_words, entry_line, evidence_text, ground_line, half_line, how_words, id_words, lacks, mark_line, message_text, more_words, number_behind, own_words, sorted, sorted_in, told_text};
+ghost use Rattle.tcap_evidence.specs.Words.{component_shown, component_words, doubt_lines, entries_words, entry_line, evidence_text, ground_line, half_line, how_words, id_words, lacks, mark_line, message_text, more_words, number_behind, own_words, sorted, sorted_in, told_text, what_words};
 
 use crate::finding::{Evidence, Ground, component_at, entry_at, find_evidence};
+use crate::what::What;
 use crate::words::{
     class_of_sort, class_words, doubt_words, how_words, is_of_half, is_told_empty, kind_words,
     lacks_words, letter, place_words, sender_of, sort_in, sort_words,
@@ -204,6 +205,22 @@ fn push_entries(text: &mut String, entries: &[u64]) -> Result<(), AllocError>
     }
 }
 
+/// Appends what entries show of a fault of that end, in words: whose they are, and what they are, of that invoke ID where components are
+/// counted. `AllocError` where memory ran out.
+pub fn push_what(
+    text: &mut String,
+    end: End,
+    what: What,
+    id: Option<i8>,
+) -> Result<(), AllocError>
+    ensures { OnOk result (string_bytes text.new ≡ string_bytes text.old ++ what_words end id what) }
+{
+    text.push_str(letter(sender_of(end, what)))?;
+    text.push_str(": ")?;
+    push_sorted(text, sort_in(what), id)?;
+    text.push_str(place_words(what))
+}
+
 /// Appends what entries show, and which.
 fn push_ground(
     text: &mut String,
@@ -219,10 +236,7 @@ fn push_ground(
         return Ok(());
     }
     text.push_str("  ")?;
-    text.push_str(letter(sender_of(end, what)))?;
-    text.push_str(": ")?;
-    push_sorted(text, sort_in(what), id)?;
-    text.push_str(place_words(what))?;
+    push_what(text, end, what, id)?;
     text.push_str(": ")?;
     push_entries(text, &ground.entries)?;
     text.push_str("\n")

@@ -17,6 +17,10 @@ enum Mistaken {
     Sccp,
     /// A message of M3UA (RFC 4666).
     M3ua,
+    /// A capture, a pcap or a pcapng.
+    Capture,
+    /// A text of JSON.
+    Json,
 }
 
 /// Whether this is a hexadecimal digit.
@@ -66,8 +70,18 @@ fn mistaken_for(octets: &[u8]) -> Option<Mistaken> {
     if octets.is_empty() {
         return None;
     }
-    if are_lines(octets) {
+    if are_lines(octets) && !matches!(octets, [0x0A, 0x0D, 0x0D, 0x0A, ..]) {
         return Some(Mistaken::Lines);
+    }
+    match octets {
+        // The magic numbers of a pcap, with times in micro- or nanoseconds, of either order of octets, and of a pcapng.
+        [0xD4, 0xC3, 0xB2, 0xA1, ..]
+        | [0xA1, 0xB2, 0xC3, 0xD4, ..]
+        | [0x4D, 0x3C, 0xB2, 0xA1, ..]
+        | [0xA1, 0xB2, 0x3C, 0x4D, ..]
+        | [0x0A, 0x0D, 0x0D, 0x0A, ..] => return Some(Mistaken::Capture),
+        [b'{', ..] => return Some(Mistaken::Json),
+        _ => {}
     }
     match message_in(octets) {
         // A package: Unidirectional, Query, Response, Conversation, Abort.
@@ -97,11 +111,24 @@ fn line_of(mistaken: Mistaken) -> &'static str {
         Mistaken::M3ua => {
             "  hint: this looks like M3UA, and an entry of a record holds the TCAP message in it\n"
         }
+        Mistaken::Capture => {
+            "  hint: this looks like a capture, of which tools/lines_of_capture.py makes lines\n"
+        }
+        Mistaken::Json => "  hint: this looks like JSON, as an operation table or a certificate is\n",
+    }
+}
+
+/// What `first`, the first octets of what was given as a trace, look like, where they look neither like lines of digits nor like a record: a
+/// line for behind a line of fault.
+pub fn hint_of(first: &[u8]) -> Option<&'static str> {
+    match mistaken_for(first) {
+        Some(Mistaken::Lines) | None => None,
+        Some(mistaken) => Some(line_of(mistaken)),
     }
 }
 
 /// Writes what `first`, the first octets of what was given as a record, look like, where they look like lines of
-/// hexadecimal digits or like a message of ANSI TCAP, SCCP or M3UA; else nothing. It is for behind a line of fault.
+/// hexadecimal digits, a message of ANSI TCAP, SCCP or M3UA, a capture or JSON; else nothing. It is for behind a line of fault.
 /// `WriteFailed` where the writer failed in this call.
 pub fn write_hint<W: Write>(first: &[u8], writer: &mut W) -> Result<(), WriteFailed>
     ensures counts { OnOk result (W.failures writer.new ≡ W.failures writer.old) }

@@ -4,7 +4,7 @@ use tcap_ber::Reason;
 use tcap_record::FeedReason;
 
 /// The name of a reason why octets are refused.
-pub(crate) fn name_of(reason: Reason) -> &'static str {
+pub fn name_of(reason: Reason) -> &'static str {
     match reason {
         Reason::Cut => "cut element",
         Reason::LengthForm => "bad length octet",

@@ -12,7 +12,7 @@ use tcap_ber::{Outer, Reason, Write, outer};
 use tcap_judge::WriteFailed;
 
 /// The greatest count of octets of a line, its end left out.
-pub(crate) const LINE_LIMIT: usize = 131_092;
+pub const LINE_LIMIT: usize = 131_092;
 
 /// The greatest count of lines.
 pub(crate) const LINES_LIMIT: u64 = 1_000_000;
@@ -44,7 +44,7 @@ pub(crate) enum Rule {
 
 /// A rule that a line breaks, and the column in which it does, from 1.
 #[derive(Clone, Copy, Debug, PartialEq, Eq)]
-pub(crate) struct Broken {
+pub struct Broken {
     pub(crate) rule: Rule,
     pub(crate) column: usize,
 }
@@ -105,8 +105,9 @@ fn broken_digits(alloc: Global, digits: &[u8]) -> Result<Option<Broken>, AllocEr
     }
 }
 
-/// The rule that a line of this content breaks.
-pub(crate) fn broken_by(alloc: Global, content: &[u8]) -> Result<Option<Broken>, AllocError> {
+/// The rule that a line of this content, its end left out, breaks; `None` where it is a line of digits, a quiet mark, a comment or empty.
+/// `AllocError` where memory ran out.
+pub fn broken_by(alloc: Global, content: &[u8]) -> Result<Option<Broken>, AllocError> {
     if content.len() > LINE_LIMIT {
         return Ok(Some(broken_behind(Rule::Long, LINE_LIMIT)));
     }
@@ -177,12 +178,18 @@ fn push_rule(text: &mut String, rule: Rule) -> Result<(), AllocError> {
     }
 }
 
-/// Appends the line that says which rule is broken, and in which column.
-pub(crate) fn push_broken(text: &mut String, broken: Broken) -> Result<(), AllocError> {
+/// Appends which rule is broken, and in which column. `AllocError` where memory ran out.
+pub fn push_broken_rule(text: &mut String, broken: Broken) -> Result<(), AllocError> {
     let column = broken.column;
-    text.push_str("  why: ")?;
     push_rule(text, broken.rule)?;
-    writeln!(text, "; column {column}")
+    write!(text, "; column {column}")
+}
+
+/// Appends the line that says so.
+pub(crate) fn push_broken(text: &mut String, broken: Broken) -> Result<(), AllocError> {
+    text.push_str("  why: ")?;
+    push_broken_rule(text, broken)?;
+    text.push_str("\n")
 }
 
 /// The line that says which rule the line breaks at which a reader of lines was left; nothing where none does.

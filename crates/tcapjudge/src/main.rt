@@ -3,8 +3,10 @@
 #![tactic(auto)]
 
 mod explaining;
+mod testing;
 
 use crate::explaining::{Paths, explain};
+use crate::testing::test;
 use std::alloc::Global;
 use std::io::BufWriter;
 use std::process::ExitCode;
@@ -95,6 +97,7 @@ fn answer(rt: &HostRuntime, request: Request) -> io::Result<u8> {
         }
         Request::Blame(entries, table) => Ok(judge(rt, entries, table, Question::Blame)),
         Request::Table(path) => over_path(rt, Task::Table, Some(path)),
+        Request::Test(asked) => Ok(test(rt, &asked)),
         Request::Explain {
             entries,
             table,

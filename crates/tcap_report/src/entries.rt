@@ -1,0 +1,248 @@
+//! The entries of a trace: lines of hexadecimal digits, or a record, told apart by the first octets.
+
+use crate::fault::{FormFault, Halt};
+use std::alloc::{AllocError, Global};
+use tcap_ber::{Outer, outer};
+use tcap_explain::{LINE_LIMIT, broken_by, hint_of, name_of, push_broken_rule};
+
+/// What a trace is, by its first octets.
+#[derive(Clone, Copy, Debug, PartialEq, Eq)]
+enum Form {
+    Unknown,
+    Lines,
+    Record,
+}
+
+/// A piece of a trace that was read.
+#[derive(Debug, Drop)]
+pub(crate) enum Piece {
+    /// An entry, as a record has it: the octet of its end and an element. With its line, where it has one, and the comment above it.
+    Entry(Vec<u8>, u64, Vec<u8>),
+    /// A quiet mark, with its line, where it has one.
+    Mark(u64),
+}
+
+/// A trace that is read.
+#[derive(Debug, Drop)]
+pub(crate) struct Entries {
+    alloc: Global,
+    form: Form,
+    // What was read and belongs to no piece yet, from `from` on.
+    held: Vec<u8>,
+    from: usize,
+    // How many lines were before that.
+    lines: u64,
+    // The place of the first octet that is held, in a record.
+    place: u64,
+    // The comment of the line before.
+    comment: Vec<u8>,
+    // Whether all was read.
+    ended: bool,
+    // The first octets.
+    first: Vec<u8>,
+}
+
+/// So many of the first octets are kept.
+const FIRST: usize = 64;
+
+/// The form of a trace that begins so, where it can be told.
+fn form_of(first: &[u8], ended: bool) -> Form {
+    match first {
+        [b'#' | b'\n' | b'\r', ..] => Form::Lines,
+        // No message's tag is the code of a digit.
+        [b'A' | b'B', b' ' | b'0'..=b'9', ..] => Form::Lines,
+        [b'Q', b'\n' | b'\r' | b' ', ..] => Form::Lines,
+        [b'A' | b'B' | b'Q'] if !ended => Form::Unknown,
+        [b'A' | b'B' | b'Q', ..] => Form::Record,
+        [] => Form::Unknown,
+        _ => Form::Lines,
+    }
+}
+
+/// The line at the front, and how many octets it takes with its end.
+fn line_in(octets: &[u8], ended: bool) -> Option<(&[u8], usize)> {
+    match octets.iter().position(|octet| *octet == b'\n') {
+        Some(end) => {
+            let (line, _) = octets.split_at(end.min(octets.len()));
+            match line {
+                [front @ .., b'\r'] => Some((front, end.saturating_add(1))),
+                _ => Some((line, end.saturating_add(1))),
+            }
+        }
+        None if ended && !octets.is_empty() => Some((octets, octets.len())),
+        None => None,
+    }
+}
+
+/// The value of a digit.
+fn value_of(digit: u8) -> u8 {
+    match digit {
+        b'0'..=b'9' => digit - b'0',
+        b'a'..=b'f' => digit - b'a' + 10,
+        b'A'..=b'F' => digit - b'A' + 10,
+        _ => 0,
+    }
+}
+
+/// The entry of a line that breaks no rule: the octet of its end, and those of its digits.
+fn entry_of(alloc: Global, end: u8, digits: &[u8]) -> Result<Vec<u8>, AllocError> {
+    let mut octets = Vec::new(alloc);
+    octets.push(end)?;
+    let mut rest = digits;
+    while let [high, low, more @ ..] = rest {
+        octets.push((value_of(*high) & 0x0F) * 16 + (value_of(*low) & 0x0F))?;
+        rest = more;
+    }
+    Ok(octets)
+}
+
+/// The text of a comment, without its sign and the blanks behind it.
+fn comment_of(line: &[u8]) -> &[u8] {
+    match line {
+        [b'#', b' ', text @ ..] => text,
+        [b'#', text @ ..] => text,
+        _ => line,
+    }
+}
+
+impl Entries {
+    /// A trace of which nothing was read.
+    pub(crate) fn new(alloc: Global) -> Entries {
+        Entries {
+            alloc,
+            form: Form::Unknown,
+            held: Vec::new(alloc),
+            from: 0,
+            lines: 0,
+            place: 0,
+            comment: Vec::new(alloc),
+            ended: false,
+            first: Vec::new(alloc),
+        }
+    }
+
+    /// Octets come, or none where the trace is at its end.
+    pub(crate) fn feed(&mut self, octets: &[u8]) -> Result<(), AllocError> {
+        let from = self.from.min(self.held.len());
+        self.held.copy_within(from.., 0);
+        self.held.truncate(self.held.len() - from);
+        self.from = 0;
+        self.ended = octets.is_empty();
+        self.held.extend_from_slice(octets)?;
+        let room = FIRST.saturating_sub(self.first.len()).min(octets.len());
+        self.first.extend_from_slice(&octets[..room])?;
+        if self.form == Form::Unknown {
+            self.form = form_of(&self.held, self.ended);
+        }
+        Ok(())
+    }
+
+    /// What the first octets look like, where that is neither lines of digits nor a record.
+    pub(crate) fn hint(&self) -> Option<&'static str> {
+        hint_of(&self.first)
+    }
+
+    /// What is held.
+    fn rest(&self) -> &[u8] {
+        &self.held[self.from.min(self.held.len())..]
+    }
+
+    /// So many octets of it are read.
+    fn pass(&mut self, count: usize) {
+        self.from = self.from.saturating_add(count);
+        self.place = self.place.saturating_add(count as u64);
+    }
+
+    /// The next piece, as far as it is held.
+    pub(crate) fn next(&mut self) -> Result<Option<Piece>, Halt> {
+        match self.form {
+            Form::Unknown => Ok(None),
+            Form::Lines => self.next_line(),
+            Form::Record => self.next_entry(),
+        }
+    }
+
+    /// That of lines.
+    fn next_line(&mut self) -> Result<Option<Piece>, Halt> {
+        for _ in 0..u64::MAX {
+            let Some((line, count)) = line_in(&self.held[self.from.min(self.held.len())..], self.ended) else {
+                return self.too_long();
+            };
+            if let Some(broken) = broken_by(self.alloc, line)? {
+                let mut text = String::new(self.alloc);
+                push_broken_rule(&mut text, broken)?;
+                return Err(self.fault(Some(self.lines.saturating_add(1)), text));
+            }
+            let found = match line {
+                [end @ (b'A' | b'B'), b' ', digits @ ..] => {
+                    Some(Piece::Entry(
+                        entry_of(self.alloc, *end, digits)?,
+                        self.lines.saturating_add(1),
+                        self.comment.clone()?,
+                    ))
+                }
+                [b'Q', ..] => Some(Piece::Mark(self.lines.saturating_add(1))),
+                _ => None,
+            };
+            let mut comment = Vec::new(self.alloc);
+            if let [b'#', ..] = line {
+                comment.extend_from_slice(comment_of(line))?;
+            }
+            self.comment = comment;
+            self.lines = self.lines.saturating_add(1);
+            self.pass(count);
+            if found.is_some() {
+                return Ok(found);
+            }
+        }
+        Ok(None)
+    }
+
+    /// Nothing yet, where the line that is held may still end.
+    fn too_long(&self) -> Result<Option<Piece>, Halt> {
+        if self.rest().len() <= LINE_LIMIT {
+            return Ok(None);
+        }
+        let mut text = String::new(self.alloc);
+        text.push_str("line too long")?;
+        Err(self.fault(Some(self.lines.saturating_add(1)), text))
+    }
+
+    /// That of a record.
+    fn next_entry(&mut self) -> Result<Option<Piece>, Halt> {
+        let len = match self.rest() {
+            [] => return Ok(None),
+            [b'Q', ..] => {
+                self.pass(1);
+                return Ok(Some(Piece::Mark(0)));
+            }
+            [b'A' | b'B', element @ ..] => match outer(element) {
+                Ok(Outer::Whole(len)) => len,
+                Ok(Outer::Need(_)) if !self.ended => return Ok(None),
+                Ok(Outer::Need(_)) => return Err(self.record_fault("the record ends within an entry", self.place)?),
+                Err(fault) => {
+                    let place = self.place.saturating_add(1).saturating_add(fault.place);
+                    return Err(self.record_fault(name_of(fault.reason), place)?);
+                }
+            },
+            _ => return Err(self.record_fault("an entry begins with neither A, B nor Q", self.place)?),
+        };
+        let mut octets = Vec::new(self.alloc);
+        let count = len.saturating_add(1).min(self.rest().len());
+        octets.extend_from_slice(&self.rest()[..count])?;
+        self.pass(count);
+        Ok(Some(Piece::Entry(octets, 0, Vec::new(self.alloc))))
+    }
+
+    /// The fault of a record at that place.
+    fn record_fault(&self, what: &str, place: u64) -> Result<Halt, AllocError> {
+        let mut text = String::new(self.alloc);
+        text.push_str(what)?;
+        write!(text, ", at octet {place}")?;
+        Ok(self.fault(None, text))
+    }
+
+    fn fault(&self, line: Option<u64>, text: String) -> Halt {
+        Halt::Form(FormFault { line, text })
+    }
+}

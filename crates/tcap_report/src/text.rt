@@ -1,0 +1,293 @@
+//! What is said of a dialogue that does not pass, as text.
+
+use crate::case::{Case, Judged};
+use crate::waiting::push_waiting;
+use crate::words::{comment_of, doubt_words, ids_of, letter, line_of, push_ids, undecided_words};
+use std::alloc::{AllocError, Global};
+use tcap_books::NamedTable;
+use tcap_evidence::push_why;
+use tcap_explain::name_of;
+use tcap_msg::MessageParts;
+use tcap_parts::{CodeView, ComponentView};
+use tcap_record::{Body, End, push_head, push_hex};
+use tcap_refute::Refutation;
+use tcap_traces::{Doubt, Said, Verdict};
+
+/// The most entries that are listed.
+const LISTED: usize = 24;
+
+/// Appends the IDs of the ends that have some.
+fn push_all_ids(text: &mut String, case: &Case) -> Result<(), AllocError> {
+    for end in [End::A, End::B] {
+        if !ids_of(case, end).is_empty() {
+            text.push_str(", ")?;
+            text.push_str(letter(end))?;
+            push_ids(text, case, end)?;
+        }
+    }
+    Ok(())
+}
+
+/// Appends the context and the table.
+fn push_table(text: &mut String, judged: &Judged) -> Result<(), AllocError> {
+    if let Some(context) = &judged.context {
+        text.push_str(", context ")?;
+        push_hex(text, context)?;
+    }
+    if let Some(name) = judged.table_name() {
+        text.push_str(", table ")?;
+        text.push_str(name)?;
+    }
+    Ok(())
+}
+
+/// Appends the line of a dialogue.
+fn push_dialogue(text: &mut String, trace: &str, case: &Case, judged: &Judged) -> Result<(), AllocError> {
+    let number = case.number;
+    text.push_str(trace)?;
+    write!(text, ": dialogue {number}")?;
+    push_all_ids(text, case)?;
+    push_table(text, judged)?;
+    text.push_str(": ")?;
+    text.push_str(judged.verdict.word())?;
+    text.push_str("\n")
+}
+
+/// Appends where an entry stands in the trace.
+fn push_place(alloc: Global, text: &mut String, case: &Case, entry: u64) -> Result<(), AllocError> {
+    let line = line_of(case, entry);
+    if line > 0 {
+        write!(text, ", line {line}")?;
+    }
+    let comment = comment_of(alloc, case, entry)?;
+    if !comment.is_empty() {
+        text.push_str(" (")?;
+        text.push_str(&comment)?;
+        text.push_str(")")?;
+    }
+    Ok(())
+}
+
+/// Appends the line of an end that is blamed.
+fn push_blamed(
+    alloc: Global,
+    text: &mut String,
+    case: &Case,
+    end: End,
+    verdict: Verdict,
+    at: Refutation,
+) -> Result<(), AllocError> {
+    let entry = at.entry;
+    let kind = at.kind.number();
+    text.push_str("  ")?;
+    text.push_str(letter(end))?;
+    text.push_str(": ")?;
+    text.push_str(verdict.word())?;
+    write!(text, " at entry {entry} of the dialogue")?;
+    push_place(alloc, text, case, entry)?;
+    writeln!(text, ", F{kind}")
+}
+
+/// Appends what the blame rests on.
+pub(crate) fn push_reason(
+    alloc: Global,
+    text: &mut String,
+    judged: &Judged,
+    end: End,
+    at: Refutation,
+) -> Result<(), AllocError> {
+    match judged.table {
+        Some(table) => push_why(alloc, text, &judged.record, table.table(), end, at, true),
+        None => Ok(()),
+    }
+}
+
+/// Appends what makes a blame inconclusive.
+pub(crate) fn push_doubt(text: &mut String, case: &Case, doubt: Doubt) -> Result<(), AllocError> {
+    text.push_str(doubt_words(doubt))?;
+    match case.earlier {
+        Some(earlier) if doubt == Doubt::CameAgain => {
+            let number = case.number;
+            write!(text, "; this is dialogue {number}, and that was dialogue {earlier}")
+        }
+        _ => Ok(()),
+    }
+}
+
+/// Appends why nothing is shown of an end, and no entry is blamed on it.
+pub(crate) fn push_undecided(
+    text: &mut String,
+    case: &Case,
+    judged: &Judged,
+    said: Said,
+) -> Result<(), AllocError> {
+    if let Said::Behind(entry) = said {
+        let line = line_of(case, entry);
+        write!(text, "entry {entry} of the dialogue, line {line}, ")?;
+    }
+    text.push_str(undecided_words(said))?;
+    text.push_str("\n")?;
+    match said {
+        Said::Open => push_waiting(text, judged),
+        _ => Ok(()),
+    }
+}
+
+/// Appends what is said of an end that does not pass.
+fn push_end(
+    alloc: Global,
+    text: &mut String,
+    case: &Case,
+    judged: &Judged,
+    end: End,
+    said: Said,
+) -> Result<(), AllocError> {
+    match said {
+        Said::Pass(_) => Ok(()),
+        Said::Fail(at) => {
+            push_blamed(alloc, text, case, end, said.verdict(), at)?;
+            push_reason(alloc, text, judged, end, at)
+        }
+        Said::Doubtful(at, doubt) => {
+            push_blamed(alloc, text, case, end, said.verdict(), at)?;
+            text.push_str("  that is inconclusive: ")?;
+            push_doubt(text, case, doubt)?;
+            text.push_str("\n")?;
+            push_reason(alloc, text, judged, end, at)
+        }
+        _ => {
+            text.push_str("  ")?;
+            text.push_str(letter(end))?;
+            text.push_str(": inconc: ")?;
+            push_undecided(text, case, judged, said)
+        }
+    }
+}
+
+/// Appends an operation, by its name where the table has one.
+fn push_operation(text: &mut String, table: Option<&NamedTable>, code: CodeView) -> Result<(), AllocError> {
+    let name = match table {
+        Some(table) => table.name_of(code),
+        None => None,
+    };
+    if let Some(name) = name {
+        text.push_str(name)?;
+        text.push_str(" ")?;
+    }
+    match code {
+        CodeView::Local(number) => write!(text, "{number}"),
+        CodeView::Global(octets) => push_hex(text, octets.octets),
+    }
+}
+
+/// Appends a component in a few words.
+fn push_component(
+    text: &mut String,
+    table: Option<&NamedTable>,
+    component: ComponentView,
+) -> Result<(), AllocError> {
+    match component {
+        ComponentView::Invoke { id, code, .. } => {
+            write!(text, ", Invoke {id} ")?;
+            push_operation(text, table, code)
+        }
+        ComponentView::ReturnResult { last, id, .. } => {
+            text.push_str(if last { ", ReturnResultLast" } else { ", ReturnResultNotLast" })?;
+            write!(text, " {id}")
+        }
+        ComponentView::ReturnError { id, .. } => write!(text, ", ReturnError {id}"),
+        ComponentView::Reject { id: Some(id), .. } => write!(text, ", Reject {id}"),
+        ComponentView::Reject { id: None, .. } => text.push_str(", Reject"),
+    }
+}
+
+/// Appends what an entry is.
+fn push_body(text: &mut String, table: Option<&NamedTable>, place: u64, body: &Body) -> Result<(), AllocError> {
+    match body {
+        Body::Good(message) => {
+            push_head(text, message)?;
+            for component in message.components() {
+                push_component(text, table, component)?;
+            }
+            Ok(())
+        }
+        Body::Bad(fault) => {
+            text.push_str("no message: ")?;
+            text.push_str(name_of(fault.reason))?;
+            let place = fault.place.saturating_sub(place);
+            write!(text, ", at octet {place} of it")
+        }
+        Body::Quiet => text.push_str("quiet mark"),
+    }
+}
+
+/// Appends the entries of a dialogue, of a long one the first, up to the last one that is blamed.
+fn push_entries(alloc: Global, text: &mut String, case: &Case, judged: &Judged) -> Result<(), AllocError> {
+    text.push_str("  the entries of the dialogue:\n")?;
+    for (number, entry) in judged.record.entries.iter().enumerate() {
+        if number >= LISTED {
+            let more = judged.record.entries.len().saturating_sub(LISTED);
+            return writeln!(text, "    and {more} more");
+        }
+        write!(text, "    {number}")?;
+        push_place(alloc, text, case, number as u64)?;
+        text.push_str(": ")?;
+        if let Some(end) = entry.side {
+            text.push_str(letter(end))?;
+            text.push_str(" ")?;
+        }
+        push_body(text, judged.table, entry.place, &entry.body)?;
+        text.push_str("\n")?;
+    }
+    Ok(())
+}
+
+/// Appends that no table is there for a dialogue.
+fn push_no_table(text: &mut String, judged: &Judged) -> Result<(), AllocError> {
+    if judged.context.is_some() {
+        text.push_str("  no table is for this application context name\n")
+    } else {
+        text.push_str("  no table is for a dialogue without an application context name\n")
+    }
+}
+
+/// Whether an end is asked.
+pub(crate) fn is_asked(of: Option<End>, end: End) -> bool {
+    match of {
+        Some(asked) => asked == end,
+        None => true,
+    }
+}
+
+/// Appends all that is said of a dialogue that does not pass.
+pub(crate) fn push_case(
+    alloc: Global,
+    text: &mut String,
+    trace: &str,
+    case: &Case,
+    judged: &Judged,
+    of: Option<End>,
+) -> Result<(), AllocError> {
+    push_dialogue(text, trace, case, judged)?;
+    push_behind(alloc, text, case, judged, of)?;
+    push_entries(alloc, text, case, judged)
+}
+
+/// Appends what stands behind the line of a dialogue: what is said of each end that is asked.
+pub(crate) fn push_behind(
+    alloc: Global,
+    text: &mut String,
+    case: &Case,
+    judged: &Judged,
+    of: Option<End>,
+) -> Result<(), AllocError> {
+    let Some(ends) = judged.ends else {
+        return push_no_table(text, judged);
+    };
+    for end in [End::A, End::B] {
+        if is_asked(of, end) {
+            push_end(alloc, text, case, judged, end, ends.of(end))?;
+        }
+    }
+    Ok(())
+}

@@ -1,0 +1,405 @@
+//! A trace, judged dialogue by dialogue as it is read.
+
+use crate::case::{Behind, Case, Held, Judged, Rules, judge};
+use crate::earlier::Earlier;
+use crate::entries::{Entries, Piece};
+use crate::fault::{FormFault, Halt, Stop};
+use crate::junit::Junit;
+use crate::sum::{Counts, Sum, push_counts};
+use crate::{json, text};
+use std::alloc::{AllocError, Global};
+use std::collections::BTreeMap;
+use std::mem;
+use tcap_ber::{Failed, Read, Write};
+use tcap_books::Book;
+use tcap_dialogues::{Cut, Gathered, Reuse, read_heading};
+use tcap_record::{End, PIECE_LEN};
+use tcap_traces::{Said, Verdict, trace_verdict};
+
+/// What is asked of a trace.
+#[derive(Clone, Copy, Debug)]
+pub struct Asked<'a> {
+    /// The name of the trace.
+    pub name: &'a str,
+    /// The end whose verdicts are asked; both where it is none.
+    pub of: Option<End>,
+    /// How transaction IDs may come again.
+    pub reuse: Reuse,
+    /// Whether nothing of a dialogue was under way when one of its IDs came again.
+    pub settled: bool,
+    /// Whether a dialogue that is open at the end of the trace is inconclusive.
+    pub complete: bool,
+    /// The operation tables.
+    pub book: &'a Book,
+}
+
+/// Who looks on while traces are read.
+pub trait Watch {
+    /// Some octets were read; that is the sum so far.
+    fn look(&mut self, sum: &Sum);
+}
+
+/// Where it is said.
+#[derive(Debug, Drop)]
+pub struct Sinks<'a, W, J, P> {
+    /// As text.
+    pub text: &'a mut W,
+    /// As lines of JSON.
+    pub json: Option<&'a mut J>,
+    /// As JUnit XML.
+    pub junit: Option<&'a mut Junit>,
+    /// The sum of all traces.
+    pub sum: &'a mut Sum,
+    /// Who looks on.
+    pub watch: &'a mut P,
+}
+
+/// A trace as it is read.
+#[derive(Drop)]
+struct Trace<'a> {
+    alloc: Global,
+    asked: Asked<'a>,
+    cut: Cut,
+    // The entries of the stretch that are not judged, by their numbers in it.
+    held: BTreeMap<u64, Held>,
+    // How many entries the stretch has, and the trace before it.
+    count: u64,
+    before: u64,
+    unread: Option<u64>,
+    // Which dialogues of the stretch had which IDs, of those that are judged.
+    earlier: Earlier,
+    messages: u64,
+    dialogues: Counts,
+    unheard: u64,
+}
+
+/// How many messages of its peer an end that passes did not hear.
+fn unheard_by(said: Said) -> u64 {
+    match said {
+        Said::Pass(unheard) => unheard,
+        _ => 0,
+    }
+}
+
+/// Whether an end that is asked did not hear all.
+fn is_unheard(judged: &Judged, of: Option<End>) -> bool {
+    match judged.ends {
+        Some(ends) => [End::A, End::B]
+            .iter()
+            .any(|end| text::is_asked(of, *end) && unheard_by(ends.of(*end)) > 0),
+        None => false,
+    }
+}
+
+/// The end of an entry.
+fn end_of(octets: &[u8]) -> End {
+    match octets {
+        [b'B', ..] => End::B,
+        _ => End::A,
+    }
+}
+
+/// The element of an entry.
+fn element_of(octets: &[u8]) -> &[u8] {
+    match octets {
+        [_, element @ ..] => element,
+        [] => octets,
+    }
+}
+
+impl<'a> Trace<'a> {
+    /// Of which nothing was read.
+    fn new(alloc: Global, asked: Asked<'a>) -> Trace<'a> {
+        Trace {
+            alloc,
+            asked,
+            cut: Cut::new(alloc, asked.reuse),
+            held: BTreeMap::new(alloc),
+            count: 0,
+            before: 0,
+            unread: None,
+            earlier: Earlier::new(alloc),
+            messages: 0,
+            dialogues: Counts::new(),
+            unheard: 0,
+        }
+    }
+
+    /// An entry comes.
+    fn enter<W: Write, J: Write, P: Watch>(
+        &mut self,
+        octets: Vec<u8>,
+        line: u64,
+        comment: Vec<u8>,
+        sinks: &mut Sinks<W, J, P>,
+    ) -> Result<(), Stop> {
+        let mut done = Vec::new(self.alloc);
+        let heading = read_heading(end_of(&octets), element_of(&octets));
+        if heading.kind.is_none() && self.unread.is_none() {
+            self.unread = Some(self.count);
+        }
+        self.cut.take(heading, &mut done)?;
+        if self.held.insert(self.count, Held { octets, line, comment }).is_err() {
+            return Err(Stop::Memory);
+        }
+        self.count = self.count.saturating_add(1);
+        self.messages = self.messages.saturating_add(1);
+        for gathered in done {
+            self.judge(gathered, Behind::More, sinks)?;
+        }
+        Ok(())
+    }
+
+    /// The stretch ends: by a quiet mark, or with the trace.
+    fn end_stretch<W: Write, J: Write, P: Watch>(
+        &mut self,
+        behind: Behind,
+        sinks: &mut Sinks<W, J, P>,
+    ) -> Result<(), Stop> {
+        let mut done = Vec::new(self.alloc);
+        let cut = mem::replace(&mut self.cut, Cut::new(self.alloc, self.asked.reuse));
+        cut.finish(&mut done)?;
+        for gathered in done {
+            self.judge(gathered, behind, sinks)?;
+        }
+        self.before = self.before.saturating_add(self.count).saturating_add(1);
+        self.count = 0;
+        self.unread = None;
+        self.earlier = Earlier::new(self.alloc);
+        Ok(())
+    }
+
+    /// The entries of a dialogue, which are held no longer.
+    fn taken(&mut self, gathered: &Gathered) -> Result<Vec<Held>, AllocError> {
+        let mut entries = Vec::new(self.alloc);
+        for number in &gathered.numbers {
+            if let Some(held) = self.held.remove(number) {
+                entries.push(held)?;
+            }
+        }
+        Ok(entries)
+    }
+
+    /// Judges a dialogue, and says what is said of it.
+    fn judge<W: Write, J: Write, P: Watch>(
+        &mut self,
+        gathered: Gathered,
+        behind: Behind,
+        sinks: &mut Sinks<W, J, P>,
+    ) -> Result<(), Stop> {
+        let entries = self.taken(&gathered)?;
+        let number = self.dialogues.all();
+        let earlier = self.earlier.of(&gathered);
+        if behind == Behind::More {
+            self.earlier.note(&gathered, number)?;
+        }
+        let case = Case {
+            number,
+            entries,
+            gathered,
+            before: self.before,
+            behind,
+            earlier,
+            unread: self.unread,
+        };
+        let rules = Rules {
+            of: self.asked.of,
+            settled: self.asked.settled,
+            complete: self.asked.complete,
+        };
+        let judged = judge(self.alloc, &case, self.asked.book, rules)?;
+        self.dialogues.add(judged.verdict);
+        if judged.verdict == Verdict::Pass && is_unheard(&judged, self.asked.of) {
+            self.unheard = self.unheard.saturating_add(1);
+        }
+        self.tell(&case, &judged, sinks)
+    }
+
+    /// Says what is said of a dialogue.
+    fn tell<W: Write, J: Write, P: Watch>(
+        &self,
+        case: &Case,
+        judged: &Judged,
+        sinks: &mut Sinks<W, J, P>,
+    ) -> Result<(), Stop> {
+        let (name, of) = (self.asked.name, self.asked.of);
+        if let Some(writer) = &mut sinks.json {
+            let mut line = String::new(self.alloc);
+            json::push_case(self.alloc, &mut line, name, case, judged, of)?;
+            write_text(*writer, &line)?;
+        }
+        if judged.verdict == Verdict::Pass {
+            return Ok(());
+        }
+        if let Some(junit) = &mut sinks.junit {
+            junit.add_case(name, case, judged, of)?;
+        }
+        let mut lines = String::new(self.alloc);
+        text::push_case(self.alloc, &mut lines, name, case, judged, of)?;
+        write_text(sinks.text, &lines)
+    }
+
+    /// Reads the pieces that are held.
+    fn read_on<W: Write, J: Write, P: Watch>(
+        &mut self,
+        entries: &mut Entries,
+        sinks: &mut Sinks<W, J, P>,
+    ) -> Result<(), Halt> {
+        for _ in 0..u64::MAX {
+            match entries.next()? {
+                Some(Piece::Entry(octets, line, comment)) => self.enter(octets, line, comment, sinks)?,
+                Some(Piece::Mark(line)) => self.end_stretch(Behind::Mark(line), sinks)?,
+                None => return Ok(()),
+            }
+        }
+        Ok(())
+    }
+
+    /// Reads all.
+    fn read_all<R: Read, W: Write, J: Write, P: Watch>(
+        &mut self,
+        reader: &mut R,
+        entries: &mut Entries,
+        sinks: &mut Sinks<W, J, P>,
+    ) -> Result<(), Halt> {
+        let mut piece = [0; PIECE_LEN];
+        for _ in 0..u64::MAX {
+            let told = match reader.read(&mut piece) {
+                Ok(told) => told,
+                Err(Failed) => return Err(self.unreadable()?),
+            };
+            entries.feed(&piece[..told])?;
+            self.read_on(entries, sinks)?;
+            sinks.watch.look(&self.so_far(sinks.sum));
+            if told == 0 {
+                break;
+            }
+        }
+        self.end_stretch(Behind::End, sinks)?;
+        Ok(())
+    }
+
+    /// The sum of the traces before and of this one, as far as it was read.
+    fn so_far(&self, before: &Sum) -> Sum {
+        let mut sum = *before;
+        sum.dialogues.add_all(self.dialogues);
+        sum.messages = sum.messages.saturating_add(self.messages);
+        sum.unheard = sum.unheard.saturating_add(self.unheard);
+        sum
+    }
+
+    /// The fault that it can't be read.
+    fn unreadable(&self) -> Result<Halt, AllocError> {
+        let mut text = String::new(self.alloc);
+        text.push_str("it can't be read")?;
+        Ok(Halt::Form(FormFault { line: None, text }))
+    }
+
+    /// Says what is said of the trace.
+    fn end<W: Write, J: Write, P: Watch>(
+        &self,
+        fault: Option<FormFault>,
+        hint: Option<&str>,
+        sinks: &mut Sinks<W, J, P>,
+    ) -> Result<Verdict, Stop> {
+        let verdict = trace_verdict(fault.is_some(), self.messages, self.dialogues.worst);
+        let mut why = String::new(self.alloc);
+        push_fault(&mut why, &fault, self.messages)?;
+        let mut line = String::new(self.alloc);
+        self.push_line(&mut line, verdict, &why)?;
+        line.push_str(hint.unwrap_or(""))?;
+        write_text(sinks.text, &line)?;
+        self.tell_end(verdict, &fault, &why, sinks)?;
+        *sinks.sum = self.so_far(sinks.sum);
+        sinks.sum.traces.add(verdict);
+        Ok(verdict)
+    }
+
+    /// Says the same as JSON and as JUnit XML.
+    fn tell_end<W: Write, J: Write, P: Watch>(
+        &self,
+        verdict: Verdict,
+        fault: &Option<FormFault>,
+        why: &str,
+        sinks: &mut Sinks<W, J, P>,
+    ) -> Result<(), Stop> {
+        let name = self.asked.name;
+        if let Some(writer) = &mut sinks.json {
+            let mut line = String::new(self.alloc);
+            let number = match fault {
+                Some(fault) => fault.line,
+                None => None,
+            };
+            json::push_trace(&mut line, name, verdict, self.messages, &self.dialogues, self.unheard)?;
+            json::push_fault(&mut line, why, number)?;
+            write_text(*writer, &line)?;
+        }
+        if let Some(junit) = &mut sinks.junit {
+            if !why.is_empty() {
+                junit.add_fault(name, why)?;
+            }
+            junit.end_trace(name, &self.dialogues)?;
+        }
+        Ok(())
+    }
+
+    /// Appends the line of the trace.
+    fn push_line(&self, text: &mut String, verdict: Verdict, why: &str) -> Result<(), AllocError> {
+        text.push_str(self.asked.name)?;
+        text.push_str(": ")?;
+        text.push_str(verdict.word())?;
+        if !why.is_empty() {
+            text.push_str(": ")?;
+            text.push_str(why)?;
+        }
+        text.push_str("; ")?;
+        push_counts(text, self.messages, &self.dialogues, self.unheard)
+    }
+}
+
+/// Appends what is wrong with a trace, where something is.
+fn push_fault(text: &mut String, fault: &Option<FormFault>, messages: u64) -> Result<(), AllocError> {
+    match fault {
+        Some(FormFault { line: Some(line), text: what }) => {
+            write!(text, "line {line}: ")?;
+            text.push_str(what)
+        }
+        Some(FormFault { line: None, text: what }) => text.push_str(what),
+        None if messages == 0 => text.push_str("there is no message in it"),
+        None => Ok(()),
+    }
+}
+
+/// Writes a text.
+fn write_text<W: Write>(writer: &mut W, text: &str) -> Result<(), Stop> {
+    writer.write_all(text.as_bytes()).map_err(|_| Stop::Write)
+}
+
+/// Judges each dialogue of the trace that `reader` tells, says of each one that does not pass why, and answers the verdict on the
+/// trace. A fault of its form ends the reading; what was judged before that stands.
+pub fn run_trace<R: Read, W: Write, J: Write, P: Watch>(
+    alloc: Global,
+    reader: &mut R,
+    asked: Asked,
+    sinks: &mut Sinks<W, J, P>,
+) -> Result<Verdict, Stop> {
+    let mut trace = Trace::new(alloc, asked);
+    let mut entries = Entries::new(alloc);
+    match trace.read_all(reader, &mut entries, sinks) {
+        Ok(()) => trace.end(None, None, sinks),
+        Err(Halt::Form(fault)) => trace.end(Some(fault), entries.hint(), sinks),
+        Err(Halt::Stop(stop)) => Err(stop),
+    }
+}
+
+/// Says that a trace can't be read, and why, and answers the verdict on it.
+pub fn tell_unread<W: Write, J: Write, P: Watch>(
+    alloc: Global,
+    asked: Asked,
+    why: &str,
+    sinks: &mut Sinks<W, J, P>,
+) -> Result<Verdict, Stop> {
+    let mut text = String::new(alloc);
+    text.push_str(why)?;
+    Trace::new(alloc, asked).end(Some(FormFault { line: None, text }), None, sinks)
+}

@@ -1,0 +1,90 @@
+//! Words for what is said.
+
+use crate::case::{Behind, Case};
+use std::alloc::{AllocError, Global};
+use std::collections::BTreeSet;
+use tcap_msg::{Message, MessageParts, TransactionId};
+use tcap_parts::DialogueView;
+use tcap_record::{End, push_hex};
+use tcap_traces::{Doubt, Said};
+
+/// The letter of an end.
+pub(crate) fn letter(end: End) -> &'static str {
+    match end {
+        End::A => "A",
+        End::B => "B",
+    }
+}
+
+/// The application context name that a message's dialogue portion has.
+pub(crate) fn context_in(alloc: Global, message: &Message) -> Result<Option<Vec<u8>>, AllocError> {
+    let found = match message.dialogue() {
+        Some(
+            DialogueView::Request { context, .. }
+            | DialogueView::Response { context, .. }
+            | DialogueView::Uni { context, .. },
+        ) => context,
+        _ => return Ok(None),
+    };
+    let mut octets = Vec::new(alloc);
+    octets.extend_from_slice(found.octets)?;
+    Ok(Some(octets))
+}
+
+/// What makes a blame inconclusive, in words.
+pub(crate) fn doubt_words(doubt: Doubt) -> &'static str {
+    match doubt {
+        Doubt::AtMark => "the trace's quiet mark is the bench's word, and it may stand too early",
+        Doubt::LackingOperation => "the table lacks the operation",
+        Doubt::MaybeOver => "the transaction of the ID that is begun again may have been given up or may have ended in silence",
+        Doubt::CameAgain => "an ID of the dialogue was one of an earlier one, of which a message may have been under way (--ids settled says that none was)",
+        Doubt::Unread => "an entry before it can't be read, and may have been one of this dialogue",
+    }
+}
+
+/// What is said of an end that is undecided, in words; nothing of the others.
+pub(crate) fn undecided_words(said: Said) -> &'static str {
+    match said {
+        Said::Undecided => "it is not found how it can have sent its part, and no entry of it is blamed",
+        Said::Behind(_) => "is no message that is judged, and is its own or stands before others of its own",
+        Said::TooLong => "the dialogue has more than 100,000 entries, and of those nothing is blamed",
+        Said::Open => "the dialogue is open at the end of the trace",
+        _ => "",
+    }
+}
+
+/// The IDs of an end.
+pub(crate) fn ids_of(case: &Case, end: End) -> &BTreeSet<TransactionId> {
+    match end {
+        End::A => &case.gathered.a,
+        End::B => &case.gathered.b,
+    }
+}
+
+/// Appends the IDs of an end, each behind a blank.
+pub(crate) fn push_ids(text: &mut String, case: &Case, end: End) -> Result<(), AllocError> {
+    for id in ids_of(case, end) {
+        text.push_str(" ")?;
+        push_hex(text, id.octets())?;
+    }
+    Ok(())
+}
+
+/// The line of an entry of a dialogue; 0 where it has none.
+pub(crate) fn line_of(case: &Case, entry: u64) -> u64 {
+    match case.entries.get(entry as usize) {
+        Some(held) => held.line,
+        None => match case.behind {
+            Behind::Mark(line) => line,
+            _ => 0,
+        },
+    }
+}
+
+/// The comment above it, as text.
+pub(crate) fn comment_of(alloc: Global, case: &Case, entry: u64) -> Result<String, AllocError> {
+    match case.entries.get(entry as usize) {
+        Some(held) => String::from_utf8_lossy(alloc, &held.comment),
+        None => Ok(String::new(alloc)),
+    }
+}

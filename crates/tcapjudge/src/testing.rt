@@ -1,0 +1,245 @@
+//! The word `test`: each dialogue of traces is judged.
+
+use std::alloc::{AllocError, Global};
+use std::io::BufWriter;
+use std::time::Instant;
+use std::{fs, io};
+use tcap_ber::{Counted, Read, Write};
+use tcap_books::{Book, CARRIED_BOOK};
+use tcap_dialogues::Reuse;
+use tcap_report::{Asked, Junit, Sinks, Stop, Sum, Watch, run_trace, tell_unread};
+use tcap_traces::Verdict;
+use tcap_words::{Ids, Test};
+
+/// Says on standard error, once a second, how far the run is.
+#[derive(Drop)]
+struct Progress<'a> {
+    rt: &'a HostRuntime,
+    is_asked: bool,
+    last: Option<Instant>,
+}
+
+impl Watch for Progress<'_> {
+    fn look(&mut self, sum: &Sum) {
+        if !self.is_asked {
+            return;
+        }
+        let Ok(now) = Instant::now(self.rt) else {
+            return;
+        };
+        if let Some(last) = self.last {
+            if now.saturating_duration_since(last).as_secs() == 0 {
+                return;
+            }
+        }
+        self.last = Some(now);
+        let mut text = String::new(self.rt.alloc());
+        if sum.push(&mut text).is_ok() {
+            let _ = eprint!(self.rt; "{text}");
+        }
+    }
+}
+
+/// Reads the books of those paths, as one; that which the program carries, where there are none. What is wrong is said.
+fn book_of(rt: &HostRuntime, paths: &[&str]) -> Option<Book> {
+    let alloc = rt.alloc();
+    if paths.is_empty() {
+        return read_book(rt, "the book that the program carries", CARRIED_BOOK.as_bytes());
+    }
+    let mut all = None;
+    for path in paths {
+        let octets = match fs::read(rt, *path) {
+            Ok(octets) => octets,
+            Err(error) => {
+                let _ = eprintln!(rt; "error: {path}: {error}");
+                return None;
+            }
+        };
+        let book = read_book(rt, *path, &octets)?;
+        all = match all {
+            None => Some(book),
+            Some(mut books) => {
+                if Book::add(&mut books, book).is_err() {
+                    let _ = eprintln!(rt; "error: out of memory");
+                    return None;
+                }
+                Some(books)
+            }
+        };
+    }
+    all
+}
+
+/// The book of that text. What is wrong with it is said.
+fn read_book(rt: &HostRuntime, name: &str, text: &[u8]) -> Option<Book> {
+    match Book::from_json(rt.alloc(), text) {
+        Ok(book) => Some(book),
+        Err(fault) => {
+            let _ = eprintln!(rt; "error: {name}: {fault}");
+            None
+        }
+    }
+}
+
+/// Whether that path is a directory's.
+fn is_folder(rt: &HostRuntime, path: &str) -> bool {
+    match fs::metadata(rt, path) {
+        Ok(found) => found.is_dir(),
+        Err(_) => false,
+    }
+}
+
+/// Whether a file that is written is one of those that are read, by its path, or both are one.
+fn is_overwritten(test: &Test) -> bool {
+    for path in [test.json, test.junit] {
+        if let Some(path) = path {
+            if test.traces.iter().any(|trace| *trace == path) || test.tables.iter().any(|table| *table == path) {
+                return true;
+            }
+        }
+    }
+    test.json.is_some() && test.json == test.junit
+}
+
+/// Judges the trace of that path.
+fn test_path<W: Write, J: Write, P: Watch>(
+    rt: &HostRuntime,
+    path: &str,
+    asked: Asked,
+    sinks: &mut Sinks<W, J, P>,
+) -> Result<Verdict, Stop> {
+    let alloc = rt.alloc();
+    if path == "-" {
+        return run_trace(alloc, &mut Counted::new(rt.reader()), asked, sinks);
+    }
+    match fs::open(rt, path) {
+        Ok(file) if is_folder(rt, path) => tell_unread(alloc, asked, "it is a directory", sinks),
+        Ok(file) => run_trace(alloc, &mut Counted::new(file), asked, sinks),
+        Err(error) => {
+            let mut text = String::new(alloc);
+            if write!(text, "{error}").is_err() {
+                return Err(Stop::Memory);
+            }
+            tell_unread(alloc, asked, &text, sinks)
+        }
+    }
+}
+
+/// Judges all traces.
+fn test_all<J: Write>(
+    rt: &HostRuntime,
+    test: &Test,
+    book: &Book,
+    json: Option<&mut J>,
+    junit: Option<&mut Junit>,
+) -> Result<Verdict, Stop> {
+    let mut sum = Sum::new();
+    let mut text = Counted::new(io::writer(rt));
+    let mut watch = Progress {
+        rt,
+        is_asked: test.progress,
+        last: None,
+    };
+    let mut sinks = Sinks {
+        text: &mut text,
+        json,
+        junit,
+        sum: &mut sum,
+        watch: &mut watch,
+    };
+    for path in &test.traces {
+        let asked = Asked {
+            name: *path,
+            of: test.of,
+            reuse: match test.ids {
+                Ids::Once => Reuse::Once,
+                _ => Reuse::Again(test.linger),
+            },
+            settled: test.ids == Ids::Settled,
+            complete: test.complete,
+            book,
+        };
+        test_path(rt, *path, asked, &mut sinks)?;
+    }
+    let mut lines = String::new(rt.alloc());
+    sinks.sum.push(&mut lines)?;
+    if sinks.text.write_all(lines.as_bytes()).is_err() {
+        return Err(Stop::Write);
+    }
+    Ok(sinks.sum.worst())
+}
+
+/// Judges all traces, with what goes to the file of JSON.
+fn test_with_json(rt: &HostRuntime, test: &Test, book: &Book, junit: Option<&mut Junit>) -> Result<Verdict, Stop> {
+    let Some(path) = test.json else {
+        return test_all::<Counted<Vec<u8>>>(rt, test, book, None, junit);
+    };
+    let file = match fs::create(rt, path) {
+        Ok(file) => file,
+        Err(error) => {
+            let _ = eprintln!(rt; "error: {path}: {error}");
+            return Err(Stop::Write);
+        }
+    };
+    let Ok(buffer) = BufWriter::new(rt.alloc(), file) else {
+        return Err(Stop::Memory);
+    };
+    let mut json = Counted::new(buffer);
+    let verdict = test_all(rt, test, book, Some(&mut json), junit);
+    if json.flush().is_err() {
+        let _ = eprintln!(rt; "error: {path} can't be written");
+        return Err(Stop::Write);
+    }
+    verdict
+}
+
+/// Writes the file of JUnit XML.
+fn write_junit(rt: &HostRuntime, path: &str, junit: &Junit) -> Result<(), Stop> {
+    let text = junit.text()?;
+    match fs::write(rt, path, text) {
+        Ok(()) => Ok(()),
+        Err(error) => {
+            let _ = eprintln!(rt; "error: {path}: {error}");
+            Err(Stop::Write)
+        }
+    }
+}
+
+/// Judges all traces, with what goes to the files of JSON and JUnit XML.
+fn tested(rt: &HostRuntime, test: &Test, book: &Book) -> Result<Verdict, Stop> {
+    match test.junit {
+        None => test_with_json(rt, test, book, None),
+        Some(path) => {
+            let mut junit = Junit::new(rt.alloc());
+            let verdict = test_with_json(rt, test, book, Some(&mut junit))?;
+            write_junit(rt, path, &junit)?;
+            Ok(verdict)
+        }
+    }
+}
+
+/// The exit status where the words are wrong.
+const WRONG_WORDS: u8 = 4;
+
+/// Judges each dialogue of the traces, and answers the exit status: that of the worst verdict.
+pub(crate) fn test(rt: &HostRuntime, test: &Test) -> u8 {
+    if test.traces.iter().filter(|path| **path == "-").count() > 1 {
+        let _ = eprintln!(rt; "error: the standard input can be read once");
+        return WRONG_WORDS;
+    }
+    if is_overwritten(test) {
+        let _ = eprintln!(rt; "error: what is said would be written over a file that is read, or twice into one");
+        return Verdict::Error.status();
+    }
+    let Some(book) = book_of(rt, &test.tables) else {
+        return Verdict::Error.status();
+    };
+    match tested(rt, test, &book) {
+        Ok(verdict) => verdict.status(),
+        Err(Stop::Memory) => {
+            let _ = eprintln!(rt; "error: out of memory");
+            Verdict::Error.status()
+        }
+        Err(Stop::Write) => Verdict::Error.status(),
+    }
+}
