@@ -1,23 +1,26 @@
-"""Random traces for tests/traces.py: dialogues of tests/random_dialogues.py, of which some are planted with a fault more,
-interleaved at random, with quiet marks between them or none. Their IDs are mostly their own, or come again, or are few."""
+"""Random traces for tests/traces.py: dialogues of tests/random_dialogues.py, of which some are planted with a fault
+more, interleaved at random, with quiet marks between them or none. Their IDs are their own, come again, or are few."""
 
 import random_dialogues
 import runs
 import trace_rows
 from ends import Table
 from trace_cut import Heading
+from trace_rows import element
 
-# Octets that are no message, with what can be read of them.
+# Octets that are no message, of which the IDs can be read.
 NO_MESSAGES = {
-    "Begin": lambda own, peer: trace_rows.element("62", trace_rows.element("48", own), "6C00"),
-    "Continue": lambda own, peer: trace_rows.element("65", trace_rows.element("48", own), trace_rows.element("49", peer), "6C00"),
-    "End": lambda own, peer: trace_rows.element("64", trace_rows.element("49", peer), "6B00"),
-    "Abort": lambda own, peer: trace_rows.element("67", trace_rows.element("49", peer), "4A0200FF"),
+    "Begin": lambda own, peer: element("62", element("48", own), "6C00"),
+    "Continue": lambda own, peer: element("65", element("48", own), element("49", peer), "6C00"),
+    "End": lambda own, peer: element("64", element("49", peer), "6B00"),
+    "Abort": lambda own, peer: element("67", element("49", peer), "4A0200FF"),
 }
+# The same of a limit of the profile: an operation code of five octets.
+WIDE = trace_rows.invoke("01", "0100000000")
 BEYOND = {
-    "Begin": lambda own, peer: trace_rows.begin(own, trace_rows.invoke("01", "0100000000")),
-    "Continue": lambda own, peer: trace_rows.go_on(own, peer, trace_rows.invoke("01", "0100000000")),
-    "End": lambda own, peer: trace_rows.end(peer, trace_rows.invoke("01", "0100000000")),
+    "Begin": lambda own, peer: trace_rows.begin(own, WIDE),
+    "Continue": lambda own, peer: trace_rows.go_on(own, peer, WIDE),
+    "End": lambda own, peer: trace_rows.end(peer, WIDE),
 }
 UNREAD = [trace_rows.OTHER_TAG, trace_rows.NO_OCTETS, trace_rows.FIVE_OCTETS, trace_rows.BAD_LENGTH]
 
@@ -45,7 +48,8 @@ def no_message(rng, end, own, peer):
 
 
 def planted(rng, entries):
-    """The entries of a dialogue with a fault: one is sent twice, is missing, is another end's, comes sooner, or is no message."""
+    """The entries of a dialogue with a fault: one is sent twice, is missing, is another end's, comes sooner, or is no
+    message."""
     at, choice = rng.randrange(len(entries)), rng.random()
     if choice < 0.3:
         entries.insert(rng.randint(at, len(entries)), entries[at])

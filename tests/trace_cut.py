@@ -1,14 +1,15 @@
-"""How a trace is cut into dialogues, an own reading in Python for tests/traces.py: within a stretch between quiet marks,
-messages that share an ID of one end, directly or over others, are one dialogue. It shares nothing with the code that is tested."""
+"""How a trace is cut into dialogues, an own reading in Python for tests/traces.py: within a stretch between quiet
+marks, messages that share an ID of one end, directly or over others, are one dialogue. It shares nothing with the code
+that is tested."""
 
 from collections import namedtuple
 
-# What is read of an entry: who sent it, its kind, and its transaction IDs; of one of which nothing can be read all but the
-# first are None.
+# What is read of an entry: who sent it, its kind, and its transaction IDs; where nothing can be read all but the first
+# are None.
 Heading = namedtuple("Heading", "end kind otid dtid")
-# A dialogue: the numbers of its entries in the stretch, its IDs as pairs of end and octets, whether an ID came again, whether
-# an End or an Abort stands in it, the number of the entry from which on one that can't be read may have been of it, and whether
-# it is judged before the stretch ends.
+# A dialogue: the numbers of its entries in the stretch, its IDs as pairs of end and octets, whether an ID came again,
+# whether an End or an Abort stands in it, the number of an entry that can't be read and may have been of it, and
+# whether it is judged before the stretch ends.
 Cut = namedtuple("Cut", "numbers ids again is_over unread is_past")
 OTHER = {"A": "B", "B": "A"}
 
@@ -77,16 +78,14 @@ class Course:
 
 
 def ends_for(course, heading, courses):
-    """Whether a message is the first of another dialogue, so that the IDs of this one, which is over, are free: a Begin from
-    an own ID of it; or a Continue from one, to the Begin of another dialogue that its sender sent nothing to yet."""
+    """Whether a message is the first of another dialogue, so that the IDs of this one, which is over, are free: a Begin
+    from an own ID of it; or a Continue from one, to the Begin of another dialogue in which its sender sent nothing."""
     if course.over is None or not own(heading) & course.used:
         return False
     if heading.kind == "Begin":
         return True
-    return heading.kind == "Continue" and any(
-        (OTHER[heading.end], heading.dtid) in other.begun and heading.end not in other.senders and not own(heading) & other.ids
-        for other in courses
-    )
+    begun = [it for it in courses if (OTHER[heading.end], heading.dtid) in it.begun and heading.end not in it.senders]
+    return heading.kind == "Continue" and any(not own(heading) & it.ids for it in begun)
 
 
 def coming(headings, linger):

@@ -1,6 +1,6 @@
-"""Traces for tests/traces.py, as lines of digits, with what `test` has to say of them. It was worked out by hand from what
-the standard asks of an end (docs/VERDICTS.md has the kinds) and from how a trace is cut into dialogues: messages that share an
-ID of one end are one dialogue, up to a quiet mark, and an ID whose dialogue is over may come again."""
+"""Traces for tests/traces.py, as lines of digits, with what `test` has to say of them. It was worked out by hand from
+what the standard asks of an end (docs/VERDICTS.md has the kinds) and from how a trace is cut into dialogues: messages
+that share an ID of one end are one dialogue, up to a quiet mark, and an ID whose dialogue is over may come again."""
 
 from dataclasses import dataclass, field
 
@@ -15,6 +15,7 @@ PREARRANGED = OPERATIONS[:-1] + ',"prearranged":true}'
 WIDE = '{"name":"wide","contexts":["2A04"],"operations":[{"class":1,"code":45,"name":"ask"}]}'
 NARROW = '{"name":"narrow","contexts":["2B09","2A0405"],"operations":[{"class":2,"code":45}]}'
 BARE = '{"name":"bare","operations":[{"class":4,"code":45}]}'
+TABLES = {"wide": WIDE, "narrow": NARROW, "bare": BARE}
 
 
 # ---- digits
@@ -100,9 +101,10 @@ OTHER_TAG, NO_OCTETS, FIVE_OCTETS, BAD_LENGTH = "6303480101", "62024800", "650A4
 
 @dataclass
 class Wanted:
-    """A dialogue: the numbers of its entries in the trace, the IDs of A and of B, and of each of these ends what is said:
-    `pass` and how many messages are unheard, 0 where that is left out; `fail ENTRY KIND`; `inconc ENTRY KIND WORDS` or
-    `inconc WORDS`, with words that the reason has. The entry is counted in the dialogue."""
+    """A dialogue: the numbers of its entries in the trace, the IDs of A and of B, and of each of these ends what is
+    said: `pass` and how many messages are unheard, 0 where that is left out; `fail ENTRY KIND`; `inconc ENTRY KIND
+    WORDS` or `inconc WORDS`, with words that the reason has. The entry is counted in the dialogue. None stands for an
+    end of which nothing is said."""
 
     entries: list
     a_ids: str
@@ -126,26 +128,39 @@ class Row:
     dialogues: list
     table: str = OPERATIONS
     error: tuple = None
+    # Whether what is wanted rests on a comment, which a record lacks.
+    reads_comments: bool = False
 
 
 def lines(*entries):
     return "".join(f"{entry}\n" for entry in entries)
 
 
-GIVEN_UP, MARK, CAME_AGAIN, LACKS = "given up", "quiet mark", "earlier dialogue", "table lacks"
-UNREAD, BEHIND, IS_OPEN, UNDECIDED = "can't be read", "no message", "open", "no entry of it is blamed"
+GIVEN_UP, MARK, CAME_AGAIN, LACKS = "given up", "quiet mark", "earlier", "table lacks"
+UNREAD, BEHIND, IS_OPEN, UNDECIDED = "can't be read", "no message", "inconc open", "no entry of it is blamed"
 
 # How tools/lines_of_capture.py says that dialogues were under way.
-NEVER_SENT = "messages to IDs that their receiver did not send in the capture"
+NEVER_SENT = (
+    "messages to IDs that their receiver did not send in the capture, the first in frame 7, kept; --under-way leaves "
+    "them out: 1"
+)
 # A dialogue that A begins and B ends; one that goes to and fro.
 SHORT = [f"A {begin('01')}", f"B {end('01')}"]
 LONG = [f"A {begin('01', INVOKE)}", f"B {go_on('07', '01', RESULT)}", f"A {end('07')}"]
 # B answers what was never invoked.
 WRONG_END = f"B {end('01', result('05'))}"
+WRONG_CONTINUE = f"B {go_on('07', '01', result('05'))}"
+# A Continue of B that fits, and a Begin of A with an operation that the table lacks.
+BACK, LACKED = f"B {go_on('07', '01')}", f"A {begin('01', invoke('01', '63'))}"
 
 ROWS = [
     Row("a lawful dialogue", "", lines(*LONG), [Wanted([0, 1, 2], "01", "07")]),
-    Row("an answer in the last message", "", lines(f"A {begin('01', INVOKE)}", f"B {end('01', RESULT)}"), [Wanted([0, 1], "01", "")]),
+    Row(
+        "an answer in the last message",
+        "",
+        lines(f"A {begin('01', INVOKE)}", f"B {end('01', RESULT)}"),
+        [Wanted([0, 1], "01", "")],
+    ),
     Row(
         "two dialogues side by side",
         "",
@@ -155,20 +170,20 @@ ROWS = [
     Row(
         "both ends have the same ID: these are two",
         "",
-        lines(f"A {begin('01')}", f"B {begin('01')}", f"A {end('01')}", f"B {end('01')}"),
+        lines(SHORT[0], f"B {begin('01')}", f"A {end('01')}", f"B {end('01')}"),
         [Wanted([0, 3], "01", ""), Wanted([1, 2], "", "01")],
     ),
     Row(
         "IDs of one to four octets, which are others where they have other octets; a length that is padded",
         "",
-        lines(f"A {begin('01')}", f"A {begin('0001')}", "B 650A48040A0B0C0D49020001", "A 64064904" + "0A0B0C0D", "B 64044981" + "0101"),
+        lines("A 6203480101", "A 620448020001", "B 650A48040A0B0C0D49020001", "A 640649040A0B0C0D", "B 640449810101"),
         [Wanted([0, 4], "01", ""), Wanted([1, 2, 3], "0001", "0a0b0c0d")],
     ),
     Row(
         "an indefinite length, and digits of either case",
         "",
-        lines("A 628048010100" + "00", "B 6480" + "49010100" + "00"),
-        [Wanted([0, 1], "01", "")],
+        lines("A 628048010A0000", "B 648049010a0000"),
+        [Wanted([0, 1], "0a", "")],
     ),
     Row(
         "what is open at the end of the trace passes",
@@ -180,14 +195,24 @@ ROWS = [
     Row(
         "a fault, with the comment above it, in one of two dialogues",
         "",
-        lines("# first", LONG[0], f"A {begin('02')}", "", "# frame 12", f"B {go_on('07', '01', result('05'))}", f"B {end('02')}", LONG[2]),
+        lines("# first", LONG[0], f"A {begin('02')}", "", "# frame 12", WRONG_CONTINUE, f"B {end('02')}", LONG[2]),
         [
             Wanted([0, 2, 4], "01", "07", "pass", "fail 1 F5", more={"comment": "frame 12"}),
             Wanted([1, 3], "02", ""),
         ],
     ),
-    Row("F1, an empty component portion", "", lines("A 62054801016C00"), [Wanted([0], "01", "", "fail 0 F1", open=True)]),
-    Row("F2, to an ID that was never sent", "", lines(SHORT[0], f"B {end('09')}"), [Wanted([0], "01", "", open=True), Wanted([1], "09", "", "pass", "fail 0 F2")]),
+    Row(
+        "F1, an empty component portion",
+        "",
+        lines("A 62054801016C00"),
+        [Wanted([0], "01", "", "fail 0 F1", open=True)],
+    ),
+    Row(
+        "F2, to an ID that was never sent",
+        "",
+        lines(SHORT[0], f"B {end('09')}"),
+        [Wanted([0], "01", "", open=True), Wanted([1], "09", "", "pass", "fail 0 F2")],
+    ),
     Row(
         "F4, behind its own End",
         "",
@@ -218,7 +243,12 @@ ROWS = [
         lines(LONG[0], f"B {go_on('02', '01', invoke('01', '30', '01'))}"),
         [Wanted([0, 1], "01", "02", "pass", "fail 1 F11", open=True)],
     ),
-    Row("F12, answered twice", "", lines(LONG[0], f"B {end('01', RESULT, RESULT)}"), [Wanted([0, 1], "01", "", "pass", "fail 1 F12")]),
+    Row(
+        "F12, answered twice",
+        "",
+        lines(LONG[0], f"B {end('01', RESULT, RESULT)}"),
+        [Wanted([0, 1], "01", "", "pass", "fail 1 F12")],
+    ),
     Row(
         "F13, called a duplicate that is none",
         "",
@@ -241,7 +271,7 @@ ROWS = [
     Row(
         "one ID of B for two of A makes one dialogue: B goes on from an ID that it used for another (F3)",
         "",
-        lines(f"A {begin('01')}", f"A {begin('02')}", f"B {go_on('07', '01')}", f"B {go_on('07', '02')}", f"A {end('07')}"),
+        lines(SHORT[0], f"A {begin('02')}", BACK, f"B {go_on('07', '02')}", f"A {end('07')}"),
         [Wanted([0, 1, 2, 3, 4], "01 02", "07", "pass 1", "fail 3 F3")],
     ),
     Row(
@@ -267,26 +297,31 @@ ROWS = [
     Row(
         "what is open at a mark is inconclusive (F15); what is not, passes",
         "",
-        lines(SHORT[0], f"B {begin('05')}", f"B {go_on('07', '01')}", f"A {end('05')}", "Q"),
+        lines(SHORT[0], f"B {begin('05')}", BACK, f"A {end('05')}", "Q"),
         [Wanted([0, 2], "01", "07", "pass 1", f"inconc 2 F15 {MARK}"), Wanted([1, 3], "", "05")],
     ),
     Row(
         "a fault before the mark counts, and not the mark",
         "",
-        lines(SHORT[0], f"B {go_on('07', '01', result('05'))}", "Q"),
+        lines(SHORT[0], WRONG_CONTINUE, "Q"),
         [Wanted([0, 1], "01", "07", "pass 1", "fail 1 F5")],
     ),
-    Row("a peer that is silent up to a mark did not hear", "", lines(SHORT[0], "Q"), [Wanted([0], "01", "", "pass", "pass 1")]),
+    Row(
+        "a peer that is silent up to a mark did not hear",
+        "",
+        lines(SHORT[0], "Q"),
+        [Wanted([0], "01", "", "pass", "pass 1")],
+    ),
     Row(
         "a dialogue that was judged before the mark, since its ID came again, does not end with it",
         "",
-        lines(SHORT[0], f"B {go_on('07', '01')}", *SHORT[1:], *SHORT, "Q"),
+        lines(SHORT[0], BACK, *SHORT[1:], *SHORT, "Q"),
         [Wanted([0, 1, 2], "01", "07"), Wanted([3, 4], "01", "", again=True)],
     ),
     Row(
         "one that was not does: what A did not show to have heard before the mark is unheard",
         "",
-        lines(SHORT[0], f"B {go_on('07', '01')}", *SHORT[1:], "Q"),
+        lines(SHORT[0], BACK, *SHORT[1:], "Q"),
         [Wanted([0, 1, 2], "01", "07", "pass 1")],
     ),
     # ---- IDs that come again
@@ -315,13 +350,13 @@ ROWS = [
             lines(*SHORT, SHORT[0], WRONG_END),
             [
                 Wanted([0, 1], "01", ""),
-                Wanted([2, 3], "01", "", "pass", found, again=True, says=("dialogue 0", "dialogue 1") if "inconc" in found else ()),
+                Wanted([2, 3], "01", "", "pass", found, again=True, says=says),
             ],
         )
-        for words, found in [
-            ("", f"inconc 1 F5 {CAME_AGAIN}"),
-            ("--ids again", f"inconc 1 F5 {CAME_AGAIN}"),
-            ("--ids settled", "fail 1 F5"),
+        for words, found, says in [
+            ("", f"inconc 1 F5 {CAME_AGAIN}", ("dialogue 0", "dialogue 1")),
+            ("--ids again", f"inconc 1 F5 {CAME_AGAIN}", ("dialogue 0", "dialogue 1")),
+            ("--ids settled", "fail 1 F5", ()),
         ]
     ),
     Row(
@@ -339,8 +374,11 @@ ROWS = [
     Row(
         "a late message of an innocent end is taken for one of the new dialogue",
         "",
-        lines(*LONG, SHORT[0], f"B {go_on('08', '01')}", f"B {go_on('07', '01')}", f"A {end('08')}"),
-        [Wanted([0, 1, 2], "01", "07"), Wanted([3, 4, 5, 6], "01", "07 08", "pass 1", f"inconc 2 F8 {CAME_AGAIN}", again=True)],
+        lines(*LONG, SHORT[0], f"B {go_on('08', '01')}", BACK, f"A {end('08')}"),
+        [
+            Wanted([0, 1, 2], "01", "07"),
+            Wanted([3, 4, 5, 6], "01", "07 08", "pass 1", f"inconc 2 F8 {CAME_AGAIN}", again=True),
+        ],
     ),
     Row(
         "all IDs are free then: what carries one that nobody took is of a new dialogue",
@@ -392,19 +430,19 @@ ROWS = [
     Row(
         "something was sent to it",
         "",
-        lines(SHORT[0], f"B {go_on('07', '01')}", SHORT[0]),
+        lines(SHORT[0], BACK, SHORT[0]),
         [Wanted([0, 1, 2], "01", "07", "fail 2 F3", "pass 1", open=True)],
     ),
     Row(
         "something was sent to it before it was begun alone",
         "",
-        lines(f"B {go_on('07', '01')}", SHORT[0], SHORT[0]),
+        lines(BACK, SHORT[0], SHORT[0]),
         [Wanted([0, 1, 2], "01", "07", f"inconc 2 F3 {GIVEN_UP}", "fail 0 F2", open=True)],
     ),
     Row(
         "ends may be prearranged: then nobody is blamed for it",
         "",
-        lines(SHORT[0], f"B {go_on('07', '01')}", SHORT[0]),
+        lines(SHORT[0], BACK, SHORT[0]),
         [Wanted([0, 1, 2], "01", "07", f"inconc {UNDECIDED}", "pass 1", open=True)],
         PREARRANGED,
     ),
@@ -412,8 +450,9 @@ ROWS = [
     Row(
         "a message to an ID that was never sent, behind the comment that dialogues may have been under way",
         "",
-        lines(f"# NOTE {NEVER_SENT}, the first in frame 7, kept; --under-way leaves them out: 1", SHORT[1], SHORT[0], WRONG_END),
-        [Wanted([0, 1, 2], "01", "", "pass", "inconc 0 F2 under way")],
+        lines(f"# NOTE {NEVER_SENT}", "# frame 7", SHORT[1], f"A {begin('02')}", f"B {end('02')}"),
+        [Wanted([0], "01", "", "pass", "inconc 0 F2 under way", more={"comment": "frame 7"}), Wanted([1, 2], "02", "")],
+        reads_comments=True,
     ),
     # ---- lingering
     Row(
@@ -426,7 +465,11 @@ ROWS = [
         "two entries behind it, it is judged: an End more is of another, in which the ID came again",
         "--linger 2",
         lines(*SHORT, f"B {begin('09')}", f"A {end('09')}", SHORT[1]),
-        [Wanted([0, 1], "01", ""), Wanted([2, 3], "", "09"), Wanted([4], "01", "", "pass", f"inconc 0 F2 {CAME_AGAIN}", again=True)],
+        [
+            Wanted([0, 1], "01", ""),
+            Wanted([2, 3], "", "09"),
+            Wanted([4], "01", "", "pass", f"inconc 0 F2 {CAME_AGAIN}", again=True),
+        ],
     ),
     Row(
         "a dialogue that is open lingers as long as it likes",
@@ -446,7 +489,12 @@ ROWS = [
         [Wanted([0, 1, 4], "01", "", "pass", "fail 2 F4"), Wanted([2, 3], "", "09")],
     ),
     # ---- entries that are no message
-    Row("F1, and the other end passes", "", lines(*LONG[:2], f"A {BAD_CONTINUE}"), [Wanted([0, 1, 2], "01", "07", "fail 2 F1", open=True)]),
+    Row(
+        "F1, and the other end passes",
+        "",
+        lines(*LONG[:2], f"A {BAD_CONTINUE}"),
+        [Wanted([0, 1, 2], "01", "07", "fail 2 F1", open=True)],
+    ),
     Row(
         "F1, and the other end sent something behind it",
         "",
@@ -456,7 +504,7 @@ ROWS = [
     Row(
         "F1, and the other end was at fault before it",
         "",
-        lines(LONG[0], f"B {go_on('07', '01', result('05'))}", f"A {BAD_CONTINUE}"),
+        lines(LONG[0], WRONG_CONTINUE, f"A {BAD_CONTINUE}"),
         [Wanted([0, 1, 2], "01", "07", "fail 2 F1", "fail 1 F5", open=True)],
     ),
     Row(
@@ -531,13 +579,13 @@ ROWS = [
     Row(
         "it is invoked, and the other end answers it",
         "",
-        lines(f"A {begin('01', invoke('01', '63'))}", f"B {end('01', RESULT)}"),
+        lines(LACKED, f"B {end('01', RESULT)}"),
         [Wanted([0, 1], "01", "", f"inconc 0 F6 {LACKS}", f"inconc 1 F6 {LACKS}")],
     ),
     Row(
         "it is invoked, and the other end answers nothing, or rejects it",
         "",
-        lines(f"A {begin('01', invoke('01', '63'))}", SHORT[1], "Q", f"A {begin('01', invoke('01', '63'))}", f"B {end('01', reject('01', '01'))}"),
+        lines(LACKED, SHORT[1], "Q", LACKED, f"B {end('01', reject('01', '01'))}"),
         [Wanted([0, 1], "01", "", f"inconc 0 F6 {LACKS}"), Wanted([3, 4], "01", "", f"inconc 0 F6 {LACKS}")],
     ),
     Row(
@@ -547,8 +595,18 @@ ROWS = [
         [Wanted([0, 1], "01", "", f"inconc 0 F6 {LACKS}", "fail 1 F12")],
     ),
     # ---- the end that is asked
-    Row("A alone is asked, and B is at fault", "--of A", lines(SHORT[0], WRONG_END), [Wanted([0, 1], "01", "", "pass", None)]),
-    Row("B alone is asked, and is at fault", "--of B", lines(SHORT[0], WRONG_END), [Wanted([0, 1], "01", "", None, "fail 1 F5")]),
+    Row(
+        "A alone is asked, and B is at fault",
+        "--of A",
+        lines(SHORT[0], WRONG_END),
+        [Wanted([0, 1], "01", "", "pass", None)],
+    ),
+    Row(
+        "B alone is asked, and is at fault",
+        "--of B",
+        lines(SHORT[0], WRONG_END),
+        [Wanted([0, 1], "01", "", None, "fail 1 F5")],
+    ),
     Row(
         "B alone is asked, and A is inconclusive",
         "--of=B",
@@ -566,25 +624,25 @@ ROWS = [
         "a Begin without an answer",
         "--complete",
         lines(SHORT[0]),
-        [Wanted([0], "01", "", f"inconc {IS_OPEN}", f"inconc {IS_OPEN}", open=True, says=("answer of B", "Begin", "entry 0"))],
+        [Wanted([0], "01", "", IS_OPEN, IS_OPEN, open=True, says=("answer of B", "Begin", "entry 0"))],
     ),
     Row(
         "an invocation without one",
         "--complete",
-        lines(LONG[0], f"B {go_on('07', '01')}"),
-        [Wanted([0, 1], "01", "07", f"inconc {IS_OPEN}", f"inconc {IS_OPEN}", open=True, says=("answer of B", "invocation 1", "entry 0"))],
+        lines(LONG[0], BACK),
+        [Wanted([0, 1], "01", "07", IS_OPEN, IS_OPEN, open=True, says=("answer of B", "invocation 1", "entry 0"))],
     ),
     Row(
         "no End",
         "--complete",
         lines(*LONG[:2]),
-        [Wanted([0, 1], "01", "07", f"inconc {IS_OPEN}", f"inconc {IS_OPEN}", open=True, says=("waits for an End or an Abort",))],
+        [Wanted([0, 1], "01", "07", IS_OPEN, IS_OPEN, open=True, says=("waits for an End or an Abort",))],
     ),
     Row(
         "a fault is one all the same",
         "--complete",
-        lines(LONG[0], f"B {go_on('07', '01', result('05'))}"),
-        [Wanted([0, 1], "01", "07", f"inconc {IS_OPEN}", "fail 1 F5", open=True)],
+        lines(LONG[0], WRONG_CONTINUE),
+        [Wanted([0, 1], "01", "07", IS_OPEN, "fail 1 F5", open=True)],
     ),
     # ---- tables by contexts
     Row(
@@ -640,9 +698,19 @@ ROWS = [
     Row("comments alone", "", "# nothing\n\n#\n", [], error=(None, "no message")),
     Row("marks alone", "", "Q\nQ\n", [], error=(None, "no message")),
     # ---- lines
-    Row("lines that end with CR LF", "", lines("# one", *SHORT, "", "Q").replace("\n", "\r\n"), [Wanted([0, 1], "01", "")]),
+    Row(
+        "lines that end with CR LF",
+        "",
+        lines("# one", *SHORT, "", "Q").replace("\n", "\r\n"),
+        [Wanted([0, 1], "01", "")],
+    ),
     Row("a last line without an end", "", lines(*SHORT)[:-1], [Wanted([0, 1], "01", "")]),
-    Row("a carriage return at the end of the last line", "", lines(*SHORT)[:-1] + "\r", [], error=(2, "no digit; column 13")),
+    Row(
+        "a carriage return at the end of the last line",
+        "",
+        lines(*SHORT)[:-1] + "\r",
+        [], error=(2, "no digit; column 13"),
+    ),
     Row(
         "CR LF below a comment",
         "",
