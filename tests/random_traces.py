@@ -4,7 +4,7 @@ more, interleaved at random, with quiet marks between them or none. Their IDs ar
 import random_dialogues
 import runs
 import trace_rows
-from ends import Table
+from ends import FAILURE, SUCCESS, Table
 from trace_cut import Heading
 from trace_rows import element
 
@@ -66,6 +66,31 @@ def planted(rng, entries):
     return entries
 
 
+def answers_to(rng, table, invoked):
+    """What answers invocations as their classes allow: nothing may."""
+    made = []
+    for id, code in invoked:
+        allowed = [("result", id, True, None)] * (table.class_of(code) in SUCCESS)
+        allowed += [("error", id, 1)] * (table.class_of(code) in FAILURE)
+        made += rng.sample(allowed, min(len(allowed), rng.choice([0, 1, 1])))
+    return made
+
+
+def lawful(rng, table, ids):
+    """The messages of a dialogue in which both ends keep the rules: they send in turn, and each hears the other."""
+    ends, asks = rng.sample("AB", 2), rng.random() < 0.3
+    count, heard = rng.choice([1, 2, 2, 3, 4]), []
+    for number in range(count):
+        end, peer = ends[number % 2], ends[1 - number % 2]
+        # Each message has invoke IDs of its own.
+        invoked = [(10 * number + at, rng.choice(random_dialogues.CODES)) for at in range(1, rng.choice([1, 2, 3]))]
+        components = answers_to(rng, table, heard) + [("invoke", id, None, code) for id, code in invoked]
+        dialogue = [("AARQ",), random_dialogues.ACCEPTED][number] if asks and number < 2 else None
+        kind = "Begin" if number == 0 else "End" if number + 1 == count else "Continue"
+        yield end, runs.Message(kind, ids[end], None if number == 0 else ids[peer], None, dialogue, components)
+        heard = invoked
+
+
 class Maker:
     """Makes the traces of one random table."""
 
@@ -82,12 +107,15 @@ class Maker:
         if rng.random() < 0.08:
             component = ("invoke", 1, None, rng.choice(random_dialogues.CODES))
             return [sent(rng.choice("AB"), runs.Message("Unidirectional", components=[component]), self.writer)]
+        ids = {end: self.new_id() if how == "own" else rng.choice(self.few) for end in "AB"}
         if how == "tangled" and rng.random() < 0.3:
-            made = random_dialogues.FewIds(rng)
+            messages = random_dialogues.FewIds(rng).messages()
+        elif rng.random() < 0.6:
+            messages = lawful(rng, self.table, ids)
         else:
             made = random_dialogues.Transaction(rng, self.table)
-            made.ids = {end: self.new_id() if how == "own" else rng.choice(self.few) for end in "AB"}
-        entries = [sent(end, message, self.writer) for end, message in made.messages()]
+            made.ids, messages = ids, made.messages()
+        entries = [sent(end, message, self.writer) for end, message in messages]
         return planted(rng, entries) if rng.random() < 0.25 else entries
 
     def stretch(self):

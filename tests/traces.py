@@ -19,9 +19,11 @@ import trace_rows
 from trace_rows import BEHIND, UNDECIDED, lines
 from traced import Checks, Report, agree, look_at_end, missing, put, run, worst
 
-RANDOM_TRACES, SIDE_BY_SIDE = 36, 4
-# How a random trace is cut: the words, whether IDs are used once, and how many entries a dialogue lingers.
-CUTS = [([], False, 10_000), (["--ids", "once"], True, 0), (["--linger", "3"], False, 3)]
+RANDOM_TRACES, SIDE_BY_SIDE = 40, 4
+# How a random trace is cut: the words, and how many entries a dialogue lingers. IDs are used once, may come again, or,
+# in one of two traces, have settled then.
+CUTS = [(["--ids", "once"], 0), (["--linger", "3"], 3), ([], 10_000)]
+SETTLED = ["--ids", "settled"]
 
 
 # ---- rows
@@ -153,8 +155,9 @@ def octets_of(stretch):
 class Alone:
     """A dialogue of a random trace as a record of its own, with a quiet mark behind it where that is so."""
 
-    def __init__(self, folder, table, stretch, cut, is_marked):
-        self.table, self.cut, mine = table, cut, [stretch[number] for number in cut.numbers]
+    def __init__(self, folder, table, stretch, cut, is_marked, is_settled):
+        self.table, self.cut, self.is_settled = table, cut, is_settled
+        mine = [stretch[number] for number in cut.numbers]
         self.headings, octets = [heading for heading, _ in mine], octets_of(mine)
         self.said = blamed(folder, b"".join(octets) + b"Q" * is_marked)
         # Behind an entry that is no message nothing is looked at.
@@ -169,7 +172,7 @@ class Alone:
         if kind == "F3" and here.kind == "Begin":
             if self.table.prearranged or not is_heard(self.headings[:entry], end, here.otid):
                 return trace_rows.GIVEN_UP
-        if self.cut.again:
+        if self.cut.again and not self.is_settled:
             return trace_rows.CAME_AGAIN
         if self.cut.unread is not None and self.cut.numbers[entry] > self.cut.unread:
             return trace_rows.UNREAD
@@ -215,12 +218,12 @@ class RandomTrace:
         parts = [b"".join(octets_of(stretch)) + b"Q" * marked for stretch, marked in zip(self.stretches, self.marked)]
         return b"".join(parts)
 
-    def wanted(self, folder, is_once, linger):
+    def wanted(self, folder, flags, linger):
         """The dialogues that are wanted: the numbers of their entries, their IDs, whether one of these came again,
         whether they are open, and what is said of each end."""
         for first, stretch, marked in zip(self.first, self.stretches, self.marked):
-            for cut in trace_cut.cut([heading for heading, _ in stretch], is_once, linger):
-                alone = Alone(folder, self.table, stretch, cut, marked and not cut.is_past)
+            for cut in trace_cut.cut([heading for heading, _ in stretch], "once" in flags, linger):
+                alone = Alone(folder, self.table, stretch, cut, marked and not cut.is_past, flags == SETTLED)
                 ids = {end: sorted(id.hex() for of, id in cut.ids if of == end) for end in "AB"}
                 is_open = not marked and bool(cut.ids) and not cut.is_over
                 ends = {end: alone.wanted(end) for end in "AB"}
@@ -232,10 +235,12 @@ def look_at_random(seed, folder):
     who may have kept the rules in the whole."""
     checks, seen, made = Checks(f"random trace {seed}"), collections.Counter(), RandomTrace(random.Random(seed))
     path, table = put(folder, "x.hex", lines(*made.text).encode()), runs.table_text(made.table).decode()
-    for flags, is_once, linger in CUTS:
+    whole = {}
+    for flags, linger in CUTS:
+        flags = flags or SETTLED * (seed % 2)
         report = Report(folder, flags, [path], table=table)
         agree(checks, report)
-        wanted = [*made.wanted(folder, is_once, linger)]
+        wanted = [*made.wanted(folder, flags, linger)]
         found = sorted(report.dialogues[path], key=lambda it: it["entries"])
         checks.same(f"{flags}, dialogues", [it["entries"] for it in found], [it[0] for it in wanted])
         for it, (entries, ids, again, is_open, ends) in zip(found, wanted):
@@ -248,8 +253,10 @@ def look_at_random(seed, folder):
             checks.same(f"{name}, verdict", it["verdict"], worst([said.split()[0] for said in ends.values()]))
             seen[it["verdict"]] += 1
             seen["again"] += again
-        for end, said in blamed(folder, made.record()).items():
-            if said[0] == "lawful":
+        whole = whole or blamed(folder, made.record())
+        for end, said in whole.items():
+            # That an ID has settled is the bench's word.
+            if said[0] == "lawful" and flags != SETTLED:
                 checks.holds(f"{flags}, {end} keeps the rules", all(it[end]["verdict"] != "fail" for it in found))
     return checks, seen
 
