@@ -1,0 +1,224 @@
+"""What `tcapjudge test` said of traces, for tests/traces.py: its text, its lines of JSON and JUnit's XML, and whether
+these agree."""
+
+import collections
+import contextlib
+import itertools
+import json
+import os
+import re
+import subprocess
+import sys
+import xml.etree.ElementTree
+
+from tested import PROGRAM
+from trace_rows import CAME_AGAIN, OPERATIONS
+
+with contextlib.suppress(ImportError):
+    import jsonschema
+with contextlib.suppress(ImportError):
+    # Debian has it for its own python alone.
+    sys.path.append("/usr/lib/python3/dist-packages")
+    import junitparser
+
+VERDICTS = ["pass", "inconc", "fail", "error"]
+STATUS = {"pass": 0, "fail": 1, "inconc": 2, "error": 3}
+# Of a dialogue so many entries are looked at by the schema.
+MOST_LOOKED_AT = 1000
+
+
+# ---- running
+
+
+def run(words, given=b"", **how):
+    how = {"stdout": subprocess.PIPE, "stderr": subprocess.PIPE} | how
+    return subprocess.run([PROGRAM, *words], input=given, check=False, **how)
+
+
+def put(folder, name, octets):
+    path = f"{folder}/{name}"
+    with open(path, "wb") as file:
+        file.write(octets)
+    return path
+
+
+def content(path):
+    if not os.path.isfile(path):
+        return b""
+    with open(path, "rb") as file:
+        return file.read()
+
+
+class Report:
+    """What a run said: its streams and status, the lines of JSON, of dialogues by their traces, and JUnit's XML."""
+
+    def __init__(self, folder, flags, traces, given=b"", table=OPERATIONS):
+        table = put(folder, "table.json", table.encode())
+        files = {"--table": table, "--json": f"{folder}/report.json", "--junit": f"{folder}/report.xml"}
+        self.ran = run(["test", *itertools.chain(*files.items()), *flags, *traces], given)
+        self.status, self.text = self.ran.returncode, self.ran.stdout.decode(errors="replace")
+        self.json, self.junit = content(files["--json"]), content(files["--junit"])
+        self.objects = [json.loads(line) for line in self.json.decode().split("\n") if line]
+        self.dialogues, self.traces = collections.defaultdict(list), {}
+        for it in self.objects:
+            if "dialogue" in it:
+                self.dialogues[it["trace"]].append(it)
+            else:
+                self.traces[it["trace"]] = it
+
+
+class Checks:
+    """What was looked at in a case, and what else was seen than was wanted."""
+
+    def __init__(self, name):
+        self.name, self.count, self.wrong = name, 0, []
+
+    def same(self, what, found, wanted):
+        self.count += 1
+        if found != wanted:
+            self.wrong.append(f"{self.name}: {what}: {str(found)[:600]}, not {str(wanted)[:600]}")
+
+    def holds(self, what, so):
+        self.same(what, bool(so), True)
+
+
+# ---- JSON, JUnit's XML and the text agree
+
+
+def missing():
+    """The packages that look at what is written, and are not installed."""
+    return [name for name in ("jsonschema", "junitparser") if name not in globals()]
+
+
+def schema():
+    """The schema of the lines of JSON, where there is something that looks at them by it."""
+    if "jsonschema" not in globals():
+        return None
+    with open("docs/report.schema.json", encoding="utf-8") as file:
+        found = json.load(file)
+    jsonschema.Draft202012Validator.check_schema(found)
+    return jsonschema.Draft202012Validator(found)
+
+
+SCHEMA = schema()
+
+
+def worst(verdicts):
+    return max(verdicts, key=VERDICTS.index, default="pass")
+
+
+def counts(verdicts):
+    return dict.fromkeys(VERDICTS, 0) | collections.Counter(verdicts)
+
+
+def says_counts(text, found):
+    """Whether a line of text has these counts of verdicts."""
+    return ", ".join(f"{found[verdict]} {verdict}" for verdict in VERDICTS) in text
+
+
+def is_unheard(it):
+    """Whether a dialogue passes of which an end that is asked did not hear all."""
+    return it["verdict"] == "pass" and any(it[end].get("unheard", 0) > 0 for end in "AB" if end in it)
+
+
+def as_xml(name):
+    """A name as XML has it in an attribute: what XML has no sign for is told by U+FFFD, and a blank is a space."""
+    return re.sub("[\x00-\x08\x0b-\x1f\ufffe\uffff]", "\ufffd", name).replace("\n", " ").replace("\t", " ")
+
+
+def look_by_schema(checks, report):
+    for it in report.objects if SCHEMA else []:
+        # Of a dialogue of very many entries the first ones: the others look alike, and take long.
+        it = it | {key: it[key][:MOST_LOOKED_AT] for key in ("entries", "lines") if key in it}
+        wrong = next(iter(SCHEMA.iter_errors(it)), None)
+        checks.same("the schema", wrong and f"{wrong.message} in {it}", None)
+
+
+def look_at_trace(checks, trace, dialogues, suite):
+    """The line of a trace, and its testsuite, have the counts of its dialogues."""
+    found = counts(it["verdict"] for it in dialogues)
+    checks.same("the dialogues are numbered", [it["dialogue"] for it in dialogues], [*range(len(dialogues))])
+    checks.same("counts of a trace", trace["dialogues"], found)
+    checks.same("unheard", trace["unheard"], sum(map(is_unheard, dialogues)))
+    # An error of the trace by itself, and not of one of its dialogues, is said of the trace.
+    is_wrong, of = "text" in trace, worst(it["verdict"] for it in dialogues)
+    checks.same("verdict of a trace", trace["verdict"], "error" if is_wrong else of)
+    failed, erred = found["fail"], found["inconc"] + found["error"] + is_wrong
+    wanted = failed + erred + (found["pass"] > 0), failed, erred
+    checks.same("counts of a suite", tuple(int(suite.get(it)) for it in ("tests", "failures", "errors")), wanted)
+    cases = suite.findall("testcase")
+    told = [it for case in cases for it in case]
+    tags = [it.tag for it in told]
+    checks.same("testcases", (len(cases), tags.count("failure"), tags.count("error")), wanted)
+    types = [it["verdict"] for it in dialogues if it["verdict"] != "pass"] + ["error"] * is_wrong
+    checks.same("types of testcases", sorted(it.get("type") for it in told), sorted(types))
+
+
+def look_by_junitparser(checks, junit):
+    parsed = junitparser.JUnitXml.fromstring(junit)
+    cases = [case for suite in parsed for case in suite]
+    seen = [type(it).__name__ for case in cases for it in case.result]
+    sums = tuple(sum(getattr(suite, name) for suite in parsed) for name in ("tests", "failures", "errors"))
+    checks.same("junitparser", (len(cases), seen.count("Failure"), seen.count("Error")), sums)
+    parsed.update_statistics()
+    checks.same("junitparser's own counts", (parsed.tests, parsed.failures, parsed.errors), sums)
+
+
+def look_at_names(checks, dialogues):
+    """Where a dialogue has an ID of an earlier one, and is inconclusive for that, both are named."""
+    ids = [{(end, id) for end in "AB" for id in it["ids"][end]} for it in dialogues]
+    for it in dialogues:
+        for end in "AB":
+            doubt = it.get(end, {}).get("doubt", "")
+            if CAME_AGAIN in doubt:
+                named, own = {*map(int, re.findall(r"dialogue (\d+)", doubt))}, it["dialogue"]
+                others = named - {own}
+                is_earlier = all(ids[one] & ids[own] and one < own for one in others)
+                checks.holds(f"both are named, {own}: {doubt}", own in named and len(others) == 1 and is_earlier)
+
+
+def agree(checks, report):
+    """What is said of the traces is said alike as JSON, as JUnit's XML and as text, and sums up."""
+    look_by_schema(checks, report)
+    suites = xml.etree.ElementTree.fromstring(report.junit).findall("testsuite")
+    checks.same("a testsuite for each trace", [it.get("name") for it in suites], [*map(as_xml, report.traces)])
+    for (name, trace), suite in zip(report.traces.items(), suites):
+        look_at_trace(checks, trace, report.dialogues[name], suite)
+        look_at_names(checks, report.dialogues[name])
+    if "junitparser" in globals():
+        look_by_junitparser(checks, report.junit)
+    verdicts = [it["verdict"] for it in report.traces.values()]
+    checks.same("status", report.status, STATUS[worst(verdicts)])
+    front, *rest = report.text.splitlines()[-1].split(";")
+    is_summed = says_counts(front, counts(verdicts)) and front.startswith(f"{len(verdicts)} ")
+    checks.holds("the sum of the traces", is_summed)
+    of = [it["verdict"] for it in itertools.chain(*report.dialogues.values())]
+    checks.holds("the sum of the dialogues", rest and says_counts(rest[0], counts(of)))
+
+
+def end_of(it):
+    """What is said of an end: its verdict, and unheard, or the entry, the kind and the reason."""
+    if it is None:
+        return None
+    if it["verdict"] == "pass":
+        return f"pass {it['unheard']}"
+    if "kind" in it:
+        return f"{it['verdict']} {it['entry']} {it['kind']} {it.get('doubt', '')}".strip()
+    return f"{it['verdict']} {it.get('text', '')}"
+
+
+def is_end(found, wanted):
+    """Whether that is said of an end which is wanted, as trace_rows.py has it."""
+    if wanted is None or found is None:
+        return found == wanted
+    blamed = re.match(r"inconc (\d+ F\d+) ", wanted)
+    if blamed:
+        return found.startswith(blamed[0]) and wanted[blamed.end() :] in found
+    if wanted.startswith("inconc"):
+        return found.startswith("inconc ") and not re.match(r"inconc \d", found) and wanted[7:] in found
+    return found == ("pass 0" if wanted == "pass" else wanted)
+
+
+def look_at_end(checks, name, it, wanted):
+    found = end_of(it)
+    checks.same(name, wanted if is_end(found, wanted) else found, wanted)

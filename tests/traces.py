@@ -1,0 +1,293 @@
+"""Runs the built program's word `test` over traces. The rows of trace_rows.py have what must be said of each, and
+trace_files.py has cases of files, lines, comments and words. Then traces of random dialogues: of each dialogue, by the
+cut of trace_cut.py, `test` says what `blame` says of the record of that dialogue alone. All that is written as JSON is
+looked at by docs/report.schema.json, where python's jsonschema is installed, and all that is JUnit's XML by
+junitparser, where that is."""
+
+import collections
+import concurrent.futures
+import random
+import re
+import sys
+import tempfile
+
+import random_traces
+import runs
+import trace_cut
+import trace_files
+import trace_rows
+from trace_rows import BEHIND, UNDECIDED, lines
+from traced import Checks, Report, agree, look_at_end, missing, put, run, worst
+
+RANDOM_TRACES, SIDE_BY_SIDE = 40, 4
+# How a random trace is cut: the words, and how many entries a dialogue lingers. IDs are used once, may come again, or,
+# in one of two traces, have settled then.
+CUTS = [(["--ids", "once"], 0), (["--linger", "3"], 3), ([], 10_000)]
+SETTLED = ["--ids", "settled"]
+
+
+# ---- rows
+
+
+def places_in(text):
+    """The lines of the entries and marks, counted from 1, and the numbers of the marks among these."""
+    found = [(number, line) for number, line in enumerate(text.split("\n"), 1) if re.match("[ABQ]", line)]
+    marks = [number for number, (_, line) in enumerate(found) if line.startswith("Q")]
+    return [number for number, _ in found], marks
+
+
+def look_at_places(checks, name, it, want, text):
+    """Looks at the lines of a dialogue, and of each entry at fault, which may be the mark that ends the stretch."""
+    at, marks = places_in(text)
+    checks.same(f"{name}, lines", it["lines"], [at[entry] for entry in want.entries])
+    entries = [*want.entries, *[mark for mark in marks if mark > want.entries[-1]][:1]]
+    for end in "AB":
+        if "kind" in it.get(end, {}):
+            checks.same(f"{name}, line of {end}", it[end]["line"], at[entries[it[end]["entry"]]])
+            checks.same(f"{name}, comment", it[end].get("comment"), want.more.get("comment"))
+
+
+def look_at_row(checks, row, report, path, has_lines):
+    """Looks at what is said of the trace of a row."""
+    trace, found = report.traces[path], sorted(report.dialogues[path], key=lambda it: it["entries"])
+    wanted = sorted(row.dialogues, key=lambda it: it.entries)
+    checks.same("entries of the dialogues", [it["entries"] for it in found], [it.entries for it in wanted])
+    for it, want in zip(found, wanted):
+        name = f"dialogue {want.entries}"
+        checks.same(f"{name}, IDs", it["ids"], {"A": want.a_ids.split(), "B": want.b_ids.split()})
+        look_at_end(checks, f"{name}, A", it.get("A"), want.a)
+        look_at_end(checks, f"{name}, B", it.get("B"), want.b)
+        said = [said.split()[0] for said in (want.a, want.b) if said]
+        checks.same(f"{name}, verdict", it["verdict"], want.more.get("verdict") or worst(said))
+        checks.same(f"{name}, an ID came again", it["again"], want.again)
+        if want.open is not None:
+            checks.same(f"{name}, is open", it["open"], want.open)
+        for key in "context", "table":
+            checks.same(f"{name}, {key}", it.get(key), want.more.get(key))
+        if has_lines:
+            look_at_places(checks, name, it, want, row.lines)
+    line, words = row.error or (None, None)
+    checks.same("line of the trace's fault", trace.get("line"), line)
+    is_said = words in trace.get("text", "") if words else "text" not in trace
+    checks.holds(f"the trace's fault, {words}: {trace.get('text')}", is_said)
+    if words is None:
+        checks.same("messages", trace["messages"], sum(len(it.entries) for it in wanted))
+
+
+def blocks(text):
+    """What is said as text of each dialogue that doesn't pass: by its number, its lines."""
+    found, now = {}, None
+    for line in text.splitlines():
+        at = re.match(r".*: dialogue (\d+)", line)
+        if not line.startswith("  "):
+            now = found.setdefault(int(at[1]), []) if at else None
+        if now is not None:
+            now.append(line)
+    return {number: "\n".join(block) for number, block in found.items()}
+
+
+def look_at_text(checks, row, report, path):
+    """Looks at the text: it has a block for each dialogue that doesn't pass, with the ends that don't."""
+    found, said = sorted(report.dialogues[path], key=lambda it: it["entries"]), blocks(report.text)
+    wrong = sorted(it["dialogue"] for it in found if it["verdict"] != "pass")
+    checks.same("the dialogues in the text", sorted(said), wrong)
+    for it, want in zip(found, sorted(row.dialogues, key=lambda it: it.entries)):
+        block = said.get(it["dialogue"], "")
+        for word in want.says:
+            checks.holds(f"the text has {word!r}: {block}", word in block)
+        for end in "AB":
+            if "kind" in it.get(end, {}):
+                line = next((line for line in block.splitlines() if line.startswith(f"  {end}: ")), "")
+                words = it[end]["verdict"], f"entry {it[end]['entry']} ", it[end]["kind"]
+                checks.holds(f"the text says {words} of {end}: {line}", all(word in line for word in words))
+
+
+def look_at(row, folder):
+    """A row, as lines and as a record."""
+    checks, octets = Checks(row.name), row.lines.encode()
+    path = put(folder, "x.hex", octets)
+    report = Report(folder, row.words.split(), [path], table=row.table)
+    checks.same("standard error", report.ran.stderr, b"")
+    agree(checks, report)
+    look_at_row(checks, row, report, path, True)
+    look_at_text(checks, row, report, path)
+    packed = run(["pack"], octets)
+    if packed.returncode == 0 and row.error is None and not row.reads_comments:
+        record = put(folder, "record", packed.stdout)
+        report = Report(folder, row.words.split(), [record], table=row.table)
+        agree(checks, report)
+        look_at_row(checks, row, report, record, False)
+    return checks
+
+
+# ---- random traces
+
+
+def blamed(folder, record):
+    """What `blame` says of each end of a record: `blamed`, the entry and the kind; `lawful` and how many are unheard;
+    or `not blamed`, and how many entries were looked at."""
+    said = {}
+    for line in run(["blame", put(folder, "one", record), f"{folder}/table.json"]).stdout.decode().splitlines()[1:]:
+        words = line.split()
+        if words[0] == "BLAMED":
+            said[words[1]] = ("blamed", int(words[2]), words[3])
+        elif words[0] == "LAWFUL":
+            said[words[1]] = ("lawful", int(words[4]))
+        else:
+            said[words[2]] = ("not blamed", int(words[3]))
+    return said
+
+
+def is_heard(headings, end, id):
+    """Whether the peer sent something to an ID since its end began a transaction from it, or at all."""
+    heard = False
+    for heading in headings:
+        if heading.end == end and heading.kind == "Begin" and heading.otid == id:
+            heard = False
+        heard |= heading.end != end and heading.dtid == id
+    return heard
+
+
+def octets_of(stretch):
+    return [heading.end.encode() + bytes.fromhex(digits) for heading, digits in stretch]
+
+
+class Alone:
+    """A dialogue of a random trace as a record of its own, with a quiet mark behind it where that is so."""
+
+    def __init__(self, folder, table, stretch, cut, is_marked, is_settled):
+        self.table, self.cut, self.is_settled = table, cut, is_settled
+        mine = [stretch[number] for number in cut.numbers]
+        self.headings, octets = [heading for heading, _ in mine], octets_of(mine)
+        self.said = blamed(folder, b"".join(octets) + b"Q" * is_marked)
+        # Behind an entry that is no message nothing is looked at.
+        looked_at = [it[1] for it in self.said.values() if it[0] == "not blamed" and it[1] < len(octets)]
+        self.before = blamed(folder, b"".join(octets[: looked_at[0]])) if looked_at else {}
+
+    def doubt(self, end, entry, kind):
+        """What makes it inconclusive that an end is blamed, where something does."""
+        if kind == "F15":
+            return trace_rows.MARK
+        here = self.headings[entry]
+        if kind == "F3" and here.kind == "Begin":
+            if self.table.prearranged or not is_heard(self.headings[:entry], end, here.otid):
+                return trace_rows.GIVEN_UP
+        if self.cut.again and not self.is_settled:
+            return trace_rows.CAME_AGAIN
+        if self.cut.unread is not None and self.cut.numbers[entry] > self.cut.unread:
+            return trace_rows.UNREAD
+        return None
+
+    def wanted(self, end):
+        """What has to be said of an end."""
+        verdict, *found = self.said[end]
+        if verdict == "lawful":
+            return f"pass {found[0]}"
+        if verdict == "blamed":
+            entry, kind = found
+            doubt = self.doubt(end, entry, kind)
+            return f"inconc {entry} {kind} {doubt}" if doubt else f"fail {entry} {kind}"
+        before = self.before.get(end, ("not blamed",))
+        if before[0] != "lawful":
+            return f"inconc {UNDECIDED}"
+        is_behind = any(heading.end == end for heading in self.headings[found[0] :])
+        return f"inconc {BEHIND}" if is_behind else f"pass {before[1]}"
+
+
+class RandomTrace:
+    """A random trace: its stretches, which of them a quiet mark ends, the text, and the lines of entries and marks."""
+
+    def __init__(self, rng):
+        maker = random_traces.Maker(rng)
+        self.table, (self.stretches, is_marked) = maker.table, maker.trace()
+        self.marked = [True] * (len(self.stretches) - 1) + [is_marked]
+        self.first, self.at, self.text = [], [], []
+        for stretch, marked in zip(self.stretches, self.marked):
+            self.first.append(len(self.at))
+            for heading, digits in stretch:
+                self.text += [f"# entry {len(self.at)}"] * (rng.random() < 0.2)
+                self.add(f"{heading.end} {digits}")
+            if marked:
+                self.add("Q")
+
+    def add(self, line):
+        self.text.append(line)
+        self.at.append(len(self.text))
+
+    def record(self):
+        parts = [b"".join(octets_of(stretch)) + b"Q" * marked for stretch, marked in zip(self.stretches, self.marked)]
+        return b"".join(parts)
+
+    def wanted(self, folder, flags, linger):
+        """The dialogues that are wanted: the numbers of their entries, their IDs, whether one of these came again,
+        whether they are open, and what is said of each end."""
+        for first, stretch, marked in zip(self.first, self.stretches, self.marked):
+            for cut in trace_cut.cut([heading for heading, _ in stretch], "once" in flags, linger):
+                alone = Alone(folder, self.table, stretch, cut, marked and not cut.is_past, flags == SETTLED)
+                ids = {end: sorted(id.hex() for of, id in cut.ids if of == end) for end in "AB"}
+                is_open = not marked and bool(cut.ids) and not cut.is_over
+                ends = {end: alone.wanted(end) for end in "AB"}
+                yield [first + number for number in cut.numbers], ids, cut.again, is_open, ends
+
+
+def look_at_random(seed, folder):
+    """A random trace: its dialogues are those of the cut, and of each is said what `blame` says. Nobody fails in one
+    who may have kept the rules in the whole."""
+    checks, seen, made = Checks(f"random trace {seed}"), collections.Counter(), RandomTrace(random.Random(seed))
+    path, table = put(folder, "x.hex", lines(*made.text).encode()), runs.table_text(made.table).decode()
+    whole = {}
+    for flags, linger in CUTS:
+        flags = flags or SETTLED * (seed % 2)
+        report = Report(folder, flags, [path], table=table)
+        agree(checks, report)
+        wanted = [*made.wanted(folder, flags, linger)]
+        found = sorted(report.dialogues[path], key=lambda it: it["entries"])
+        checks.same(f"{flags}, dialogues", [it["entries"] for it in found], [it[0] for it in wanted])
+        for it, (entries, ids, again, is_open, ends) in zip(found, wanted):
+            name = f"{flags}, {entries}"
+            checks.same(f"{name}, IDs", {end: sorted(it["ids"][end]) for end in "AB"}, ids)
+            checks.same(f"{name}, again and open", (it["again"], it["open"]), (again, is_open))
+            checks.same(f"{name}, lines", it["lines"], [made.at[entry] for entry in entries])
+            for end, said in ends.items():
+                look_at_end(checks, f"{name}, {end}", it[end], said)
+            checks.same(f"{name}, verdict", it["verdict"], worst([said.split()[0] for said in ends.values()]))
+            seen[it["verdict"]] += 1
+            seen["again"] += again
+        whole = whole or blamed(folder, made.record())
+        for end, said in whole.items():
+            # That an ID has settled is the bench's word.
+            if said[0] == "lawful" and flags != SETTLED:
+                checks.holds(f"{flags}, {end} keeps the rules", all(it[end]["verdict"] != "fail" for it in found))
+    return checks, seen
+
+
+# ---- all
+
+
+def looked_at(job):
+    look, case = job
+    with tempfile.TemporaryDirectory() as folder:
+        found = look(case, folder)
+    return found if isinstance(found, tuple) else (found, collections.Counter())
+
+
+def main():
+    seed = int(sys.argv[1]) if len(sys.argv) > 1 else 1
+    for name in missing():
+        print(f"what is written is not looked at by {name}, which is not installed")
+    # The longest cases begin first.
+    jobs = [(look_at_random, seed * 1000 + number) for number in range(RANDOM_TRACES)]
+    jobs += [*trace_files.jobs(), *((look_at, row) for row in trace_rows.ROWS)]
+    passed, failed, seen = 0, 0, collections.Counter()
+    with concurrent.futures.ThreadPoolExecutor(SIDE_BY_SIDE) as pool:
+        for checks, more in pool.map(looked_at, jobs):
+            passed, failed, seen = passed + checks.count - len(checks.wrong), failed + len(checks.wrong), seen + more
+            for wrong in checks.wrong:
+                print(wrong)
+    print(f"random dialogues: {', '.join(f'{count} {what}' for what, count in sorted(seen.items()))}")
+    print(f"{passed} passed, {failed} failed")
+    return int(failed != 0)
+
+
+if __name__ == "__main__":
+    sys.exit(main())
