@@ -19,7 +19,7 @@ import trace_rows
 from trace_rows import BEHIND, UNDECIDED, lines
 from traced import Checks, Report, agree, look_at_end, missing, put, run, worst
 
-RANDOM_TRACES, SIDE_BY_SIDE = 40, 4
+RANDOM_TRACES, SIDE_BY_SIDE = 30, 4
 # How a random trace is cut: the words, and how many entries a dialogue lingers. IDs are used once, may come again, or,
 # in one of two traces, have settled then.
 CUTS = [(["--ids", "once"], 0), (["--linger", "3"], 3), ([], 10_000)]
