@@ -35,6 +35,7 @@ TESTS = {
     "facts": "faults at entries in words",
     "pages": "examples and commands of pages",
     "captures": "tests of captures",
+    "books": "tables, pages and the book that agree",
 }
 # The memory that the largest check takes, in GB.
 LARGEST = 5
