@@ -139,11 +139,6 @@ def lines(*entries):
 GIVEN_UP, MARK, CAME_AGAIN, LACKS = "given up", "quiet mark", "earlier", "table lacks"
 UNREAD, BEHIND, IS_OPEN, UNDECIDED = "can't be read", "no message", "inconc open", "no entry of it is blamed"
 
-# How tools/lines_of_capture.py says that dialogues were under way.
-NEVER_SENT = (
-    "messages to IDs that their receiver did not send in the capture, the first in frame 7, kept; --under-way leaves "
-    "them out: 1"
-)
 # A dialogue that A begins and B ends; one that goes to and fro.
 SHORT = [f"A {begin('01')}", f"B {end('01')}"]
 LONG = [f"A {begin('01', INVOKE)}", f"B {go_on('07', '01', RESULT)}", f"A {end('07')}"]
@@ -445,14 +440,6 @@ ROWS = [
         lines(SHORT[0], BACK, SHORT[0]),
         [Wanted([0, 1, 2], "01", "07", f"inconc {UNDECIDED}", "pass 1", open=True)],
         PREARRANGED,
-    ),
-    # ---- a capture that began in the middle, as the tool says in a comment
-    Row(
-        "a message to an ID that was never sent, behind the comment that dialogues may have been under way",
-        "",
-        lines(f"# NOTE {NEVER_SENT}", "# frame 7", SHORT[1], f"A {begin('02')}", f"B {end('02')}"),
-        [Wanted([0], "01", "", "pass", "inconc 0 F2 under way", more={"comment": "frame 7"}), Wanted([1, 2], "02", "")],
-        reads_comments=True,
     ),
     # ---- lingering
     Row(

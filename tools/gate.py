@@ -36,6 +36,7 @@ TESTS = {
     "pages": "examples and commands of pages",
     "captures": "tests of captures",
     "traces": "traces",
+    "books": "tables, pages and the book that agree",
 }
 # The memory that the largest check takes, in GB.
 LARGEST = 5

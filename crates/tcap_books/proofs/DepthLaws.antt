@@ -1,5 +1,5 @@
 -- How deep what is read of a book nests: no deeper than the book.
-use Rattle.std.proofs.Common.{◌≡◌, ℕ, ◌≤◌, Bool, true, false, cond, List, Option, Some, None, Ordering, Less, Equal, Greater, nat_cmp, is_some, unwrap_or, true≢false, codes, sym, ap, subst, arith}
+use Rattle.std.proofs.Common.{◌≡◌, ℕ, ◌≤◌, Bool, true, false, cond, List, Option, Some, Ordering, Less, Equal, Greater, nat_cmp, is_some, unwrap_or, true≢false, codes, sym, ap, subst, arith}
 use Rattle.std.specs.Ordering.{match_ordering}
 use Rattle.std.specs.Cmp.Lexicographic.{slice_cmp}
 use Rattle.std.specs.Str.{bytes_eq}

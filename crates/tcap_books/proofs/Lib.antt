@@ -1,3 +1,4 @@
 pub mod BareLaws
 pub mod DepthLaws
 pub mod BookLaws
+pub mod BookRows

@@ -40,7 +40,11 @@ impl Model for NamedTable {
     ghost Value = { Meant };
 
     ghost view = { λ a. record {
-        name = option_map string_bytes a.name; contexts = a.contexts.items; table = a.table; names = a.names } };
+      name = option_map string_bytes a.name;
+      contexts = a.contexts.items;
+      table = a.table;
+      names = a.names;
+    } };
 }
 
 /// The tables of a book, in the order of its text.

@@ -29,10 +29,7 @@ use tcap_parts::Code;
 const TABLES_LIMIT: usize = 100;
 
 /// A name, which may be left out; `None` where it is no text.
-fn name_in(
-    alloc: Global,
-    value: Option<&Value>,
-) -> Result<Option<Option<String>>, AllocError>
+fn name_in(alloc: Global, value: Option<&Value>) -> Result<Option<Option<String>>, AllocError>
     ensures { IfOk result (λ name. option_map (λ n. option_map string_bytes n) name
         ≡ name_in (option_map (λ v. view v.now) value.entry)) }
 {
@@ -154,11 +151,7 @@ fn add_name(
 }
 
 /// The names of the operations of the rows of the table of that number.
-fn names_with(
-    alloc: Global,
-    table: usize,
-    rows: &[Value],
-) -> Result<Names, BookFault>
+fn names_with(alloc: Global, table: usize, rows: &[Value]) -> Result<Names, BookFault>
     ensures { result ≢ Err BookFault.Memory
         → result ≡ names_with table 0 [] (items_view rows.now) }
 {
@@ -170,11 +163,7 @@ fn names_with(
 }
 
 /// The names of the operations of the table of that number.
-fn names_in(
-    alloc: Global,
-    table: usize,
-    value: Option<&Value>,
-) -> Result<Names, BookFault>
+fn names_in(alloc: Global, table: usize, value: Option<&Value>) -> Result<Names, BookFault>
     ensures { result ≢ Err BookFault.Memory
         → result ≡ names_in table (option_map (λ v. view v.now) value.entry) }
 {

@@ -58,7 +58,12 @@ impl fmt::Display for BookFault {
             BookFault::NoTables => f.write_str("\"tables\" is no list, or an empty one"),
             BookFault::TooManyTables => f.write_str("there are over 100 tables"),
             BookFault::Table(table, fault) => {
-                write!(f, "table {table}, row {}: {}", fault.place, words_of(fault.reason))
+                write!(
+                    f,
+                    "table {table}, row {}: {}",
+                    fault.place,
+                    words_of(fault.reason)
+                )
             }
             BookFault::TableName(table) => write!(f, "table {table}: \"name\" is no text"),
             BookFault::Contexts(table) => write!(

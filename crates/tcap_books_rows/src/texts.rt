@@ -108,7 +108,8 @@ fn fault(table: u64, reason: TableReason, place: u64) -> BookFault {
 
 #[test]
 fn faults(rt: HostRuntime) {
-    let text = r#"{"tables":[{"operations":[]},{"operations":[{"class":1,"code":1},{"class":0,"code":2}]}]}"#;
+    let text =
+        r#"{"tables":[{"operations":[]},{"operations":[{"class":1,"code":1},{"class":0,"code":2}]}]}"#;
     let found = Book::from_json(rt.alloc(), text.as_bytes()).err();
     assert_eq!(rt; found, Some(fault(1, TableReason::BadClass, 1)));
 }

@@ -3,6 +3,7 @@
 #![tactic(auto)]
 
 mod ber;
+mod books;
 mod check;
 mod checker_lives;
 mod dialogues;
@@ -22,6 +23,7 @@ mod verdict;
 mod words;
 
 pub use ber::integer_content;
+pub use books::operation_name;
 pub use check::count_steps;
 pub use checker_lives::{end_waits_behind_mark, given_of_mark, heard_of_mark, waits_behind_mark};
 pub use dialogues::fault_of_a_part;

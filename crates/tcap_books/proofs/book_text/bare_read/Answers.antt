@@ -15,4 +15,4 @@ returns c =
     let few : depth (bare_table d) ≤ max_depth = omega (arith, bare_depth d, c.requires.nests) in
     let back = c.in_ok-text.ensures.reads_back (subst (λ x. depth x ≤ max_depth) (sym is) few) in
     λ fine. c.read_table.ensures fine (bare_table d)
-        (subst IsUtf8 (sym c.deref.ensures.value) c.in_ok-text.ensures.utf8, ap read c.deref.ensures.value ∙ back ∙ ap Some is)
+    (subst IsUtf8 (sym c.deref.ensures.value) c.in_ok-text.ensures.utf8, ap read c.deref.ensures.value ∙ back ∙ ap Some is)

@@ -1,0 +1,69 @@
+-- Worked books, computed on the definitions: which table is that of a dialogue, and the names of operations.
+use Rattle.std.proofs.Common.{◌≡◌, ℕ, pos, false, List, [], ◌∷◌, Some, None, refl}
+use Rattle.tcap_parts.specs.declared.code.Code.TheVariants.{Local, Global}
+use Rattle.tcap_books.specs.Book.{NamedTable, name_of, table_of}
+
+-- a table that is told by its one octet of a name, with these contexts
+abbrev with_contexts : ℕ → List (List ℕ) → NamedTable
+with_contexts name contexts =
+    record { name = Some (name ∷ []); contexts = contexts; table = record { operations = []; prearranged = false }; names = [] }
+
+abbrev short : NamedTable
+short = with_contexts 1 ((4 ∷ []) ∷ [])
+
+abbrev long : NamedTable
+long = with_contexts 2 ((5 ∷ []) ∷ (4 ∷ 0 ∷ 0 ∷ []) ∷ [])
+
+abbrev again : NamedTable
+again = with_contexts 3 ((4 ∷ 0 ∷ 0 ∷ []) ∷ [])
+
+abbrev any : NamedTable
+any = with_contexts 4 []
+
+abbrev other : NamedTable
+other = with_contexts 5 []
+
+-- the longest beginning, wherever it stands; the first of two that have it
+pub longest : table_of (short ∷ long ∷ again ∷ any ∷ []) (Some (4 ∷ 0 ∷ 0 ∷ 1 ∷ [])) ≡ Some long
+longest = refl
+
+pub longest_first : table_of (again ∷ long ∷ short ∷ []) (Some (4 ∷ 0 ∷ 0 ∷ [])) ≡ Some again
+longest_first = refl
+
+pub shorter : table_of (short ∷ long ∷ again ∷ any ∷ []) (Some (4 ∷ 0 ∷ 1 ∷ [])) ≡ Some short
+shorter = refl
+
+-- a context that is longer than the one asked for is no beginning of it, and a table without contexts has none
+pub no_context_fits : table_of (long ∷ any ∷ []) (Some (4 ∷ 0 ∷ [])) ≡ None
+no_context_fits = refl
+
+-- without a context, the first table that has none
+pub without : table_of (short ∷ any ∷ other ∷ []) None ≡ Some any
+without = refl
+
+pub none_without : table_of (short ∷ long ∷ []) None ≡ None
+none_without = refl
+
+-- one table alone
+pub alone : table_of (any ∷ []) (Some (4 ∷ [])) ≡ Some any
+alone = refl
+
+pub alone_with_contexts : table_of (short ∷ []) None ≡ None
+alone_with_contexts = refl
+
+abbrev named : NamedTable
+named = record {
+  name = None;
+  contexts = [];
+  table = record { operations = []; prearranged = false };
+  names = (Local (pos 59), 1 ∷ []) ∷ (Global (42 ∷ []), 2 ∷ []) ∷ (Local (pos 59), 3 ∷ []) ∷ [];
+}
+
+pub first_name : name_of named (Local (pos 59)) ≡ Some (1 ∷ [])
+first_name = refl
+
+pub global_name : name_of named (Global (42 ∷ [])) ≡ Some (2 ∷ [])
+global_name = refl
+
+pub no_name : name_of named (Local (pos 42)) ≡ None
+no_name = refl
