@@ -213,12 +213,7 @@ fn ids_word(ids: Ids) -> &'static str {
 }
 
 /// Whether a request to judge the dialogues of traces is the wanted one.
-fn is_tested<'a>(
-    alloc: Global,
-    test: &Test<'a>,
-    kind: &str,
-    wanted: &str,
-) -> Result<bool, Fail> {
+fn is_tested<'a>(alloc: Global, test: &Test<'a>, kind: &str, wanted: &str) -> Result<bool, Fail> {
     let mut asked = format!(in alloc; "=")?;
     let mut between = "";
     for trace in test.traces.iter() {
@@ -229,7 +224,8 @@ fn is_tested<'a>(
         write!(asked, " table={table}")?;
     }
     let word = ids_word(test.ids);
-    write!(asked, " ids={word} linger={}", test.linger)?;
+    let linger = test.linger;
+    write!(asked, " ids={word} linger={linger}")?;
     if let Some(json) = test.json {
         write!(asked, " json={json}")?;
     }
@@ -249,6 +245,60 @@ fn is_tested<'a>(
     Ok(is_kind && asked.as_str() == wanted)
 }
 
+/// Whether the request is the wanted one.
+fn is_asked<'a>(
+    alloc: Global,
+    request: &Request<'a>,
+    kind: &str,
+    wanted: &str,
+) -> Result<bool, Fail> {
+    match request {
+        Request::Show(file, why, lines) => {
+            Ok(kind == show_word(*why, *lines) && *file == wanted.strip_prefix("="))
+        }
+        Request::Pack(file) => Ok(kind == "pack" && *file == wanted.strip_prefix("=")),
+        Request::Check(record, table, cert) => {
+            let files = format!(in alloc; "{record} {table} {cert}")?;
+            Ok(kind == "check" && Some(files.as_str()) == wanted.strip_prefix("="))
+        }
+        Request::CheckEnd(end, record, table, cert) => {
+            let files = format!(in alloc; "{record} {table} {cert}")?;
+            Ok(is_of_end(kind, "check", *end) && Some(files.as_str()) == wanted.strip_prefix("="))
+        }
+        Request::Judge(record, table, with_certificate) => {
+            let files = format!(in alloc; "{record} {table}")?;
+            Ok(
+                kind == word_of(*with_certificate)
+                    && Some(files.as_str()) == wanted.strip_prefix("="),
+            )
+        }
+        Request::JudgeEnd(end, record, table, with_certificate) => {
+            let files = format!(in alloc; "{record} {table}")?;
+            let is_kind = is_of_end(kind, word_of(*with_certificate), *end);
+            Ok(is_kind && Some(files.as_str()) == wanted.strip_prefix("="))
+        }
+        Request::Explain {
+            entries,
+            table,
+            cert,
+            end,
+            chart,
+        } => is_explained(
+            alloc,
+            (*entries, *table),
+            (*cert, *chart),
+            *end,
+            (kind, wanted),
+        ),
+        Request::Blame(record, table) => {
+            let files = format!(in alloc; "{record} {table}")?;
+            Ok(kind == "blame" && Some(files.as_str()) == wanted.strip_prefix("="))
+        }
+        Request::Table(file) => Ok(kind == "table" && Some(*file) == wanted.strip_prefix("=")),
+        Request::Test(test) => is_tested(alloc, test, kind, wanted),
+    }
+}
+
 /// Whether the request, or the fault, is the wanted one.
 fn is_answered<'a>(
     alloc: Global,
@@ -257,45 +307,7 @@ fn is_answered<'a>(
     wanted: &str,
 ) -> Result<bool, Fail> {
     match request(alloc, words) {
-        Ok(Request::Show(file, why, lines)) => {
-            Ok(kind == show_word(why, lines) && file == wanted.strip_prefix("="))
-        }
-        Ok(Request::Pack(file)) => Ok(kind == "pack" && file == wanted.strip_prefix("=")),
-        Ok(Request::Check(record, table, cert)) => {
-            let files = format!(in alloc; "{record} {table} {cert}")?;
-            Ok(kind == "check" && Some(files.as_str()) == wanted.strip_prefix("="))
-        }
-        Ok(Request::CheckEnd(end, record, table, cert)) => {
-            let files = format!(in alloc; "{record} {table} {cert}")?;
-            Ok(is_of_end(kind, "check", end) && Some(files.as_str()) == wanted.strip_prefix("="))
-        }
-        Ok(Request::Judge(record, table, with_certificate)) => {
-            let files = format!(in alloc; "{record} {table}")?;
-            Ok(
-                kind == word_of(with_certificate)
-                    && Some(files.as_str()) == wanted.strip_prefix("="),
-            )
-        }
-        Ok(Request::JudgeEnd(end, record, table, with_certificate)) => {
-            let files = format!(in alloc; "{record} {table}")?;
-            let is_kind = is_of_end(kind, word_of(with_certificate), end);
-            Ok(is_kind && Some(files.as_str()) == wanted.strip_prefix("="))
-        }
-        Ok(
-            Request::Explain {
-                entries,
-                table,
-                cert,
-                end,
-                chart,
-            },
-        ) => is_explained(alloc, (entries, table), (cert, chart), end, (kind, wanted)),
-        Ok(Request::Blame(record, table)) => {
-            let files = format!(in alloc; "{record} {table}")?;
-            Ok(kind == "blame" && Some(files.as_str()) == wanted.strip_prefix("="))
-        }
-        Ok(Request::Table(file)) => Ok(kind == "table" && Some(file) == wanted.strip_prefix("=")),
-        Ok(Request::Test(test)) => is_tested(alloc, &test, kind, wanted),
+        Ok(request) => is_asked(alloc, &request, kind, wanted),
         Err(fault) => {
             let said = format!(in alloc; "{fault}")?;
             let is_kind = kind
