@@ -26,7 +26,7 @@ pub use kept::Kept;
 pub use lines::run_lines;
 pub use names::name_of;
 pub use noted::Noted;
-pub use rules::{Broken, LINE_LIMIT, broken_by, push_broken_rule, write_rule};
+pub use rules::{Broken, LINE_LIMIT, broken_by, octets_of, push_broken_rule, write_rule};
 pub use tables::run_table;
 pub use told::Told;
 pub use why::run_why;

@@ -1,6 +1,7 @@
 //! A dialogue that is judged.
 
 use crate::fault::Stop;
+use crate::words::context_in;
 use std::alloc::{AllocError, Global};
 use tcap_ber::Counted;
 use tcap_books::{Book, NamedTable};
@@ -28,8 +29,8 @@ pub(crate) struct Held {
 pub(crate) enum Behind {
     /// Other entries of its stretch.
     More,
-    /// A quiet mark, with its line, where it has one.
-    Mark(u64),
+    /// A quiet mark: its line, 0 where it has none, and its number in the trace.
+    Mark { line: u64, number: u64 },
     /// The end of the trace.
     End,
 }
@@ -87,9 +88,9 @@ impl Case {
         !self.gathered.a.is_empty() || !self.gathered.b.is_empty()
     }
 
-    /// Whether its trace ended before its transaction did, where that can end.
+    /// Whether its stretch ended before its transaction did.
     pub(crate) fn is_open(&self) -> bool {
-        self.behind == Behind::End && self.gathered.over.is_none()
+        self.behind != Behind::More && self.gathered.over.is_none()
     }
 
     /// The octets of the record of it.
@@ -98,7 +99,7 @@ impl Case {
         for held in self.entries.iter().take(MOST) {
             octets.extend_from_slice(&held.octets)?;
         }
-        if matches!(self.behind, Behind::Mark(_)) && self.entries.len() < MOST {
+        if matches!(self.behind, Behind::Mark { .. }) && self.entries.len() < MOST {
             octets.push(b'Q')?;
         }
         Ok(octets)
@@ -155,17 +156,30 @@ fn begins(record: &Record) -> bool {
     }
 }
 
-/// The application context name that the first Begin asks for.
+/// The application context name of a dialogue: the one that its Begin asks for, or its Unidirectional has; where it begins otherwise
+/// the first that a message of it has.
 fn context_of(alloc: Global, record: &Record) -> Result<Option<Vec<u8>>, AllocError> {
     for entry in &record.entries {
         let Body::Good(message) = &entry.body else {
             continue;
         };
-        if message.kind() == Form::Begin {
-            return crate::words::context_in(alloc, message);
+        let found = context_in(alloc, message)?;
+        if found.is_some() || matches!(message.kind(), Form::Begin | Form::Unidirectional) {
+            return Ok(found);
         }
     }
     Ok(None)
+}
+
+/// The table by which a dialogue is judged: that of its context; where its first entry is no message, so that nothing of it is looked
+/// up, any.
+fn table_of<'a>(book: &'a Book, context: Option<&[u8]>, record: &Record) -> Option<&'a NamedTable> {
+    match record.entries.first() {
+        Some(Entry {
+            body: Body::Bad(_), ..
+        }) => book.tables().first(),
+        _ => book.table_of(context),
+    }
 }
 
 /// Judges a dialogue.
@@ -182,11 +196,12 @@ pub(crate) fn judge<'a>(
     };
     let context = context_of(alloc, &record)?;
     let table = match &context {
-        Some(context) => book.table_of(Some(context.as_slice())),
-        None => book.table_of(None),
+        Some(context) => table_of(book, Some(context.as_slice()), &record),
+        None => table_of(book, None, &record),
     };
     let circumstances = Circumstances {
-        again: case.gathered.again && !rules.settled,
+        // Where it begins without a Begin, no ID came again: an earlier dialogue goes on, of which more was under way.
+        again: case.gathered.again && !(rules.settled && begins(&record)),
         unread_from: case.unread_from(&record),
         cut: case.is_cut(),
         open: rules.complete && case.is_open(),

@@ -3,7 +3,7 @@
 use crate::fault::{FormFault, Halt};
 use std::alloc::{AllocError, Global};
 use tcap_ber::{Outer, outer};
-use tcap_explain::{LINE_LIMIT, broken_by, hint_of, name_of, push_broken_rule};
+use tcap_explain::{LINE_LIMIT, broken_by, hint_of, name_of, octets_of, push_broken_rule};
 
 /// What a trace is, by its first octets.
 #[derive(Clone, Copy, Debug, PartialEq, Eq)]
@@ -50,7 +50,7 @@ fn form_of(first: &[u8], ended: bool) -> Form {
     match first {
         [b'#' | b'\n' | b'\r', ..] => Form::Lines,
         // No message's tag is the code of a digit.
-        [b'A' | b'B', b' ' | b'0'..=b'9', ..] => Form::Lines,
+        [b'A' | b'B', b' ' | b'\t' | b'0'..=b'9', ..] => Form::Lines,
         [b'Q', b'\n' | b'\r' | b' ', ..] => Form::Lines,
         [b'A' | b'B' | b'Q'] if !ended => Form::Unknown,
         [b'A' | b'B' | b'Q', ..] => Form::Record,
@@ -74,25 +74,11 @@ fn line_in(octets: &[u8], ended: bool) -> Option<(&[u8], usize)> {
     }
 }
 
-/// The value of a digit.
-fn value_of(digit: u8) -> u8 {
-    match digit {
-        b'0'..=b'9' => digit - b'0',
-        b'a'..=b'f' => digit - b'a' + 10,
-        b'A'..=b'F' => digit - b'A' + 10,
-        _ => 0,
-    }
-}
-
 /// The entry of a line that breaks no rule: the octet of its end, and those of its digits.
 fn entry_of(alloc: Global, end: u8, digits: &[u8]) -> Result<Vec<u8>, AllocError> {
     let mut octets = Vec::new(alloc);
     octets.push(end)?;
-    let mut rest = digits;
-    while let [high, low, more @ ..] = rest {
-        octets.push((value_of(*high) & 0x0F) * 16 + (value_of(*low) & 0x0F))?;
-        rest = more;
-    }
+    octets.extend_from_slice(&octets_of(alloc, digits)?)?;
     Ok(octets)
 }
 
@@ -204,7 +190,9 @@ impl Entries {
             return Ok(None);
         }
         let mut text = String::new(self.alloc);
-        text.push_str("line too long")?;
+        if let Some(broken) = broken_by(self.alloc, self.rest())? {
+            push_broken_rule(&mut text, broken)?;
+        }
         Err(self.fault(Some(self.lines.saturating_add(1)), text))
     }
 
@@ -228,8 +216,9 @@ impl Entries {
             _ => return Err(self.record_fault("an entry begins with neither A, B nor Q", self.place)?),
         };
         let mut octets = Vec::new(self.alloc);
-        let count = len.saturating_add(1).min(self.rest().len());
-        octets.extend_from_slice(&self.rest()[..count])?;
+        let rest = self.rest();
+        let count = len.saturating_add(1).min(rest.len());
+        octets.extend_from_slice(&rest[..count])?;
         self.pass(count);
         Ok(Some(Piece::Entry(octets, 0, Vec::new(self.alloc))))
     }

@@ -1,6 +1,6 @@
 //! What is said, as lines of JSON (NDJSON): one object for each dialogue, then one for its trace.
 
-use crate::case::{Case, Judged};
+use crate::case::{Behind, Case, Judged};
 use crate::sum::Counts;
 use crate::text::{is_asked, push_behind, push_doubt, push_reason, push_undecided};
 use crate::words::{comment_of, ids_of, letter, line_of};
@@ -59,6 +59,10 @@ fn push_entries(json: &mut String, case: &Case) -> Result<(), AllocError> {
         write!(json, "{number}")?;
         first = false;
     }
+    if let Behind::Mark { number, .. } = case.behind {
+        json.push_str(if first { "" } else { "," })?;
+        write!(json, "{number}")?;
+    }
     json.push_str("],\"lines\":[")?;
     let mut first = true;
     for held in &case.entries {
@@ -66,6 +70,10 @@ fn push_entries(json: &mut String, case: &Case) -> Result<(), AllocError> {
         json.push_str(if first { "" } else { "," })?;
         write!(json, "{line}")?;
         first = false;
+    }
+    if let Behind::Mark { line, .. } = case.behind {
+        json.push_str(if first { "" } else { "," })?;
+        write!(json, "{line}")?;
     }
     json.push_str("]")
 }
@@ -183,7 +191,7 @@ fn push_end(
         }
         _ => {
             let mut text = String::new(alloc);
-            push_undecided(&mut text, case, judged, said)?;
+            push_undecided(alloc, &mut text, case, judged, end, said)?;
             push_named(json, "text", &text)?;
         }
     }

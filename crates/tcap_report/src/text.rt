@@ -9,12 +9,14 @@ use tcap_evidence::push_why;
 use tcap_explain::name_of;
 use tcap_msg::MessageParts;
 use tcap_parts::{CodeView, ComponentView};
-use tcap_record::{Body, End, push_head, push_hex};
+use tcap_record::{Body, End, Entry, push_head, push_hex};
 use tcap_refute::Refutation;
 use tcap_traces::{Doubt, Said, Verdict};
 
-/// The most entries that are listed.
-const LISTED: usize = 24;
+/// So many entries are listed of the beginning of a dialogue, and up to what is at fault.
+const FIRST: usize = 8;
+
+const LAST: usize = 16;
 
 /// Appends the IDs of the ends that have some.
 fn push_all_ids(text: &mut String, case: &Case) -> Result<(), AllocError> {
@@ -116,19 +118,22 @@ pub(crate) fn push_doubt(text: &mut String, case: &Case, doubt: Doubt) -> Result
 
 /// Appends why nothing is shown of an end, and no entry is blamed on it.
 pub(crate) fn push_undecided(
+    alloc: Global,
     text: &mut String,
     case: &Case,
     judged: &Judged,
+    end: End,
     said: Said,
 ) -> Result<(), AllocError> {
     if let Said::Behind(entry) = said {
-        let line = line_of(case, entry);
-        write!(text, "entry {entry} of the dialogue, line {line}, ")?;
+        write!(text, "entry {entry} of the dialogue")?;
+        push_place(alloc, text, case, entry)?;
+        text.push_str(" ")?;
     }
     text.push_str(undecided_words(said))?;
     text.push_str("\n")?;
     match said {
-        Said::Open => push_waiting(text, judged),
+        Said::Open => push_waiting(alloc, text, judged, end),
         _ => Ok(()),
     }
 }
@@ -159,7 +164,7 @@ fn push_end(
             text.push_str("  ")?;
             text.push_str(letter(end))?;
             text.push_str(": inconc: ")?;
-            push_undecided(text, case, judged, said)
+            push_undecided(alloc, text, case, judged, end, said)
         }
     }
 }
@@ -221,23 +226,63 @@ fn push_body(text: &mut String, table: Option<&NamedTable>, place: u64, body: &B
     }
 }
 
-/// Appends the entries of a dialogue, of a long one the first, up to the last one that is blamed.
-fn push_entries(alloc: Global, text: &mut String, case: &Case, judged: &Judged) -> Result<(), AllocError> {
+/// Appends an entry of a dialogue.
+fn push_entry(
+    alloc: Global,
+    text: &mut String,
+    case: &Case,
+    judged: &Judged,
+    number: usize,
+    entry: &Entry,
+) -> Result<(), AllocError> {
+    write!(text, "    {number}")?;
+    push_place(alloc, text, case, number as u64)?;
+    text.push_str(": ")?;
+    if let Some(end) = entry.side {
+        text.push_str(letter(end))?;
+        text.push_str(" ")?;
+    }
+    push_body(text, judged.table, entry.place, &entry.body)?;
+    text.push_str("\n")
+}
+
+/// The number of the entry by which an end is at fault.
+fn blamed_by(said: Said) -> Option<u64> {
+    match said {
+        Said::Fail(at) | Said::Doubtful(at, _) => Some(at.entry),
+        _ => None,
+    }
+}
+
+/// The number of the last entry that is listed: the last one at fault, or the last of all.
+fn last_listed(judged: &Judged) -> usize {
+    let last = judged.record.entries.len().saturating_sub(1);
+    let Some(ends) = judged.ends else {
+        return last;
+    };
+    match (blamed_by(ends.a), blamed_by(ends.b)) {
+        (Some(a), Some(b)) => last.min(u64::max(a, b) as usize),
+        (Some(number), None) | (None, Some(number)) => last.min(number as usize),
+        (None, None) => last,
+    }
+}
+
+/// Appends the entries of a dialogue, of a long one the first and those up to the last one at fault.
+fn push_entries(
+    alloc: Global,
+    text: &mut String,
+    case: &Case,
+    judged: &Judged,
+) -> Result<(), AllocError> {
+    let last = last_listed(judged);
+    let from = last.saturating_sub(LAST);
     text.push_str("  the entries of the dialogue:\n")?;
     for (number, entry) in judged.record.entries.iter().enumerate() {
-        if number >= LISTED {
-            let more = judged.record.entries.len().saturating_sub(LISTED);
-            return writeln!(text, "    and {more} more");
+        if number < FIRST || (from <= number && number <= last) {
+            push_entry(alloc, text, case, judged, number, entry)?;
+        } else if number == FIRST || number == usize::saturating_add(last, 1) {
+            text.push_str("    ..\n")?;
         }
-        write!(text, "    {number}")?;
-        push_place(alloc, text, case, number as u64)?;
-        text.push_str(": ")?;
-        if let Some(end) = entry.side {
-            text.push_str(letter(end))?;
-            text.push_str(" ")?;
-        }
-        push_body(text, judged.table, entry.place, &entry.body)?;
-        text.push_str("\n")?;
     }
     Ok(())
 }

@@ -135,7 +135,9 @@ impl<'a> Trace<'a> {
     ) -> Result<(), Stop> {
         let mut done = Vec::new(self.alloc);
         let heading = read_heading(end_of(&octets), element_of(&octets));
-        if heading.kind.is_none() && self.unread.is_none() {
+        if heading.kind.is_some() {
+            self.messages = self.messages.saturating_add(1);
+        } else if self.unread.is_none() {
             self.unread = Some(self.count);
         }
         self.cut.take(heading, &mut done)?;
@@ -143,7 +145,6 @@ impl<'a> Trace<'a> {
             return Err(Stop::Memory);
         }
         self.count = self.count.saturating_add(1);
-        self.messages = self.messages.saturating_add(1);
         for gathered in done {
             self.judge(gathered, Behind::More, sinks)?;
         }
@@ -248,7 +249,10 @@ impl<'a> Trace<'a> {
         for _ in 0..u64::MAX {
             match entries.next()? {
                 Some(Piece::Entry(octets, line, comment)) => self.enter(octets, line, comment, sinks)?,
-                Some(Piece::Mark(line)) => self.end_stretch(Behind::Mark(line), sinks)?,
+                Some(Piece::Mark(line)) => {
+                    let number = self.before.saturating_add(self.count);
+                    self.end_stretch(Behind::Mark { line, number }, sinks)?;
+                }
                 None => return Ok(()),
             }
         }

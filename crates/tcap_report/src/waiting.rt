@@ -2,10 +2,31 @@
 
 use crate::case::Judged;
 use crate::words::letter;
-use std::alloc::AllocError;
+use std::alloc::{AllocError, Global};
 use tcap_msg::{Kind as Form, Message, MessageParts};
 use tcap_parts::ComponentView;
 use tcap_record::{Body, End, Entry};
+
+/// So many things are told that it waits for.
+const MOST: usize = 8;
+
+/// What is waited for.
+#[derive(Clone, Copy, Debug, PartialEq, Eq)]
+enum Wait {
+    /// An answer to the Begin in that entry.
+    Begin(usize),
+    /// An answer to that invocation in that entry.
+    Invoke(usize, i8),
+}
+
+/// What that end sent behind an entry.
+#[derive(Debug, Drop)]
+struct Answers {
+    /// Something.
+    any: bool,
+    /// Answers to invocations of these IDs.
+    answered: Vec<i8>,
+}
 
 /// The message of an entry and its sender, where it is one.
 fn sent(entry: &Entry) -> Option<(End, &Message)> {
@@ -15,49 +36,40 @@ fn sent(entry: &Entry) -> Option<(End, &Message)> {
     }
 }
 
-/// Whether a component answers an invocation of that ID.
-fn answers(component: ComponentView, id: i8) -> bool {
+/// The ID of an invocation that a component answers for good.
+fn answered_by(component: ComponentView) -> Option<i8> {
     match component {
-        ComponentView::ReturnResult { last: true, id: other, .. } | ComponentView::ReturnError { id: other, .. } => {
-            other == id
+        ComponentView::ReturnResult { last: true, id, .. } | ComponentView::ReturnError { id, .. } => {
+            Some(id)
         }
-        ComponentView::Reject { id: Some(other), .. } => other == id,
-        _ => false,
+        ComponentView::Reject { id, .. } => id,
+        _ => None,
     }
 }
 
-/// Whether a message of that end among these answers an invocation of that ID.
-fn is_answered(entries: &[Entry], end: End, id: i8) -> bool {
-    for entry in entries {
-        if let Some((sender, message)) = sent(entry) {
-            if sender == end && message.components().any(|component| answers(component, id)) {
-                return true;
+impl Answers {
+    /// A message more, before the others.
+    fn note(&mut self, message: &Message) -> Result<(), AllocError> {
+        self.any = true;
+        for component in message.components() {
+            if let Some(id) = answered_by(component) {
+                if !self.answered.contains(&id) {
+                    self.answered.push(id)?;
+                }
             }
         }
+        Ok(())
     }
-    false
 }
 
-/// Whether that end sent a message among these.
-fn has_sent(entries: &[Entry], end: End) -> bool {
-    entries.iter().any(|entry| matches!(sent(entry), Some((sender, _)) if sender == end))
-}
-
-/// Appends that a Begin, or the invocations of class 1 in a message, have no answer, where that is so.
-fn push_of_entry(
-    text: &mut String,
+/// Notes what a message of the peer waits for.
+fn note_waits(
+    waits: &mut Vec<Wait>,
     judged: &Judged,
     number: usize,
-    end: End,
     message: &Message,
-    behind: &[Entry],
-) -> Result<bool, AllocError> {
-    let peer = letter(end.other());
-    if message.kind() == Form::Begin && !has_sent(behind, end.other()) {
-        writeln!(text, "  it waits for an answer of {peer} to the Begin in entry {number}")?;
-        return Ok(true);
-    }
-    let mut waits = false;
+    behind: &Answers,
+) -> Result<(), AllocError> {
     for component in message.components() {
         let ComponentView::Invoke { id, code, .. } = component else {
             continue;
@@ -66,27 +78,59 @@ fn push_of_entry(
             Some(table) => table.table().class_of(code),
             None => None,
         };
-        if class == Some(1) && !is_answered(behind, end.other(), id) {
-            writeln!(text, "  it waits for an answer of {peer} to invocation {id} in entry {number}, of class 1")?;
-            waits = true;
+        if class == Some(1) && !behind.answered.contains(&id) {
+            waits.push(Wait::Invoke(number, id))?;
+        }
+    }
+    if message.kind() == Form::Begin && !behind.any {
+        waits.push(Wait::Begin(number))?;
+    }
+    Ok(())
+}
+
+/// What is waited for of that end, the last first.
+fn waits_for(alloc: Global, judged: &Judged, end: End) -> Result<Vec<Wait>, AllocError> {
+    let mut waits = Vec::new(alloc);
+    let mut behind = Answers {
+        any: false,
+        answered: Vec::new(alloc),
+    };
+    for (number, entry) in judged.record.entries.iter().enumerate().rev() {
+        match sent(entry) {
+            Some((sender, message)) if sender == end => behind.note(message)?,
+            Some((_, message)) => note_waits(&mut waits, judged, number, message, &behind)?,
+            None => {}
         }
     }
     Ok(waits)
 }
 
-/// Appends what it waits for: an answer to its Begin or to an invocation of class 1, or else its end.
-pub(crate) fn push_waiting(text: &mut String, judged: &Judged) -> Result<(), AllocError> {
-    let mut waits = false;
-    let mut rest = judged.record.entries.as_slice();
-    let mut number = 0;
-    while let [entry, behind @ ..] = rest {
-        if let Some((end, message)) = sent(entry) {
-            waits = push_of_entry(text, judged, number, end, message, behind)? || waits;
+/// Appends what it waits for of that end: answers to Begins and to invocations of class 1; or else that it ends.
+pub(crate) fn push_waiting(
+    alloc: Global,
+    text: &mut String,
+    judged: &Judged,
+    end: End,
+) -> Result<(), AllocError> {
+    let waits = waits_for(alloc, judged, end)?;
+    let letter = letter(end);
+    for wait in waits.iter().rev().take(MOST) {
+        match wait {
+            Wait::Begin(number) => {
+                writeln!(text, "  it waits for an answer of {letter} to the Begin in entry {number}")?;
+            }
+            Wait::Invoke(number, id) => {
+                write!(text, "  it waits for an answer of {letter} to invocation {id} ")?;
+                writeln!(text, "in entry {number}, of class 1")?;
+            }
         }
-        number = usize::saturating_add(number, 1);
-        rest = behind;
     }
-    if !waits {
+    let count = waits.len();
+    if count > MOST {
+        let more = count - MOST;
+        writeln!(text, "  and for {more} more answers")?;
+    }
+    if count == 0 {
         text.push_str("  it waits for an End or an Abort\n")?;
     }
     Ok(())

@@ -48,7 +48,7 @@ pub(crate) fn undecided_words(said: Said) -> &'static str {
         Said::Undecided => "it is not found how it can have sent its part, and no entry of it is blamed",
         Said::Behind(_) => "is no message that is judged, and is its own or stands before others of its own",
         Said::TooLong => "the dialogue has more than 100,000 entries, and of those nothing is blamed",
-        Said::Open => "the dialogue is open at the end of the trace",
+        Said::Open => "the dialogue is open at its end",
         _ => "",
     }
 }
@@ -75,7 +75,7 @@ pub(crate) fn line_of(case: &Case, entry: u64) -> u64 {
     match case.entries.get(entry as usize) {
         Some(held) => held.line,
         None => match case.behind {
-            Behind::Mark(line) => line,
+            Behind::Mark { line, .. } => line,
             _ => 0,
         },
     }

@@ -89,16 +89,45 @@ fn is_folder(rt: &HostRuntime, path: &str) -> bool {
     }
 }
 
-/// Whether a file that is written is one of those that are read, by its path, or both are one.
-fn is_overwritten(test: &Test) -> bool {
+/// Whether two paths are those of one file, as far as links tell.
+fn is_same(rt: &HostRuntime, one: &str, other: &str) -> bool {
+    if one == other {
+        return true;
+    }
+    match (fs::canonicalize(rt, one), fs::canonicalize(rt, other)) {
+        (Ok(one), Ok(other)) => one == other,
+        _ => false,
+    }
+}
+
+/// Whether a file of that path is one of those that are read.
+fn is_read(rt: &HostRuntime, test: &Test, path: &str) -> bool {
+    for read in &test.traces {
+        if is_same(rt, *read, path) {
+            return true;
+        }
+    }
+    for read in &test.tables {
+        if is_same(rt, *read, path) {
+            return true;
+        }
+    }
+    false
+}
+
+/// Whether a file that is written is one of those that are read, or both are one.
+fn is_overwritten(rt: &HostRuntime, test: &Test) -> bool {
     for path in [test.json, test.junit] {
         if let Some(path) = path {
-            if test.traces.iter().any(|trace| *trace == path) || test.tables.iter().any(|table| *table == path) {
+            if is_read(rt, test, path) {
                 return true;
             }
         }
     }
-    test.json.is_some() && test.json == test.junit
+    match (test.json, test.junit) {
+        (Some(json), Some(junit)) => is_same(rt, json, junit),
+        _ => false,
+    }
 }
 
 /// Judges the trace of that path.
@@ -227,7 +256,11 @@ pub(crate) fn test(rt: &HostRuntime, test: &Test) -> u8 {
         let _ = eprintln!(rt; "error: the standard input can be read once");
         return WRONG_WORDS;
     }
-    if is_overwritten(test) {
+    if test.json == Some("-") || test.junit == Some("-") {
+        let _ = eprintln!(rt; "error: --json and --junit take the path of a file");
+        return WRONG_WORDS;
+    }
+    if is_overwritten(rt, test) {
         let _ = eprintln!(rt; "error: what is said would be written over a file that is read, or twice into one");
         return Verdict::Error.status();
     }
