@@ -280,7 +280,7 @@ fn test_command<'a>(alloc: Global) -> Result<Command<'a>, AllocError>
     let complete = flag_arg(
         alloc,
         "complete",
-        "Takes it that no message is missing from the traces",
+        "A dialogue that is open at its end is inconclusive",
     );
     let json = file_arg(
         alloc,
