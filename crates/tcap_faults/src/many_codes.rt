@@ -106,7 +106,8 @@ impl ManyCodes {
         }
     }
 
-    /// Whether that is what may be linked to one that was counted. The place behind that of the first such one is told.
+    /// Whether that is what may be linked to one that was counted. The place of the first such one is told, as one behind that of
+    /// the first code of all (`CodeCounts::at`).
     pub(crate) fn links_as(&self, table: &Table, linkable: Linkable, found: &Cell<usize>) -> bool
         ensures { result ≡ list_any (links_as table.now linkable.entry) self.now.codes.items }
     {

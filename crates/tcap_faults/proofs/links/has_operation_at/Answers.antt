@@ -1,4 +1,4 @@
-use Rattle.std.proofs.Common.{map, to_z-of_z, refl, sym, ◌∙◌}
+use Rattle.std.proofs.Common.{map, to_z-of_z, refl}
 use Rattle.tcap_faults.specs.Linking.{links_as}
 use Rattle.tcap_faults.specs.Tallies.{tallies_of, tally_of}
 use Rattle.tcap_faults.proofs.TalliesLaws.{found_one}

@@ -1,4 +1,4 @@
-use Rattle.std.proofs.Common.{map, to_z-of_z, refl, sym, ◌∙◌}
+use Rattle.std.proofs.Common.{map, to_z-of_z, refl}
 use Rattle.tcap_parts.specs.Meaning.{code_of}
 use Rattle.tcap_end.specs.Component.{links}
 use Rattle.tcap_faults.specs.Tallies.{tallies_of, tally_of}
