@@ -6,6 +6,7 @@ nothing: there n grows until its time is above it, up to what the limits of a re
 allow. `make attack` builds the program first; words behind it choose attacks by parts of their names."""
 
 import json
+import math
 import os
 import random
 import subprocess
@@ -400,15 +401,15 @@ def links_to_many_operations(n):
 
 
 def rejects_of_links(codes, operations, count):
-    """B begins, so that all of A's invocations are known: A invokes 7 by so many operations, which list all codes but
-    the last; B's Invokes of 1 are linked to that, of each code; and A rejects 1 so often for its unexpected link, which
-    is so of the last alone."""
-    listed = list(range(2000, 2999))
-    rows = [{"class": 4, "code": 1000 + at, "linked": listed} for at in range(999)]
+    """The table has so many operations, which list so many codes. B begins, so that all of A's invocations are known: A
+    invokes 7 by each operation; B's Invokes of 1 are linked to that, of each code and behind them of one that is not
+    listed; and A rejects 1 so often for its unexpected link, which is so of the last alone."""
+    listed = list(range(2000, 2000 + codes))
+    rows = [{"class": 4, "code": 1000 + at, "linked": listed} for at in range(operations)]
     entries = [B + begin(1), A + going_on(1, 1)]
     entries += [A + going_on(1, 1, invoke_of(7, 1000 + at)) for at in range(operations)]
     for at in range(0, codes, 500):
-        entries.append(B + going_on(1, 1, *[invoke_of(1, code, linked=7) for code in listed[:codes][at : at + 500]]))
+        entries.append(B + going_on(1, 1, *[invoke_of(1, code, linked=7) for code in listed[at : at + 500]]))
     entries += [B + going_on(1, 1, *[invoke_of(1, 48, linked=7)] * 500) for _ in range(count // 500 + 1)]
     entries += [A + going_on(1, 1, reject(1, 0x81, 7)) for _ in range(count)]
     return b"".join(entries), table(rows)
@@ -420,8 +421,10 @@ def rejects_of_many_links(n):
 
 
 def one_reject_of_many_links(n):
-    """One Reject that says that a link is unexpected, where there are n linked Invokes to n operations"""
-    return rejects_of_links(n, n, 1)
+    """One Reject that says that a link is unexpected, behind linked Invokes of each of the n links of the table"""
+    # Twice the input is twice the table: each of its links may cost a look.
+    side = math.isqrt(n)
+    return rejects_of_links(side, side, 1)
 
 
 def answers_over_many_own_ids(n):
@@ -529,7 +532,7 @@ ATTACKS = [
     (("judge", "blame"), aborts_to_open_halves, ENTRIES, "REFUTED"),
     (("judge", "blame"), links_to_many_operations, ENTRIES, "REFUTED 2 F6"),
     (("judge", "blame"), rejects_of_many_links, 40_000, "REFUTED"),
-    (("judge", "blame"), one_reject_of_many_links, 999, "REFUTED"),
+    (("judge", "blame"), one_reject_of_many_links, 998_001, "REFUTED"),
     (("judge", "blame"), answers_over_many_own_ids, ENTRIES - 1, "REFUTED"),
     (ALL, results_of_many_operations, ENTRIES, "LAWFUL"),
     (("judge --end B",), codes_of_one_end, ENTRIES, "LAWFUL"),

@@ -6,9 +6,7 @@ use Rattle.std.specs.List.{list_any}
 use Rattle.std.proofs.lemmas.Bool.Decides.{nat_tests}
 use Rattle.tcap_parts.specs.declared.code.Code.{Code}
 use Rattle.tcap_parts.specs.declared.code.Code.TheVariants.{Local}
-use Rattle.tcap_end.specs.TableReading.{is_linked}
 use Rattle.tcap_refute.proofs.TestLaws.{and_false}
-use Rattle.tcap_faults.specs.Counts.{is_nothing}
 use Rattle.tcap_faults.specs.declared.code_counts.CodeCounts.{CodeCounts}
 use Rattle.tcap_faults.specs.declared.many_codes.ManyCodes.{ManyCodes}
 use Rattle.tcap_faults.specs.Tallies.{codes_any, first_passes, others_any}
@@ -29,17 +27,6 @@ others_listed kept others no_first is =
     listed : (n : ℕ) (codes : List Code) → n ≡ length codes → not (n == 0) ≡ list_any (λ code. true) codes
     listed n [] is = rw is refl
     listed n (code ∷ more) is = let some : (n == 0) ≡ false = grind (arith, nat_tests) in ap not some
-
--- ---- what may be linked to a code
-
-pub links_nothing : (linked : List (Code × Unit {0})) → is_linked linked ≡ false → is_nothing linked ≡ true
-links_nothing [] none = refl
-links_nothing (a ∷ more) none = cc
-
-pub links_others : (linked : List (Code × Unit {0})) (this : Bool) → is_linked linked ≡ true → this ≡ false
-    → (not (is_nothing linked) && not this) ≡ true
-links_others [] this some other = cc
-links_others (a ∷ more) this some other = ap not other
 
 -- ---- a test that does not ask which code it is
 

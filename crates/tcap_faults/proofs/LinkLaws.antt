@@ -4,11 +4,19 @@ use Rattle.std.specs.BTreeMap.{BTreeMap, WritesThrough, insert_entry, is_at}
 use Rattle.std.specs.List.{list_any}
 use Rattle.std.specs.Map.{lookup, set_value}
 use Rattle.std.specs.Ordering.{match_ordering}
+use Rattle.std.proofs.lemmas.Bool.{or_left, or_right}
 use Rattle.std.proofs.lemmas.Map.Lookups.{exact_signed}
 use Rattle.std.proofs.lemmas.Map.Views.{tells_apart}
 use Rattle.tcap_parts.specs.declared.code.Code.{Code}
+use Rattle.tcap_parts.specs.declared.code.CodeView.{CodeView}
+use Rattle.tcap_parts.specs.Meaning.{code_of}
+use Rattle.tcap_end.specs.Table.{Table}
 use Rattle.tcap_refute.proofs.TestLaws.{or_none}
 use Rattle.tcap_faults.specs.declared.code_counts.CodeCounts.{CodeCounts}
+use Rattle.tcap_faults.specs.declared.link_problem.LinkProblem.{LinkProblem}
+use Rattle.tcap_faults.specs.declared.link_problem.LinkProblem.TheVariants as problems
+use Rattle.tcap_faults.specs.Linking.{linkable_by, links_as, names_so}
+use Rattle.tcap_faults.specs.Tallied.{Tallied}
 use Rattle.tcap_faults.specs.Tallies.{codes_any, links_at}
 
 first : (a b p : Bool) → ((a || p) || b) ≡ ((a || b) || p)
@@ -109,3 +117,33 @@ module _ (passes : ℤ → Code → Bool) (linked : ℤ) (counts : CodeCounts) (
   pub link_passed : codes_any (passes linked) counts ≡ false
       → list_any (links_at passes) more ≡ list_any (links_at passes) all
   link_passed none = sym (ap (λ b. b || list_any (links_at passes) more) none) ∙ here
+
+-- ---- one of them
+
+-- Where what is kept of a linked ID passes, one does.
+pub link_there : (passes : ℤ → Code → Bool) (linked : ℤ) (counts : CodeCounts) (es : List (ℤ × CodeCounts))
+    → Some counts ≡ lookup (is_at (int_cmp linked)) es → codes_any (passes linked) counts ≡ true
+    → list_any (links_at passes) es ≡ true
+link_there passes linked counts [] there so = cc
+link_there passes linked counts ((k, x) ∷ es) there so =
+    by (is_at (int_cmp linked) k) refl (link_there passes linked counts es)
+  where
+    by : (b : Bool) → is_at (int_cmp linked) k ≡ b
+        → (Some counts ≡ lookup (is_at (int_cmp linked)) es → codes_any (passes linked) counts ≡ true
+        → list_any (links_at passes) es ≡ true)
+        → (codes_any (passes k) x || list_any (links_at passes) es) ≡ true
+    by true is rest =
+        let same : Some counts ≡ Some x = rw is at there in
+        let one : counts ≡ x = cc in
+        or_left (codes_any (passes k) x) (list_any (links_at passes) es)
+        (rw (tells_apart exact_signed linked k is, one) at so)
+    by false is rest =
+        let left : Some counts ≡ lookup (is_at (int_cmp linked)) es = rw is at there in
+        or_right (codes_any (passes k) x) (list_any (links_at passes) es) (rest left so)
+
+-- What may be linked to an operation, where a linked Invoke has a problem, says that it has it.
+pub names_as : (table : Table) (invoked : Tallied) (problem : LinkProblem) (linked : ℤ) (code : CodeView)
+    → invoked.has_operation linked (links_as table (linkable_by problem code)) ≡ true
+    → names_so table invoked problem linked (code_of code) ≡ true
+names_as table invoked problems.Response linked code so = so
+names_as table invoked problems.Operation linked code so = so

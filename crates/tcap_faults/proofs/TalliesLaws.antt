@@ -1,6 +1,6 @@
 -- Several tallies together: what a loop over them answers.
-use Rattle.std.proofs.Common.{◌≡◌, ℕ, ℤ, ◌+◌, ◌^◌, ◌<◌, ◌≤◌, Bool, true, ◌||◌, List, [], ◌∷◌, length, get_or, drop, Bor, sym, ap, ◌∙◌, arith}
-use Rattle.std.proofs.lemmas.Bool.{or_left}
+use Rattle.std.proofs.Common.{◌≡◌, ℕ, zero, suc, ℤ, ◌+◌, ◌^◌, ◌<◌, ◌≤◌, Bool, true, ◌||◌, List, [], ◌∷◌, length, get_or, drop, Bor, sym, ap, ◌∙◌, arith}
+use Rattle.std.proofs.lemmas.Bool.{or_left, or_right}
 use Rattle.std.proofs.lemmas.List.{at_drop_all, at_drop_more}
 use Rattle.tcap_parts.specs.declared.code.Code.{Code}
 use Rattle.tcap_faults.specs.declared.sort.Sort.{Sort}
@@ -36,3 +36,13 @@ found_next f p i tallies tally step within is so left =
     sym (at_drop_more f tallies i tally within ∙ step (get_or tallies i tally) (drop (i + 1) tallies)
     ∙ or_left (p (get_or tallies i tally).now) (f (drop (i + 1) tallies)) here)
     ∙ left
+
+-- Where one is so, one of all is.
+pub found_one : (f : List (Bor Tally) → Bool) (p : Tally → Bool) (i : ℕ) (tallies : List (Bor Tally))
+    (tally : Bor Tally) → ((t : Bor Tally) (more : List (Bor Tally)) → f (t ∷ more) ≡ (p t.now || f more)) → i < length tallies
+    → tally ≡ get_or tallies i tally → p tally.now ≡ true → f tallies ≡ true
+found_one f p i [] tally step within is so = absurd (omega arith)
+found_one f p zero (t ∷ more) tally step within is so =
+    step t more ∙ or_left (p t.now) (f more) (ap (λ b. p b.now) (sym is) ∙ so)
+found_one f p (suc i) (t ∷ more) tally step within is so =
+    step t more ∙ or_right (p t.now) (f more) (found_one f p i more tally step (omega arith) is so)

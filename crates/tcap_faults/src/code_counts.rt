@@ -1,17 +1,19 @@
 //! How often operation codes were counted.
 
-ghost use Rattle.std.specs.Prelude.{◌≡◌, ◌||◌, ◌&&◌, not, true, false, Bool, OnOk};
+ghost use Rattle.std.specs.Prelude.{◌≡◌, ◌||◌, true, false, Bool, OnOk};
 ghost use Rattle.tcap_parts.specs.declared.code.Code.{Code};
 ghost use Rattle.tcap_parts.specs.Meaning.{code_of};
-ghost use Rattle.tcap_end.specs.Component.{is_code, links};
-ghost use Rattle.tcap_refute.specs.Kept.{is_first};
-ghost use Rattle.tcap_faults.specs.Components.{lists_nothing};
+ghost use Rattle.tcap_end.specs.Component.{is_code};
+ghost use Rattle.tcap_refute.specs.Kept.{holds, is_first};
+ghost use Rattle.tcap_faults.specs.Linking.{links_as};
 ghost use Rattle.tcap_faults.specs.Tallied.{more_if};
 ghost use Rattle.tcap_faults.specs.Tallies.{codes_any, count_of};
 
+use crate::linkable::Linkable;
 use crate::many_codes::ManyCodes;
 use crate::sums::more;
 use std::alloc::{AllocError, Global};
+use std::cell::Cell;
 use tcap_end::Table;
 use tcap_parts::CodeView;
 
@@ -111,49 +113,39 @@ impl CodeCounts {
         }
     }
 
-    /// Whether that operation may be linked to one that was counted (Q.771 3.1.2).
-    pub(crate) fn lists(&self, table: &Table, code: CodeView) -> bool
-        ensures { result ≡ codes_any (λ to. links table.now to (code_of code.entry)) self.now }
+    /// Whether that is what may be linked to an operation that was counted. The place of the first such one is told.
+    pub(crate) fn links_as(&self, table: &Table, linkable: Linkable, found: &Cell<usize>) -> bool
+        ensures { result ≡ codes_any (links_as table.now linkable.entry) self.now }
     {
         if let Some(first) = self.first {
-            if table.links(CodeView::Local(first), code) {
+            if linkable.is_of(table, CodeView::Local(first)) {
+                found.set(0);
                 return true;
             }
         }
         match &self.others {
-            Some(others) => others.lists(table, code),
+            Some(others) => others.links_as(table, linkable, found),
             None => false,
         }
     }
 
-    /// Whether none may be linked to one that was counted.
-    pub(crate) fn lists_nothing(&self, table: &Table) -> bool
-        ensures { result ≡ codes_any (lists_nothing table.now) self.now }
+    /// The code at that place, if there is one: the first is at 0, the others behind it.
+    pub(crate) fn at(&self, place: usize) -> Option<CodeView<'_>>
+        ensures { (passes : Code → Bool) → holds (λ code. passes (code_of code)) result ≡ true
+            → codes_any passes self.now ≡ true }
     {
-        if let Some(first) = self.first {
-            if !table.links_some(CodeView::Local(first)) {
-                return true;
-            }
-        }
-        match &self.others {
-            Some(others) => others.lists_nothing(table),
-            None => false,
+        match place.checked_sub(1) {
+            Some(place) => Some(self.others.as_ref()?.codes.get(place)?.view()),
+            None => Some(CodeView::Local(self.first?)),
         }
     }
 
-    /// Whether others may be linked to one that was counted, but not that one.
-    pub(crate) fn lists_others(&self, table: &Table, code: CodeView) -> bool
-        ensures { result ≡ codes_any
-            (λ to. not (lists_nothing table.now to) && not (links table.now to (code_of code.entry))) self.now }
+    /// Whether that is what may be linked to the operation at that place.
+    pub(crate) fn links_as_at(&self, table: &Table, linkable: Linkable, place: usize) -> bool
+        ensures { result ≡ true → codes_any (links_as table.now linkable.entry) self.now ≡ true }
     {
-        if let Some(first) = self.first {
-            let to = CodeView::Local(first);
-            if table.links_some(to) && !table.links(to, code) {
-                return true;
-            }
-        }
-        match &self.others {
-            Some(others) => others.lists_others(table, code),
+        match self.at(place) {
+            Some(to) => linkable.is_of(table, to),
             None => false,
         }
     }

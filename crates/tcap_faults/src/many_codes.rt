@@ -2,8 +2,10 @@
 
 ghost use Rattle.tcap_faults.specs.Listed.{AreListed};
 
+use crate::linkable::Linkable;
 use crate::sums::more;
 use std::alloc::{AllocError, Global};
+use std::cell::Cell;
 use std::collections::BTreeMap;
 use tcap_ber::ObjectIdView;
 use tcap_end::Table;
@@ -21,13 +23,13 @@ pub(crate) struct ManyCodes {
 }
 
 impl ManyCodes {
-    ghost use Rattle.std.specs.Prelude.{◌≡◌, ◌||◌, ◌&&◌, not, [], Bool, OnOk};
+    ghost use Rattle.std.specs.Prelude.{◌≡◌, ◌||◌, [], Bool, OnOk};
     ghost use Rattle.std.specs.List.{list_any};
     ghost use Rattle.tcap_parts.specs.declared.code.Code.{Code as Coded};
     ghost use Rattle.tcap_parts.specs.declared.code.Code.TheVariants.{Local, Global as GlobalCode};
     ghost use Rattle.tcap_parts.specs.Meaning.{code_of};
-    ghost use Rattle.tcap_end.specs.Component.{is_code, links};
-    ghost use Rattle.tcap_faults.specs.Components.{lists_nothing};
+    ghost use Rattle.tcap_end.specs.Component.{is_code};
+    ghost use Rattle.tcap_faults.specs.Linking.{links_as};
     ghost use Rattle.tcap_faults.specs.Tallied.{more_if};
     ghost use Rattle.tcap_faults.specs.Tallies.{count_among};
 
@@ -104,38 +106,14 @@ impl ManyCodes {
         }
     }
 
-    /// Whether that operation may be linked to one that was counted (Q.771 3.1.2).
-    pub(crate) fn lists(&self, table: &Table, code: CodeView) -> bool
-        ensures { result ≡ list_any (λ to. links table.now to (code_of code.entry)) self.now.codes.items }
+    /// Whether that is what may be linked to one that was counted. The place of the first such one is told, as one behind that of
+    /// the first code of all (`CodeCounts::at`).
+    pub(crate) fn links_as(&self, table: &Table, linkable: Linkable, found: &Cell<usize>) -> bool
+        ensures { result ≡ list_any (links_as table.now linkable.entry) self.now.codes.items }
     {
-        for to in &self.codes {
-            if table.links(to.view(), code) {
-                return true;
-            }
-        }
-        false
-    }
-
-    /// Whether none may be linked to one that was counted.
-    pub(crate) fn lists_nothing(&self, table: &Table) -> bool
-        ensures { result ≡ list_any (lists_nothing table.now) self.now.codes.items }
-    {
-        for to in &self.codes {
-            if !table.links_some(to.view()) {
-                return true;
-            }
-        }
-        false
-    }
-
-    /// Whether others may be linked to one that was counted, but not that one.
-    pub(crate) fn lists_others(&self, table: &Table, code: CodeView) -> bool
-        ensures { result ≡ list_any
-            (λ to. not (lists_nothing table.now to) && not (links table.now to (code_of code.entry)))
-            self.now.codes.items }
-    {
-        for to in &self.codes {
-            if table.links_some(to.view()) && !table.links(to.view(), code) {
+        for (place, to) in self.codes.iter().enumerate() {
+            if linkable.is_of(table, to.view()) {
+                found.set(place + 1);
                 return true;
             }
         }

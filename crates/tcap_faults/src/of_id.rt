@@ -9,9 +9,12 @@ ghost use Rattle.tcap_faults.specs.Noted.{IsAnswered, IsInvoked, IsNoted, IsNoth
 
 use crate::by_class::ByClass;
 use crate::code_counts::CodeCounts;
+use crate::found_link::FoundLink;
+use crate::link_problem::LinkProblem;
 use crate::sort::Sort;
 use crate::sums::more;
 use std::alloc::{AllocError, Global};
+use std::cell::Cell;
 use std::collections::BTreeMap;
 use tcap_end::Table;
 use tcap_parts::{CodeView, ComponentView, ProblemView, ResultBodyView};
@@ -53,6 +56,12 @@ pub(crate) struct OfId {
     pub(crate) answered: CodeCounts,
     /// Linked Invokes, by their linked IDs and their operations.
     pub(crate) by_link: BTreeMap<i8, CodeCounts>,
+    /// The place, among the operations, of the last to which a linked Invoke was found to be allowed. It is a hint for speed alone.
+    pub(crate) listing: Cell<usize>,
+    /// Which of the linked Invokes was found to have problem 6.
+    pub(crate) response: FoundLink,
+    /// Which of them to have problem 7.
+    pub(crate) operation: FoundLink,
 }
 
 /// One linked Invoke more.
@@ -97,6 +106,9 @@ impl OfId {
             named: CodeCounts::new(),
             answered: CodeCounts::new(),
             by_link: BTreeMap::new(alloc),
+            listing: Cell::new(0),
+            response: FoundLink::new(),
+            operation: FoundLink::new(),
         }
     }
 
@@ -209,6 +221,14 @@ impl OfId {
             Sort::LinkRejects => self.link_rejects,
             Sort::ResultRejects => self.result_rejects,
             Sort::ErrorRejects => self.error_rejects,
+        }
+    }
+
+    /// Where a linked Invoke with that problem was found.
+    pub(crate) fn found(&self, problem: LinkProblem) -> &FoundLink {
+        match problem {
+            LinkProblem::Response => &self.response,
+            LinkProblem::Operation => &self.operation,
         }
     }
 }

@@ -3,11 +3,14 @@
 ghost use Rattle.std.specs.Prelude.{◌≡◌};
 ghost use Rattle.tcap_parts.specs.Meaning.{component_of};
 ghost use Rattle.tcap_faults.specs.ByTallies.{answers_of, counted, is_answer_reject_wrong_by, is_expected_by, is_invoke_reject_wrong_by, is_known_wrong_by, is_link_fine_by, rejects_of, rejects_wrongly_by, suited_by};
+ghost use Rattle.tcap_faults.specs.Linking.{names_so};
 
 use crate::before::Before;
+use crate::link_problem::LinkProblem;
+use crate::links::has_link_problem;
 use crate::sort::{Class, Sort};
 use crate::sums::more;
-use crate::tallies::{is_linked_to_none, is_linked_to_other, is_of_no_operation};
+use crate::tallies::is_of_no_operation;
 use tcap_end::Table;
 use tcap_parts::{ComponentView, ProblemView};
 
@@ -34,13 +37,21 @@ fn answers_of(of_result: bool) -> Sort
 }
 
 impl Before<'_> {
+    /// Whether a linked Invoke of that ID has that problem, as far as own invocations tell.
+    fn has_link_problem(&self, table: &Table, id: i8, problem: LinkProblem) -> bool
+        ensures { result ≡ (counted self.now).heard.has_link id
+            (names_so table.now (counted self.now).invoked problem) }
+    {
+        has_link_problem(&self.half.heard, &self.half.invoked, table, id, problem)
+    }
+
     /// Whether no linked Invoke of that ID has that problem, as far as own invocations tell.
     fn is_link_fine(&self, table: &Table, id: i8, problem: u8) -> bool
         ensures { result ≡ is_link_fine_by table.now (counted self.now) id problem }
     {
         match problem {
-            6 => !is_linked_to_none(&self.half.heard, &self.half.invoked, table, id),
-            7 => !is_linked_to_other(&self.half.heard, &self.half.invoked, table, id),
+            6 => !self.has_link_problem(table, id, LinkProblem::Response),
+            7 => !self.has_link_problem(table, id, LinkProblem::Operation),
             _ => false,
         }
     }

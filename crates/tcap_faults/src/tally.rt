@@ -1,17 +1,19 @@
 //! Components that are counted, by their invoke IDs.
 
-ghost use Rattle.std.specs.Prelude.{◌≡◌, ◌&&◌, not, [], ◌∷◌, ◌++◌, List, OnOk, Some, option_copied};
+ghost use Rattle.std.specs.Prelude.{◌≡◌, [], ◌∷◌, ◌++◌, List, OnOk, Some, option_copied, true};
 ghost use Rattle.tcap_parts.specs.declared.component.Component.{Component};
 ghost use Rattle.tcap_parts.specs.Meaning.{code_of, component_of, components_left};
 ghost use Rattle.tcap_end.specs.Component.{links};
 ghost use Rattle.tcap_end.specs.Table.{Table};
-ghost use Rattle.tcap_faults.specs.Components.{lists_nothing};
+ghost use Rattle.tcap_faults.specs.Linking.{links_as};
 ghost use Rattle.tcap_faults.specs.Noted.{invoke_id, one_tallied};
 ghost use Rattle.tcap_faults.specs.Tallies.{IsTally, kept_of, tally_of};
 
+use crate::linkable::Linkable;
 use crate::of_id::OfId;
 use crate::sort::Sort;
 use std::alloc::{AllocError, Global};
+use std::cell::Cell;
 use std::collections::BTreeMap;
 use tcap_end::Table;
 use tcap_parts::{CodeView, ComponentView, Components};
@@ -137,33 +139,62 @@ impl Tally {
         }
     }
 
-    /// Whether an Invoke of that ID is of an operation to which that one may be linked (Q.771 3.1.2).
+    /// Whether that is what may be linked to the operation of an Invoke of that ID. The place of the operation is told.
+    pub(crate) fn has_operation(
+        &self,
+        table: &Table,
+        id: i8,
+        linkable: Linkable,
+        found: &Cell<usize>,
+    ) -> bool
+        ensures { result ≡ (tally_of self.now).has_operation id (links_as table.now linkable.entry) }
+    {
+        match self.of_id(id) {
+            Some(kept) => kept.operations.links_as(table, linkable, found),
+            None => false,
+        }
+    }
+
+    /// Whether it is what may be linked to the operation at that place.
+    pub(crate) fn has_operation_at(
+        &self,
+        table: &Table,
+        id: i8,
+        linkable: Linkable,
+        place: usize,
+    ) -> bool
+        ensures { result ≡ true → (tally_of self.now).has_operation id (links_as table.now linkable.entry) ≡ true }
+    {
+        match self.of_id(id) {
+            Some(kept) => kept.operations.links_as_at(table, linkable, place),
+            None => false,
+        }
+    }
+
+    /// Whether an Invoke of that ID is of an operation to which that one may be linked (Q.771 3.1.2). Its place is kept.
     pub(crate) fn lists(&self, table: &Table, id: i8, code: CodeView) -> bool
         ensures { result ≡ (tally_of self.now).has_operation id (λ to. links table.now to (code_of code.entry)) }
     {
         match self.of_id(id) {
-            Some(kept) => kept.operations.lists(table, code),
+            Some(kept) => {
+                let found = &kept.listing;
+                kept.operations.links_as(table, Linkable::This(code), found)
+            }
             None => false,
         }
     }
 
-    /// Whether an Invoke of that ID is of an operation to which none may be linked.
-    pub(crate) fn lists_nothing(&self, table: &Table, id: i8) -> bool
-        ensures { result ≡ (tally_of self.now).has_operation id (lists_nothing table.now) }
+    /// Whether the one at the place that was kept last is of such an operation.
+    pub(crate) fn lists_again(&self, table: &Table, id: i8, code: CodeView) -> bool
+        ensures { result ≡ true
+            → (tally_of self.now).has_operation id (λ to. links table.now to (code_of code.entry)) ≡ true }
     {
         match self.of_id(id) {
-            Some(kept) => kept.operations.lists_nothing(table),
-            None => false,
-        }
-    }
-
-    /// Whether one is of an operation to which others may be linked, but not that one.
-    pub(crate) fn lists_others(&self, table: &Table, id: i8, code: CodeView) -> bool
-        ensures { result ≡ (tally_of self.now).has_operation id
-            (λ to. not (lists_nothing table.now to) && not (links table.now to (code_of code.entry))) }
-    {
-        match self.of_id(id) {
-            Some(kept) => kept.operations.lists_others(table, code),
+            Some(kept) => {
+                let place = kept.listing.get();
+                kept.operations
+                    .links_as_at(table, Linkable::This(code), place)
+            }
             None => false,
         }
     }

@@ -6,7 +6,7 @@ use Rattle.tcap_faults.proofs.tally.Tally.lists.Goals as goal
 
 pub returns-in-Some : goal.returns-in-Some
 returns-in-Some c =
-    c.lists.ensures
+    c.links_as.ensures
     ∙ ap (of_kept false (invokes_in (λ to. links c.args.table.now to (code_of c.args.code))))
     (rw (to_z-of_z c.ranges.id) at c.in-Some.ensures)
 
