@@ -63,7 +63,7 @@ module _ (earlier : List IdOf) (n : ℕ) (h : Heading) (left : List Course) (new
   hit_in d is = left_in (λ e. have_one (ids_in h) e.ids) left d is.listed is.hit
 
   -- and no other is.
-  in_hit : (d : Course) → Contains (hit_by h left) d → Hit d
+  pub in_hit : (d : Course) → Contains (hit_by h left) d → Hit d
   in_hit d has = let (there, one) = kept_in (λ e. have_one (ids_in h) e.ids) left d has in record { listed = there; hit = one }
 
   -- It has the numbers of such a one,

@@ -146,7 +146,7 @@ AreTaken ds name (Some l) = AreKept ds l × ((d : Course) → Contains ds d → 
 pub record IsOut (number : Option ℕ) (live : List Course) (name : Course → ℕ) (old new : Cut) (taken : Option Live) : Type 0 where
   pub lives : AreLives (others name number live) name new.live
   pub overs : AreOvers (others name number live) name new.overs
-  pub taken : AreTaken (those name number live) name taken
+  pub out : AreTaken (those name number live) name taken
   pub rest : new ≡ record old { live = new.live; overs = new.overs }
 
 -- Those, or none, in one whose name is theirs, or the number of the next entry.

@@ -31,13 +31,13 @@ pub record HasSender (sender : Side) (old new : Live) : Type 0 where
   pub senders : (side : Side) → has_sent new side ≡ has_sent old side || is_side side sender
   pub rest : new ≡ record old { a_sent = new.a_sent; b_sent = new.b_sent }
 
-pub record HasEntry (number : ℕ) (h : Heading) (again : Bool) (old new : Live) : Type 0 where
+pub record HasEntry (number : ℕ) (h : Heading) (comes_again : Bool) (old new : Live) : Type 0 where
   pub name : new.name ≡ old.name
   pub numbers : (n : ℕ) → set.contains nat_cmp new.numbers n ≡ set.contains nat_cmp old.numbers n || (number == n)
   pub ids : (id : IdOf) → has_id new.a new.b id ≡ has_id old.a old.b id || is_among (ids_in h) id
   pub senders : (side : Side) → has_sent new side ≡ has_sent old side || is_side side h.sender
   pub over : new.over ≡ lower old.over (over_by number h)
-  pub again : new.again ≡ old.again || again
+  pub again : new.again ≡ old.again || comes_again
 
 -- what is known of the IDs of an entry, which are those of that dialogue
 abbrev pub own_known : Heading → ℕ → Known → Known

@@ -1,6 +1,6 @@
 //! A stretch between quiet marks, cut into its dialogues as its entries come.
 
-ghost use Rattle.std.specs.Prelude.{◌≡◌, ◌×◌, ℕ, List, [], ◌∷◌, ◌++◌, length, filter, OnOk};
+ghost use Rattle.std.specs.Prelude.{◌≡◌, ℕ, List, [], ◌∷◌, ◌++◌, length, filter, OnOk};
 ghost use Rattle.std.specs.List.{flat_map};
 ghost use Rattle.tcap_dialogues.specs.Course.{Course, Heading, courses_so_far, is_free};
 ghost use Rattle.tcap_dialogues.specs.Cut.{IdOf, is_among};
