@@ -1,5 +1,5 @@
 -- What is handed over of the dialogues of a stretch, once no entry of them is still to come.
-use Rattle.std.specs.Prelude.{◌≡◌, ℕ, true, Bool, List, ◌==◌, Contains, Some, slice_get}
+use Rattle.std.specs.Prelude.{◌≡◌, ℕ, true, Bool, List, ◌++◌, ◌==◌, Contains, Some, slice_get}
 use Rattle.std.specs.BTreeSet as set
 use Rattle.std.specs.BTreeSet.{BTreeSet}
 use Rattle.std.specs.List.{list_any}
@@ -45,3 +45,7 @@ pub record AreGathered (ds : List Course) (given : List Gathered) : Type 0 where
   -- and no two name the same entry.
   pub apart : (i j n : ℕ) (g h : Gathered) → slice_get given i ≡ Some g → slice_get given j ≡ Some h → names_entry g n ≡ true
       → names_entry h n ≡ true → i ≡ j
+
+-- Those that stand for these dialogues come behind what was there.
+abbrev pub HandsOver : List Course → List Gathered → List Gathered → Type 0
+HandsOver ds old new = (given : List Gathered) × (new ≡ old ++ given) × AreGathered ds given

@@ -10,9 +10,8 @@ use Rattle.tcap_end.specs.Table.{octets_cmp}
 use Rattle.tcap_model.specs.World.{is_side}
 use Rattle.tcap_dialogues.specs.Course.{Course, Heading, begins_from, courses_so_far, first_over, gives_to_another, has_entry, have_one, ids_in, is_past, with_entry}
 use Rattle.tcap_dialogues.specs.Cut.{IdOf, is_among, is_same}
-use Rattle.tcap_dialogues.specs.Gathered.{AreGathered, by_end, has_id}
+use Rattle.tcap_dialogues.specs.Gathered.{by_end, has_id}
 use Rattle.tcap_dialogues.specs.declared.cut.Cut.{Cut}
-use Rattle.tcap_dialogues.specs.declared.gathered.Gathered.{Gathered}
 use Rattle.tcap_dialogues.specs.declared.known.Change.{Change}
 use Rattle.tcap_dialogues.specs.declared.known.Change.TheVariants as changes
 use Rattle.tcap_dialogues.specs.declared.known.Ids.{Ids}
@@ -159,9 +158,3 @@ pub record IsOne (n : ℕ) (ds : List Course) (name : Course → ℕ) (l : Live)
 abbrev pub with_one : List IdOf → ℕ → Heading → List Course → List Course
 with_one earlier n h left =
     filter (λ d. not (have_one (ids_in h) d.ids)) left ++ with_entry earlier n h (filter (λ d. have_one (ids_in h) d.ids) left) ∷ []
-
--- ---- what is handed over
-
--- Those that stand for these dialogues come behind what was there.
-abbrev pub HandsOver : List Course → List Gathered → List Gathered → Type 0
-HandsOver ds old new = (given : List Gathered) × (new ≡ old ++ given) × AreGathered ds given
