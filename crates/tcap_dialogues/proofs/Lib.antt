@@ -18,6 +18,16 @@ pub mod CourseLists
 pub mod CourseJoins
 pub mod CourseLaws
 pub mod CourseMore
+pub mod HeldLists
+pub mod HeldOvers
+pub mod CourseStretch
+pub mod KnownLaws
+pub mod LiveLaws
+pub mod HeldLaws
+pub mod OwnerLaws
+pub mod GivenUpLaws
+pub mod GatheredLaws
+pub mod ReleaseLaws
 pub mod CourseEnds
 pub mod AgainLaws
 pub mod OnceLaws

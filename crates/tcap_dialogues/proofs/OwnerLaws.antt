@@ -1,5 +1,5 @@
 -- The live dialogue that has an ID of a heading, of one end, if the heading carries one.
-use Rattle.std.proofs.Common.{◌≡◌, ◌⊎◌, inl, inr, ℕ, Bool, true, false, List, [], ◌∷◌, Option, Some, None, refl, sym, ap, ◌∙◌}
+use Rattle.std.proofs.Common.{◌≡◌, ◌⊎◌, inl, inr, ℕ, Bool, true, false, List, [], ◌∷◌, Option, Some, None, refl, sym, ap, subst, ◌∙◌}
 use Rattle.std.specs.Prelude.{◌||◌, Contains}
 use Rattle.std.specs.List.{list_any}
 use Rattle.std.proofs.lemmas.Bool.{false_from_ne_true, true≢false}
@@ -64,6 +64,19 @@ module _ (live : List Course) (names : Course → ℕ) (earlier : IdOf → Bool)
   known_ids ids are end None = record { owns = (λ d has. refl, refl, refl); came = refl }
   known_ids ids are end (Some octets) =
       let id : IdOf = record { end = end; octets = octets } in of_one id (known_at ids id) (are id)
+
+  pub known_is : (ids : Ids) → ((id : IdOf) → IsKnown live names earlier id (known_at ids id)) → (end : Side) (octets : Option (List ℕ))
+      (known : Known) → known ≡ known_of ids end octets → IsOf live names earlier (ids_at end octets) known
+  known_is ids are end octets known is = subst (IsOf live names earlier (ids_at end octets)) (sym is) (known_ids ids are end octets)
+
+module _ (live : List Course) (names : Course → ℕ) (earlier : IdOf → Bool) (ids : List IdOf) (known : Known)
+    (of : IsOf live names earlier ids known) where
+  -- the dialogue of that name, or none
+  pub owner_of : (name : ℕ) → known.dialogue ≡ Some name → (d : Course) × IsOwner live names ids name known d
+  owner_of name is = subst (Owns live names ids known) is of.owns
+
+  pub nobody_of : known.dialogue ≡ None → IsNobodys live ids known
+  nobody_of is = subst (Owns live names ids known) is of.owns
 
 module _ (live : List Course) (names : Course → ℕ) (ids : List IdOf) (known : Known) (apart : AreApart live) where
   -- Where no dialogue has one of these IDs none used one, and none began one;

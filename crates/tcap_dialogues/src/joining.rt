@@ -13,7 +13,7 @@ use crate::heading::HeadingView;
 use crate::known::{Change, Ids, Known};
 use crate::live::Live;
 use std::alloc::AllocError;
-use tcap_msg::{Kind, TransactionIdView};
+use tcap_msg::TransactionIdView;
 use tcap_record::End;
 
 impl Ids {
@@ -46,7 +46,7 @@ impl Ids {
         let own = Known {
             dialogue: Some(name),
             used: true,
-            begun: own.begun || matches!(heading.kind, Some(Kind::Begin)),
+            begun: own.begun | heading.is_begin(),
             ..own
         };
         let peer = Known {
