@@ -28,6 +28,11 @@ pub mod OwnerLaws
 pub mod GivenUpLaws
 pub mod GatheredLaws
 pub mod ReleaseLaws
+pub mod JoinedLaws
+pub mod EntryLaws
+pub mod JoiningLaws
+pub mod JoiningIds
+pub mod JoinLaws
 pub mod CourseEnds
 pub mod AgainLaws
 pub mod OnceLaws

@@ -67,7 +67,7 @@ drained keys xs s t begins yields ends =
     sym (map-id xs) ∙ sym (append-nil (map (λ x. x) xs)) ∙ ap (λ more. map (λ x. x) xs ++ more) (sym ends)
     ∙ sym (rest_so_far (λ x. x) xs s t yields) ∙ begins
 
-either : (p q a b : Bool) → p ≡ a → q ≡ b → (p || q) ≡ (a || b)
+pub either : (p q a b : Bool) → p ≡ a → q ≡ b → (p || q) ≡ (a || b)
 either p q a b first second = ap (λ x. x || q) first ∙ ap (λ x. a || x) second
 
 -- The IDs, the senders and all else of both.

@@ -81,6 +81,18 @@ impl Cut {
         Ok(())
     }
 
+    /// The second dialogue goes into the first.
+    fn absorbed(&mut self, mut one: Live, other: Live) -> Result<Live, AllocError>
+        ensures { (ds es : List Course) (names : Course → ℕ) → IsOne self.old.count ds names one → IsOne self.old.count es names other
+            → ((d : Course) (id : IdOf) → Contains (ds ++ es) d → is_among d.ids id ≡ true
+            → (known_at self.old.ids id).dialogue ≡ Some (names d))
+            → IfOk result (IsJoined self.old.count (ds ++ es) self.old self.new) }
+    {
+        self.ids.change_both(&other.a, &other.b, Change::JoinTo(one.name))?;
+        one.absorb(other)?;
+        Ok(one)
+    }
+
     /// Two dialogues in one: the smaller one goes into the larger one.
     fn joined(&mut self, one: Live, other: Live) -> Result<Live, AllocError>
         ensures { (ds es : List Course) (names : Course → ℕ) → IsOne self.old.count ds names one → IsOne self.old.count es names other
@@ -88,20 +100,18 @@ impl Cut {
             → (known_at self.old.ids id).dialogue ≡ Some (names d))
             → IfOk result (IsJoined self.old.count (ds ++ es) self.old self.new) }
     {
-        let (mut large, small) = if one.numbers.len() < other.numbers.len() {
-            (other, one)
+        if one.numbers.len() < other.numbers.len() {
+            self.absorbed(other, one)
         } else {
-            (one, other)
-        };
-        self.ids.change_both(&small.a, &small.b, Change::JoinTo(large.name))?;
-        large.absorb(small)?;
-        Ok(large)
+            self.absorbed(one, other)
+        }
     }
 
     /// The entry joins those that have one of its IDs, or is the first of one more.
     pub(crate) fn join(&mut self, heading: HeadingView) -> Result<(), AllocError>
         ensures { (live : List Course) (names : Course → ℕ) (earlier : List IdOf) → AreApart live
             → IsHeld live names (is_among earlier) self.old
+            → AreApart (with_one earlier self.old.count (heading_read heading.entry) live)
             → ((d : Course) (i : ℕ) → Contains live d → has_entry d i ≡ true → i < self.old.count)
             → OnOk result (
             IsCutOf self.old.reuse (self.old.count + 1) (with_one earlier self.old.count (heading_read heading.entry) live)
@@ -115,7 +125,7 @@ impl Cut {
         let one = self.take_or_new(own.dialogue);
         let other = self.take_or_new(peer.dialogue);
         let mut live = self.joined(one, other)?;
-        live.add(self.count, heading, own.comes_again() || peer.comes_again())?;
+        live.add(self.count, heading, own.comes_again() | peer.comes_again())?;
         self.ids.note(heading, live.name, own, peer)?;
         self.put(live)?;
         self.count = next;
