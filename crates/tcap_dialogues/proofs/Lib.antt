@@ -33,6 +33,8 @@ pub mod EntryLaws
 pub mod JoiningLaws
 pub mod JoiningIds
 pub mod JoinLaws
+pub mod TakeLaws
+pub mod FinishLaws
 pub mod CourseEnds
 pub mod AgainLaws
 pub mod OnceLaws

@@ -87,8 +87,8 @@ impl Cut {
     ) -> Result<(), AllocError>
         ensures { (reuse : Reuse) (headings : List Heading) → IsCut reuse headings self.old
             → let live = (courses_so_far reuse headings).live in OnOk result (
-            IsCut reuse (headings ++ heading_read heading ∷ []) self.new
-            × HandsOver (filter (is_free reuse (length headings) live (heading_read heading)) live) done.old.items done.new.items) }
+            IsCut reuse (headings ++ heading_read heading.entry ∷ []) self.new
+            × HandsOver (filter (is_free reuse (length headings) live (heading_read heading.entry)) live) done.old.items done.new.items) }
     {
         let past = self.past();
         let given_up = self.given_up(heading);
