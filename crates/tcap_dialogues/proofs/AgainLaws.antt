@@ -4,7 +4,8 @@ use Rattle.std.specs.Prelude.{not, Contains, filter, slice_get}
 use Rattle.std.specs.List.{flat_map, list_any}
 use Rattle.std.proofs.lemmas.Bool.{false_from_ne_true, or_cases}
 use Rattle.std.proofs.lemmas.List.Elements.{Contains-append_left}
-use Rattle.tcap_dialogues.specs.Course.{Course, Courses, Heading, Reuse, comes, courses_behind, courses_of, has_entry, have_one, ids_in, is_free}
+use Rattle.tcap_dialogues.specs.Course.{Course, Courses, Heading, comes, courses_behind, courses_of, has_entry, have_one, ids_in, is_free}
+use Rattle.tcap_dialogues.specs.declared.reuse.Reuse.{Reuse}
 use Rattle.tcap_dialogues.specs.Cut.{IdOf, is_among, is_same}
 use Rattle.tcap_dialogues.proofs.CourseEnds.{among, ended_with, listed, one_more}
 use Rattle.tcap_dialogues.proofs.CourseJoins.{IsNew, hit_by, id_comes, id_stays, ids_more, joins, number_comes, which, with_new}

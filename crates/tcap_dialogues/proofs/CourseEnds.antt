@@ -8,7 +8,8 @@ use Rattle.tcap_record.specs.declared.entry.End.{End as Side}
 use Rattle.tcap_end.specs.Table.{Table}
 use Rattle.tcap_model.specs.World.{Item, Sent, has_quiet}
 use Rattle.tcap_model.specs.Run.{IsLawfulFor}
-use Rattle.tcap_dialogues.specs.Course.{Course, Courses, Heading, Reuse, comes, courses_behind, courses_of, has_entry, heading_of, headings_of, ids_in, is_free}
+use Rattle.tcap_dialogues.specs.Course.{Course, Courses, Heading, comes, courses_behind, courses_of, has_entry, heading_of, headings_of, ids_in, is_free}
+use Rattle.tcap_dialogues.specs.declared.reuse.Reuse.{Reuse}
 use Rattle.tcap_dialogues.specs.Cut.{IdOf, is_among}
 use Rattle.tcap_dialogues.specs.Part.{IsClosed, ShareId, part_of}
 use Rattle.tcap_dialogues.proofs.CourseLaws.{Among, AreCourses, InOrBehind, courses_then, each_behind, no_courses}

@@ -59,11 +59,11 @@ module _ (earlier : List IdOf) (n : ℕ) (h : Heading) (left : List Course) (new
     pub hit : have_one (ids_in h) d.ids ≡ true
 
   -- It is one of those that are joined,
-  hit_in : (d : Course) → Hit d → Contains (hit_by h left) d
+  pub hit_in : (d : Course) → Hit d → Contains (hit_by h left) d
   hit_in d is = left_in (λ e. have_one (ids_in h) e.ids) left d is.listed is.hit
 
   -- and no other is.
-  in_hit : (d : Course) → Contains (hit_by h left) d → Hit d
+  pub in_hit : (d : Course) → Contains (hit_by h left) d → Hit d
   in_hit d has = let (there, one) = kept_in (λ e. have_one (ids_in h) e.ids) left d has in record { listed = there; hit = one }
 
   -- It has the numbers of such a one,

@@ -88,7 +88,7 @@ module _ (headings : List Heading) (n : ℕ) (done live : List Course) (c : AreC
     left_then = filter (λ d. not (free d)) live
 
     -- Each of the others was live, and is not free,
-    left_from : (d : Course) → Contains left_then d → Contains live d × (free d ≡ false)
+    pub left_from : (d : Course) → Contains left_then d → Contains live d × (free d ≡ false)
     left_from d has = let (there, so) = kept_in (λ e. not (free e)) live d has in (there, not-true (free d) so)
 
     -- each that is done was done, or was live and is free,

@@ -10,7 +10,9 @@ use Rattle.tcap_msg.specs.declared.message.Message.{Message}
 use Rattle.tcap_record.specs.declared.entry.End.{End as Side}
 use Rattle.tcap_model.specs.World.{Item, Sent, has_quiet}
 use Rattle.tcap_dialogues.specs.Cut.{Dialogue, dialogues_behind, dialogues_of, has_one, ids_of, joined, with_message}
-use Rattle.tcap_dialogues.specs.Course.{Course, Courses, Heading, Reuse, comes, courses_behind, courses_of, heading_of, headings_of}
+use Rattle.tcap_dialogues.specs.Course.{Course, Courses, Heading, comes, courses_behind, courses_of, heading_of, headings_of}
+use Rattle.tcap_dialogues.specs.declared.reuse.Reuse.{Reuse}
+use Rattle.tcap_dialogues.specs.declared.reuse.Reuse.TheVariants as reuses
 
 -- ---- lists
 
@@ -48,10 +50,10 @@ only live = record { done = []; live = live }
 module _ (n : ℕ) (side : Side) (m : Message) (live : List Course) where
   -- the courses with the message
   abbrev after : List Course
-  after = (comes Reuse.Once n (heading_of side m) (only live)).live
+  after = (comes reuses.Once n (heading_of side m) (only live)).live
 
   -- None of them is done,
-  none_done : comes Reuse.Once n (heading_of side m) (only live) ≡ only after
+  none_done : comes reuses.Once n (heading_of side m) (only live) ≡ only after
   none_done = ap (λ ds. let s : Courses = record { done = ds; live = after } in s) (none_passes live)
 
   -- The courses that have one of its IDs are the dialogues that have one,
@@ -92,7 +94,7 @@ module _ (n : ℕ) (side : Side) (m : Message) (live : List Course) where
 
 -- the dialogues behind these courses
 abbrev behind : List Heading → ℕ → Courses → List Dialogue
-behind hs n s = let more = courses_behind Reuse.Once s n hs in map forget (more.done ++ more.live)
+behind hs n s = let more = courses_behind reuses.Once s n hs in map forget (more.done ++ more.live)
 
 -- They are those behind the dialogues of the courses,
 behind_same : (items : List Item) (n : ℕ) (live : List Course) → has_quiet items ≡ false
@@ -106,5 +108,5 @@ behind_same (Item.Quiet ∷ items) n live none = absurd (true≢false none)
 
 -- so those of the list are its dialogues.
 pub is_the_cut : (items : List Item) → has_quiet items ≡ false
-    → map (λ d. record { numbers = d.numbers; ids = d.ids }) (courses_of Reuse.Once (headings_of items)) ≡ dialogues_of items
+    → map (λ d. record { numbers = d.numbers; ids = d.ids }) (courses_of reuses.Once (headings_of items)) ≡ dialogues_of items
 is_the_cut items none = behind_same items 0 [] none

@@ -1,6 +1,6 @@
 -- The dialogues of a stretch between quiet marks as they come (Q.774 3.3), where transaction IDs may come again. This profile lets
 -- an ID be used once between two marks; but a stack frees one when its transaction is over, and a bench sets no marks.
-use Rattle.std.specs.Prelude.{ℕ, ◌+◌, Bool, true, false, List, [], ◌∷◌, ◌++◌, filter, map, ◌==◌, ◌&&◌, ◌||◌, not, nat_lt, min, Option, Some, None, is_some}
+use Rattle.std.specs.Prelude.{ℕ, ◌+◌, Bool, true, false, cond, List, [], ◌∷◌, ◌++◌, filter, map, ◌==◌, ◌&&◌, ◌||◌, not, nat_lt, min, Option, Some, None, is_none, is_some}
 use Rattle.std.specs.List.{flat_map, list_any}
 use Rattle.std.specs.Option.{option_to_list}
 use Rattle.tcap_msg.specs.declared.kind.Kind.{Kind}
@@ -11,6 +11,8 @@ use Rattle.tcap_record.specs.declared.entry.End.{End as Side}
 use Rattle.tcap_record.specs.Ends.{other}
 use Rattle.tcap_model.specs.World.{Item, Sent, is_side}
 use Rattle.tcap_dialogues.specs.Cut.{IdOf, is_among}
+use Rattle.tcap_dialogues.specs.declared.reuse.Reuse.{Reuse}
+use Rattle.tcap_dialogues.specs.declared.reuse.Reuse.TheVariants as reuses
 
 -- What the cut reads of an entry: who sent it, its kind, and its transaction IDs. Of octets that are no message it is what can be
 -- read of that.
@@ -29,16 +31,16 @@ headings_of [] = []
 headings_of (Sent sender m ∷ items) = heading_of sender m ∷ headings_of items
 headings_of (Item.Quiet ∷ items) = headings_of items
 
-abbrev is_begin : Option Kind → Bool
+abbrev pub is_begin : Option Kind → Bool
 is_begin (Some kinds.Begin) = true
 is_begin _ = false
 
-abbrev is_continue : Option Kind → Bool
+abbrev pub is_continue : Option Kind → Bool
 is_continue (Some kinds.Continue) = true
 is_continue _ = false
 
 -- whether it ends a transaction
-abbrev is_last : Option Kind → Bool
+abbrev pub is_last : Option Kind → Bool
 is_last (Some kinds.End) = true
 is_last (Some kinds.Abort) = true
 is_last _ = false
@@ -53,9 +55,13 @@ peer_ids h = map (λ id. record { end = other h.sender; octets = id }) (option_t
 abbrev pub ids_in : Heading → List IdOf
 ids_in h = own_ids h ++ peer_ids h
 
+-- Whether it carries no ID, as a Unidirectional, or an entry of which nothing can be read: nothing can join it.
+abbrev pub is_alone : Heading → Bool
+is_alone h = is_none h.otid && is_none h.dtid
+
 -- The course of a dialogue: the numbers of its entries; the IDs that they carry, those that are an originating ID of one, and those
--- from which a Begin is; who sent one; the number of the first one that ends its transaction; and whether an earlier dialogue of the
--- stretch had one of its IDs.
+-- from which a Begin is; who sent one; the number of the first one with which it is over, as it ends its transaction or is alone; and
+-- whether an earlier dialogue of the stretch had one of its IDs.
 pub record Course : Type 0 where
   pub numbers : List ℕ
   pub ids : List IdOf
@@ -75,34 +81,29 @@ have_one ids those = list_any (is_among those) ids
 
 -- ---- when a dialogue is over and its IDs are free
 
--- How IDs may come again: not at all; or where their dialogue is over, and all the more once so many entries have gone by since.
-pub data Reuse : Type 0 where
-  Once : Reuse
-  Again : (linger : ℕ) → Reuse
-
 -- whether a heading begins a dialogue from one of these IDs
-abbrev begins_from : Heading → List IdOf → Bool
+abbrev pub begins_from : Heading → List IdOf → Bool
 begins_from h ids = is_begin h.kind && have_one (own_ids h) ids
 
 -- Whether a heading is the first of its sender in a dialogue that its peer began: a Continue to an ID from which the peer's Begin of
 -- that dialogue is, where its sender has sent nothing yet.
-abbrev accepts : Heading → Course → Bool
+abbrev pub accepts : Heading → Course → Bool
 accepts h d = is_continue h.kind && have_one (peer_ids h) d.begun && not (list_any (is_side h.sender) d.senders)
 
 -- whether it gives the ID of a dialogue to another one of these
-abbrev gives_to_another : List Course → Heading → Course → Bool
+abbrev pub gives_to_another : List Course → Heading → Course → Bool
 gives_to_another others h d =
     have_one (own_ids h) d.used && list_any (λ other. accepts h other && not (have_one (own_ids h) other.ids)) others
 
 -- Whether the IDs of a dialogue are free, as the entry of that number comes: it is over, and its sender uses one of them anew, or so
--- many entries have gone by since.
-abbrev is_past : ℕ → ℕ → Option ℕ → Bool
+-- many entries have gone by since; where IDs come once they never are.
+abbrev pub is_past : ℕ → ℕ → Option ℕ → Bool
 is_past linger n None = false
 is_past linger n (Some number) = nat_lt (number + linger) n
 
 abbrev pub is_free : Reuse → ℕ → List Course → Heading → Course → Bool
-is_free Reuse.Once n live h d = false
-is_free (Reuse.Again linger) n live h d =
+is_free reuses.Once n live h d = false
+is_free (reuses.Again linger) n live h d =
     is_past linger n d.over || (is_some d.over && (begins_from h d.used || gives_to_another live h d))
 
 -- ---- what comes
@@ -113,38 +114,37 @@ pub record Courses : Type 0 where
   pub live : List Course
 
 -- the lower one of two numbers, where they are
-abbrev lower : Option ℕ → Option ℕ → Option ℕ
+abbrev pub lower : Option ℕ → Option ℕ → Option ℕ
 lower None number = number
 lower number None = number
 lower (Some a) (Some b) = Some (min a b)
 
 -- the number of the first entry that ended one
-abbrev first_over : List Course → Option ℕ
+abbrev pub first_over : List Course → Option ℕ
 first_over [] = None
 first_over (d ∷ ds) = lower d.over (first_over ds)
 
+-- the IDs of a heading from which it is a Begin, and the number of an entry with which a dialogue is over
+abbrev pub begun_by : Heading → List IdOf
+begun_by h = cond (is_begin h.kind) (own_ids h) []
+
+abbrev pub over_by : ℕ → Heading → Option ℕ
+over_by n h = cond (is_last h.kind || is_alone h) (Some n) None
+
 -- these dialogues in one, with an entry more, of that number; `earlier` are the IDs of those that are done
-abbrev with_entry : List IdOf → ℕ → Heading → List Course → Course
+abbrev pub with_entry : List IdOf → ℕ → Heading → List Course → Course
 with_entry earlier n h ds = record {
   numbers = flat_map (λ d. d.numbers) ds ++ n ∷ [];
   ids = flat_map (λ d. d.ids) ds ++ ids_in h;
   used = flat_map (λ d. d.used) ds ++ own_ids h;
-  begun = flat_map (λ d. d.begun) ds ++ begun_by h.kind;
+  begun = flat_map (λ d. d.begun) ds ++ begun_by h;
   senders = flat_map (λ d. d.senders) ds ++ h.sender ∷ [];
-  over = lower (first_over ds) (over_by (is_last h.kind));
+  over = lower (first_over ds) (over_by n h);
   again = list_any (λ d. d.again) ds || have_one (filter (λ id. not (list_any (λ d. is_among d.ids id) ds)) (ids_in h)) earlier;
 }
-  where
-    begun_by : Option Kind → List IdOf
-    begun_by (Some kinds.Begin) = own_ids h
-    begun_by _ = []
-
-    over_by : Bool → Option ℕ
-    over_by true = Some n
-    over_by false = None
 
 -- An entry comes: first those are done whose IDs are free; then it joins those that have one of its IDs, or is the first of one more.
-abbrev joined_by : ℕ → Heading → List Course → List Course → Courses
+abbrev pub joined_by : ℕ → Heading → List Course → List Course → Courses
 joined_by n h done left = record {
   done = done;
   live = filter (λ d. not (have_one (ids_in h) d.ids)) left
@@ -160,9 +160,13 @@ abbrev pub courses_behind : Reuse → Courses → ℕ → List Heading → Cours
 courses_behind reuse s n [] = s
 courses_behind reuse s n (h ∷ hs) = courses_behind reuse (comes reuse n h s) (n + 1) hs
 
+-- those of a stretch so far
+abbrev pub courses_so_far : Reuse → List Heading → Courses
+courses_so_far reuse hs = courses_behind reuse (record { done = []; live = [] }) 0 hs
+
 -- the dialogues of a stretch
 abbrev pub courses_of : Reuse → List Heading → List Course
-courses_of reuse hs = all_of (courses_behind reuse (record { done = []; live = [] }) 0 hs)
+courses_of reuse hs = all_of (courses_so_far reuse hs)
   where
     all_of : Courses → List Course
     all_of s = s.done ++ s.live

@@ -2,6 +2,9 @@ pub mod Part
 pub mod Cut
 pub mod Course
 pub mod HeadingReading
+pub mod Gathered
+pub mod Held
+pub mod Joining
 pub mod WorkedParts
 pub mod WorkedCourses
 pub mod WorkedHeadings

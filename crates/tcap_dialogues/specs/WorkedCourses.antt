@@ -4,8 +4,9 @@ use Rattle.tcap_msg.specs.declared.kind.Kind.TheVariants as kinds
 use Rattle.tcap_record.specs.declared.entry.End.{End as Side}
 use Rattle.tcap_record.specs.declared.entry.End.TheVariants.{A, B}
 use Rattle.tcap_model.specs.WorkedItems.{id}
-use Rattle.tcap_dialogues.specs.Course.{Heading, Reuse, courses_of}
-use Rattle.tcap_dialogues.specs.Course.Reuse.{Again, Once}
+use Rattle.tcap_dialogues.specs.Course.{Heading, courses_of}
+use Rattle.tcap_dialogues.specs.declared.reuse.Reuse.{Reuse}
+use Rattle.tcap_dialogues.specs.declared.reuse.Reuse.TheVariants.{Again, Once}
 
 abbrev begin : Side → ℕ → Heading
 begin sender from = record { sender = sender; kind = Some kinds.Begin; otid = Some (id from); dtid = None }

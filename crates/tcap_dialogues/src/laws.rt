@@ -7,7 +7,9 @@ ghost use Rattle.tcap_model.specs.World.{Item};
 ghost use Rattle.tcap_model.specs.Run.{IsLawful, IsLawfulFor};
 ghost use Rattle.tcap_msg.specs.declared.message.Message.{Message};
 ghost use Rattle.tcap_model.specs.World.{Sent, has_quiet};
-ghost use Rattle.tcap_dialogues.specs.Course.{Course, Heading, Reuse, courses_of, has_entry, headings_of};
+ghost use Rattle.tcap_dialogues.specs.Course.{Course, Heading, courses_of, has_entry, headings_of};
+ghost use Rattle.tcap_dialogues.specs.declared.reuse.Reuse.{Reuse};
+ghost use Rattle.tcap_dialogues.specs.declared.reuse.Reuse.TheVariants as reuses;
 ghost use Rattle.tcap_dialogues.specs.Cut.{Dialogue, IdOf, dialogues_of, is_among, is_of};
 ghost use Rattle.tcap_dialogues.specs.Part.{IsClosed, part_of};
 
@@ -88,6 +90,6 @@ pub fn again_is_shared()
 /// Where no ID comes again, the dialogues are those of the list.
 pub fn once_is_the_cut()
     ensures { (items : List Item) → has_quiet items ≡ false
-        → map (λ d. record { numbers = d.numbers; ids = d.ids }) (courses_of Reuse.Once (headings_of items))
+        → map (λ d. record { numbers = d.numbers; ids = d.ids }) (courses_of reuses.Once (headings_of items))
         ≡ dialogues_of items }
 {}

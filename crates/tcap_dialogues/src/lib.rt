@@ -1,7 +1,19 @@
 //! The dialogues of a record of two ends (Q.774 3.3): what holds of one dialogue where it holds of the record.
 #![tactic(auto)]
 
+mod cut;
+mod freeing;
+mod gathered;
 mod heading;
+mod joining;
+mod known;
 pub mod laws;
+mod live;
+#[cfg(test)]
+mod rows;
+mod reuse;
 
+pub use cut::Cut;
+pub use gathered::Gathered;
 pub use heading::{HeadingView, heading_of_message, read_heading};
+pub use reuse::Reuse;

@@ -1,0 +1,157 @@
+-- What is known of transaction IDs, where it changes.
+use Rattle.std.proofs.Common.{◌≡◌, ℕ, Bool, true, false, cond, List, [], ◌∷◌, ◌++◌, Option, Some, None, bytes_eq, refl, sym, ap, ◌∙◌}
+use Rattle.std.specs.Prelude.{◌&&◌, ◌||◌}
+use Rattle.std.specs.BTreeMap as tree
+use Rattle.std.specs.BTreeMap.{BTreeMap, is_at}
+use Rattle.std.specs.BTreeSet as set
+use Rattle.std.specs.BTreeSet.{BTreeSet}
+use Rattle.std.specs.Cmp.Lexicographic.{nat_list_cmp_total}
+use Rattle.std.specs.List.{list_any}
+use Rattle.std.proofs.lemmas.Bool.{and_from}
+use Rattle.std.proofs.lemmas.Cmp.{eq_by_cmp_equiv}
+use Rattle.std.proofs.lemmas.List.Folds.{list_any-append}
+use Rattle.std.proofs.lemmas.Map.Text.{is_eq-slice_cmp}
+use Rattle.tcap_end.specs.Table.{octets_cmp}
+use Rattle.tcap_record.specs.declared.entry.End.{End as Side}
+use Rattle.tcap_record.specs.declared.entry.End.TheVariants as sides
+use Rattle.tcap_model.specs.World.{is_side}
+use Rattle.tcap_dialogues.specs.Cut.{IdOf, is_same}
+use Rattle.tcap_dialogues.specs.Gathered.{by_end, has_id}
+use Rattle.tcap_dialogues.specs.Held.{changed, known_at, known_or_nothing}
+use Rattle.tcap_dialogues.specs.declared.known.Change.{Change}
+use Rattle.tcap_dialogues.specs.declared.known.Change.TheVariants as changes
+use Rattle.tcap_dialogues.specs.declared.known.Ids.{Ids}
+use Rattle.tcap_dialogues.specs.declared.known.Known.{Known}
+use Rattle.tcap_dialogues.proofs.CutIds.{same_id}
+use Rattle.tcap_dialogues.proofs.HeldLists.{or_none}
+
+-- A key finds the same octets.
+pub at_octets : (a b : List ℕ) → is_at (octets_cmp a) b ≡ bytes_eq b a
+at_octets a b = (eq_by_cmp_equiv nat_list_cmp_total).symm a b ∙ is_eq-slice_cmp b a
+
+-- A value became another at one key.
+abbrev pub Puts : {X : Type 0} → BTreeMap (List ℕ) X → BTreeMap (List ℕ) X → List ℕ → X → Type 0
+Puts old new key x = (q : List ℕ) → tree.get octets_cmp new q ≡ cond (is_at (octets_cmp key) q) (Some x) (tree.get octets_cmp old q)
+
+-- So what is known of one ID did;
+found_put : (old new : BTreeMap (List ℕ) Known) (key : List ℕ) (known : Known) → Puts old new key known → (q : List ℕ)
+    → known_or_nothing (tree.get octets_cmp new q) ≡ cond (bytes_eq q key) known (known_or_nothing (tree.get octets_cmp old q))
+found_put old new key known puts q =
+    ap known_or_nothing (puts q) ∙ ap (λ b. known_or_nothing (cond b (Some known) (tree.get octets_cmp old q))) (at_octets key q)
+    ∙ by (bytes_eq q key)
+  where
+    by : (b : Bool) → known_or_nothing (cond b (Some known) (tree.get octets_cmp old q)) ≡ cond b known (known_or_nothing (tree.get octets_cmp old q))
+    by true = refl
+    by false = refl
+
+pub put_in_a : (a b new : BTreeMap (List ℕ) Known) (key : List ℕ) (known : Known) → Puts a new key known → (id : IdOf)
+    → (let now : Ids = record { a = new; b = b } in let was : Ids = record { a = a; b = b } in known_at now id
+    ≡ cond (is_same id (record { end = sides.A; octets = key })) known (known_at was id))
+put_in_a a b new key known puts id = by id.end
+  where
+    by : (end : Side) → known_or_nothing (tree.get octets_cmp (by_end end new b) id.octets)
+        ≡ cond (is_side end sides.A && bytes_eq id.octets key) known (known_or_nothing (tree.get octets_cmp (by_end end a b) id.octets))
+    by sides.A = found_put a new key known puts id.octets
+    by sides.B = refl
+
+pub put_in_b : (a b new : BTreeMap (List ℕ) Known) (key : List ℕ) (known : Known) → Puts b new key known → (id : IdOf)
+    → (let now : Ids = record { a = a; b = new } in let was : Ids = record { a = a; b = b } in known_at now id
+    ≡ cond (is_same id (record { end = sides.B; octets = key })) known (known_at was id))
+put_in_b a b new key known puts id = by id.end
+  where
+    by : (end : Side) → known_or_nothing (tree.get octets_cmp (by_end end a new) id.octets)
+        ≡ cond (is_side end sides.B && bytes_eq id.octets key) known (known_or_nothing (tree.get octets_cmp (by_end end a b) id.octets))
+    by sides.A = refl
+    by sides.B = found_put b new key known puts id.octets
+
+-- ---- many changes
+
+-- A change changes nothing more where it came before.
+twice : (change : Change) (known : Known) → changed change (changed change known) ≡ changed change known
+twice changes.Free known = refl
+twice (changes.JoinTo name) known = refl
+
+-- whether an ID is one of these of an end
+abbrev pub is_one : Side → List (List ℕ) → IdOf → Bool
+is_one end keys id = is_side id.end end && list_any (is_at (octets_cmp id.octets)) keys
+
+-- All IDs that pass changed.
+abbrev pub Changes : (IdOf → Bool) → Change → Ids → Ids → Type 0
+Changes passes change old new = (id : IdOf) → known_at new id ≡ cond (passes id) (changed change (known_at old id)) (known_at old id)
+
+-- These did, and then one more.
+pub change_more : (end : Side) (keys : List (List ℕ)) (key : List ℕ) (change : Change) (old now new : Ids)
+    → Changes (is_one end keys) change old now
+    → ((id : IdOf) → known_at new id
+    ≡ cond (is_same id (record { end = end; octets = key })) (changed change (known_at now (record { end = end; octets = key }))) (known_at now id))
+    → Changes (is_one end (keys ++ key ∷ [])) change old new
+change_more end keys key change old now new so_far puts id =
+    puts id
+    ∙ ap (λ b. cond b (changed change (known_at now it)) (known_at now id)) (same_at id)
+    ∙ by (is_side id.end end && bytes_eq id.octets key) refl
+    ∙ ap (λ b. cond b (changed change (known_at old id)) (known_at old id)) (sym passes)
+  where
+    it : IdOf
+    it = record { end = end; octets = key }
+
+    same_at : (x : IdOf) → is_same x it ≡ (is_side x.end end && bytes_eq x.octets key)
+    same_at x = refl
+
+    passes : is_one end (keys ++ key ∷ []) id ≡ (is_one end keys id || (is_side id.end end && bytes_eq id.octets key))
+    passes =
+        ap (λ b. is_side id.end end && b)
+        (list_any-append (is_at (octets_cmp id.octets)) keys (key ∷ [])
+        ∙ ap (λ b. list_any (is_at (octets_cmp id.octets)) keys || b)
+        (or_none (is_at (octets_cmp id.octets) key) ∙ is_eq-slice_cmp id.octets key))
+        ∙ both (is_side id.end end) (list_any (is_at (octets_cmp id.octets)) keys) (bytes_eq id.octets key)
+      where
+        both : (a b c : Bool) → (a && (b || c)) ≡ ((a && b) || (a && c))
+        both true b c = refl
+        both false b c = refl
+
+    by : (b : Bool) → (is_side id.end end && bytes_eq id.octets key) ≡ b
+        → cond b (changed change (known_at now it)) (known_at now id)
+        ≡ cond (is_one end keys id || b) (changed change (known_at old id)) (known_at old id)
+    by true is =
+        let same : id ≡ it = same_id id it is in
+        ap (λ x. changed change (known_at now x)) (sym same) ∙ ap (changed change) (so_far id)
+        ∙ at (is_one end keys id)
+      where
+        at : (b : Bool) → changed change (cond b (changed change (known_at old id)) (known_at old id))
+            ≡ cond (b || true) (changed change (known_at old id)) (known_at old id)
+        at true = twice change (known_at old id)
+        at false = refl
+    by false is = so_far id ∙ ap (λ b. cond b (changed change (known_at old id)) (known_at old id)) (sym (or_none (is_one end keys id)))
+
+-- One that passes the first test or the second changed.
+pub change_then : (p q : IdOf → Bool) (change : Change) (old now new : Ids) → Changes p change old now → Changes q change now new
+    → Changes (λ id. p id || q id) change old new
+change_then p q change old now new first second id =
+    second id ∙ ap (λ known. cond (q id) (changed change known) known) (first id) ∙ by (p id) (q id)
+  where
+    by : (a b : Bool) → cond b (changed change (cond a (changed change (known_at old id)) (known_at old id))) (cond a (changed change (known_at old id)) (known_at old id))
+        ≡ cond (a || b) (changed change (known_at old id)) (known_at old id)
+    by true true = twice change (known_at old id)
+    by true false = refl
+    by false true = refl
+    by false false = refl
+
+-- The IDs of both ends are those of one, and those of the other.
+of_both : (a b : BTreeSet (List ℕ)) (id : IdOf)
+    → ((is_side id.end sides.A && set.contains octets_cmp a id.octets) || (is_side id.end sides.B && set.contains octets_cmp b id.octets))
+    ≡ has_id a b id
+of_both a b id = by id.end
+  where
+    by : (end : Side) → ((is_side end sides.A && set.contains octets_cmp a id.octets) || (is_side end sides.B && set.contains octets_cmp b id.octets))
+        ≡ set.contains octets_cmp (by_end end a b) id.octets
+    by sides.A = or_none (set.contains octets_cmp a id.octets)
+    by sides.B = refl
+
+pub both_change : (a b : BTreeSet (List ℕ)) (change : Change) (old now new : Ids)
+    → Changes (λ id. is_side id.end sides.A && set.contains octets_cmp a id.octets) change old now
+    → Changes (λ id. is_side id.end sides.B && set.contains octets_cmp b id.octets) change now new
+    → Changes (has_id a b) change old new
+both_change a b change old now new first second id =
+    change_then (λ x. is_side x.end sides.A && set.contains octets_cmp a x.octets) (λ x. is_side x.end sides.B && set.contains octets_cmp b x.octets)
+    change old now new first second id
+    ∙ ap (λ passes. cond passes (changed change (known_at old id)) (known_at old id)) (of_both a b id)

@@ -1,0 +1,109 @@
+-- A live dialogue with more of what it has.
+use Rattle.std.proofs.Common.{◌≡◌, ℕ, Bool, true, false, cond, List, [], ◌∷◌, ◌++◌, Option, Some, None, bytes_eq, map, refl, sym, ap, subst, ◌∙◌}
+use Rattle.std.specs.Prelude.{◌&&◌, ◌||◌}
+use Rattle.std.specs.BTreeMap.{is_at}
+use Rattle.std.specs.BTreeSet as set
+use Rattle.std.specs.BTreeSet.{BTreeSet}
+use Rattle.std.specs.Iterator.{Yields}
+use Rattle.std.specs.List.{list_any}
+use Rattle.std.specs.Map.Iter.{TakesFirst}
+use Rattle.std.specs.Ordering.{nat_cmp}
+use Rattle.std.proofs.lemmas.List.{append-nil, map-id}
+use Rattle.std.proofs.lemmas.List.Folds.{list_any-append}
+use Rattle.std.proofs.lemmas.Map.Iter.{rest_so_far}
+use Rattle.tcap_end.specs.Table.{octets_cmp}
+use Rattle.tcap_record.specs.declared.entry.End.{End as Side}
+use Rattle.tcap_record.specs.declared.entry.End.TheVariants as sides
+use Rattle.tcap_model.specs.World.{is_side}
+use Rattle.tcap_dialogues.specs.Cut.{IdOf, is_among}
+use Rattle.tcap_dialogues.specs.Gathered.{by_end, has_id}
+use Rattle.tcap_dialogues.specs.Course.{Course, first_over, has_entry, lower}
+use Rattle.tcap_dialogues.specs.Held.{AreKept, has_sent}
+use Rattle.tcap_dialogues.specs.Joining.{HasId, ids_at}
+use Rattle.tcap_dialogues.specs.declared.live.Live.{Live}
+use Rattle.tcap_dialogues.proofs.HeldLists.{or_none}
+use Rattle.tcap_dialogues.proofs.HeldOvers.{over_appended}
+use Rattle.tcap_dialogues.proofs.KnownLaws.{at_octets}
+
+-- ---- an ID more
+
+abbrev pub Adds : BTreeSet (List ℕ) → BTreeSet (List ℕ) → List ℕ → Type 0
+Adds old new key = (q : List ℕ) → set.contains octets_cmp new q ≡ cond (is_at (octets_cmp key) q) true (set.contains octets_cmp old q)
+
+added : (old new : BTreeSet (List ℕ)) (key : List ℕ) → Adds old new key → (q : List ℕ)
+    → set.contains octets_cmp new q ≡ (set.contains octets_cmp old q || (bytes_eq q key || false))
+added old new key adds q =
+    adds q ∙ ap (λ b. cond b true (set.contains octets_cmp old q)) (at_octets key q) ∙ by (set.contains octets_cmp old q) (bytes_eq q key)
+  where
+    by : (was is : Bool) → cond is true was ≡ (was || (is || false))
+    by true true = refl
+    by true false = refl
+    by false true = refl
+    by false false = refl
+
+pub add_to_a : (old : Live) (new : BTreeSet (List ℕ)) (key : List ℕ) → Adds old.a new key
+    → HasId (ids_at sides.A (Some key)) old (record old { a = new })
+add_to_a old new key adds = record { ids_are = λ id. by id id.end; rest = refl }
+  where
+    by : (id : IdOf) (end : Side) → set.contains octets_cmp (by_end end new old.b) id.octets
+        ≡ (set.contains octets_cmp (by_end end old.a old.b) id.octets || ((is_side end sides.A && bytes_eq id.octets key) || false))
+    by id sides.A = added old.a new key adds id.octets
+    by id sides.B = sym (or_none (set.contains octets_cmp old.b id.octets))
+
+pub add_to_b : (old : Live) (new : BTreeSet (List ℕ)) (key : List ℕ) → Adds old.b new key
+    → HasId (ids_at sides.B (Some key)) old (record old { b = new })
+add_to_b old new key adds = record { ids_are = λ id. by id id.end; rest = refl }
+  where
+    by : (id : IdOf) (end : Side) → set.contains octets_cmp (by_end end old.a new) id.octets
+        ≡ (set.contains octets_cmp (by_end end old.a old.b) id.octets || ((is_side end sides.B && bytes_eq id.octets key) || false))
+    by id sides.A = sym (or_none (set.contains octets_cmp old.a id.octets))
+    by id sides.B = added old.b new key adds id.octets
+
+-- ---- all of another one more
+
+-- What an iterator gave until it had no more is all that it had.
+pub drained : {X : Type 0} (keys xs s t : List X) → s ≡ keys → Yields (TakesFirst {A = X} {X = X} (λ x. x)) s xs t → t ≡ [] → xs ≡ keys
+drained keys xs s t begins yields ends =
+    sym (map-id xs) ∙ sym (append-nil (map (λ x. x) xs)) ∙ ap (λ more. map (λ x. x) xs ++ more) (sym ends)
+    ∙ sym (rest_so_far (λ x. x) xs s t yields) ∙ begins
+
+pub either : (p q a b : Bool) → p ≡ a → q ≡ b → (p || q) ≡ (a || b)
+either p q a b first second = ap (λ x. x || q) first ∙ ap (λ x. a || x) second
+
+-- The IDs, the senders and all else of both.
+pub absorbed : (ds es : List Course) (l m : Live) (numbers : BTreeSet ℕ) (a b : BTreeSet (List ℕ)) (over : Option ℕ)
+    → AreKept ds l → AreKept es m
+    → ((n : ℕ) → set.contains nat_cmp numbers n ≡ (set.contains nat_cmp l.numbers n || set.contains nat_cmp m.numbers n))
+    → ((id : List ℕ) → set.contains octets_cmp a id ≡ (set.contains octets_cmp l.a id || set.contains octets_cmp m.a id))
+    → ((id : List ℕ) → set.contains octets_cmp b id ≡ (set.contains octets_cmp l.b id || set.contains octets_cmp m.b id))
+    → over ≡ lower l.over m.over
+    → AreKept (ds ++ es) (record {
+      name = l.name;
+      numbers = numbers;
+      a = a;
+      b = b;
+      a_sent = l.a_sent || m.a_sent;
+      b_sent = l.b_sent || m.b_sent;
+      over = over;
+      again = l.again || m.again;
+    })
+absorbed ds es l m numbers a b over kept other numbers_are a_is b_is over_is = record {
+  numbers = λ n.
+      numbers_are n ∙ either _ _ _ _ (kept.numbers n) (other.numbers n) ∙ sym (list_any-append (λ d. has_entry d n) ds es);
+  ids = λ id.
+      ids_are id id.end ∙ either _ _ _ _ (kept.ids id) (other.ids id) ∙ sym (list_any-append (λ d. is_among d.ids id) ds es);
+  senders = λ side.
+      senders_are side ∙ either _ _ _ _ (kept.senders side) (other.senders side)
+      ∙ sym (list_any-append (λ d. list_any (is_side side) d.senders) ds es);
+  over = over_is ∙ ap (λ o. lower o m.over) kept.over ∙ ap (lower (first_over ds)) other.over ∙ sym (over_appended ds es);
+  again = either _ _ _ _ kept.again other.again ∙ sym (list_any-append (λ d. d.again) ds es);
+}
+  where
+    ids_are : (id : IdOf) (end : Side) → set.contains octets_cmp (by_end end a b) id.octets
+        ≡ (set.contains octets_cmp (by_end end l.a l.b) id.octets || set.contains octets_cmp (by_end end m.a m.b) id.octets)
+    ids_are id sides.A = a_is id.octets
+    ids_are id sides.B = b_is id.octets
+
+    senders_are : (side : Side) → by_end side (l.a_sent || m.a_sent) (l.b_sent || m.b_sent) ≡ (has_sent l side || has_sent m side)
+    senders_are sides.A = refl
+    senders_are sides.B = refl

@@ -1,0 +1,99 @@
+-- The live dialogue that has an ID of a heading, of one end, if the heading carries one.
+use Rattle.std.proofs.Common.{◌≡◌, ◌⊎◌, inl, inr, ℕ, Bool, true, false, List, [], ◌∷◌, Option, Some, None, refl, sym, ap, subst, ◌∙◌}
+use Rattle.std.specs.Prelude.{◌||◌, Contains}
+use Rattle.std.specs.List.{list_any}
+use Rattle.std.proofs.lemmas.Bool.{false_from_ne_true, true≢false}
+use Rattle.tcap_record.specs.declared.entry.End.{End as Side}
+use Rattle.tcap_dialogues.specs.Course.{Course, have_one}
+use Rattle.tcap_dialogues.specs.Cut.{IdOf, is_among}
+use Rattle.tcap_dialogues.specs.Held.{AreApart, IsKnown, IsOwned, known_at, known_of, nothing}
+use Rattle.tcap_dialogues.specs.Joining.{ids_at}
+use Rattle.tcap_dialogues.specs.declared.known.Ids.{Ids}
+use Rattle.tcap_dialogues.specs.declared.known.Known.{Known}
+use Rattle.tcap_dialogues.proofs.CutLists.{finds, found}
+use Rattle.tcap_dialogues.proofs.HeldLists.{or_none}
+
+-- One of these IDs is one of those, and so is one of more.
+pub have_more : (ids xs ys : List IdOf) → ((id : IdOf) → is_among xs id ≡ true → is_among ys id ≡ true) → have_one ids xs ≡ true
+    → have_one ids ys ≡ true
+have_more ids xs ys more is = let (id, has, so) = found (is_among xs) ids is in finds (is_among ys) ids id has (more id so)
+
+-- No dialogue has one of these IDs.
+abbrev pub IsNobodys : List Course → List IdOf → Known → Type 0
+IsNobodys live ids known = ((d : Course) → Contains live d → have_one ids d.ids ≡ false) × (known.used ≡ false) × (known.begun ≡ false)
+
+-- The dialogue of that name has.
+pub record IsOwner (live : List Course) (names : Course → ℕ) (ids : List IdOf) (name : ℕ) (known : Known) (d : Course) : Type 0 where
+  pub listed : Contains live d
+  pub has : have_one ids d.ids ≡ true
+  pub named : names d ≡ name
+  pub used : known.used ≡ have_one ids d.used
+  pub begun : known.begun ≡ have_one ids d.begun
+  -- No other does.
+  pub only : (e : Course) → Contains live e → have_one ids e.ids ≡ true → e ≡ d
+
+abbrev pub Owns : List Course → (Course → ℕ) → List IdOf → Known → Option ℕ → Type 0
+Owns live names ids known None = IsNobodys live ids known
+Owns live names ids known (Some name) = (d : Course) × IsOwner live names ids name known d
+
+pub record IsOf (live : List Course) (names : Course → ℕ) (earlier : IdOf → Bool) (ids : List IdOf) (known : Known) : Type 0 where
+  pub owns : Owns live names ids known known.dialogue
+  pub came : known.came ≡ list_any earlier ids
+
+module _ (live : List Course) (names : Course → ℕ) (earlier : IdOf → Bool) (apart : AreApart live) where
+  of_one : (id : IdOf) (known : Known) → IsKnown live names earlier id known → IsOf live names earlier (id ∷ []) known
+  of_one id known is = record { owns = by known.dialogue is.owned; came = is.came ∙ sym (or_none (earlier id)) }
+    where
+      by : (o : Option ℕ) → IsOwned live names id o known.used known.begun → Owns live names (id ∷ []) known o
+      by None (nobody, unused, unbegun) = (λ d has. or_none (is_among d.ids id) ∙ nobody d has, unused, unbegun)
+      by (Some name) (d, listed, its, named, used_is, begun_is) = (
+        d,
+        record {
+          listed = listed;
+          has = or_none (is_among d.ids id) ∙ its;
+          named = named;
+          used = used_is ∙ sym (or_none (is_among d.used id));
+          begun = begun_is ∙ sym (or_none (is_among d.begun id));
+          only = λ e hers so. apart.one_id e d id hers listed (sym (or_none (is_among e.ids id)) ∙ so) its;
+        },
+      )
+
+  -- So it is of what is known of the ID of an end.
+  pub known_ids : (ids : Ids) → ((id : IdOf) → IsKnown live names earlier id (known_at ids id)) → (end : Side) (octets : Option (List ℕ))
+      → IsOf live names earlier (ids_at end octets) (known_of ids end octets)
+  known_ids ids are end None = record { owns = (λ d has. refl, refl, refl); came = refl }
+  known_ids ids are end (Some octets) =
+      let id : IdOf = record { end = end; octets = octets } in of_one id (known_at ids id) (are id)
+
+  pub known_is : (ids : Ids) → ((id : IdOf) → IsKnown live names earlier id (known_at ids id)) → (end : Side) (octets : Option (List ℕ))
+      (known : Known) → known ≡ known_of ids end octets → IsOf live names earlier (ids_at end octets) known
+  known_is ids are end octets known is = subst (IsOf live names earlier (ids_at end octets)) (sym is) (known_ids ids are end octets)
+
+module _ (live : List Course) (names : Course → ℕ) (earlier : IdOf → Bool) (ids : List IdOf) (known : Known)
+    (of : IsOf live names earlier ids known) where
+  -- the dialogue of that name, or none
+  pub owner_of : (name : ℕ) → known.dialogue ≡ Some name → (d : Course) × IsOwner live names ids name known d
+  owner_of name is = subst (Owns live names ids known) is of.owns
+
+  pub nobody_of : known.dialogue ≡ None → IsNobodys live ids known
+  nobody_of is = subst (Owns live names ids known) is of.owns
+
+module _ (live : List Course) (names : Course → ℕ) (ids : List IdOf) (known : Known) (apart : AreApart live) where
+  -- Where no dialogue has one of these IDs none used one, and none began one;
+  pub nobody_used : IsNobodys live ids known → (d : Course) → Contains live d → have_one ids d.used ≡ false
+  nobody_used nobody d has =
+      false_from_ne_true _
+      (λ is. true≢false (sym (have_more ids d.used d.ids (λ id. apart.used_in d id has) is) ∙ nobody.0 d has))
+
+  pub nobody_begun : IsNobodys live ids known → (d : Course) → Contains live d → have_one ids d.begun ≡ false
+  nobody_begun nobody d has =
+      false_from_ne_true _
+      (λ is. true≢false (sym (have_more ids d.begun d.ids (λ id. apart.begun_in d id has) is) ∙ nobody.0 d has))
+
+  -- where one has, no other did.
+  module _ (name : ℕ) (d : Course) (owner : IsOwner live names ids name known d) where
+    pub used_only : (e : Course) → Contains live e → have_one ids e.used ≡ true → e ≡ d
+    used_only e has is = owner.only e has (have_more ids e.used e.ids (λ id. apart.used_in e id has) is)
+
+    pub begun_only : (e : Course) → Contains live e → have_one ids e.begun ≡ true → e ≡ d
+    begun_only e has is = owner.only e has (have_more ids e.begun e.ids (λ id. apart.begun_in e id has) is)

@@ -1,0 +1,35 @@
+use Rattle.std.proofs.Common.{◌==◌, ◌&&◌, not, sym, ap, ◌∙◌}
+use Rattle.tcap_msg.specs.Meaning.{id_of}
+use Rattle.tcap_record.specs.Ends.{other}
+use Rattle.tcap_dialogues.specs.Course.{peer_ids}
+use Rattle.tcap_dialogues.specs.HeadingReading.{heading_read}
+use Rattle.tcap_dialogues.specs.Held.{known_of}
+use Rattle.tcap_dialogues.proofs.GivenUpLaws.{accepts_is, accepts_nobody}
+use Rattle.tcap_dialogues.proofs.OwnerLaws.{IsOf, known_is, nobody_of, owner_of}
+use Rattle.tcap_dialogues.proofs.cut.Cut.accepts_another.Goals as goal
+
+pub returns-in-Some : goal.returns-in-Some
+returns-in-Some c = λ live names earlier d apart held has named hits continues.
+    let h = heading_read c.args.heading in
+    let ids = c.args.self.now.ids in
+    let to = id_of c.args.heading.dtid in
+    let known = c.get_some-known.result in
+    let of : IsOf live names earlier (peer_ids h) known =
+    known_is live names earlier apart ids held.ids (other h.sender) to known
+    (c.get_some-known.ensures ∙ ap (λ e. known_of ids e to) c.other.ensures) in
+    let (e, owner) = owner_of live names earlier (peer_ids h) known of c.in-Some.other c.in-Some.is in
+    ap (λ b. (not (c.in-Some.other == c.args.name) && known.begun) && not b)
+    (c.has_sent.ensures live names held.lives e owner.listed owner.named)
+    ∙ sym (accepts_is live names c.args.self.now.live apart held.lives h known c.args.name c.in-Some.other d e has named hits owner continues)
+
+pub returns-in-None : goal.returns-in-None
+returns-in-None c = λ live names earlier d apart held has named hits continues.
+    let h = heading_read c.args.heading in
+    let ids = c.args.self.now.ids in
+    let to = id_of c.args.heading.dtid in
+    let known = c.get_some-known.result in
+    let of : IsOf live names earlier (peer_ids h) known =
+    known_is live names earlier apart ids held.ids (other h.sender) to known
+    (c.get_some-known.ensures ∙ ap (λ e. known_of ids e to) c.other.ensures) in
+    sym (accepts_nobody live names c.args.self.now.live apart held.lives h known
+    (nobody_of live names earlier (peer_ids h) known of c.in-None.is))

@@ -1,0 +1,8 @@
+-- What stands for the dialogues so far is handed over.
+use Rattle.std.proofs.Common.{◌≡◌, ◌++◌, List}
+use Rattle.tcap_dialogues.specs.declared.gathered.Gathered.{Gathered}
+use Rattle.tcap_dialogues.proofs.FinishLaws.{Stand}
+use Rattle.tcap_dialogues.proofs.cut.Cut.finish.Given as goal
+
+abbrev pub invariant-loop-live : goal.invariant-loop-live
+invariant-loop-live l = (given : List Gathered) × (l.done.items ≡ l.fn.done.items ++ given) × Stand l.yielded given

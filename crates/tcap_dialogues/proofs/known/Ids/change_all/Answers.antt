@@ -1,0 +1,17 @@
+use Rattle.std.proofs.Common.{rules, ◌≡◌, [], ◌∷◌, ◌++◌, map, sym}
+use Rattle.std.proofs.lemmas.List.{map_push}
+use Rattle.std.proofs.lemmas.Map.Iter.{iter_end}
+use Rattle.tcap_dialogues.proofs.KnownLaws.{Changes, change_more, is_one}
+use Rattle.tcap_dialogues.proofs.known.Ids.change_all.Goals as goal
+
+pub loop-id-preserved : goal.loop-id-preserved
+loop-id-preserved c =
+    rw (map_push (λ id. id.now) c.loop-id.yielded c.in-Some.id)
+    (change_more c.args.end (map (λ id. id.now) c.loop-id.yielded) c.in-Some.id.now c.args.change c.args.self.now c.loop-id.self
+    c.set.new.self c.loop-id.invariant
+    (rw (c.view-in-loop-id.ensures, c.changed.ensures, c.get-known.ensures, c.view.ensures) at c.in_ok-set.ensures))
+
+pub returns : goal.returns
+returns c =
+    let all : map (λ id. id.now) c.loop-id.yielded ≡ c.args.ids.now.keys = search (rules, iter_end) in
+    rw (← all) c.loop-id.invariant

@@ -1,0 +1,160 @@
+-- What is kept of the live dialogues of a stretch as its entries come.
+use Rattle.std.specs.Prelude.{◌≡◌, ⊤, ℕ, ◌+◌, ◌<◌, ◌≤◌, ◌⊎◌, Bool, true, false, cond, List, [], ◌∷◌, ◌++◌, filter, length, ◌==◌, ◌&&◌, ◌||◌, not, Contains, Option, Some, None, is_some}
+use Rattle.std.specs.BTreeMap as tree
+use Rattle.std.specs.BTreeMap.{BTreeMap}
+use Rattle.std.specs.BTreeSet as set
+use Rattle.std.specs.List.{flat_map, list_any}
+use Rattle.std.specs.Ordering.{nat_cmp}
+use Rattle.tcap_record.specs.declared.entry.End.{End as Side}
+use Rattle.tcap_end.specs.Table.{octets_cmp}
+use Rattle.tcap_model.specs.World.{is_side}
+use Rattle.tcap_dialogues.specs.Course.{Course, Heading, begins_from, courses_so_far, first_over, gives_to_another, has_entry, have_one, ids_in, is_past, with_entry}
+use Rattle.tcap_dialogues.specs.Cut.{IdOf, is_among, is_same}
+use Rattle.tcap_dialogues.specs.Gathered.{by_end, has_id}
+use Rattle.tcap_dialogues.specs.declared.cut.Cut.{Cut}
+use Rattle.tcap_dialogues.specs.declared.known.Change.{Change}
+use Rattle.tcap_dialogues.specs.declared.known.Change.TheVariants as changes
+use Rattle.tcap_dialogues.specs.declared.known.Ids.{Ids}
+use Rattle.tcap_dialogues.specs.declared.known.Known.{Known}
+use Rattle.tcap_dialogues.specs.declared.live.Live.{Live}
+use Rattle.tcap_dialogues.specs.declared.reuse.Reuse.{Reuse}
+use Rattle.tcap_dialogues.specs.declared.reuse.Reuse.TheVariants as reuses
+
+-- ---- what is known of an ID
+
+abbrev pub nothing : Known
+nothing = record { dialogue = None; used = false; begun = false; came = false }
+
+abbrev pub known_or_nothing : Option Known → Known
+known_or_nothing None = nothing
+known_or_nothing (Some known) = known
+
+abbrev pub known_at : Ids → IdOf → Known
+known_at ids id = known_or_nothing (tree.get octets_cmp (by_end id.end ids.a ids.b) id.octets)
+
+-- the same of the ID of an end, if there is one
+abbrev pub known_of : Ids → Side → Option (List ℕ) → Known
+known_of ids end None = nothing
+known_of ids end (Some octets) = known_at ids (record { end = end; octets = octets })
+
+abbrev pub changed : Change → Known → Known
+changed changes.Free known = record { dialogue = None; used = false; begun = false; came = true }
+changed (changes.JoinTo name) known = record known { dialogue = Some name }
+
+-- ---- live dialogues by their names
+
+-- whether that is the name of a dialogue; those that have it, and the others
+abbrev pub is_named : (Course → ℕ) → Option ℕ → Course → Bool
+is_named name None d = false
+is_named name (Some number) d = name d == number
+
+abbrev pub those : (Course → ℕ) → Option ℕ → List Course → List Course
+those name number live = filter (is_named name number) live
+
+abbrev pub others : (Course → ℕ) → Option ℕ → List Course → List Course
+others name number live = filter (λ d. not (is_named name number d)) live
+
+abbrev pub has_sent : Live → Side → Bool
+has_sent l side = by_end side l.a_sent l.b_sent
+
+-- Of these dialogues in one.
+pub record AreKept (ds : List Course) (l : Live) : Type 0 where
+  pub numbers : (n : ℕ) → set.contains nat_cmp l.numbers n ≡ list_any (λ d. has_entry d n) ds
+  pub ids : (id : IdOf) → has_id l.a l.b id ≡ list_any (λ d. is_among d.ids id) ds
+  pub senders : (side : Side) → has_sent l side ≡ list_any (λ d. list_any (is_side side) d.senders) ds
+  pub over : l.over ≡ first_over ds
+  pub again : l.again ≡ list_any (λ d. d.again) ds
+
+-- Each has one of its name, which is the number of one of its entries; and there are no others.
+pub record AreLives (live : List Course) (name : Course → ℕ) (lives : BTreeMap ℕ Live) : Type 0 where
+  pub there : (d : Course) → Contains live d
+      → (l : Live) × (tree.get nat_cmp lives (name d) ≡ Some l) × (l.name ≡ name d) × AreKept (d ∷ []) l
+  pub back : (number : ℕ) (l : Live) → tree.get nat_cmp lives number ≡ Some l → (d : Course) × Contains live d × (name d ≡ number)
+  pub entry : (d : Course) → Contains live d → has_entry d (name d) ≡ true
+
+-- The names of those that are over, by the number with which they are.
+pub record AreOvers (live : List Course) (name : Course → ℕ) (overs : BTreeMap ℕ ℕ) : Type 0 where
+  pub there : (d : Course) (number : ℕ) → Contains live d → d.over ≡ Some number → tree.get nat_cmp overs number ≡ Some (name d)
+  pub back : (number found : ℕ) → tree.get nat_cmp overs number ≡ Some found
+      → (d : Course) × Contains live d × (d.over ≡ Some number) × (name d ≡ found)
+
+-- What is known of an ID: which live dialogue has it, and whether one that is done had it.
+abbrev pub IsOwned : List Course → (Course → ℕ) → IdOf → Option ℕ → Bool → Bool → Type 0
+IsOwned live name id None used begun = ((d : Course) → Contains live d → is_among d.ids id ≡ false) × (used ≡ false) × (begun ≡ false)
+IsOwned live name id (Some number) used begun =
+    (d : Course) × Contains live d × (is_among d.ids id ≡ true) × (name d ≡ number) × (used ≡ is_among d.used id)
+    × (begun ≡ is_among d.begun id)
+
+pub record IsKnown (live : List Course) (name : Course → ℕ) (earlier : IdOf → Bool) (id : IdOf) (known : Known) : Type 0 where
+  pub owned : IsOwned live name id known.dialogue known.used known.begun
+  pub came : known.came ≡ earlier id
+
+-- All that is kept of live dialogues, and of the IDs of those that are done.
+pub record IsHeld (live : List Course) (name : Course → ℕ) (earlier : IdOf → Bool) (kept : Cut) : Type 0 where
+  pub lives : AreLives live name kept.live
+  pub overs : AreOvers live name kept.overs
+  pub ids : (id : IdOf) → IsKnown live name earlier id (known_at kept.ids id)
+
+-- what is kept of a stretch of which so many entries came
+pub record IsCutOf (reuse : Reuse) (n : ℕ) (live : List Course) (earlier : IdOf → Bool) (kept : Cut) : Type 0 where
+  pub reuse_is : kept.reuse ≡ reuse
+  pub count_is : kept.count ≡ n
+  pub name : Course → ℕ
+  pub held : IsHeld live name earlier kept
+
+-- That is kept of a stretch of which those entries came.
+abbrev pub IsCut : Reuse → List Heading → Cut → Type 0
+IsCut reuse headings kept = of (courses_so_far reuse headings)
+  where
+    of : Rattle.tcap_dialogues.specs.Course.Courses → Type 0
+    of s = IsCutOf reuse (length headings) s.live (is_among (flat_map (λ d. d.ids) s.done)) kept
+
+-- ---- what holds of live dialogues
+
+-- No two share an ID or an entry, and what is said of one is of its entries and its IDs.
+pub record AreApart (live : List Course) : Type 0 where
+  pub one_id : (d e : Course) (id : IdOf) → Contains live d → Contains live e → is_among d.ids id ≡ true → is_among e.ids id ≡ true → d ≡ e
+  pub one_number : (d e : Course) (i : ℕ) → Contains live d → Contains live e → has_entry d i ≡ true → has_entry e i ≡ true → d ≡ e
+  pub over_in : (d : Course) (number : ℕ) → Contains live d → d.over ≡ Some number → has_entry d number ≡ true
+  pub used_in : (d : Course) (id : IdOf) → Contains live d → is_among d.used id ≡ true → is_among d.ids id ≡ true
+  pub begun_in : (d : Course) (id : IdOf) → Contains live d → is_among d.begun id ≡ true → is_among d.ids id ≡ true
+
+-- None has been over for longer than its IDs linger.
+abbrev pub Lingers : Reuse → ℕ → Option ℕ → Type 0
+Lingers reuses.Once n over = ⊤
+Lingers (reuses.Again linger) n None = ⊤
+Lingers (reuses.Again linger) n (Some number) = n ≤ (number + linger) + 1
+
+-- ---- which IDs are free
+
+abbrev pub is_past_by : Reuse → ℕ → Course → Bool
+is_past_by reuses.Once n d = false
+is_past_by (reuses.Again linger) n d = is_past linger n d.over
+
+abbrev pub is_given_up : Reuse → List Course → Heading → Course → Bool
+is_given_up reuses.Once live h d = false
+is_given_up (reuses.Again linger) live h d = is_some d.over && (begins_from h d.used || gives_to_another live h d)
+
+-- ---- what is taken out
+
+-- Those of that name, if there are any, were taken out.
+abbrev pub AreTaken : List Course → (Course → ℕ) → Option Live → Type 0
+AreTaken ds name None = (d : Course) → Contains ds d → ⊥
+AreTaken ds name (Some l) = AreKept ds l × ((d : Course) → Contains ds d → name d ≡ l.name) × (list_any (λ d. has_entry d l.name) ds ≡ true)
+
+pub record IsOut (number : Option ℕ) (live : List Course) (name : Course → ℕ) (old new : Cut) (taken : Option Live) : Type 0 where
+  pub lives : AreLives (others name number live) name new.live
+  pub overs : AreOvers (others name number live) name new.overs
+  pub out : AreTaken (those name number live) name taken
+  pub rest : new ≡ record old { live = new.live; overs = new.overs }
+
+-- Those, or none, in one whose name is theirs, or the number of the next entry.
+pub record IsOne (n : ℕ) (ds : List Course) (name : Course → ℕ) (l : Live) : Type 0 where
+  pub kept : AreKept ds l
+  pub named : (d : Course) → Contains ds d → name d ≡ l.name
+  pub entry : (l.name ≡ n) ⊎ (list_any (λ d. has_entry d l.name) ds ≡ true)
+
+-- the live dialogues with an entry more
+abbrev pub with_one : List IdOf → ℕ → Heading → List Course → List Course
+with_one earlier n h left =
+    filter (λ d. not (have_one (ids_in h) d.ids)) left ++ with_entry earlier n h (filter (λ d. have_one (ids_in h) d.ids) left) ∷ []

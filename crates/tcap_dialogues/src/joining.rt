@@ -1,0 +1,134 @@
+//! An entry joins the live dialogues that have one of its IDs.
+
+ghost use Rattle.std.specs.Prelude.{◌≡◌, ◌+◌, ◌<◌, ℕ, List, ◌++◌, true, cond, Contains, Some, IfOk, OnOk};
+ghost use Rattle.tcap_msg.specs.Meaning.{id_of};
+ghost use Rattle.tcap_dialogues.specs.Course.{Course, has_entry};
+ghost use Rattle.tcap_dialogues.specs.Cut.{IdOf, is_among};
+ghost use Rattle.tcap_dialogues.specs.HeadingReading.{heading_read};
+ghost use Rattle.tcap_dialogues.specs.Held.{AreApart, AreLives, AreOvers, IsCutOf, IsHeld, IsOne, known_at, with_one};
+ghost use Rattle.tcap_dialogues.specs.Joining.{AreNoted, IsJoined, IsPut, TakesOne, ids_at};
+
+use crate::cut::Cut;
+use crate::heading::HeadingView;
+use crate::known::{Change, Ids, Known};
+use crate::live::Live;
+use std::alloc::AllocError;
+use tcap_msg::TransactionIdView;
+use tcap_record::End;
+
+impl Ids {
+    /// This is known of an ID, if there is one.
+    fn set_some(
+        &mut self,
+        end: End,
+        id: Option<TransactionIdView>,
+        known: Known,
+    ) -> Result<(), AllocError>
+        ensures { OnOk result ((other : IdOf) → known_at self.new other
+            ≡ cond (is_among (ids_at «end» (id_of id.entry)) other) known (known_at self.old other)) }
+    {
+        match id {
+            Some(id) => self.set(end, id, known),
+            None => Ok(()),
+        }
+    }
+
+    /// The IDs of an entry are those of that dialogue; of the own one and of the peer's that was known before.
+    fn note(
+        &mut self,
+        heading: HeadingView,
+        name: u64,
+        own: Known,
+        peer: Known,
+    ) -> Result<(), AllocError>
+        ensures { OnOk result (AreNoted (heading_read heading.entry) name own peer self.old self.new) }
+    {
+        let own = Known {
+            dialogue: Some(name),
+            used: true,
+            begun: own.begun | heading.is_begin(),
+            ..own
+        };
+        let peer = Known {
+            dialogue: Some(name),
+            ..peer
+        };
+        self.set_some(heading.sender, heading.otid, own)?;
+        self.set_some(heading.sender.other(), heading.dtid, peer)
+    }
+}
+
+impl Cut {
+    /// Takes the dialogue of that name out; an empty one, whose name is the number of the next entry, where there is none.
+    fn take_or_new(&mut self, name: Option<u64>) -> Live
+        ensures { (live : List Course) (names : Course → ℕ) → AreApart live → AreLives live names self.old.live
+            → AreOvers live names self.old.overs → TakesOne name live names self.old self.new result }
+    {
+        match self.take_out(name) {
+            Some(live) => live,
+            None => Live::new(self.alloc, self.count),
+        }
+    }
+
+    /// Puts a dialogue in.
+    fn put(&mut self, live: Live) -> Result<(), AllocError>
+        ensures { OnOk result (IsPut live self.old self.new) }
+    {
+        if let Some(number) = live.over {
+            self.overs.insert(number, live.name)?;
+        }
+        self.live.insert(live.name, live)?;
+        Ok(())
+    }
+
+    /// The second dialogue goes into the first.
+    fn absorbed(&mut self, mut one: Live, other: Live) -> Result<Live, AllocError>
+        ensures { (ds es : List Course) (names : Course → ℕ) → IsOne self.old.count ds names one → IsOne self.old.count es names other
+            → ((d : Course) (id : IdOf) → Contains (ds ++ es) d → is_among d.ids id ≡ true
+            → (known_at self.old.ids id).dialogue ≡ Some (names d))
+            → IfOk result (IsJoined self.old.count (ds ++ es) self.old self.new) }
+    {
+        self.ids.change_both(&other.a, &other.b, Change::JoinTo(one.name))?;
+        one.absorb(other)?;
+        Ok(one)
+    }
+
+    /// Two dialogues in one: the smaller one goes into the larger one.
+    fn joined(&mut self, one: Live, other: Live) -> Result<Live, AllocError>
+        ensures { (ds es : List Course) (names : Course → ℕ) → IsOne self.old.count ds names one → IsOne self.old.count es names other
+            → ((d : Course) (id : IdOf) → Contains (ds ++ es) d → is_among d.ids id ≡ true
+            → (known_at self.old.ids id).dialogue ≡ Some (names d))
+            → IfOk result (IsJoined self.old.count (ds ++ es) self.old self.new) }
+    {
+        if one.numbers.len() < other.numbers.len() {
+            self.absorbed(other, one)
+        } else {
+            self.absorbed(one, other)
+        }
+    }
+
+    /// The entry joins those that have one of its IDs, or is the first of one more.
+    pub(crate) fn join(&mut self, heading: HeadingView) -> Result<(), AllocError>
+        ensures { (live : List Course) (names : Course → ℕ) (earlier : List IdOf) → AreApart live
+            → IsHeld live names (is_among earlier) self.old
+            → AreApart (with_one earlier self.old.count (heading_read heading.entry) live)
+            → ((d : Course) (i : ℕ) → Contains live d → has_entry d i ≡ true → i < self.old.count)
+            → OnOk result (
+            IsCutOf self.old.reuse (self.old.count + 1) (with_one earlier self.old.count (heading_read heading.entry) live)
+            (is_among earlier) self.new) }
+    {
+        let Some(next) = self.count.checked_add(1) else {
+            return Err(AllocError);
+        };
+        let own = self.ids.get_some(heading.sender, heading.otid);
+        let peer = self.ids.get_some(heading.sender.other(), heading.dtid);
+        let one = self.take_or_new(own.dialogue);
+        let other = self.take_or_new(peer.dialogue);
+        let mut live = self.joined(one, other)?;
+        live.add(self.count, heading, own.comes_again() | peer.comes_again())?;
+        self.ids.note(heading, live.name, own, peer)?;
+        self.put(live)?;
+        self.count = next;
+        Ok(())
+    }
+}

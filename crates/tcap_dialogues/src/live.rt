@@ -1,0 +1,160 @@
+//! A dialogue of which more entries may come.
+
+ghost use Rattle.std.specs.Prelude.{◌≡◌, List, [], ◌∷◌, ◌++◌, IfOk, OnOk};
+ghost use Rattle.tcap_msg.specs.Meaning.{id_of};
+ghost use Rattle.tcap_dialogues.specs.Course.{Course, lower, over_by};
+ghost use Rattle.tcap_dialogues.specs.Gathered.{IsGathered};
+ghost use Rattle.tcap_dialogues.specs.HeadingReading.{heading_read};
+ghost use Rattle.tcap_dialogues.specs.Held.{AreKept, has_sent};
+ghost use Rattle.tcap_dialogues.specs.Joining.{HasEntry, HasId, HasSender, ids_at};
+
+use crate::gathered::Gathered;
+use crate::heading::HeadingView;
+use std::alloc::{AllocError, Global};
+use std::collections::BTreeSet;
+use tcap_msg::{Kind, TransactionId, TransactionIdView};
+use tcap_record::End;
+
+/// A dialogue of which more entries may come.
+#[derive(Debug, Drop)]
+pub(crate) struct Live {
+    /// Its name: the number of one of its entries.
+    pub(crate) name: u64,
+    /// The numbers of its entries.
+    pub(crate) numbers: BTreeSet<u64>,
+    /// The IDs of A that they carry.
+    pub(crate) a: BTreeSet<TransactionId>,
+    /// Those of B.
+    pub(crate) b: BTreeSet<TransactionId>,
+    /// Whether A sent one of them.
+    pub(crate) a_sent: bool,
+    /// Whether B did.
+    pub(crate) b_sent: bool,
+    /// The number of the first one with which it is over.
+    pub(crate) over: Option<u64>,
+    /// Whether an earlier dialogue had one of its IDs.
+    pub(crate) again: bool,
+}
+
+/// The lower one of two numbers, where they are.
+fn lower(one: Option<u64>, other: Option<u64>) -> Option<u64>
+    ensures { result ≡ lower one other }
+{
+    match (one, other) {
+        (Some(one), Some(other)) => Some(if one < other { one } else { other }),
+        (None, number) => number,
+        (number, None) => number,
+    }
+}
+
+impl HeadingView<'_> {
+    /// The number of the entry, if a dialogue is over with it: it ends its transaction, or carries no ID, so that nothing can
+    /// join it.
+    fn is_over(self, number: u64) -> Option<u64>
+        ensures { result ≡ over_by number (heading_read self.entry) }
+    {
+        match self.kind {
+            Some(Kind::End | Kind::Abort) => Some(number),
+            _ if self.otid.is_none() && self.dtid.is_none() => Some(number),
+            _ => None,
+        }
+    }
+}
+
+impl Live {
+    /// One without entries.
+    pub(crate) fn new(alloc: Global, name: u64) -> Live
+        ensures { AreKept [] result × (result.name ≡ name) }
+    {
+        Live {
+            name,
+            numbers: BTreeSet::new(alloc),
+            a: BTreeSet::new(alloc),
+            b: BTreeSet::new(alloc),
+            a_sent: false,
+            b_sent: false,
+            over: None,
+            again: false,
+        }
+    }
+
+    /// Whether an end sent one of its entries.
+    pub(crate) fn has_sent(&self, end: End) -> bool
+        ensures { result ≡ has_sent self.now «end» }
+    {
+        match end {
+            End::A => self.a_sent,
+            End::B => self.b_sent,
+        }
+    }
+
+    /// The entries and IDs of another one more.
+    pub(crate) fn absorb(&mut self, other: Live) -> Result<(), AllocError>
+        ensures { (ds es : List Course) → AreKept ds self.old → AreKept es other
+            → OnOk result (AreKept (ds ++ es) self.new × (self.new.name ≡ self.old.name)) }
+    {
+        self.numbers.extend(other.numbers)?;
+        self.a.extend(other.a)?;
+        self.b.extend(other.b)?;
+        self.a_sent |= other.a_sent;
+        self.b_sent |= other.b_sent;
+        self.over = lower(self.over, other.over);
+        self.again |= other.again;
+        Ok(())
+    }
+
+    /// An ID more of an end, where there is one.
+    fn add_id(&mut self, end: End, id: Option<TransactionIdView>) -> Result<(), AllocError>
+        ensures { OnOk result (HasId (ids_at «end» (id_of id.entry)) self.old self.new) }
+    {
+        let Some(id) = id else {
+            return Ok(());
+        };
+        match end {
+            End::A => self.a.insert(id.to_transaction_id())?,
+            End::B => self.b.insert(id.to_transaction_id())?,
+        };
+        Ok(())
+    }
+
+    /// Its sender sent one.
+    fn note_sender(&mut self, sender: End)
+        ensures { HasSender sender self.old self.new }
+    {
+        match sender {
+            End::A => self.a_sent = true,
+            End::B => self.b_sent = true,
+        }
+    }
+
+    /// An entry more of that number, and whether an ID of it came again.
+    pub(crate) fn add(
+        &mut self,
+        number: u64,
+        heading: HeadingView,
+        again: bool,
+    ) -> Result<(), AllocError>
+        ensures { OnOk result (HasEntry number (heading_read heading.entry) again self.old self.new) }
+    {
+        self.numbers.insert(number)?;
+        self.note_sender(heading.sender);
+        self.over = lower(self.over, heading.is_over(number));
+        self.again |= again;
+        self.add_id(heading.sender, heading.otid)?;
+        self.add_id(heading.sender.other(), heading.dtid)
+    }
+
+    /// The dialogue whose entries are all here.
+    pub(crate) fn gathered(self, alloc: Global) -> Result<Gathered, AllocError>
+        ensures { (d : Course) → AreKept (d ∷ []) self → IfOk result (IsGathered d) }
+    {
+        let numbers = self.numbers.into_iter().collect(alloc)?;
+        Ok(Gathered {
+            numbers,
+            a: self.a,
+            b: self.b,
+            over: self.over,
+            again: self.again,
+        })
+    }
+}
