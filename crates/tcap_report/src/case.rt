@@ -5,7 +5,7 @@ use crate::words::context_in;
 use std::alloc::{AllocError, Global};
 use tcap_ber::Counted;
 use tcap_books::{Book, NamedTable};
-use tcap_dialogues::Gathered;
+use tcap_dialogues::{Gathered, HeadingView, read_heading};
 use tcap_msg::{Kind as Form, MessageParts};
 use tcap_record::{Body, End, Entry, Record, read_record};
 use tcap_traces::{Circumstances, Ends, Verdict, judge_dialogue};
@@ -52,6 +52,15 @@ pub(crate) struct Case {
     pub(crate) earlier: Option<u64>,
     /// The number of the first entry in the stretch of which nothing can be read.
     pub(crate) unread: Option<u64>,
+}
+
+/// What is read of an entry to find its dialogue.
+pub(crate) fn heading_of(octets: &[u8]) -> HeadingView<'_> {
+    match octets {
+        [b'B', element @ ..] => read_heading(End::B, element),
+        [_, element @ ..] => read_heading(End::A, element),
+        [] => read_heading(End::A, octets),
+    }
 }
 
 /// What is said of a dialogue.
@@ -105,18 +114,26 @@ impl Case {
         Ok(octets)
     }
 
+    /// Whether its first entry is a Begin, as far as its heading tells.
+    fn begins(&self) -> bool {
+        match self.entries.first() {
+            Some(held) => heading_of(&held.octets).kind == Some(Form::Begin),
+            None => false,
+        }
+    }
+
     /// Whether an entry that can't be read may have been one of it.
-    fn may_have_had(&self, unread: u64, record: &Record) -> bool {
+    fn may_have_had(&self, unread: u64) -> bool {
         let Some(first) = self.gathered.numbers.first() else {
             return false;
         };
-        self.has_ids() && (*first < unread || !begins(record))
+        self.has_ids() && (*first < unread || !self.begins())
     }
 
     /// The number of the first of its entries behind one that may have been one of it.
-    fn unread_from(&self, record: &Record) -> Option<u64> {
+    fn unread_from(&self) -> Option<u64> {
         let unread = self.unread?;
-        if !self.may_have_had(unread, record) {
+        if !self.may_have_had(unread) {
             return None;
         }
         let found = self.gathered.numbers.iter().position(|number| *number > unread);
@@ -148,38 +165,81 @@ pub(crate) fn first_message(record: &Record) -> Option<&tcap_msg::Message> {
     }
 }
 
-/// Whether the first entry is a Begin.
-fn begins(record: &Record) -> bool {
-    match first_message(record) {
-        Some(message) => message.kind() == Form::Begin,
-        None => false,
-    }
+/// The table by which a dialogue is judged, its application context name, and whether it is unsure that this table is its own.
+#[derive(Debug, Drop)]
+struct Chosen<'a> {
+    table: Option<&'a NamedTable>,
+    context: Option<Vec<u8>>,
+    unsure: bool,
 }
 
-/// The application context name of a dialogue: the one that its Begin asks for, or its Unidirectional has; where it begins otherwise
-/// the first that a message of it has.
-fn context_of(alloc: Global, record: &Record) -> Result<Option<Vec<u8>>, AllocError> {
+/// The application context names of a dialogue's Begins and Unidirectionals, without the same one behind itself; `None` for one without.
+fn contexts_of(alloc: Global, record: &Record) -> Result<Vec<Option<Vec<u8>>>, AllocError> {
+    let mut contexts = Vec::new(alloc);
     for entry in &record.entries {
         let Body::Good(message) = &entry.body else {
             continue;
         };
-        let found = context_in(alloc, message)?;
-        if found.is_some() || matches!(message.kind(), Form::Begin | Form::Unidirectional) {
-            return Ok(found);
+        if matches!(message.kind(), Form::Begin | Form::Unidirectional) {
+            let context = context_in(alloc, message)?;
+            if contexts.last() != Some(&context) {
+                contexts.push(context)?;
+            }
+        }
+    }
+    Ok(contexts)
+}
+
+/// The context that the first message has which has one.
+fn first_context(alloc: Global, record: &Record) -> Result<Option<Vec<u8>>, AllocError> {
+    for entry in &record.entries {
+        if let Body::Good(message) = &entry.body {
+            let context = context_in(alloc, message)?;
+            if context.is_some() {
+                return Ok(context);
+            }
         }
     }
     Ok(None)
 }
 
-/// The table by which a dialogue is judged: that of its context; where its first entry is no message, so that nothing of it is looked
-/// up, any.
-fn table_of<'a>(book: &'a Book, context: Option<&[u8]>, record: &Record) -> Option<&'a NamedTable> {
-    match record.entries.first() {
-        Some(Entry {
-            body: Body::Bad(_), ..
-        }) => book.tables().first(),
-        _ => book.table_of(context),
+/// The table of a context.
+fn table_of<'a>(book: &'a Book, context: &Option<Vec<u8>>) -> Option<&'a NamedTable> {
+    match context {
+        Some(context) => book.table_of(Some(context.as_slice())),
+        None => book.table_of(None),
     }
+}
+
+/// The table of a dialogue that does not begin by a Begin: that of the first context that a message of it has, or any, of which it is
+/// then unsure.
+fn without_begin<'a>(alloc: Global, book: &'a Book, record: &Record) -> Result<Chosen<'a>, AllocError> {
+    let context = first_context(alloc, record)?;
+    let found = table_of(book, &context);
+    Ok(Chosen {
+        unsure: found.is_none(),
+        table: match found {
+            Some(table) => Some(table),
+            None => book.tables().first(),
+        },
+        context,
+    })
+}
+
+/// The table of a dialogue: that of the context which its Begin asks for, or its Unidirectional has. Where several Begins ask for
+/// different ones it is unsure.
+fn choose<'a>(alloc: Global, book: &'a Book, record: &Record) -> Result<Chosen<'a>, AllocError> {
+    let mut contexts = contexts_of(alloc, record)?;
+    let unsure = contexts.len() > 1 && book.tables().len() > 1;
+    if first_message(record).is_none() || contexts.is_empty() {
+        return without_begin(alloc, book, record);
+    }
+    let context = contexts.swap_remove(0);
+    Ok(Chosen {
+        table: table_of(book, &context),
+        context,
+        unsure,
+    })
 }
 
 /// Judges a dialogue.
@@ -194,19 +254,16 @@ pub(crate) fn judge<'a>(
     let Ok(mut record) = read_record(alloc, &mut Counted::new(octets.as_slice())) else {
         return Err(Stop::Memory);
     };
-    let context = context_of(alloc, &record)?;
-    let table = match &context {
-        Some(context) => table_of(book, Some(context.as_slice()), &record),
-        None => table_of(book, None, &record),
-    };
+    let chosen = choose(alloc, book, &record)?;
     let circumstances = Circumstances {
         // Where it begins without a Begin, no ID came again: an earlier dialogue goes on, of which more was under way.
-        again: case.gathered.again && !(rules.settled && begins(&record)),
-        unread_from: case.unread_from(&record),
+        again: case.gathered.again && !(rules.settled && case.begins()),
+        unsure: chosen.unsure,
+        unread_from: case.unread_from(),
         cut: case.is_cut(),
         open: rules.complete && case.is_open(),
     };
-    let ends = match table {
+    let ends = match chosen.table {
         Some(table) => Some(judge_dialogue(alloc, &mut record, table.table(), circumstances)?),
         None => None,
     };
@@ -216,8 +273,8 @@ pub(crate) fn judge<'a>(
     };
     Ok(Judged {
         record,
-        context,
-        table,
+        context: chosen.context,
+        table: chosen.table,
         ends,
         verdict,
     })

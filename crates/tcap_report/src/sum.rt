@@ -22,7 +22,7 @@ pub(crate) fn push_counts(
     push_count(text, dialogues.all(), "dialogue")?;
     text.push_str(": ")?;
     dialogues.push(text)?;
-    writeln!(text, "; {unheard} pass with messages unheard")
+    writeln!(text, "; {unheard} pass unheard or unanswered")
 }
 
 /// How many there are of each verdict, and the worst.

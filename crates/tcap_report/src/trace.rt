@@ -1,6 +1,6 @@
 //! A trace, judged dialogue by dialogue as it is read.
 
-use crate::case::{Behind, Case, Held, Judged, Rules, judge};
+use crate::case::{Behind, Case, Held, Judged, Rules, heading_of, judge};
 use crate::earlier::Earlier;
 use crate::entries::{Entries, Piece};
 use crate::fault::{FormFault, Halt, Stop};
@@ -12,7 +12,7 @@ use std::collections::BTreeMap;
 use std::mem;
 use tcap_ber::{Failed, Read, Write};
 use tcap_books::Book;
-use tcap_dialogues::{Cut, Gathered, Reuse, read_heading};
+use tcap_dialogues::{Cut, Gathered, Reuse};
 use tcap_record::{End, PIECE_LEN};
 use tcap_traces::{Said, Verdict, trace_verdict};
 
@@ -73,37 +73,22 @@ struct Trace<'a> {
     unheard: u64,
 }
 
-/// How many messages of its peer an end that passes did not hear.
-fn unheard_by(said: Said) -> u64 {
+/// Whether an end did not hear all that its peer sent, or sent nothing.
+fn is_silent(judged: &Judged, end: End, said: Said) -> bool {
     match said {
-        Said::Pass(unheard) => unheard,
-        _ => 0,
+        Said::Pass(0) => !judged.record.entries.iter().any(|entry| entry.side == Some(end)),
+        Said::Pass(_) => true,
+        _ => false,
     }
 }
 
-/// Whether an end that is asked did not hear all.
+/// Whether one that is asked did, or did so.
 fn is_unheard(judged: &Judged, of: Option<End>) -> bool {
     match judged.ends {
         Some(ends) => [End::A, End::B]
             .iter()
-            .any(|end| text::is_asked(of, *end) && unheard_by(ends.of(*end)) > 0),
+            .any(|end| text::is_asked(of, *end) && is_silent(judged, *end, ends.of(*end))),
         None => false,
-    }
-}
-
-/// The end of an entry.
-fn end_of(octets: &[u8]) -> End {
-    match octets {
-        [b'B', ..] => End::B,
-        _ => End::A,
-    }
-}
-
-/// The element of an entry.
-fn element_of(octets: &[u8]) -> &[u8] {
-    match octets {
-        [_, element @ ..] => element,
-        [] => octets,
     }
 }
 
@@ -134,7 +119,7 @@ impl<'a> Trace<'a> {
         sinks: &mut Sinks<W, J, P>,
     ) -> Result<(), Stop> {
         let mut done = Vec::new(self.alloc);
-        let heading = read_heading(end_of(&octets), element_of(&octets));
+        let heading = heading_of(&octets);
         if heading.kind.is_some() {
             self.messages = self.messages.saturating_add(1);
         } else if self.unread.is_none() {

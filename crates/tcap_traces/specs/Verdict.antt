@@ -128,21 +128,31 @@ abbrev pub is_of_mark : Kind → Bool
 is_of_mark kinds.OpenAtMark = true
 is_of_mark kind = false
 
+-- whether it rests on what the table says of an operation: its class, whether it may expire, what may be linked to it
+abbrev pub rests_on_table : Kind → Bool
+rests_on_table kinds.WrongOperation = true
+rests_on_table kinds.InvokeIdBusy = true
+rests_on_table kinds.BadLink = true
+rests_on_table kinds.AnsweredAlready = true
+rests_on_table kinds.RejectNotAllowed = true
+rests_on_table kind = false
+
 -- whether an entry is that one or behind it
 abbrev pub is_from : Option ℕ → ℕ → Bool
 is_from None number = false
 is_from (Some first) number = nat_le first number
 
 -- The first that is so of what makes a blame inconclusive: it is of a quiet mark; of an operation that the table lacks; of an ID
--- whose transaction may be over; of a dialogue in which an ID came again; or it stands behind an entry that may have been one of
+-- whose transaction may be over; of what the table says, where it is not sure which is the dialogue's; of a dialogue in which an ID came again; or it stands behind an entry that may have been one of
 -- this dialogue.
 abbrev pub doubt_of : Table → Circumstances → Side → List Entry → Refutation → Option Doubt
 doubt_of table c side entries r =
     cond (is_of_mark r.kind) (Some doubts.AtMark)
     (cond (rests_on_lack table side entries r) (Some doubts.LackingOperation)
     (cond (may_be_over table side entries r) (Some doubts.MaybeOver)
+    (cond (c.unsure && rests_on_table r.kind) (Some doubts.UnsureTable)
     (cond c.again (Some doubts.CameAgain)
-    (cond (is_from c.unread_from r.entry) (Some doubts.Unread) None))))
+    (cond (is_from c.unread_from r.entry) (Some doubts.Unread) None)))))
 
 -- ---- what is said of an end
 
@@ -152,7 +162,7 @@ is_of side entry = is_entry_of side entry.side
 
 -- that it passes, but for what the bench asks beside
 abbrev pub passes : Circumstances → ℕ → Said
-passes c unheard = cond c.cut saids.TooLong (cond c.open saids.Open (saids.Pass unheard))
+passes c unheard = cond c.cut saids.TooLong (cond c.unsure saids.UnsureTable (cond c.open saids.Open (saids.Pass unheard)))
 
 -- that it fails, or what makes that doubtful
 abbrev pub fails : Refutation → Option Doubt → Said

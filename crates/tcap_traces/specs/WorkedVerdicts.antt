@@ -57,7 +57,7 @@ of_another = (refl, refl)
 
 -- that no ID came again, that each entry could be read, and so on
 abbrev alone : Circumstances
-alone = record { again = false; unread_from = None; cut = false; «open» = false }
+alone = record { again = false; unsure = false; unread_from = None; cut = false; «open» = false }
 
 abbrev doubt : Table → Circumstances → Side → List Item → ℕ → Kind → Option Doubt
 doubt given c side items entry kind = doubt_of given c side (map entry_of items) (record { entry = entry; kind = kind })

@@ -13,7 +13,7 @@ ghost use Rattle.tcap_model.specs.World.{is_side};
 ghost use Rattle.tcap_refute.specs.Before.{is_a};
 ghost use Rattle.tcap_refute.specs.Kind.{is_unknown_operation};
 ghost use Rattle.tcap_evidence.specs.Evidence.{component_at};
-ghost use Rattle.tcap_traces.specs.Verdict.{doubt_of, faulty_component, heard_id, invokes_lacking, is_from, is_heard, is_heard_with, is_silent, lacks_heard, may_be_over, message_at, rests_on_lack, sends_lacking};
+ghost use Rattle.tcap_traces.specs.Verdict.{doubt_of, faulty_component, heard_id, invokes_lacking, is_from, is_heard, is_heard_with, is_silent, lacks_heard, may_be_over, message_at, rests_on_lack, rests_on_table, sends_lacking};
 
 use crate::said::{Circumstances, Doubt};
 use std::alloc::{AllocError, Global};
@@ -276,6 +276,20 @@ fn is_from(first: Option<u64>, number: u64) -> bool
     }
 }
 
+/// Whether a kind rests on what the table says of an operation: its class, whether it may expire, what may be linked to it.
+fn rests_on_table(kind: Kind) -> bool
+    ensures { result ≡ rests_on_table kind }
+{
+    matches!(
+        kind,
+        Kind::WrongOperation
+            | Kind::InvokeIdBusy
+            | Kind::BadLink
+            | Kind::AnsweredAlready
+            | Kind::RejectNotAllowed
+    )
+}
+
 /// What makes a blame inconclusive, the first that is so. `AllocError` where memory ran out.
 pub(crate) fn doubt_of(
     alloc: Global,
@@ -295,6 +309,9 @@ pub(crate) fn doubt_of(
     }
     if may_be_over(read, table, end, at) {
         return Ok(Some(Doubt::MaybeOver));
+    }
+    if circumstances.unsure && rests_on_table(at.kind) {
+        return Ok(Some(Doubt::UnsureTable));
     }
     if circumstances.again {
         return Ok(Some(Doubt::CameAgain));

@@ -57,6 +57,8 @@ fn passes(circumstances: Circumstances, unheard: u64) -> Said
 {
     if circumstances.cut {
         Said::TooLong
+    } else if circumstances.unsure {
+        Said::UnsureTable
     } else if circumstances.open {
         Said::Open
     } else {

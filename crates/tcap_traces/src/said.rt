@@ -15,6 +15,8 @@ pub enum Doubt {
     LackingOperation,
     /// It is of an ID that is begun again, whose transaction may be over: its peer sent nothing to it, or ends are prearranged.
     MaybeOver,
+    /// It is of what the table says of an operation, and it is not sure which table is the dialogue's.
+    UnsureTable,
     /// An earlier dialogue of the stretch had one of the dialogue's IDs, and a message of it may have been under way.
     CameAgain,
     /// Before it stands an entry of which nothing can be read, and which may have been one of this dialogue.
@@ -36,6 +38,8 @@ pub enum Said {
     Behind(u64),
     /// The dialogue has more entries than are judged, and those that are judged may have been sent.
     TooLong,
+    /// It may have sent its part by one table, and it is not sure which table is the dialogue's.
+    UnsureTable,
     /// It may have sent its part, and the dialogue is open at the end of its trace, where it was to be complete.
     Open,
 }
@@ -45,6 +49,8 @@ pub enum Said {
 pub struct Circumstances {
     /// An ID of it came again, and something of its earlier use may have been under way.
     pub again: bool,
+    /// It is judged by one table, and it is not sure that this is its own.
+    pub unsure: bool,
     /// The number of the first of its entries from which on one that could not be read may have been one of this dialogue.
     pub unread_from: Option<u64>,
     /// It has more entries than are judged.

@@ -45,6 +45,7 @@ const BEHIND: &[u8] = b"\x41\x62\x03\x48\x01\x01\x42\x64\x00\x41\x62\x03\x48\x01
 /// Nothing beside the entries.
 const ALONE: Circumstances = Circumstances {
     again: false,
+    unsure: false,
     unread_from: None,
     cut: false,
     open: false,

@@ -267,6 +267,10 @@ pub(crate) fn test(rt: &HostRuntime, test: &Test) -> u8 {
     let Some(book) = book_of(rt, &test.tables) else {
         return Verdict::Error.status();
     };
+    if book.tables().iter().filter(|table| table.contexts().is_empty()).count() > 1 {
+        let _ = eprintln!(rt; "error: more than one table is without contexts, so which is for which dialogue is not told");
+        return Verdict::Error.status();
+    }
     match tested(rt, test, &book) {
         Ok(verdict) => verdict.status(),
         Err(Stop::Memory) => {
