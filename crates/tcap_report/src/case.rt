@@ -89,11 +89,16 @@ pub(crate) struct Rules {
 impl Case {
     /// Whether it has more entries than are judged.
     pub(crate) fn is_cut(&self) -> bool {
-        self.entries.len() > MOST
+        self.entries.len() > MOST || (self.is_marked() && self.entries.len() == MOST)
+    }
+
+    /// Whether a quiet mark ends it.
+    fn is_marked(&self) -> bool {
+        matches!(self.behind, Behind::Mark { .. })
     }
 
     /// Whether an entry of it carries an ID.
-    fn has_ids(&self) -> bool {
+    pub(crate) fn has_ids(&self) -> bool {
         !self.gathered.a.is_empty() || !self.gathered.b.is_empty()
     }
 
@@ -108,7 +113,7 @@ impl Case {
         for held in self.entries.iter().take(MOST) {
             octets.extend_from_slice(&held.octets)?;
         }
-        if matches!(self.behind, Behind::Mark { .. }) && self.entries.len() < MOST {
+        if self.is_marked() && self.entries.len() < MOST {
             octets.push(b'Q')?;
         }
         Ok(octets)
@@ -226,17 +231,37 @@ fn without_begin<'a>(alloc: Global, book: &'a Book, record: &Record) -> Result<C
     })
 }
 
+/// Whether two tables of a book are one, as far as their names and contexts tell.
+fn are_one(one: Option<&NamedTable>, other: Option<&NamedTable>) -> bool {
+    match (one, other) {
+        (Some(one), Some(other)) => {
+            one.name() == other.name() && first_octets(one) == first_octets(other)
+        }
+        (None, None) => true,
+        _ => false,
+    }
+}
+
+/// The octets of a table's first context.
+fn first_octets(table: &NamedTable) -> Option<&[u8]> {
+    match table.contexts().first() {
+        Some(context) => Some(context.octets()),
+        None => None,
+    }
+}
+
 /// The table of a dialogue: that of the context which its Begin asks for, or its Unidirectional has. Where several Begins ask for
-/// different ones it is unsure.
+/// contexts of different tables it is unsure.
 fn choose<'a>(alloc: Global, book: &'a Book, record: &Record) -> Result<Chosen<'a>, AllocError> {
     let mut contexts = contexts_of(alloc, record)?;
-    let unsure = contexts.len() > 1 && book.tables().len() > 1;
     if first_message(record).is_none() || contexts.is_empty() {
         return without_begin(alloc, book, record);
     }
     let context = contexts.swap_remove(0);
+    let table = table_of(book, &context);
+    let unsure = contexts.iter().any(|other| !are_one(table, table_of(book, other)));
     Ok(Chosen {
-        table: table_of(book, &context),
+        table,
         context,
         unsure,
     })

@@ -195,7 +195,7 @@ impl<'a> Trace<'a> {
         };
         let judged = judge(self.alloc, &case, self.asked.book, rules)?;
         self.dialogues.add(judged.verdict);
-        if judged.verdict == Verdict::Pass && is_unheard(&judged, self.asked.of) {
+        if judged.verdict == Verdict::Pass && case.has_ids() && is_unheard(&judged, self.asked.of) {
             self.unheard = self.unheard.saturating_add(1);
         }
         self.tell(&case, &judged, sinks)
