@@ -35,6 +35,7 @@ pub mod JoiningIds
 pub mod JoinLaws
 pub mod TakeLaws
 pub mod FinishLaws
+pub mod WholeLaws
 pub mod CourseEnds
 pub mod AgainLaws
 pub mod OnceLaws

@@ -1,17 +1,19 @@
 //! Laws over all runs. Each function says by its contract alone what holds of every run.
 
-ghost use Rattle.std.specs.Prelude.{◌≡◌, ◌+◌, ◌<◌, ℕ, Bool, true, false, List, ◌++◌, ◌∷◌, Contains, Some, length, map, slice_get, take};
+ghost use Rattle.std.specs.Prelude.{◌≡◌, ◌+◌, ◌<◌, ℕ, Bool, true, false, List, ◌++◌, ◌∷◌, [], Contains, Some, filter, length, map, slice_get, take};
 ghost use Rattle.tcap_record.specs.declared.entry.End.{End as Side};
 ghost use Rattle.tcap_end.specs.Table.{Table};
 ghost use Rattle.tcap_model.specs.World.{Item};
 ghost use Rattle.tcap_model.specs.Run.{IsLawful, IsLawfulFor};
 ghost use Rattle.tcap_msg.specs.declared.message.Message.{Message};
 ghost use Rattle.tcap_model.specs.World.{Sent, has_quiet};
-ghost use Rattle.tcap_dialogues.specs.Course.{Course, Heading, courses_of, has_entry, headings_of};
+ghost use Rattle.tcap_dialogues.specs.Course.{Course, Heading, courses_of, courses_so_far, has_entry, headings_of, is_free};
 ghost use Rattle.tcap_dialogues.specs.declared.reuse.Reuse.{Reuse};
 ghost use Rattle.tcap_dialogues.specs.declared.reuse.Reuse.TheVariants as reuses;
 ghost use Rattle.tcap_dialogues.specs.Cut.{Dialogue, IdOf, dialogues_of, is_among, is_of};
+ghost use Rattle.tcap_dialogues.specs.Gathered.{AreGathered};
 ghost use Rattle.tcap_dialogues.specs.Part.{IsClosed, part_of};
+ghost use Rattle.tcap_dialogues.specs.declared.gathered.Gathered.{Gathered};
 
 /// What an end may have sent that keeps the rules, it may have sent of each part that shares no transaction ID with the rest, with
 /// the quiet marks (Q.774 3.3). So what is at fault in a dialogue is at fault in the record.
@@ -92,4 +94,16 @@ pub fn once_is_the_cut()
     ensures { (items : List Item) → has_quiet items ≡ false
         → map (λ d. record { numbers = d.numbers; ids = d.ids }) (courses_of reuses.Once (headings_of items))
         ≡ dialogues_of items }
+{}
+
+/// What a [`Cut`](crate::Cut) handed over so far stands for the dialogues that are done: with what it hands over as the next entry
+/// comes it stands for those that are done then, and with what it hands over at the end for all of the stretch.
+pub fn handed_over_are_all()
+    ensures next { (reuse : Reuse) (headings : List Heading) (before given : List Gathered)
+        → AreGathered (courses_so_far reuse headings).done before → (h : Heading)
+        → let live = (courses_so_far reuse headings).live in AreGathered (filter (is_free reuse (length headings) live h) live) given
+        → AreGathered (courses_so_far reuse (headings ++ h ∷ [])).done (before ++ given) }
+    ensures end { (reuse : Reuse) (headings : List Heading) (before given : List Gathered)
+        → AreGathered (courses_so_far reuse headings).done before → AreGathered (courses_so_far reuse headings).live given
+        → AreGathered (courses_of reuse headings) (before ++ given) }
 {}
