@@ -221,8 +221,8 @@ module _ (live : List Course) (names : Course → ℕ) (lives : BTreeMap ℕ Liv
             let (e, listed, over, name) = ends.back k found old in (
               e,
               other e listed
-              (λ same. true≢false (sym (is_it d.over k
-              (ap (λ x. x.over) (one_name live names lives are apart d e has listed (named ∙ sym same)) ∙ over)) ∙ is)),
+                  (λ same. true≢false (sym (is_it d.over k
+                  (ap (λ x. x.over) (one_name live names lives are apart d e has listed (named ∙ sym same)) ∙ over)) ∙ is)),
               over,
               name,
             )
@@ -249,7 +249,7 @@ module _ (live : List Course) (names : Course → ℕ) (lives : BTreeMap ℕ Liv
       λ e there.
           let (listed, so) = kept_in (is_named names (Some number)) live e there in eqb-true (names e) number so ∙ sym name,
       finds (λ e. has_entry e l.name) (those names (Some number) live) d (those_one.there d (first_in d []))
-      (ap (has_entry d) (name ∙ sym named) ∙ are.entry d has),
+          (ap (has_entry d) (name ∙ sym named) ∙ are.entry d has),
     )
 
 -- ---- what the code takes out

@@ -150,7 +150,7 @@ module _ (live : List Course) (names : Course → ℕ) (earlier : List IdOf) (n 
           let o : Old live names earlier n h apart later below d = (
             listed,
             false_from_ne_true _
-            (λ hit. true≢false (sym (id_stays earlier n h live it is_made d id (record { listed = listed; hit = hit }) its) ∙ none)),
+                (λ hit. true≢false (sym (id_stays earlier n h live it is_made d id (record { listed = listed; hit = hit }) its) ∙ none)),
           ) in (
             d,
             old_later live names earlier n h apart later below d o,

@@ -149,7 +149,7 @@ module _ (live : List Course) (names : Course → ℕ) (earlier : List IdOf) (n 
                 let (x, found_at, named, is) = are.there d (left_old d o) in (
                   x,
                   ap (tree.get nat_cmp now.live) (name_old d o) ∙ at (names d)
-                  ∙ ap (λ b. cond b (Some l) (tree.get nat_cmp lives (names d))) (other_name d o) ∙ found_at,
+                      ∙ ap (λ b. cond b (Some l) (tree.get nat_cmp lives (names d))) (other_name d o) ∙ found_at,
                   named ∙ sym (name_old d o),
                   is,
                 )

@@ -59,8 +59,8 @@ module _ (live : List Course) (names : Course → ℕ) (number : Option ℕ) (ap
       stays (Some m) used begun none (d, listed, its, name, used_is, begun_is) = (
         d,
         left_in (λ x. not (is_named names number x)) live d listed
-        (ap not (false_from_ne_true (is_named names number d)
-        (λ named. true≢false (sym (finds (λ x. is_among x.ids id) gone d (left_in (is_named names number) live d listed named) its) ∙ none)))),
+            (ap not (false_from_ne_true (is_named names number d)
+            (λ named. true≢false (sym (finds (λ x. is_among x.ids id) gone d (left_in (is_named names number) live d listed named) its) ∙ none)))),
         its,
         name,
         used_is,
@@ -86,13 +86,13 @@ module _ (live : List Course) (names : Course → ℕ) (number : Option ℕ) (ap
       let (d, has, so) = found (λ x. has_entry x l.name) gone some in
       let listed = (kept_in (is_named names number) live d has).0 in
       let only : (e : Course) → Contains gone e → e ≡ d = λ e there.
-          one_name live names lives are apart e d (kept_in (is_named names number) live e there).0 listed (named e there ∙ sym (named d has)) in (
+      one_name live names lives are apart e d (kept_in (is_named names number) live e there).0 listed (named e there ∙ sym (named d has)) in (
         d,
         has,
         only,
         same_kept gone (d ∷ []) l
-        (record { there = λ e there. subst (Contains (d ∷ [])) (sym (only e there)) (first_in d []); back = λ e there. alone d e has (in_cases d e [] there) })
-        kept,
+            (record { there = λ e there. subst (Contains (d ∷ [])) (sym (only e there)) (first_in d []); back = λ e there. alone d e has (in_cases d e [] there) })
+            kept,
       )
     where
       alone : (d e : Course) → Contains gone d → (d ≡ e) ⊎ Contains [] e → Contains gone e

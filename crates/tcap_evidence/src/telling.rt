@@ -207,12 +207,7 @@ fn push_entries(text: &mut String, entries: &[u64]) -> Result<(), AllocError>
 
 /// Appends what entries show of a fault of that end, in words: whose they are, and what they are, of that invoke ID where components are
 /// counted. `AllocError` where memory ran out.
-pub fn push_what(
-    text: &mut String,
-    end: End,
-    what: What,
-    id: Option<i8>,
-) -> Result<(), AllocError>
+pub fn push_what(text: &mut String, end: End, what: What, id: Option<i8>) -> Result<(), AllocError>
     ensures { OnOk result (string_bytes text.new ≡ string_bytes text.old ++ what_words end id what) }
 {
     text.push_str(letter(sender_of(end, what)))?;

@@ -114,7 +114,8 @@ fn line_of(mistaken: Mistaken) -> &'static str {
         Mistaken::Capture => {
             "  hint: this looks like a capture, of which tools/lines_of_capture.py makes lines\n"
         }
-        Mistaken::Json => "  hint: this looks like JSON, as an operation table or a certificate is\n",
+        Mistaken::Json =>
+            "  hint: this looks like JSON, as an operation table or a certificate is\n",
     }
 }
 

@@ -141,7 +141,11 @@ impl Case {
         if !self.may_have_had(unread) {
             return None;
         }
-        let found = self.gathered.numbers.iter().position(|number| *number > unread);
+        let found = self
+            .gathered
+            .numbers
+            .iter()
+            .position(|number| *number > unread);
         match found {
             Some(at) => Some(at as u64),
             None => Some(self.gathered.numbers.len() as u64),
@@ -162,10 +166,12 @@ impl Judged<'_> {
 /// The message of the first entry, where it is one.
 pub(crate) fn first_message(record: &Record) -> Option<&tcap_msg::Message> {
     match record.entries.first() {
-        Some(Entry {
-            body: Body::Good(message),
-            ..
-        }) => Some(message),
+        Some(
+            Entry {
+                body: Body::Good(message),
+                ..
+            },
+        ) => Some(message),
         _ => None,
     }
 }
@@ -218,7 +224,11 @@ fn table_of<'a>(book: &'a Book, context: &Option<Vec<u8>>) -> Option<&'a NamedTa
 
 /// The table of a dialogue that does not begin by a Begin: that of the first context that a message of it has, or any, of which it is
 /// then unsure.
-fn without_begin<'a>(alloc: Global, book: &'a Book, record: &Record) -> Result<Chosen<'a>, AllocError> {
+fn without_begin<'a>(
+    alloc: Global,
+    book: &'a Book,
+    record: &Record,
+) -> Result<Chosen<'a>, AllocError> {
     let context = first_context(alloc, record)?;
     let found = table_of(book, &context);
     Ok(Chosen {
@@ -259,7 +269,9 @@ fn choose<'a>(alloc: Global, book: &'a Book, record: &Record) -> Result<Chosen<'
     }
     let context = contexts.swap_remove(0);
     let table = table_of(book, &context);
-    let unsure = contexts.iter().any(|other| !are_one(table, table_of(book, other)));
+    let unsure = contexts
+        .iter()
+        .any(|other| !are_one(table, table_of(book, other)));
     Ok(Chosen {
         table,
         context,

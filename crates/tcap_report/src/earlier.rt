@@ -27,9 +27,16 @@ fn last_of(numbers: &Numbers, ids: &BTreeSet<TransactionId>) -> Option<u64> {
 }
 
 /// That dialogue had these IDs.
-fn note_all(numbers: &mut Numbers, ids: &BTreeSet<TransactionId>, number: u64) -> Result<(), AllocError> {
+fn note_all(
+    numbers: &mut Numbers,
+    ids: &BTreeSet<TransactionId>,
+    number: u64,
+) -> Result<(), AllocError> {
     for id in ids {
-        if numbers.insert(id.view().to_transaction_id(), number).is_err() {
+        if numbers
+            .insert(id.view().to_transaction_id(), number)
+            .is_err()
+        {
             return Err(AllocError);
         }
     }

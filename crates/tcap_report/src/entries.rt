@@ -151,7 +151,10 @@ impl Entries {
     /// That of lines.
     fn next_line(&mut self) -> Result<Option<Piece>, Halt> {
         for _ in 0..u64::MAX {
-            let Some((line, count)) = line_in(&self.held[self.from.min(self.held.len())..], self.ended) else {
+            let Some((line, count)) = line_in(
+                &self.held[self.from.min(self.held.len())..],
+                self.ended,
+            ) else {
                 return self.too_long();
             };
             if let Some(broken) = broken_by(self.alloc, line)? {
@@ -207,13 +210,19 @@ impl Entries {
             [b'A' | b'B', element @ ..] => match outer(element) {
                 Ok(Outer::Whole(len)) => len,
                 Ok(Outer::Need(_)) if !self.ended => return Ok(None),
-                Ok(Outer::Need(_)) => return Err(self.record_fault("the record ends within an entry", self.place)?),
+                Ok(Outer::Need(_)) => return Err(self.record_fault(
+                    "the record ends within an entry",
+                    self.place,
+                )?),
                 Err(fault) => {
                     let place = self.place.saturating_add(1).saturating_add(fault.place);
                     return Err(self.record_fault(name_of(fault.reason), place)?);
                 }
             },
-            _ => return Err(self.record_fault("an entry begins with neither A, B nor Q", self.place)?),
+            _ => return Err(self.record_fault(
+                "an entry begins with neither A, B nor Q",
+                self.place,
+            )?),
         };
         let mut octets = Vec::new(self.alloc);
         let rest = self.rest();

@@ -273,14 +273,30 @@ pub(crate) fn push_trace(
     json.push_str("{\"trace\":")?;
     push_text(json, trace)?;
     push_named(json, "verdict", verdict.word())?;
-    let Counts { pass, inconc, fail, error, .. } = *dialogues;
-    write!(json, ",\"messages\":{messages},\"dialogues\":{{\"pass\":{pass},")?;
-    write!(json, "\"inconc\":{inconc},\"fail\":{fail},\"error\":{error}}},")?;
+    let Counts {
+        pass,
+        inconc,
+        fail,
+        error,
+        ..
+    } = *dialogues;
+    write!(
+        json,
+        ",\"messages\":{messages},\"dialogues\":{{\"pass\":{pass},"
+    )?;
+    write!(
+        json,
+        "\"inconc\":{inconc},\"fail\":{fail},\"error\":{error}}},"
+    )?;
     write!(json, "\"unheard\":{unheard}")
 }
 
 /// Appends what is wrong with a trace, where something is, and its line, and ends the object.
-pub(crate) fn push_fault(json: &mut String, why: &str, line: Option<u64>) -> Result<(), AllocError> {
+pub(crate) fn push_fault(
+    json: &mut String,
+    why: &str,
+    line: Option<u64>,
+) -> Result<(), AllocError> {
     if !why.is_empty() {
         push_named(json, "text", why)?;
     }

@@ -30,7 +30,9 @@ fn push_xml(xml: &mut String, text: &str) -> Result<(), AllocError> {
             '&' => xml.push_str("&amp;")?,
             '"' => xml.push_str("&quot;")?,
             '\n' | '\t' => xml.push(c)?,
-            c if (c as u32) < 0x20 || c as u32 == 0xFFFE || c as u32 == 0xFFFF => xml.push('\u{FFFD}')?,
+            c if (c as u32) < 0x20 || c as u32 == 0xFFFE || c as u32 == 0xFFFF => xml.push(
+                '\u{FFFD}',
+            )?,
             c => xml.push(c)?,
         }
     }
@@ -57,7 +59,13 @@ impl Junit {
     }
 
     /// Appends a testcase that fails or has an error.
-    fn push_case(&mut self, trace: &str, name: &str, verdict: Verdict, text: &str) -> Result<(), AllocError> {
+    fn push_case(
+        &mut self,
+        trace: &str,
+        name: &str,
+        verdict: Verdict,
+        text: &str,
+    ) -> Result<(), AllocError> {
         let tag = match verdict {
             Verdict::Fail => "failure",
             _ => "error",

@@ -70,13 +70,22 @@ impl Counts {
 
     /// How many there are.
     pub(crate) fn all(&self) -> u64 {
-        let judged = self.pass.saturating_add(self.inconc).saturating_add(self.fail);
+        let judged = self
+            .pass
+            .saturating_add(self.inconc)
+            .saturating_add(self.fail);
         judged.saturating_add(self.error)
     }
 
     /// Appends how many there are of each.
     pub(crate) fn push(&self, text: &mut String) -> Result<(), AllocError> {
-        let Counts { pass, inconc, fail, error, .. } = *self;
+        let Counts {
+            pass,
+            inconc,
+            fail,
+            error,
+            ..
+        } = *self;
         write!(text, "{pass} pass, {inconc} inconc, ")?;
         write!(text, "{fail} fail, {error} error")
     }

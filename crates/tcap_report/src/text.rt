@@ -44,7 +44,12 @@ fn push_table(text: &mut String, judged: &Judged) -> Result<(), AllocError> {
 }
 
 /// Appends the line of a dialogue.
-fn push_dialogue(text: &mut String, trace: &str, case: &Case, judged: &Judged) -> Result<(), AllocError> {
+fn push_dialogue(
+    text: &mut String,
+    trace: &str,
+    case: &Case,
+    judged: &Judged,
+) -> Result<(), AllocError> {
     let number = case.number;
     text.push_str(trace)?;
     write!(text, ": dialogue {number}")?;
@@ -110,7 +115,10 @@ pub(crate) fn push_doubt(text: &mut String, case: &Case, doubt: Doubt) -> Result
     match case.earlier {
         Some(earlier) if doubt == Doubt::CameAgain => {
             let number = case.number;
-            write!(text, "; this is dialogue {number}, and that was dialogue {earlier}")
+            write!(
+                text,
+                "; this is dialogue {number}, and that was dialogue {earlier}"
+            )
         }
         _ => Ok(()),
     }
@@ -170,7 +178,11 @@ fn push_end(
 }
 
 /// Appends an operation, by its name where the table has one.
-fn push_operation(text: &mut String, table: Option<&NamedTable>, code: CodeView) -> Result<(), AllocError> {
+fn push_operation(
+    text: &mut String,
+    table: Option<&NamedTable>,
+    code: CodeView,
+) -> Result<(), AllocError> {
     let name = match table {
         Some(table) => table.name_of(code),
         None => None,
@@ -197,7 +209,11 @@ fn push_component(
             push_operation(text, table, code)
         }
         ComponentView::ReturnResult { last, id, .. } => {
-            text.push_str(if last { ", ReturnResultLast" } else { ", ReturnResultNotLast" })?;
+            text.push_str(if last {
+                ", ReturnResultLast"
+            } else {
+                ", ReturnResultNotLast"
+            })?;
             write!(text, " {id}")
         }
         ComponentView::ReturnError { id, .. } => write!(text, ", ReturnError {id}"),
@@ -207,7 +223,12 @@ fn push_component(
 }
 
 /// Appends what an entry is.
-fn push_body(text: &mut String, table: Option<&NamedTable>, place: u64, body: &Body) -> Result<(), AllocError> {
+fn push_body(
+    text: &mut String,
+    table: Option<&NamedTable>,
+    place: u64,
+    body: &Body,
+) -> Result<(), AllocError> {
     match body {
         Body::Good(message) => {
             push_head(text, message)?;

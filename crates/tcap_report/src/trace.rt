@@ -76,7 +76,11 @@ struct Trace<'a> {
 /// Whether an end did not hear all that its peer sent, or sent nothing.
 fn is_silent(judged: &Judged, end: End, said: Said) -> bool {
     match said {
-        Said::Pass(0) => !judged.record.entries.iter().any(|entry| entry.side == Some(end)),
+        Said::Pass(0) => !judged
+            .record
+            .entries
+            .iter()
+            .any(|entry| entry.side == Some(end)),
         Said::Pass(_) => true,
         _ => false,
     }
@@ -85,9 +89,8 @@ fn is_silent(judged: &Judged, end: End, said: Said) -> bool {
 /// Whether one that is asked did, or did so.
 fn is_unheard(judged: &Judged, of: Option<End>) -> bool {
     match judged.ends {
-        Some(ends) => [End::A, End::B]
-            .iter()
-            .any(|end| text::is_asked(of, *end) && is_silent(judged, *end, ends.of(*end))),
+        Some(ends) => [End::A, End::B].iter().any(|end| text::is_asked(of, *end)
+            && is_silent(judged, *end, ends.of(*end))),
         None => false,
     }
 }
@@ -126,7 +129,18 @@ impl<'a> Trace<'a> {
             self.unread = Some(self.count);
         }
         self.cut.take(heading, &mut done)?;
-        if self.held.insert(self.count, Held { octets, line, comment }).is_err() {
+        if self
+            .held
+            .insert(
+                self.count,
+                Held {
+                    octets,
+                    line,
+                    comment,
+                },
+            )
+            .is_err()
+        {
             return Err(Stop::Memory);
         }
         self.count = self.count.saturating_add(1);
@@ -233,7 +247,9 @@ impl<'a> Trace<'a> {
     ) -> Result<(), Halt> {
         for _ in 0..u64::MAX {
             match entries.next()? {
-                Some(Piece::Entry(octets, line, comment)) => self.enter(octets, line, comment, sinks)?,
+                Some(Piece::Entry(octets, line, comment)) => self.enter(
+                    octets, line, comment, sinks,
+                )?,
                 Some(Piece::Mark(line)) => {
                     let number = self.before.saturating_add(self.count);
                     self.end_stretch(Behind::Mark { line, number }, sinks)?;
@@ -319,7 +335,14 @@ impl<'a> Trace<'a> {
                 Some(fault) => fault.line,
                 None => None,
             };
-            json::push_trace(&mut line, name, verdict, self.messages, &self.dialogues, self.unheard)?;
+            json::push_trace(
+                &mut line,
+                name,
+                verdict,
+                self.messages,
+                &self.dialogues,
+                self.unheard,
+            )?;
             json::push_fault(&mut line, why, number)?;
             write_text(*writer, &line)?;
         }
@@ -347,13 +370,27 @@ impl<'a> Trace<'a> {
 }
 
 /// Appends what is wrong with a trace, where something is.
-fn push_fault(text: &mut String, fault: &Option<FormFault>, messages: u64) -> Result<(), AllocError> {
+fn push_fault(
+    text: &mut String,
+    fault: &Option<FormFault>,
+    messages: u64,
+) -> Result<(), AllocError> {
     match fault {
-        Some(FormFault { line: Some(line), text: what }) => {
+        Some(
+            FormFault {
+                line: Some(line),
+                text: what,
+            },
+        ) => {
             write!(text, "line {line}: ")?;
             text.push_str(what)
         }
-        Some(FormFault { line: None, text: what }) => text.push_str(what),
+        Some(
+            FormFault {
+                line: None,
+                text: what,
+            },
+        ) => text.push_str(what),
         None if messages == 0 => text.push_str("there is no message in it"),
         None => Ok(()),
     }

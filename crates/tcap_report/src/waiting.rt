@@ -39,9 +39,8 @@ fn sent(entry: &Entry) -> Option<(End, &Message)> {
 /// The ID of an invocation that a component answers for good.
 fn answered_by(component: ComponentView) -> Option<i8> {
     match component {
-        ComponentView::ReturnResult { last: true, id, .. } | ComponentView::ReturnError { id, .. } => {
-            Some(id)
-        }
+        ComponentView::ReturnResult { last: true, id, .. }
+        | ComponentView::ReturnError { id, .. } => { Some(id) }
         ComponentView::Reject { id, .. } => id,
         _ => None,
     }
@@ -117,10 +116,16 @@ pub(crate) fn push_waiting(
     for wait in waits.iter().rev().take(MOST) {
         match wait {
             Wait::Begin(number) => {
-                writeln!(text, "  it waits for an answer of {letter} to the Begin in entry {number}")?;
+                writeln!(
+                    text,
+                    "  it waits for an answer of {letter} to the Begin in entry {number}"
+                )?;
             }
             Wait::Invoke(number, id) => {
-                write!(text, "  it waits for an answer of {letter} to invocation {id} ")?;
+                write!(
+                    text,
+                    "  it waits for an answer of {letter} to invocation {id} "
+                )?;
                 writeln!(text, "in entry {number}, of class 1")?;
             }
         }

@@ -36,9 +36,12 @@ pub(crate) fn doubt_words(doubt: Doubt) -> &'static str {
     match doubt {
         Doubt::AtMark => "the trace's quiet mark is the bench's word, and it may stand too early",
         Doubt::LackingOperation => "the table lacks the operation",
-        Doubt::MaybeOver => "the transaction of the ID that is begun again may have been given up or may have ended in silence",
-        Doubt::UnsureTable => "it is of what the table says, and it is not sure that this is the table of the dialogue: it has no Begin, or its Begins ask for different contexts",
-        Doubt::CameAgain => "an ID of the dialogue was one of an earlier one, of which a message may have been under way (--ids settled says that none was)",
+        Doubt::MaybeOver =>
+            "the transaction of the ID that is begun again may have been given up or may have ended in silence",
+        Doubt::UnsureTable =>
+            "it is of what the table says, and it is not sure that this is the table of the dialogue: it has no Begin, or its Begins ask for different contexts",
+        Doubt::CameAgain =>
+            "an ID of the dialogue was one of an earlier one, of which a message may have been under way (--ids settled says that none was)",
         Doubt::Unread => "an entry before it can't be read, and may have been one of this dialogue",
     }
 }
@@ -46,10 +49,14 @@ pub(crate) fn doubt_words(doubt: Doubt) -> &'static str {
 /// What is said of an end that is undecided, in words; nothing of the others.
 pub(crate) fn undecided_words(said: Said) -> &'static str {
     match said {
-        Said::Undecided => "it is not found how it can have sent its part, and no entry of it is blamed",
-        Said::Behind(_) => "is no message that is judged, and is its own or stands before others of its own",
-        Said::TooLong => "the dialogue has more than 100,000 entries, and of those nothing is blamed",
-        Said::UnsureTable => "by this table it may have sent its part, and it is not sure that this is the table of the dialogue",
+        Said::Undecided =>
+            "it is not found how it can have sent its part, and no entry of it is blamed",
+        Said::Behind(_) =>
+            "is no message that is judged, and is its own or stands before others of its own",
+        Said::TooLong =>
+            "the dialogue has more than 100,000 entries, and of those nothing is blamed",
+        Said::UnsureTable =>
+            "by this table it may have sent its part, and it is not sure that this is the table of the dialogue",
         Said::Open => "the dialogue is open at its end",
         _ => "",
     }

@@ -44,7 +44,11 @@ impl Watch for Progress<'_> {
 fn book_of(rt: &HostRuntime, paths: &[&str]) -> Option<Book> {
     let alloc = rt.alloc();
     if paths.is_empty() {
-        return read_book(rt, "the book that the program carries", CARRIED_BOOK.as_bytes());
+        return read_book(
+            rt,
+            "the book that the program carries",
+            CARRIED_BOOK.as_bytes(),
+        );
     }
     let mut all = None;
     for path in paths {
@@ -199,7 +203,12 @@ fn test_all<J: Write>(
 }
 
 /// Judges all traces, with what goes to the file of JSON.
-fn test_with_json(rt: &HostRuntime, test: &Test, book: &Book, junit: Option<&mut Junit>) -> Result<Verdict, Stop> {
+fn test_with_json(
+    rt: &HostRuntime,
+    test: &Test,
+    book: &Book,
+    junit: Option<&mut Junit>,
+) -> Result<Verdict, Stop> {
     let Some(path) = test.json else {
         return test_all::<Counted<Vec<u8>>>(rt, test, book, None, junit);
     };
@@ -261,14 +270,24 @@ pub(crate) fn test(rt: &HostRuntime, test: &Test) -> u8 {
         return WRONG_WORDS;
     }
     if is_overwritten(rt, test) {
-        let _ = eprintln!(rt; "error: what is said would be written over a file that is read, or twice into one");
+        let _ = eprintln!(rt;
+            "error: what is said would be written over a file that is read, or twice into one"
+        );
         return Verdict::Error.status();
     }
     let Some(book) = book_of(rt, &test.tables) else {
         return Verdict::Error.status();
     };
-    if book.tables().iter().filter(|table| table.contexts().is_empty()).count() > 1 {
-        let _ = eprintln!(rt; "error: more than one table is without contexts, so which is for which dialogue is not told");
+    if book
+        .tables()
+        .iter()
+        .filter(|table| table.contexts().is_empty())
+        .count()
+        > 1
+    {
+        let _ = eprintln!(rt;
+            "error: more than one table is without contexts, so which is for which dialogue is not told"
+        );
         return Verdict::Error.status();
     }
     match tested(rt, test, &book) {
