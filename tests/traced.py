@@ -59,6 +59,10 @@ class Report:
         self.status, self.text = self.ran.returncode, self.ran.stdout.decode(errors="replace")
         self.json, self.junit = content(files["--json"]), content(files["--junit"])
         self.objects = [json.loads(line) for line in self.json.decode().split("\n") if line]
+        # A quiet mark is the last entry of the dialogues that it ends; the rows speak of their messages.
+        for it in self.objects:
+            if it.get("marked"):
+                it["mark"] = it["entries"].pop(), it["lines"].pop()
         self.dialogues, self.traces = collections.defaultdict(list), {}
         for it in self.objects:
             if "dialogue" in it:
@@ -117,8 +121,9 @@ def says_counts(text, found):
 
 
 def is_unheard(it):
-    """Whether a dialogue passes of which an end that is asked did not hear all."""
-    return it["verdict"] == "pass" and any(it[end].get("unheard", 0) > 0 for end in "AB" if end in it)
+    """Whether a dialogue passes of which an end that is asked did not hear all, or sent nothing."""
+    asked = [it[end] for end in "AB" if end in it]
+    return it["verdict"] == "pass" and any(it["ids"].values()) and any(of["unheard"] or not of["sent"] for of in asked)
 
 
 def as_xml(name):
@@ -130,6 +135,7 @@ def look_by_schema(checks, report):
     for it in report.objects if SCHEMA else []:
         # Of a dialogue of very many entries the first ones: the others look alike, and take long.
         it = it | {key: it[key][:MOST_LOOKED_AT] for key in ("entries", "lines") if key in it}
+        it.pop("mark", None)
         wrong = next(iter(SCHEMA.iter_errors(it)), None)
         checks.same("the schema", wrong and f"{wrong.message} in {it}", None)
 

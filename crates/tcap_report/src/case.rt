@@ -93,7 +93,7 @@ impl Case {
     }
 
     /// Whether a quiet mark ends it.
-    fn is_marked(&self) -> bool {
+    pub(crate) fn is_marked(&self) -> bool {
         matches!(self.behind, Behind::Mark { .. })
     }
 
@@ -102,9 +102,9 @@ impl Case {
         !self.gathered.a.is_empty() || !self.gathered.b.is_empty()
     }
 
-    /// Whether its stretch ended before its transaction did.
+    /// Whether its trace ended before its transaction did.
     pub(crate) fn is_open(&self) -> bool {
-        self.behind != Behind::More && self.gathered.over.is_none()
+        self.behind == Behind::End && self.gathered.over.is_none()
     }
 
     /// The octets of the record of it.
@@ -161,6 +161,15 @@ impl Judged<'_> {
             None => None,
         }
     }
+}
+
+/// How many entries an end sent.
+pub(crate) fn sent_by(record: &Record, end: End) -> usize {
+    record
+        .entries
+        .iter()
+        .filter(|entry| entry.side == Some(end))
+        .count()
 }
 
 /// The message of the first entry, where it is one.

@@ -1,6 +1,6 @@
 //! What is said, as lines of JSON (NDJSON): one object for each dialogue, then one for its trace.
 
-use crate::case::{Behind, Case, Judged};
+use crate::case::{Behind, Case, Judged, sent_by};
 use crate::sum::Counts;
 use crate::text::{is_asked, push_behind, push_doubt, push_reason, push_undecided};
 use crate::words::{comment_of, ids_of, letter, line_of};
@@ -181,7 +181,10 @@ fn push_end(
     json.push_str(said.verdict().word())?;
     json.push_str("\"")?;
     match said {
-        Said::Pass(unheard) => write!(json, ",\"unheard\":{unheard}")?,
+        Said::Pass(unheard) => {
+            let sent = sent_by(&judged.record, end);
+            write!(json, ",\"unheard\":{unheard},\"sent\":{sent}")?;
+        }
         Said::Fail(at) => push_blamed(alloc, json, case, judged, end, at)?,
         Said::Doubtful(at, doubt) => {
             push_blamed(alloc, json, case, judged, end, at)?;
@@ -241,6 +244,7 @@ pub(crate) fn push_case(
     push_table(json, judged)?;
     push_flag(json, "open", case.is_open())?;
     push_flag(json, "again", case.gathered.again)?;
+    push_flag(json, "marked", case.is_marked())?;
     match judged.ends {
         Some(ends) => {
             for end in [End::A, End::B] {

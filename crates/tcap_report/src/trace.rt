@@ -1,6 +1,6 @@
 //! A trace, judged dialogue by dialogue as it is read.
 
-use crate::case::{Behind, Case, Held, Judged, Rules, heading_of, judge};
+use crate::case::{Behind, Case, Held, Judged, Rules, heading_of, judge, sent_by};
 use crate::earlier::Earlier;
 use crate::entries::{Entries, Piece};
 use crate::fault::{FormFault, Halt, Stop};
@@ -76,11 +76,7 @@ struct Trace<'a> {
 /// Whether an end did not hear all that its peer sent, or sent nothing.
 fn is_silent(judged: &Judged, end: End, said: Said) -> bool {
     match said {
-        Said::Pass(0) => !judged
-            .record
-            .entries
-            .iter()
-            .any(|entry| entry.side == Some(end)),
+        Said::Pass(0) => sent_by(&judged.record, end) == 0,
         Said::Pass(_) => true,
         _ => false,
     }

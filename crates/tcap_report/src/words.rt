@@ -57,7 +57,7 @@ pub(crate) fn undecided_words(said: Said) -> &'static str {
             "the dialogue has more than 100,000 entries, and of those nothing is blamed",
         Said::UnsureTable =>
             "by this table it may have sent its part, and it is not sure that this is the table of the dialogue",
-        Said::Open => "the dialogue is open at its end",
+        Said::Open => "the dialogue is open at the end of its trace",
         _ => "",
     }
 }

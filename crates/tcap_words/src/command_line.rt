@@ -280,7 +280,7 @@ fn test_command<'a>(alloc: Global) -> Result<Command<'a>, AllocError>
     let complete = flag_arg(
         alloc,
         "complete",
-        "A dialogue that is open at its end is inconclusive",
+        "A dialogue that is open at the end of its trace is inconclusive",
     );
     let json = file_arg(
         alloc,
