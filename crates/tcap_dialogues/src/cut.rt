@@ -59,11 +59,7 @@ impl Cut {
     }
 
     /// The dialogue of that name is done, if there is one: its IDs are free.
-    fn release(
-        &mut self,
-        name: Option<u64>,
-        done: &mut Vec<Gathered>,
-    ) -> Result<(), AllocError>
+    fn release(&mut self, name: Option<u64>, done: &mut Vec<Gathered>) -> Result<(), AllocError>
         ensures { (live : List Course) (names : Course → ℕ) (earlier : List IdOf) → AreApart live
             → IsHeld live names (is_among earlier) self.old → OnOk result (
             IsHeld (others names name live) names (is_among (earlier ++ flat_map (λ d. d.ids) (those names name live))) self.new
@@ -80,11 +76,7 @@ impl Cut {
 
     /// The next entry comes, of which that is read. Hands over the dialogues whose IDs are free now, two at most. Once that failed
     /// the cut is of no use; it fails where memory ends, or behind 2^64 - 1 entries.
-    pub fn take(
-        &mut self,
-        heading: HeadingView,
-        done: &mut Vec<Gathered>,
-    ) -> Result<(), AllocError>
+    pub fn take(&mut self, heading: HeadingView, done: &mut Vec<Gathered>) -> Result<(), AllocError>
         ensures { (reuse : Reuse) (headings : List Heading) → IsCut reuse headings self.old
             → let live = (courses_so_far reuse headings).live in OnOk result (
             IsCut reuse (headings ++ heading_read heading.entry ∷ []) self.new

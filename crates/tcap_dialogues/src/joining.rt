@@ -88,7 +88,8 @@ impl Cut {
             → (known_at self.old.ids id).dialogue ≡ Some (names d))
             → IfOk result (IsJoined self.old.count (ds ++ es) self.old self.new) }
     {
-        self.ids.change_both(&other.a, &other.b, Change::JoinTo(one.name))?;
+        self.ids
+            .change_both(&other.a, &other.b, Change::JoinTo(one.name))?;
         one.absorb(other)?;
         Ok(one)
     }

@@ -9,9 +9,9 @@ mod joining;
 mod known;
 pub mod laws;
 mod live;
+mod reuse;
 #[cfg(test)]
 mod rows;
-mod reuse;
 
 pub use cut::Cut;
 pub use gathered::Gathered;

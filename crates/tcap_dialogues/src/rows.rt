@@ -91,8 +91,7 @@ fn cut(alloc: Global, reuse: Reuse, words: &str) -> Result<String, Fail> {
 
 fn holds(alloc: Global, row: &str) -> Result<bool, Fail> {
     let mut columns = row.split(';');
-    let (Some(linger), Some(words), Some(wanted)) =
-        (columns.next(), columns.next(), columns.next())
+    let (Some(linger), Some(words), Some(wanted)) = (columns.next(), columns.next(), columns.next())
     else {
         return Ok(false);
     };

@@ -1,7 +1,4 @@
-use Rattle.std.proofs.Common.{◌≡◌, ◌||◌, List, refl}
-use Rattle.std.specs.Ordering.{eq_by_cmp, nat_cmp}
-use Rattle.std.specs.Set.{is_member}
-use Rattle.tcap_end.specs.Table.{octets_cmp}
+use Rattle.std.proofs.Common.{refl}
 use Rattle.tcap_dialogues.proofs.LiveLaws.{absorbed, drained}
 use Rattle.tcap_dialogues.proofs.live.Live.absorb.Goals as goal
 
@@ -12,6 +9,8 @@ returns c = λ ds es kept other.
     let three = c.in_ok-extend-3.ensures.ran in
     let numbers = drained c.args.other.numbers.keys one.1 one.0 one.4.1.0 one.2.0 one.4.1.1 one.4.1.2.0 in
     let a = drained c.args.other.a.keys two.1 two.0 two.4.1.0 two.2.0 two.4.1.1 two.4.1.2.0 in
-    let b = drained c.args.other.b.keys three.1 three.0 three.4.1.0 three.2.0 three.4.1.1 three.4.1.2.0 in
-    (absorbed ds es c.args.self.now c.args.other c.extend.new.self c.extend-2.new.self c.extend-3.new.self c.lower-self.result
-    kept other (rw numbers at one.3.0) (rw a at two.3.0) (rw b at three.3.0) c.lower-self.ensures, refl)
+    let b = drained c.args.other.b.keys three.1 three.0 three.4.1.0 three.2.0 three.4.1.1 three.4.1.2.0 in (
+      absorbed ds es c.args.self.now c.args.other c.extend.new.self c.extend-2.new.self c.extend-3.new.self c.lower-self.result
+          kept other (rw numbers at one.3.0) (rw a at two.3.0) (rw b at three.3.0) c.lower-self.ensures,
+      refl,
+    )
