@@ -7,7 +7,8 @@ use Rattle.std.proofs.lemmas.List.Elements.{Contains-append_left}
 use Rattle.tcap_dialogues.specs.Course.{Course, Courses, Heading, comes, courses_behind, courses_of, has_entry, have_one, ids_in, is_free}
 use Rattle.tcap_dialogues.specs.declared.reuse.Reuse.{Reuse}
 use Rattle.tcap_dialogues.specs.Cut.{IdOf, is_among, is_same}
-use Rattle.tcap_dialogues.proofs.CourseEnds.{among, ended_with, listed, one_more}
+use Rattle.tcap_dialogues.proofs.CourseEnds.{among, ended_with, listed}
+use Rattle.tcap_dialogues.proofs.CourseStretch.{one_more}
 use Rattle.tcap_dialogues.proofs.CourseJoins.{IsNew, hit_by, id_comes, id_stays, ids_more, joins, number_comes, which, with_new}
 use Rattle.tcap_dialogues.proofs.CourseLaws.{Among, AreCourses, among_from, courses_then, done_then, left_then, no_courses}
 use Rattle.tcap_dialogues.proofs.CourseMore.{courses_more}

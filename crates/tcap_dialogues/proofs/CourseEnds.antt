@@ -1,34 +1,26 @@
 -- The laws of the dialogues of a stretch in which IDs may come again, from what holds of those of each front of it.
-use Rattle.std.proofs.Common.{arith, ◌≡◌, ◌⊎◌, inl, inr, ℕ, ◌+◌, ◌<◌, ◌≤◌, ◌-◌, true, false, List, [], ◌∷◌, Some, None, length, refl, sym, ap, take, ◌∙◌}
+use Rattle.std.proofs.Common.{arith, ◌≡◌, ◌⊎◌, inl, inr, ℕ, ◌+◌, ◌<◌, ◌≤◌, ◌-◌, true, false, List, [], Some, None, length, sym, ap, take, ◌∙◌}
 use Rattle.std.specs.Prelude.{Contains, slice_get}
 use Rattle.std.proofs.lemmas.Bool.{cases_lt}
 use Rattle.std.proofs.lemmas.List.Elements.{Contains-append_cases, Contains-append_left, Contains-append_right}
 use Rattle.tcap_msg.specs.declared.message.Message.{Message}
 use Rattle.tcap_record.specs.declared.entry.End.{End as Side}
 use Rattle.tcap_end.specs.Table.{Table}
+use Rattle.std.proofs.lemmas.Option.{slice_get_past}
 use Rattle.tcap_model.specs.World.{Item, Sent, has_quiet}
 use Rattle.tcap_model.specs.Run.{IsLawfulFor}
-use Rattle.tcap_dialogues.specs.Course.{Course, Courses, Heading, comes, courses_behind, courses_of, has_entry, heading_of, headings_of, ids_in, is_free}
+use Rattle.tcap_dialogues.specs.Course.{Course, Courses, Heading, courses_behind, courses_of, has_entry, heading_of, headings_of, ids_in}
 use Rattle.tcap_dialogues.specs.declared.reuse.Reuse.{Reuse}
 use Rattle.tcap_dialogues.specs.Cut.{IdOf, is_among}
 use Rattle.tcap_dialogues.specs.Part.{IsClosed, ShareId, part_of}
-use Rattle.tcap_dialogues.proofs.CourseLaws.{Among, AreCourses, InOrBehind, courses_then, each_behind, no_courses}
+use Rattle.tcap_dialogues.proofs.CourseLaws.{Among, AreCourses, InOrBehind, each_behind}
 use Rattle.tcap_dialogues.proofs.CourseLists.{heading_at, in_front, stands}
-use Rattle.tcap_dialogues.proofs.CourseMore.{courses_more}
+use Rattle.tcap_dialogues.proofs.CourseStretch.{well_so_far}
 use Rattle.tcap_dialogues.proofs.CutEnds.{closed_from}
 use Rattle.tcap_dialogues.proofs.CutIds.{among_is}
-use Rattle.tcap_dialogues.proofs.CutLists.{first_left, later_left}
 use Rattle.tcap_dialogues.proofs.PartLaws.{part_keeps}
-use Rattle.tcap_dialogues.proofs.PartLists.{from_zero}
 
 -- ---- the whole stretch
-
--- What holds of the dialogues so far holds of those with one entry more.
-pub one_more : (reuse : Reuse) (headings : List Heading) (n : ℕ) (h : Heading) (s : Courses) → slice_get headings n ≡ Some h
-    → AreCourses headings n s.done s.live → AreCourses headings (n + 1) (comes reuse n h s).done (comes reuse n h s).live
-one_more reuse headings n h s here c =
-    courses_more headings n h here _ _ (courses_then headings n s.done s.live c (is_free reuse n s.live h)) _
-    (record { numbers_are = refl; ids_are = refl; again_is = refl })
 
 -- what holds where no entry is left
 record Ended (headings : List Heading) (s : Courses) : Type 0 where
@@ -36,23 +28,18 @@ record Ended (headings : List Heading) (s : Courses) : Type 0 where
   all : AreCourses headings n s.done s.live
   past : (k : ℕ) → slice_get headings (n + k) ≡ None
 
--- So it holds of the dialogues of the whole stretch, where it does of those of the entries before these.
-ended_behind : (reuse : Reuse) (headings left : List Heading) (n : ℕ) (s : Courses) → ((k : ℕ) → slice_get left k ≡ slice_get headings (n + k))
-    → AreCourses headings n s.done s.live → Ended headings (courses_behind reuse s n left)
-ended_behind reuse headings [] n s same c = record { n = n; all = c; past = λ k. sym (same k) }
-ended_behind reuse headings (h ∷ left) n s same c =
-    ended_behind reuse headings left (n + 1) (comes reuse n h s) (later_left headings left n h same)
-    (one_more reuse headings n h s (first_left headings left n h same) c)
-
 module _ (reuse : Reuse) (headings : List Heading) where
   -- the dialogues, done or live
   abbrev pub ended_with : Courses
   ended_with = courses_behind reuse (record { done = []; live = [] }) 0 headings
 
-  -- It does of none before the first.
+  -- All this holds of them.
   ended : Ended headings ended_with
-  ended = ended_behind reuse headings headings 0 (record { done = []; live = [] }) (λ k. ap (slice_get headings) (sym (from_zero k)))
-      (no_courses headings)
+  ended = record {
+    n = length headings;
+    all = (well_so_far reuse headings).courses;
+    past = λ k. slice_get_past headings (length headings + k) (omega arith);
+  }
 
   -- A dialogue of the stretch is done, or live,
   pub among : (d : Course) → Contains (courses_of reuse headings) d → Among ended_with.done ended_with.live d

@@ -1,9 +1,8 @@
 -- What holds of the dialogues of a stretch so far, in which IDs may come again.
-use Rattle.std.proofs.Common.{arith, ◌≡◌, ◌⊎◌, inl, inr, ℕ, ◌+◌, ◌<◌, ◌≤◌, Bool, true, false, cond, List, [], ◌∷◌, ◌++◌, length, Option, Some, None, refl, sym, ap, subst, ◌∙◌}
-use Rattle.std.specs.Prelude.{◌||◌, ◌==◌, Contains, filter, not, slice_get, nat_lt}
-use Rattle.std.specs.List.{flat_map, list_any}
-use Rattle.std.proofs.lemmas.Bool.{cases_Bool, ltb-false, or_left, or_parts, or_right}
-use Rattle.std.proofs.lemmas.List.Elements.{Contains-push_cases}
+use Rattle.std.proofs.Common.{arith, ◌≡◌, ◌⊎◌, inl, inr, ℕ, ◌+◌, Bool, true, false, cond, List, [], ◌∷◌, ◌++◌, length, Option, Some, None, refl, sym, ap, subst, ◌∙◌}
+use Rattle.std.specs.Prelude.{◌||◌, Contains, filter, not, slice_get}
+use Rattle.std.specs.List.{flat_map}
+use Rattle.std.proofs.lemmas.Bool.{ltb-false, or_left, or_parts}
 use Rattle.std.proofs.lemmas.List.Folds.{list_any-append}
 use Rattle.tcap_dialogues.specs.Course.{Course, Courses, Heading, begun_by, comes, courses_behind, courses_so_far, first_over, has_entry, have_one, ids_in, is_begin, is_free, over_by, own_ids, peer_ids, with_entry}
 use Rattle.tcap_dialogues.specs.Cut.{IdOf, is_among, is_same}

@@ -1,8 +1,8 @@
 -- An entry joins the live dialogues that have one of its IDs: which these are, and what is kept of them with it.
-use Rattle.std.proofs.Common.{arith, ◌≡◌, ◌⊎◌, inl, inr, ℕ, ◌<◌, Bool, true, false, cond, List, [], ◌∷◌, ◌++◌, Option, Some, None, is_none, refl, sym, ap, subst, ◌∙◌}
+use Rattle.std.proofs.Common.{◌≡◌, ◌⊎◌, inl, inr, ℕ, Bool, true, false, cond, List, [], ◌∷◌, ◌++◌, Option, Some, None, is_none, refl, sym, ap, ◌∙◌}
 use Rattle.std.specs.Prelude.{◌==◌, ◌&&◌, ◌||◌, not, Contains, filter}
 use Rattle.std.specs.List.{flat_map, list_any}
-use Rattle.std.proofs.lemmas.Bool.{cases_Bool, eq-eqb, eqb-true, false_from_ne_true, or_cases, or_left, or_right, true≢false}
+use Rattle.std.proofs.lemmas.Bool.{cases_Bool, eq-eqb, eqb-true, or_left, or_right}
 use Rattle.std.proofs.lemmas.List.Elements.{Contains-append_cases, Contains-append_left, Contains-append_right, filter-append}
 use Rattle.std.proofs.lemmas.List.Folds.{list_any-append}
 use Rattle.tcap_record.specs.declared.entry.End.{End as Side}
@@ -19,7 +19,7 @@ use Rattle.tcap_dialogues.proofs.HeldLaws.{one_name}
 use Rattle.tcap_dialogues.proofs.HeldLists.{AreSame, any_flat, any_none, both_so, or_none}
 use Rattle.tcap_dialogues.proofs.HeldOvers.{lower_none}
 use Rattle.tcap_dialogues.proofs.LiveLaws.{either}
-use Rattle.tcap_dialogues.proofs.OwnerLaws.{IsOf, IsOwner, Owns}
+use Rattle.tcap_dialogues.proofs.OwnerLaws.{IsOf, Owns}
 
 -- What passes in many lists and one more.
 pub any_part : {A : Type 0} (p : A → Bool) (f : Course → List A) (ds : List Course) (more : List A)

@@ -1,6 +1,6 @@
 -- Live dialogues by their names, and those that are over by their numbers, where one is looked up or taken out.
-use Rattle.std.proofs.Common.{arith, ◌≡◌, ◌⊎◌, inl, inr, ℕ, ◌+◌, ◌<◌, ◌≤◌, Bool, true, false, cond, List, [], ◌∷◌, Option, Some, None, is_some, refl, sym, ap, subst, ◌∙◌}
-use Rattle.std.specs.Prelude.{◌==◌, ◌||◌, not, nat_lt, Contains, filter}
+use Rattle.std.proofs.Common.{arith, ◌≡◌, ◌⊎◌, inl, inr, ℕ, ◌+◌, ◌<◌, Bool, true, false, cond, List, [], ◌∷◌, Option, Some, None, refl, sym, ap, subst, ◌∙◌}
+use Rattle.std.specs.Prelude.{◌==◌, not, Contains}
 use Rattle.std.specs.BTreeMap as tree
 use Rattle.std.specs.BTreeMap.{BTreeMap, is_at}
 use Rattle.std.specs.Cmp.{unsigned_tied}
@@ -16,7 +16,6 @@ use Rattle.tcap_dialogues.specs.Held.{AreApart, AreKept, AreLives, AreOvers, Are
 use Rattle.tcap_dialogues.specs.Joining.{is_over_at}
 use Rattle.tcap_dialogues.specs.declared.cut.Cut.{Cut}
 use Rattle.tcap_dialogues.specs.declared.live.Live.{Live}
-use Rattle.tcap_dialogues.specs.declared.reuse.Reuse.{Reuse}
 use Rattle.tcap_dialogues.specs.declared.reuse.Reuse.TheVariants as reuses
 use Rattle.tcap_dialogues.proofs.CutLists.{finds, first_in, in_cases, kept_in, left_in, none_in}
 use Rattle.tcap_dialogues.proofs.HeldLists.{AreSame, any_same, both_so, or_none}

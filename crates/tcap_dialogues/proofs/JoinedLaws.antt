@@ -1,9 +1,9 @@
 -- Two live dialogues, or one, or none, in one.
-use Rattle.std.proofs.Common.{◌≡◌, ◌⊎◌, inl, inr, ℕ, Bool, true, false, cond, List, [], ◌∷◌, ◌++◌, Option, Some, None, refl, sym, ap, subst, ◌∙◌}
+use Rattle.std.proofs.Common.{◌≡◌, ◌⊎◌, inl, inr, ℕ, Bool, true, false, cond, List, ◌++◌, Some, refl, sym, ap, ◌∙◌}
 use Rattle.std.specs.Prelude.{◌||◌, Contains}
 use Rattle.std.specs.List.{list_any}
-use Rattle.std.proofs.lemmas.Bool.{cases_Bool, or_left, or_right, true≢false}
-use Rattle.std.proofs.lemmas.List.Elements.{Contains-append_cases, Contains-append_left, Contains-append_right}
+use Rattle.std.proofs.lemmas.Bool.{or_left}
+use Rattle.std.proofs.lemmas.List.Elements.{Contains-append_left}
 use Rattle.std.proofs.lemmas.List.Folds.{list_any-append}
 use Rattle.tcap_dialogues.specs.Course.{Course, has_entry}
 use Rattle.tcap_dialogues.specs.Cut.{IdOf, is_among}
@@ -16,7 +16,7 @@ use Rattle.tcap_dialogues.specs.declared.known.Known.{Known}
 use Rattle.tcap_dialogues.specs.declared.live.Live.{Live}
 use Rattle.tcap_dialogues.proofs.CutLists.{found}
 use Rattle.tcap_dialogues.proofs.HeldLaws.{same_kept}
-use Rattle.tcap_dialogues.proofs.HeldLists.{AreSame, any_same, appended_same}
+use Rattle.tcap_dialogues.proofs.HeldLists.{AreSame, any_same}
 
 -- What is known changes to what it is already.
 same_dialogue : (known : Known) (name : ℕ) → known.dialogue ≡ Some name → known ≡ changed (changes.JoinTo name) known

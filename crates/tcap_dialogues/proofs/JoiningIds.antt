@@ -1,7 +1,7 @@
 -- What is known of transaction IDs where an entry joined the live dialogues that have one of its IDs.
-use Rattle.std.proofs.Common.{◌≡◌, ◌⊎◌, inl, inr, ℕ, ◌<◌, Bool, true, false, cond, List, [], ◌∷◌, ◌++◌, Option, Some, None, refl, sym, ap, subst, ◌∙◌}
-use Rattle.std.specs.Prelude.{◌&&◌, ◌||◌, not, Contains}
-use Rattle.std.specs.List.{flat_map, list_any}
+use Rattle.std.proofs.Common.{◌≡◌, ◌⊎◌, inl, inr, ℕ, ◌<◌, Bool, true, false, cond, List, [], Option, Some, None, refl, sym, ap, subst, ◌∙◌}
+use Rattle.std.specs.Prelude.{◌&&◌, ◌||◌, Contains}
+use Rattle.std.specs.List.{list_any}
 use Rattle.std.proofs.lemmas.Bool.{cases_Bool, false_from_ne_true, or_left, or_right, true≢false}
 use Rattle.std.proofs.lemmas.List.Folds.{list_any-append}
 use Rattle.tcap_record.specs.Ends.{other}

@@ -1,29 +1,24 @@
 -- What is kept of a stretch where an entry joined the live dialogues that have one of its IDs.
-use Rattle.std.proofs.Common.{arith, ◌≡◌, ◌⊎◌, inl, inr, ℕ, ◌+◌, ◌<◌, Bool, true, false, cond, List, [], ◌∷◌, ◌++◌, Option, Some, None, refl, sym, ap, subst, ◌∙◌}
-use Rattle.std.specs.Prelude.{◌==◌, ◌&&◌, ◌||◌, not, Contains, filter}
+use Rattle.std.proofs.Common.{arith, ◌≡◌, ◌⊎◌, inl, inr, ℕ, ◌<◌, Bool, true, false, cond, List, [], ◌∷◌, Option, Some, None, refl, sym, ap, subst, ◌∙◌}
+use Rattle.std.specs.Prelude.{◌==◌, not, Contains, filter}
 use Rattle.std.specs.BTreeMap as tree
-use Rattle.std.specs.List.{flat_map, list_any}
+use Rattle.std.specs.List.{list_any}
 use Rattle.std.specs.Ordering.{nat_cmp}
 use Rattle.std.proofs.lemmas.Bool.{cases_Bool, eq-eqb, eqb-true, false_from_ne_true, or_cases, or_left, or_right, true≢false}
-use Rattle.std.proofs.lemmas.List.Elements.{Contains-append_left, Contains-append_right, Contains-push, Contains-push_cases}
-use Rattle.std.proofs.lemmas.List.Folds.{list_any-append}
 use Rattle.tcap_record.specs.declared.entry.End.{End as Side}
 use Rattle.tcap_record.specs.declared.entry.End.TheVariants as sides
 use Rattle.tcap_record.specs.Ends.{other}
-use Rattle.tcap_dialogues.specs.Course.{Course, Heading, begun_by, has_entry, have_one, ids_in, is_begin, own_ids, peer_ids, with_entry}
+use Rattle.tcap_dialogues.specs.Course.{Course, Heading, has_entry, have_one, ids_in, own_ids, peer_ids, with_entry}
 use Rattle.tcap_dialogues.specs.Cut.{IdOf, is_among, is_same}
-use Rattle.tcap_dialogues.specs.Held.{AreApart, AreKept, AreLives, AreOvers, IsHeld, IsKnown, IsOwned, changed, known_at, known_of, with_one}
-use Rattle.tcap_dialogues.specs.Joining.{AreNoted, IsJoined, IsPut, ids_at, is_over_at, own_known}
+use Rattle.tcap_dialogues.specs.Held.{AreApart, AreKept, AreLives, AreOvers, IsKnown, IsOwned, known_at, known_of, with_one}
+use Rattle.tcap_dialogues.specs.Joining.{IsPut, ids_at, is_over_at}
 use Rattle.tcap_dialogues.specs.declared.cut.Cut.{Cut}
-use Rattle.tcap_dialogues.specs.declared.known.Change.TheVariants as changes
 use Rattle.tcap_dialogues.specs.declared.known.Ids.{Ids}
-use Rattle.tcap_dialogues.specs.declared.known.Known.{Known}
 use Rattle.tcap_dialogues.specs.declared.live.Live.{Live}
-use Rattle.tcap_dialogues.proofs.CourseJoins.{IsNew, Hit, hit_by, in_hit, joins, number_comes, number_stays, stays, which}
-use Rattle.tcap_dialogues.proofs.CutIds.{one_from, same_id}
+use Rattle.tcap_dialogues.proofs.CourseJoins.{IsNew, hit_by, in_hit, joins, number_comes, number_stays, stays, which}
+use Rattle.tcap_dialogues.proofs.CutIds.{same_id}
 use Rattle.tcap_dialogues.proofs.CutLists.{finds, found, left_in}
-use Rattle.tcap_dialogues.proofs.EntryLaws.{any_part}
-use Rattle.tcap_dialogues.proofs.HeldLists.{AreSame, any_none, any_only, or_none}
+use Rattle.tcap_dialogues.proofs.HeldLists.{AreSame, or_none}
 
 -- An ID of a heading is known as what is known of the heading's.
 pub known_here : (ids : Ids) (end : Side) (octets : Option (List ℕ)) (id : IdOf) → is_among (ids_at end octets) id ≡ true

@@ -1,5 +1,5 @@
 -- A live dialogue with more of what it has.
-use Rattle.std.proofs.Common.{◌≡◌, ℕ, Bool, true, false, cond, List, [], ◌∷◌, ◌++◌, Option, Some, None, bytes_eq, map, refl, sym, ap, subst, ◌∙◌}
+use Rattle.std.proofs.Common.{◌≡◌, ℕ, Bool, true, false, cond, List, [], ◌++◌, Option, Some, bytes_eq, map, refl, sym, ap, ◌∙◌}
 use Rattle.std.specs.Prelude.{◌&&◌, ◌||◌}
 use Rattle.std.specs.BTreeMap.{is_at}
 use Rattle.std.specs.BTreeSet as set
@@ -16,7 +16,7 @@ use Rattle.tcap_record.specs.declared.entry.End.{End as Side}
 use Rattle.tcap_record.specs.declared.entry.End.TheVariants as sides
 use Rattle.tcap_model.specs.World.{is_side}
 use Rattle.tcap_dialogues.specs.Cut.{IdOf, is_among}
-use Rattle.tcap_dialogues.specs.Gathered.{by_end, has_id}
+use Rattle.tcap_dialogues.specs.Gathered.{by_end}
 use Rattle.tcap_dialogues.specs.Course.{Course, first_over, has_entry, lower}
 use Rattle.tcap_dialogues.specs.Held.{AreKept, has_sent}
 use Rattle.tcap_dialogues.specs.Joining.{HasId, ids_at}

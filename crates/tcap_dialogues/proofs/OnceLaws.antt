@@ -11,7 +11,6 @@ use Rattle.tcap_record.specs.declared.entry.End.{End as Side}
 use Rattle.tcap_model.specs.World.{Item, Sent, has_quiet}
 use Rattle.tcap_dialogues.specs.Cut.{Dialogue, dialogues_behind, dialogues_of, has_one, ids_of, joined, with_message}
 use Rattle.tcap_dialogues.specs.Course.{Course, Courses, Heading, comes, courses_behind, courses_of, heading_of, headings_of}
-use Rattle.tcap_dialogues.specs.declared.reuse.Reuse.{Reuse}
 use Rattle.tcap_dialogues.specs.declared.reuse.Reuse.TheVariants as reuses
 
 -- ---- lists

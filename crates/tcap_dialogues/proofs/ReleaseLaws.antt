@@ -1,13 +1,13 @@
 -- A live dialogue is done: its IDs are free, and it is handed over.
 use Rattle.std.proofs.Common.{◌≡◌, ◌⊎◌, inl, inr, ℕ, Bool, true, false, cond, List, [], ◌∷◌, ◌++◌, Option, Some, None, refl, sym, ap, subst, ◌∙◌}
-use Rattle.std.specs.Prelude.{◌==◌, ◌||◌, not, Contains}
+use Rattle.std.specs.Prelude.{◌||◌, not, Contains}
 use Rattle.std.specs.List.{flat_map, list_any}
-use Rattle.std.proofs.lemmas.Bool.{cases_Bool, eqb-true, false_from_ne_true, or_left, or_right, true≢false}
+use Rattle.std.proofs.lemmas.Bool.{false_from_ne_true, or_right, true≢false}
 use Rattle.std.proofs.lemmas.List.{append-nil}
 use Rattle.std.proofs.lemmas.List.Folds.{list_any-append}
 use Rattle.tcap_dialogues.specs.Course.{Course, has_entry}
 use Rattle.tcap_dialogues.specs.Cut.{IdOf, is_among, is_same}
-use Rattle.tcap_dialogues.specs.Gathered.{AreGathered, HandsOver, IsGathered, has_id}
+use Rattle.tcap_dialogues.specs.Gathered.{HandsOver, IsGathered, has_id}
 use Rattle.tcap_dialogues.specs.Held.{AreApart, AreKept, AreLives, AreTaken, IsHeld, IsKnown, IsOut, IsOwned, changed, is_named, known_at, others, those}
 use Rattle.tcap_dialogues.specs.declared.cut.Cut.{Cut}
 use Rattle.tcap_dialogues.specs.declared.gathered.Gathered.{Gathered}
@@ -17,7 +17,7 @@ use Rattle.tcap_dialogues.specs.declared.live.Live.{Live}
 use Rattle.tcap_dialogues.proofs.CutLists.{finds, first_in, found, in_cases, kept_in, left_in, none_in}
 use Rattle.tcap_dialogues.proofs.GatheredLaws.{none_gathered, one_gathered}
 use Rattle.tcap_dialogues.proofs.HeldLaws.{one_name, same_kept}
-use Rattle.tcap_dialogues.proofs.HeldLists.{AreSame, any_flat, or_none}
+use Rattle.tcap_dialogues.proofs.HeldLists.{any_flat, or_none}
 
 module _ (live : List Course) (names : Course → ℕ) (number : Option ℕ) (apart : AreApart live) (earlier : List IdOf) where
   -- those of that name, the others, and the IDs of those that are done then

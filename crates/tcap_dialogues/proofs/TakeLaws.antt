@@ -1,20 +1,20 @@
 -- The next entry comes: the dialogues that are handed over, and what is kept then.
 use Rattle.std.proofs.Common.{◌≡◌, ◌⊎◌, inl, inr, ℕ, ◌+◌, ◌<◌, Bool, true, false, List, [], ◌∷◌, ◌++◌, length, Option, Some, None, refl, sym, ap, subst, ◌∙◌}
 use Rattle.std.specs.Prelude.{◌||◌, not, Contains, filter}
-use Rattle.std.specs.List.{flat_map, list_any}
+use Rattle.std.specs.List.{flat_map}
 use Rattle.std.proofs.lemmas.Bool.{cases_Bool, or_left, or_right, true≢false}
 use Rattle.std.proofs.lemmas.List.{append_assoc}
 use Rattle.std.proofs.lemmas.List.Elements.{Contains-append_cases, Contains-append_left, Contains-append_right}
 use Rattle.std.proofs.lemmas.List.Folds.{list_any-append}
 use Rattle.std.proofs.lemmas.Grind.{flat_map-append}
-use Rattle.tcap_dialogues.specs.Course.{Course, Courses, Heading, comes, courses_so_far, has_entry, is_free}
+use Rattle.tcap_dialogues.specs.Course.{Course, Courses, Heading, courses_so_far, has_entry, is_free}
 use Rattle.tcap_dialogues.specs.Cut.{IdOf, is_among, is_same}
-use Rattle.tcap_dialogues.specs.Gathered.{AreGathered, HandsOver}
+use Rattle.tcap_dialogues.specs.Gathered.{HandsOver}
 use Rattle.tcap_dialogues.specs.Held.{AreApart, AreLives, AreOvers, IsCutOf, IsHeld, IsKnown, Lingers, is_given_up, is_named, is_past_by, known_at, others, those, with_one}
 use Rattle.tcap_dialogues.specs.declared.cut.Cut.{Cut}
 use Rattle.tcap_dialogues.specs.declared.gathered.Gathered.{Gathered}
 use Rattle.tcap_dialogues.specs.declared.reuse.Reuse.{Reuse}
-use Rattle.tcap_dialogues.proofs.CourseStretch.{AreWell, apart_so_far, free_is, left_apart, so_far_more, well_so_far}
+use Rattle.tcap_dialogues.proofs.CourseStretch.{apart_so_far, free_is, left_apart, so_far_more, well_so_far}
 use Rattle.tcap_dialogues.proofs.CutLists.{kept_in, left_in}
 use Rattle.tcap_dialogues.proofs.GatheredLaws.{more_gathered, same_gathered}
 use Rattle.tcap_dialogues.proofs.HeldLists.{AreSame, any_flat, any_same}

@@ -1,7 +1,7 @@
 -- All that is handed over of a stretch stands for its dialogues.
-use Rattle.std.proofs.Common.{◌≡◌, List, [], ◌∷◌, ◌++◌, length, sym, subst}
+use Rattle.std.proofs.Common.{List, [], ◌∷◌, ◌++◌, length, sym, subst}
 use Rattle.std.specs.Prelude.{filter}
-use Rattle.tcap_dialogues.specs.Course.{Course, Heading, courses_of, courses_so_far, is_free}
+use Rattle.tcap_dialogues.specs.Course.{Heading, courses_of, courses_so_far, is_free}
 use Rattle.tcap_dialogues.specs.Gathered.{AreGathered}
 use Rattle.tcap_dialogues.specs.declared.gathered.Gathered.{Gathered}
 use Rattle.tcap_dialogues.specs.declared.reuse.Reuse.{Reuse}

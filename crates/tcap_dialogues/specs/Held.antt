@@ -1,5 +1,5 @@
 -- What is kept of the live dialogues of a stretch as its entries come.
-use Rattle.std.specs.Prelude.{◌≡◌, ⊤, ℕ, ◌+◌, ◌<◌, ◌≤◌, ◌⊎◌, Bool, true, false, cond, List, [], ◌∷◌, ◌++◌, filter, length, ◌==◌, ◌&&◌, ◌||◌, not, Contains, Option, Some, None, is_some}
+use Rattle.std.specs.Prelude.{◌≡◌, ⊤, ℕ, ◌+◌, ◌≤◌, ◌⊎◌, Bool, true, false, List, [], ◌∷◌, ◌++◌, filter, length, ◌==◌, ◌&&◌, ◌||◌, not, Contains, Option, Some, None, is_some}
 use Rattle.std.specs.BTreeMap as tree
 use Rattle.std.specs.BTreeMap.{BTreeMap}
 use Rattle.std.specs.BTreeSet as set
@@ -9,7 +9,7 @@ use Rattle.tcap_record.specs.declared.entry.End.{End as Side}
 use Rattle.tcap_end.specs.Table.{octets_cmp}
 use Rattle.tcap_model.specs.World.{is_side}
 use Rattle.tcap_dialogues.specs.Course.{Course, Heading, begins_from, courses_so_far, first_over, gives_to_another, has_entry, have_one, ids_in, is_past, with_entry}
-use Rattle.tcap_dialogues.specs.Cut.{IdOf, is_among, is_same}
+use Rattle.tcap_dialogues.specs.Cut.{IdOf, is_among}
 use Rattle.tcap_dialogues.specs.Gathered.{by_end, has_id}
 use Rattle.tcap_dialogues.specs.declared.cut.Cut.{Cut}
 use Rattle.tcap_dialogues.specs.declared.known.Change.{Change}

@@ -1,8 +1,8 @@
-use Rattle.std.proofs.Common.{rules, ◌≡◌, [], map, sym, subst, ◌∙◌}
+use Rattle.std.proofs.Common.{rules, ◌≡◌, map, sym, ◌∙◌}
 use Rattle.std.proofs.lemmas.List.{map-id}
 use Rattle.std.proofs.lemmas.Map.Iter.{iter_end}
 use Rattle.tcap_dialogues.proofs.CourseStretch.{apart_so_far}
-use Rattle.tcap_dialogues.proofs.FinishLaws.{Stand, all_handed, begins, stands_with}
+use Rattle.tcap_dialogues.proofs.FinishLaws.{all_handed, begins, stands_with}
 use Rattle.tcap_dialogues.proofs.cut.Cut.finish.Goals as goal
 
 pub loop-live-init : goal.loop-live-init

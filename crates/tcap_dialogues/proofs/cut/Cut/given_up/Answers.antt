@@ -1,4 +1,4 @@
-use Rattle.std.proofs.Common.{◌≡◌, ◌==◌, ◌&&◌, true, false, refl, sym, ap, ◌∙◌}
+use Rattle.std.proofs.Common.{◌==◌}
 use Rattle.tcap_msg.specs.Meaning.{id_of}
 use Rattle.tcap_dialogues.specs.Course.{own_ids}
 use Rattle.tcap_dialogues.specs.HeadingReading.{heading_read}

@@ -1,4 +1,4 @@
-use Rattle.std.proofs.Common.{sym, ◌∙◌}
+use Rattle.std.proofs.Common.{◌∙◌}
 use Rattle.tcap_dialogues.proofs.HeldLaws.{found_live, found_some, senders_one}
 use Rattle.tcap_dialogues.proofs.cut.Cut.has_sent.Goals as goal
 

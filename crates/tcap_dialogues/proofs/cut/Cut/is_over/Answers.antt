@@ -1,4 +1,4 @@
-use Rattle.std.proofs.Common.{is_some, sym, ap, ◌∙◌}
+use Rattle.std.proofs.Common.{is_some, ap, ◌∙◌}
 use Rattle.tcap_dialogues.proofs.HeldLaws.{found_live, found_some, over_one}
 use Rattle.tcap_dialogues.proofs.cut.Cut.is_over.Goals as goal
 

@@ -1,7 +1,7 @@
 use Rattle.std.proofs.Common.{◌+◌, ◌||◌, sym, ap, subst, ◌∙◌}
 use Rattle.tcap_msg.specs.Meaning.{id_of}
 use Rattle.tcap_dialogues.specs.HeadingReading.{heading_read}
-use Rattle.tcap_dialogues.specs.Held.{IsCutOf, is_named, known_of, others, with_one}
+use Rattle.tcap_dialogues.specs.Held.{IsCutOf, known_of, others, with_one}
 use Rattle.tcap_dialogues.specs.Cut.{is_among}
 use Rattle.tcap_dialogues.specs.Joining.{HasEntry}
 use Rattle.tcap_dialogues.proofs.JoinLaws.{entry_comes, more, one_first, one_more, ones, others_apart, owned, same_count}

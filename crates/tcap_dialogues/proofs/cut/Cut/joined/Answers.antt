@@ -1,6 +1,5 @@
 use Rattle.std.proofs.Common.{◌++◌}
 use Rattle.std.proofs.lemmas.Result.{IfOk-weaker}
-use Rattle.tcap_dialogues.specs.Joining.{IsJoined}
 use Rattle.tcap_dialogues.proofs.HeldLists.{appended_same}
 use Rattle.tcap_dialogues.proofs.JoinedLaws.{joined_same}
 use Rattle.tcap_dialogues.proofs.cut.Cut.joined.Goals as goal

@@ -1,4 +1,4 @@
-use Rattle.std.proofs.Common.{arith, ◌≡◌, ◌+◌, sym}
+use Rattle.std.proofs.Common.{arith, ◌≡◌, ◌+◌}
 use Rattle.tcap_dialogues.proofs.HeldLaws.{none_past, one_past}
 use Rattle.tcap_dialogues.proofs.cut.Cut.past.Goals as goal
 

@@ -1,4 +1,4 @@
-use Rattle.std.proofs.Common.{[], ◌∷◌, ◌++◌, refl, ap}
+use Rattle.std.proofs.Common.{refl, ap}
 use Rattle.tcap_dialogues.proofs.ReleaseLaws.{none_released, one_released}
 use Rattle.tcap_dialogues.proofs.cut.Cut.release.Goals as goal
 

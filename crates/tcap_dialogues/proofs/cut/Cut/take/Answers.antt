@@ -1,7 +1,7 @@
-use Rattle.std.proofs.Common.{◌++◌, sym, ◌∙◌}
+use Rattle.std.proofs.Common.{◌++◌, ◌∙◌}
 use Rattle.std.specs.List.{flat_map}
 use Rattle.std.proofs.lemmas.Result.{on_ok_weaker}
-use Rattle.tcap_dialogues.specs.Course.{courses_so_far, is_free}
+use Rattle.tcap_dialogues.specs.Course.{courses_so_far}
 use Rattle.tcap_dialogues.specs.HeadingReading.{heading_read}
 use Rattle.tcap_dialogues.specs.Held.{others, those}
 use Rattle.tcap_dialogues.proofs.CourseStretch.{apart_so_far}

@@ -1,7 +1,7 @@
-use Rattle.std.proofs.Common.{rules, ◌≡◌, [], ◌∷◌, ◌++◌, map, sym}
+use Rattle.std.proofs.Common.{rules, ◌≡◌, map}
 use Rattle.std.proofs.lemmas.List.{map_push}
 use Rattle.std.proofs.lemmas.Map.Iter.{iter_end}
-use Rattle.tcap_dialogues.proofs.KnownLaws.{Changes, change_more, is_one}
+use Rattle.tcap_dialogues.proofs.KnownLaws.{change_more}
 use Rattle.tcap_dialogues.proofs.known.Ids.change_all.Goals as goal
 
 pub loop-id-preserved : goal.loop-id-preserved

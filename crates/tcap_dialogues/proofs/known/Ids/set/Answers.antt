@@ -1,4 +1,3 @@
-use Rattle.std.proofs.Common.{ap}
 use Rattle.tcap_dialogues.proofs.KnownLaws.{put_in_a, put_in_b}
 use Rattle.tcap_dialogues.proofs.known.Ids.set.Goals as goal
 

@@ -1,7 +1,4 @@
-use Rattle.std.proofs.Common.{◌≡◌, ◌||◌, List, refl}
-use Rattle.std.specs.Ordering.{eq_by_cmp, nat_cmp}
-use Rattle.std.specs.Set.{is_member}
-use Rattle.tcap_end.specs.Table.{octets_cmp}
+use Rattle.std.proofs.Common.{refl}
 use Rattle.tcap_dialogues.proofs.LiveLaws.{absorbed, drained}
 use Rattle.tcap_dialogues.proofs.live.Live.absorb.Goals as goal
 
