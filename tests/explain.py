@@ -168,7 +168,8 @@ def faults(rows, files):
     rows.row("no certificate", run("explain", files.record, files.table, files.cert), (f"FAULT 60 0\n{cert}", "", 3))
     unread = why("a file can't be opened or read: the table, the certificate or the record, the first that is needed")
     for paths in [files.record, "none"], ["none", files.table], [files.record, files.table, "none"]:
-        rows.row(f"{paths}", run("explain", *paths, *chart), (f"FAULT 23 0\n{unread}", "", 3))
+        text, told, status = run("explain", *paths, *chart)
+        rows.row(f"{paths}", (text, told.startswith("error: none: "), status), (f"FAULT 23 0\n{unread}", True, 3))
     with open(files.chart, "rb") as file:
         rows.row("the chart is as it was", file.read(), b"old")
     over = "error: the chart would be written over a file that is read\n"

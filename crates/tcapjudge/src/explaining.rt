@@ -1,5 +1,6 @@
 //! The word `explain`: a verdict, why it is so, and a chart of the run.
 
+use crate::opening::open;
 use std::{fs, io};
 use tcap_ber::{Counted, Read, Unopened};
 use tcap_judge::{Status, WriteFailed};
@@ -49,7 +50,7 @@ fn explained<R: Read, T: Read>(
     let mut writer = Counted::new(io::writer(rt));
     let ended = match paths.cert {
         None => run_explain(alloc, entries, table, asked, &mut chart, &mut writer),
-        Some(path) => match fs::open(rt, path) {
+        Some(path) => match open(rt, path) {
             Ok(file) => {
                 let mut cert = Counted::new(file);
                 run_explain_check(
@@ -81,7 +82,7 @@ fn explained<R: Read, T: Read>(
 
 /// The same, by the operation table that `table` tells.
 fn explained_by<T: Read>(rt: &HostRuntime, table: &mut T, paths: Paths, asked: Asked) -> u8 {
-    match fs::open(rt, paths.entries) {
+    match open(rt, paths.entries) {
         Ok(file) => explained(rt, &mut Counted::new(file), table, paths, asked),
         Err(_) => explained(rt, &mut Unopened::new(), table, paths, asked),
     }
@@ -102,7 +103,7 @@ pub(crate) fn explain(rt: &HostRuntime, table: &str, paths: Paths, asked: Asked)
         let _ = eprintln!(rt; "error: the chart would be written over a file that is read");
         return Status::Fault.number();
     }
-    match fs::open(rt, table) {
+    match open(rt, table) {
         Ok(file) => explained_by(rt, &mut Counted::new(file), paths, asked),
         Err(_) => explained_by(rt, &mut Unopened::new(), paths, asked),
     }

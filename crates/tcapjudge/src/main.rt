@@ -3,14 +3,16 @@
 #![tactic(auto)]
 
 mod explaining;
+mod opening;
 mod testing;
 
 use crate::explaining::{Paths, explain};
+use crate::opening::open;
 use crate::testing::test;
 use std::alloc::Global;
 use std::io::BufWriter;
 use std::process::ExitCode;
-use std::{env, fs, io};
+use std::{env, io};
 use tcap_ber::{Counted, Read, Unopened, Write};
 use tcap_explain::{Kept, Noted, Told, run_lines, run_table, run_why, write_hint, write_rule};
 use tcap_judge::{
@@ -124,7 +126,7 @@ fn over_path(rt: &HostRuntime, task: Task, path: Option<&str>) -> io::Result<u8>
     let Some(path) = path else {
         return over(rt, task, Counted::new(rt.reader()));
     };
-    match fs::open(rt, path) {
+    match open(rt, path) {
         Ok(file) => over(rt, task, Counted::new(file)),
         Err(_) => over(rt, task, Unopened::new()),
     }
@@ -232,7 +234,7 @@ fn make_record<R: Read + Drop, W: Write, F: Write + Drop>(
 /// Replays the certificate of that path over the record of that path, for one end where it is given. The files are
 /// opened in the order in which they are read: the table, the certificate, the record.
 fn check(rt: &HostRuntime, entries: &str, table: &str, cert: &str, side: Option<End>) -> u8 {
-    match fs::open(rt, table) {
+    match open(rt, table) {
         Ok(file) => check_by(rt, entries, &mut Counted::new(file), cert, side),
         Err(_) => check_by(rt, entries, &mut Unopened::new(), cert, side),
     }
@@ -246,7 +248,7 @@ fn check_by<T: Read>(
     cert: &str,
     side: Option<End>,
 ) -> u8 {
-    match fs::open(rt, cert) {
+    match open(rt, cert) {
         Ok(file) => check_over(rt, entries, table, &mut Counted::new(file), side),
         Err(_) => check_over(rt, entries, table, &mut Unopened::new(), side),
     }
@@ -260,7 +262,7 @@ fn check_over<T: Read, C: Read>(
     certificate: &mut C,
     side: Option<End>,
 ) -> u8 {
-    match fs::open(rt, entries) {
+    match open(rt, entries) {
         Ok(file) => checked(rt, &mut Counted::new(file), table, certificate, side),
         Err(_) => checked(rt, &mut Unopened::new(), table, certificate, side),
     }
@@ -288,7 +290,7 @@ fn checked<R: Read, T: Read, C: Read>(
 /// Answers what is asked of the record of that path, by the operation table of that path. The table is opened first, since
 /// it is read first.
 fn judge(rt: &HostRuntime, entries: &str, table: &str, question: Question) -> u8 {
-    match fs::open(rt, table) {
+    match open(rt, table) {
         Ok(file) => judge_by(rt, entries, &mut Counted::new(file), question),
         Err(_) => judge_by(rt, entries, &mut Unopened::new(), question),
     }
@@ -296,7 +298,7 @@ fn judge(rt: &HostRuntime, entries: &str, table: &str, question: Question) -> u8
 
 /// The same, by the operation table that `table` tells.
 fn judge_by<T: Read>(rt: &HostRuntime, entries: &str, table: &mut T, question: Question) -> u8 {
-    match fs::open(rt, entries) {
+    match open(rt, entries) {
         Ok(file) => judged(rt, &mut Counted::new(file), table, question),
         Err(_) => judged(rt, &mut Unopened::new(), table, question),
     }

@@ -1,5 +1,6 @@
 //! The word `test`: each dialogue of traces is judged.
 
+use crate::opening::is_folder;
 use std::alloc::{AllocError, Global};
 use std::io::BufWriter;
 use std::time::Instant;
@@ -82,14 +83,6 @@ fn read_book(rt: &HostRuntime, name: &str, text: &[u8]) -> Option<Book> {
             let _ = eprintln!(rt; "error: {name}: {fault}");
             None
         }
-    }
-}
-
-/// Whether that path is a directory's.
-fn is_folder(rt: &HostRuntime, path: &str) -> bool {
-    match fs::metadata(rt, path) {
-        Ok(found) => found.is_dir(),
-        Err(_) => false,
     }
 }
 
