@@ -152,6 +152,11 @@ def octets_of(stretch):
     return [heading.end.encode() + bytes.fromhex(digits) for heading, digits in stretch]
 
 
+def begins(headings):
+    """Whether a dialogue begins by a Begin."""
+    return headings[0].kind == "Begin"
+
+
 class Alone:
     """A dialogue of a random trace as a record of its own, with a quiet mark behind it where that is so."""
 
@@ -172,7 +177,8 @@ class Alone:
         if kind == "F3" and here.kind == "Begin":
             if self.table.prearranged or not is_heard(self.headings[:entry], end, here.otid):
                 return trace_rows.GIVEN_UP
-        if self.cut.again and not self.is_settled:
+        # A dialogue without a Begin goes on with an earlier one: there no ID came again, and nothing has settled.
+        if self.cut.again and not (self.is_settled and begins(self.headings)):
             return trace_rows.CAME_AGAIN
         if self.cut.unread is not None and self.cut.numbers[entry] > self.cut.unread:
             return trace_rows.UNREAD

@@ -69,6 +69,8 @@ struct Trace<'a> {
     // Which dialogues of the stretch had which IDs, of those that are judged.
     earlier: Earlier,
     messages: u64,
+    // Those of which a kind can be read.
+    readable: u64,
     dialogues: Counts,
     unheard: u64,
 }
@@ -104,6 +106,7 @@ impl<'a> Trace<'a> {
             unread: None,
             earlier: Earlier::new(alloc),
             messages: 0,
+            readable: 0,
             dialogues: Counts::new(),
             unheard: 0,
         }
@@ -120,7 +123,7 @@ impl<'a> Trace<'a> {
         let mut done = Vec::new(self.alloc);
         let heading = heading_of(&octets);
         if heading.kind.is_some() {
-            self.messages = self.messages.saturating_add(1);
+            self.readable = self.readable.saturating_add(1);
         } else if self.unread.is_none() {
             self.unread = Some(self.count);
         }
@@ -140,6 +143,7 @@ impl<'a> Trace<'a> {
             return Err(Stop::Memory);
         }
         self.count = self.count.saturating_add(1);
+        self.messages = self.messages.saturating_add(1);
         for gathered in done {
             self.judge(gathered, Behind::More, sinks)?;
         }
@@ -303,9 +307,9 @@ impl<'a> Trace<'a> {
         hint: Option<&str>,
         sinks: &mut Sinks<W, J, P>,
     ) -> Result<Verdict, Stop> {
-        let verdict = trace_verdict(fault.is_some(), self.messages, self.dialogues.worst);
+        let verdict = trace_verdict(fault.is_some(), self.readable, self.dialogues.worst);
         let mut why = String::new(self.alloc);
-        push_fault(&mut why, &fault, self.messages)?;
+        push_fault(&mut why, &fault, self.readable)?;
         let mut line = String::new(self.alloc);
         self.push_line(&mut line, verdict, &why)?;
         line.push_str(hint.unwrap_or(""))?;
