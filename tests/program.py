@@ -87,7 +87,7 @@ ROWS = [
     (["check", "DIALOGUE", "TABLE", NONE], b"", b"FAULT 23 0\n", SOME, 3),
     (["check", NONE, "BROKEN", NONE], b"", b"FAULT 30 0\n", SOME, 3),
     (["check", NONE, "TABLE", "BROKEN"], b"", b"FAULT 60 0\n", SOME, 3),
-    (["check", "DIALOGUE", "/", "CERT"], b"", b"FAULT 23 0\n", b"", 3),
+    (["check", "DIALOGUE", "/", "CERT"], b"", b"FAULT 23 0\n", SOME, 3),
     # Texts of the greatest length, longer ones, and one without end.
     (["check", "DIALOGUE", "FULL_TABLE", "FULL_CERT"], b"", b"LAWFUL 2\n", b"", 0),
     (["check", "DIALOGUE", "LONG_TABLE", "CERT"], b"", b"FAULT 30 0\n", b"", 3),
