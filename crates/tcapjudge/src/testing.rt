@@ -2,6 +2,7 @@
 
 use crate::opening::is_folder;
 use std::alloc::{AllocError, Global};
+use std::fs::File;
 use std::io::BufWriter;
 use std::time::Instant;
 use std::{fs, io};
@@ -18,6 +19,17 @@ struct Progress<'a> {
     rt: &'a HostRuntime,
     is_asked: bool,
     last: Option<Instant>,
+}
+
+impl<'a> Progress<'a> {
+    /// Nothing was said.
+    fn new(rt: &'a HostRuntime, test: &Test) -> Progress<'a> {
+        Progress {
+            rt,
+            is_asked: test.progress,
+            last: None,
+        }
+    }
 }
 
 impl Watch for Progress<'_> {
@@ -151,28 +163,13 @@ fn test_path<W: Write, J: Write, P: Watch>(
     }
 }
 
-/// Judges all traces.
-fn test_all<J: Write>(
+/// Judges all traces, and says the sum.
+fn test_all<W: Write, J: Write, P: Watch>(
     rt: &HostRuntime,
     test: &Test,
     book: &Book,
-    json: Option<&mut J>,
-    junit: Option<&mut Junit>,
+    sinks: &mut Sinks<W, J, P>,
 ) -> Result<Verdict, Stop> {
-    let mut sum = Sum::new();
-    let mut text = Counted::new(io::writer(rt));
-    let mut watch = Progress {
-        rt,
-        is_asked: test.progress,
-        last: None,
-    };
-    let mut sinks = Sinks {
-        text: &mut text,
-        json,
-        junit,
-        sum: &mut sum,
-        watch: &mut watch,
-    };
     for path in &test.traces {
         let asked = Asked {
             name: *path,
@@ -185,7 +182,7 @@ fn test_all<J: Write>(
             complete: test.complete,
             book,
         };
-        test_path(rt, *path, asked, &mut sinks)?;
+        test_path(rt, *path, asked, sinks)?;
     }
     let mut lines = String::new(rt.alloc());
     sinks.sum.push(&mut lines)?;
@@ -195,37 +192,57 @@ fn test_all<J: Write>(
     Ok(sinks.sum.worst())
 }
 
-/// Judges all traces, with what goes to the file of JSON.
+/// Judges all traces, and says nothing as JSON.
+fn test_without_json(rt: &HostRuntime, test: &Test, book: &Book) -> Result<Verdict, Stop> {
+    let mut junit = Junit::new(rt.alloc());
+    let mut sum = Sum::new();
+    let mut text = Counted::new(io::writer(rt));
+    let mut watch = Progress::new(rt, test);
+    let mut sinks: Sinks<_, Counted<Vec<u8>>, _> = Sinks {
+        text: &mut text,
+        json: None,
+        junit: Some(&mut junit),
+        sum: &mut sum,
+        watch: &mut watch,
+    };
+    let verdict = test_all(rt, test, book, &mut sinks)?;
+    write_junit(rt, test, &junit)?;
+    Ok(verdict)
+}
+
+/// Judges all traces, and says it as JSON to that file.
 fn test_with_json(
     rt: &HostRuntime,
     test: &Test,
     book: &Book,
-    junit: Option<&mut Junit>,
+    buffer: BufWriter<File>,
 ) -> Result<Verdict, Stop> {
-    let Some(path) = test.json else {
-        return test_all::<Counted<Vec<u8>>>(rt, test, book, None, junit);
-    };
-    let file = match fs::create(rt, path) {
-        Ok(file) => file,
-        Err(error) => {
-            let _ = eprintln!(rt; "error: {path}: {error}");
-            return Err(Stop::Write);
-        }
-    };
-    let Ok(buffer) = BufWriter::new(rt.alloc(), file) else {
-        return Err(Stop::Memory);
-    };
     let mut json = Counted::new(buffer);
-    let verdict = test_all(rt, test, book, Some(&mut json), junit);
+    let mut junit = Junit::new(rt.alloc());
+    let mut sum = Sum::new();
+    let mut text = Counted::new(io::writer(rt));
+    let mut watch = Progress::new(rt, test);
+    let mut sinks = Sinks {
+        text: &mut text,
+        json: Some(&mut json),
+        junit: Some(&mut junit),
+        sum: &mut sum,
+        watch: &mut watch,
+    };
+    let verdict = test_all(rt, test, book, &mut sinks)?;
+    write_junit(rt, test, &junit)?;
     if json.flush().is_err() {
-        let _ = eprintln!(rt; "error: {path} can't be written");
+        let _ = eprintln!(rt; "error: the file of JSON can't be written");
         return Err(Stop::Write);
     }
-    verdict
+    Ok(verdict)
 }
 
-/// Writes the file of JUnit XML.
-fn write_junit(rt: &HostRuntime, path: &str, junit: &Junit) -> Result<(), Stop> {
+/// Writes the file of JUnit XML, where it is asked for.
+fn write_junit(rt: &HostRuntime, test: &Test, junit: &Junit) -> Result<(), Stop> {
+    let Some(path) = test.junit else {
+        return Ok(());
+    };
     let text = junit.text()?;
     match fs::write(rt, path, text) {
         Ok(()) => Ok(()),
@@ -238,13 +255,17 @@ fn write_junit(rt: &HostRuntime, path: &str, junit: &Junit) -> Result<(), Stop> 
 
 /// Judges all traces, with what goes to the files of JSON and JUnit XML.
 fn tested(rt: &HostRuntime, test: &Test, book: &Book) -> Result<Verdict, Stop> {
-    match test.junit {
-        None => test_with_json(rt, test, book, None),
-        Some(path) => {
-            let mut junit = Junit::new(rt.alloc());
-            let verdict = test_with_json(rt, test, book, Some(&mut junit))?;
-            write_junit(rt, path, &junit)?;
-            Ok(verdict)
+    let Some(path) = test.json else {
+        return test_without_json(rt, test, book);
+    };
+    match fs::create(rt, path) {
+        Ok(file) => match BufWriter::new(rt.alloc(), file) {
+            Ok(buffer) => test_with_json(rt, test, book, buffer),
+            Err(_) => Err(Stop::Memory),
+        },
+        Err(error) => {
+            let _ = eprintln!(rt; "error: {path}: {error}");
+            Err(Stop::Write)
         }
     }
 }
