@@ -608,7 +608,8 @@ def tables(rows, folder):
             file.write(text)
         rows.row(f"table {number}", run(["table", path]), (wanted, "", status))
     why = "FAULT 23 0\n  why: the reader failed\n"
-    rows.row("no table", run(["table", f"{folder}/none"]), (why, "", 3))
+    text, told, status = run(["table", f"{folder}/none"])
+    rows.row("no table", (text, told.startswith(f"error: {folder}/none: "), status), (why, True, 3))
 
 
 def wrong_input(rows):

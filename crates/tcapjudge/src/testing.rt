@@ -232,7 +232,8 @@ fn test_with_json(
     let verdict = test_all(rt, test, book, &mut sinks)?;
     write_junit(rt, test, &junit)?;
     if json.flush().is_err() {
-        let _ = eprintln!(rt; "error: the file of JSON can't be written");
+        let path = test.json.unwrap_or("-");
+        let _ = eprintln!(rt; "error: {path} can't be written");
         return Err(Stop::Write);
     }
     Ok(verdict)
