@@ -4,7 +4,8 @@
 #                from a fresh clone. At its end it says what that does not show
 # make program   proves and builds the program, and prints where it lies
 # make clib      proves and builds the library for programs in C, clib/out/libtcapjudge.a and .so, and compares what it and
-#                its examples say with what the program prints
+#                its examples say with what the program prints, and where Eclipse Titan is installed the verdicts of its
+#                example for TTCN-3
 # make test      the gate: all proofs, wrong bodies that have to be refused, the tests and runs of the program, with the seconds
 #                of each part and its processor time. So many checks go side by side as there are processors, and 5 GB of free memory
 #                for each; with RT_JOBS=N, N of them
@@ -13,7 +14,8 @@
 # make changed   proves and tests in that copy what changed since the commit BASE, by default origin/main, else HEAD~1
 # make bench     prints how the time grows with the record, with the messages that are read as views, with an element
 #                that is walked, and with the messages of a transaction that an end takes; how long `check` and `judge`
-#                take beside `show`; and how many records are judged in a second by 1, 2 and 4 processes
+#                take beside `show`; how many records are judged in a second by 1, 2 and 4 processes; and how long lines of a
+#                capture take beside tshark
 # make memory    lets each allocation of a run fail in turn
 # make attack    prints how the time grows with inputs that are made to be slow; ONLY="PART .." chooses some by their names
 # make fuzz      runs the program over random and changed records, tables and certificates, for SECONDS, by default 60;
@@ -38,6 +40,7 @@ program: needs
 
 clib: program
 	@python3 tools/clib.py
+	@python3 tests/titan.py
 
 test: needs
 	@python3 tools/gate.py
@@ -52,6 +55,7 @@ bench: measured
 	@python3 bench/linear.py
 	@python3 bench/judging.py
 	@python3 bench/many.py
+	@python3 bench/captures.py
 
 memory: measured
 	@python3 bench/memory.py

@@ -1,9 +1,13 @@
 /* example RECORD TABLE [A|B]: judges the record of a file by the operation table of a file, of both ends or of that end
- * alone. It prints what tcapjudge judge prints, and ends as it does. Files of over a mebioctet are cut. */
+ * alone. It prints what tcapjudge judge prints, and ends as it does.
+ * example --test TRACE [BOOK]: judges each dialogue of the trace of a file, by the book of a file or by the one that the library
+ * carries. It prints the lines that tcapjudge test writes as JSON, and ends as it does. Files of over a mebioctet are cut. */
 #include <stdio.h>
+#include <stdlib.h>
+#include <string.h>
 #include "tcapjudge.h"
 
-static uint8_t record[1 << 20], table[1 << 20];
+static uint8_t first[1 << 20], second[1 << 20];
 
 static size_t octets_of(const char *path, uint8_t *octets, size_t room) {
     FILE *file = fopen(path, "rb");
@@ -13,13 +17,10 @@ static size_t octets_of(const char *path, uint8_t *octets, size_t room) {
     return count;
 }
 
-int main(int count, char **words) {
+static int judge(const char *record, const char *table, uint8_t end) {
     struct tcapjudge_answer said;
-    if (count < 3)
-        return TCAPJUDGE_STATUS_WRONG_CALL;
-    uint8_t end = count > 3 ? (uint8_t)words[3][0] : 0;
-    size_t record_len = octets_of(words[1], record, sizeof record), table_len = octets_of(words[2], table, sizeof table);
-    uint8_t status = tcapjudge_judge(record, record_len, table, table_len, end, &said);
+    size_t record_len = octets_of(record, first, sizeof first), table_len = octets_of(table, second, sizeof second);
+    uint8_t status = tcapjudge_judge(first, record_len, second, table_len, end, &said);
     unsigned long long entry = said.entry, unheard = said.unheard;
     if (said.verdict == TCAPJUDGE_LAWFUL)
         printf(end ? "LAWFUL %llu unheard %llu\n" : "LAWFUL %llu\n", entry, unheard);
@@ -30,4 +31,31 @@ int main(int count, char **words) {
     else if (said.verdict == TCAPJUDGE_FAULT)
         printf("FAULT %u %llu\n", said.reason, entry);
     return status;
+}
+
+static int test(const char *trace, const char *book) {
+    struct tcapjudge_asked asked = TCAPJUDGE_ASKED;
+    size_t trace_len = octets_of(trace, first, sizeof first), book_len = book ? octets_of(book, second, sizeof second) : 0;
+    size_t room = 1 << 16, len;
+    uint8_t status, *lines = malloc(room);
+    while (lines) {
+        status = tcapjudge_test(first, trace_len, second, book_len, &asked, lines, room, &len);
+        if (len <= room)
+            break;
+        free(lines);
+        lines = malloc(room = len);
+    }
+    if (!lines)
+        return TCAPJUDGE_STATUS_ERROR;
+    fwrite(lines, 1, len, stdout);
+    free(lines);
+    return status;
+}
+
+int main(int count, char **words) {
+    if (count < 3)
+        return TCAPJUDGE_STATUS_WRONG_CALL;
+    if (strcmp(words[1], "--test") == 0)
+        return test(words[2], count > 3 ? words[3] : NULL);
+    return judge(words[1], words[2], count > 3 ? (uint8_t)words[3][0] : 0);
 }

@@ -1,10 +1,17 @@
 """example.py RECORD TABLE [A|B]: judges the record of a file by the operation table of a file, of both ends or of that end
-alone. It prints what `tcapjudge judge` prints, and ends as it does."""
+alone. It prints what `tcapjudge judge` prints, and ends as it does.
+
+example.py --test TRACE [BOOK]: judges each dialogue of the trace of a file, by the book of a file or by the one that the library
+carries. It prints the lines that `tcapjudge test` writes as JSON, and ends as it does.
+
+The library is that which `make clib` built beside this file."""
 
 import ctypes
+import os
 import sys
 
-LIBRARY = "clib/out/libtcapjudge.so"
+LIBRARY = os.path.join(os.path.dirname(os.path.abspath(__file__)), "out", "libtcapjudge.so")
+IDS = {"again": 0, "settled": 1, "once": 2}
 
 
 class Answer(ctypes.Structure):
@@ -19,11 +26,46 @@ class Answer(ctypes.Structure):
     ]
 
 
+class Asked(ctypes.Structure):
+    """`struct tcapjudge_asked` of tcapjudge.h."""
+
+    _fields_ = [
+        ("linger", ctypes.c_uint64),
+        ("of", ctypes.c_uint8),
+        ("ids", ctypes.c_uint8),
+        ("complete", ctypes.c_uint8),
+    ]
+
+
+def loaded():
+    """The library."""
+    library = ctypes.CDLL(LIBRARY)
+    for word in "judge", "check", "blame", "test":
+        getattr(library, f"tcapjudge_{word}").restype = ctypes.c_uint8
+    return library
+
+
+def sized(*texts):
+    """Each of these octets, and their count."""
+    return [part for text in texts for part in (text, ctypes.c_size_t(len(text)))]
+
+
 def judge(library, record, table, end=0):
     """What is said of a record by a table, and the exit status. `end` is 0, or the octet of an end."""
-    said, size = Answer(), ctypes.c_size_t
-    texts = [record, size(len(record)), table, size(len(table))]
-    return said, library.tcapjudge_judge(*texts, ctypes.c_uint8(end), ctypes.byref(said))
+    said = Answer()
+    return said, library.tcapjudge_judge(*sized(record, table), ctypes.c_uint8(end), ctypes.byref(said))
+
+
+def test(library, trace, book=b"", of=0, ids="again", complete=False, linger=10000):
+    """The lines that are said of a trace by a book, as octets, and the exit status. Without a book it is the one that the library
+    carries. `of` is 0, or the octet of the end whose verdicts are asked; the others are the flags of `tcapjudge test`."""
+    asked, room, size = Asked(linger, of, IDS[ids], complete), 1 << 16, ctypes.c_size_t()
+    while True:
+        lines = ctypes.create_string_buffer(room)
+        status = library.tcapjudge_test(*sized(trace, book), ctypes.byref(asked), *sized(lines), ctypes.byref(size))
+        if size.value <= room:
+            return lines.raw[: size.value], status
+        room = size.value
 
 
 def line_of(said, end):
@@ -34,12 +76,18 @@ def line_of(said, end):
     return (lines + [f"FAULT {said.reason} {said.entry}"])[said.verdict]
 
 
+def octets_in(path):
+    with open(path, "rb") as file:
+        return file.read()
+
+
 def main():
-    library = ctypes.CDLL(LIBRARY)
-    library.tcapjudge_judge.restype = ctypes.c_uint8
-    record, table = (open(path, "rb").read() for path in sys.argv[1:3])
+    if sys.argv[1] == "--test":
+        lines, status = test(loaded(), *map(octets_in, sys.argv[2:4]))
+        sys.stdout.buffer.write(lines)
+        return status
     end = ord(sys.argv[3]) if len(sys.argv) > 3 else 0
-    said, status = judge(library, record, table, end)
+    said, status = judge(loaded(), *map(octets_in, sys.argv[1:3]), end)
     print(line_of(said, end))
     return status
 

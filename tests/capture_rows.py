@@ -1,5 +1,5 @@
 """Captures, with the options of tools/lines_of_capture.py, and the lines, the exit status and the words on standard
-error that are wanted of it: tests/captures.py runs them."""
+error that are wanted of it, of layers and of faults: tests/captures.py runs them."""
 
 import collections
 import shutil
@@ -12,7 +12,7 @@ Row = collections.namedtuple("Row", "name capture options files status said", de
 
 BEGIN, RESULT = "A 620d4801016c08a10602010102012d", "B 640a4901016c05a203020101"
 SECOND, OTHER_RESULT = "A 620d4801026c08a10602010102012e", "B 640a4901026c05a203020101"
-GOES_ON, END = "B 6506480107490101", "A 6403490107"
+OPEN, GOES_ON, END = "A 6203480101", "B 6506480107490101", "A 6403490107"
 
 DIALOGUE = [BEGIN, RESULT]
 LONG = "A 6281b64801016c81b0a181ad02010102012d0481a4" + "5a" * 164
@@ -21,7 +21,8 @@ LONG = "A 6281b64801016c81b0a181ad02010102012d0481a4" + "5a" * 164
 class Wire:
     """Writes what two ends send each other, each with a point code, a subsystem number and a global title."""
 
-    def __init__(self, ends=((101, 8), (202, 6)), titles=(None, None), tag=0x1000, tsn=0xFFFFFFFE):
+    def __init__(self, ends=((101, 8), (202, 6)), titles=(None, None), tag=0x1000, tsn=0xFFFFFFFE, hosts=(1, 2)):
+        self.hosts = hosts
         self.codes = dict(zip("AB", (code for code, _ in ends)))
         self.addresses = {end: made.address(ssn, gt=gt) for end, (_, ssn), gt in zip("AB", ends, titles)}
         self.tags, self.tsns = {"A": tag, "B": tag + 1}, {"A": tsn, "B": 77}
@@ -45,7 +46,8 @@ class Wire:
 
     def frames(self, line, chunk=None, cut=None):
         """The frames of a line, or of a chunk of its end."""
-        return made.ip(self.packet(line[0], chunk or self.chunk(line)), (1, 2) if line[0] == "A" else (2, 1), cut=cut)
+        hosts = self.hosts if line[0] == "A" else self.hosts[::-1]
+        return made.ip(self.packet(line[0], chunk or self.chunk(line)), hosts, cut=cut)
 
     def all(self, lines):
         return [frame for line in lines for frame in self.frames(line)]
@@ -72,8 +74,18 @@ def segments(wire, line, count, reference=9):
         yield wire.sccp(f"{line[0]} {part.hex()}", made.xudt, segment=(at == 0, len(parts) - 1 - at, reference))
 
 
-def over(frames, link=made.ETHERNET, limit=None):
-    return made.pcap(frames, link, limit)
+def over(frames, link=made.ETHERNET, **more):
+    return made.pcap(frames, link, **more)
+
+
+def frames_of(*turns):
+    """A capture of lines, each with the ends that send it."""
+    return over([frame for wire, line in turns for frame in wire.frames(line)])
+
+
+def swapped(line):
+    """A line of the other end."""
+    return ("B" if line[0] == "A" else "A") + line[1:]
 
 
 # Packets of SCTP that are damaged.
@@ -131,6 +143,13 @@ def transport():
     late = over(second + wire.all([OTHER_RESULT]) + first)
     yield Row("a chunk that comes late", late, [], [[BEGIN, SECOND, OTHER_RESULT]])
     wire = Wire()
+    turns = [BEGIN, GOES_ON, "B 650d4801074901016c05a203020101", "A 65104801014901076c08a10602010202012e"]
+    turns += ["B 640a4901016c05a203020102"]
+    begin, lost, *between, last = (wire.chunk(line) for line in turns)
+    packets = zip("ABAB", [begin, *between, lost + last])
+    late = over([frame for end, chunk in packets for frame in wire.frames(end, chunk)])
+    yield Row("a chunk that comes late, and another behind it in its frame", late, [], [turns])
+    wire = Wire()
     frames = [wire.frames(f"A 62034801{number:02x}") for number in range(5)]
     order = [frame for number in (0, 4, 1, 3, 2) for frame in frames[number]]
     yield Row("chunks in disorder", over(order), [], [[f"A 62034801{number:02x}" for number in range(5)]])
@@ -163,6 +182,15 @@ def of_sccp():
     rest = wire.all([RESULT])
     yield Row("segments of SCCP", over(frames + rest), [], [[LONG, RESULT]])
     wire = Wire()
+    frames = [wire.frames(LONG, wire.chunk(LONG, wire.m3ua(LONG, part)))[0] for part in segments(wire, LONG, 3)]
+    late = [frames[1], frames[0], *wire.all([RESULT]), frames[2]]
+    yield Row("segments of SCCP in disorder", over(late), [], [[LONG, RESULT]])
+    wire = Wire()
+    begin, parts = wire.frames(BEGIN), list(segments(wire, LONG, 3))
+    lone = [wire.frames(LONG, wire.chunk(LONG, wire.m3ua(LONG, part)))[0] for part in (parts[0], parts[2])]
+    wanted = ["FAULT segment, frame 2 of capture"]
+    yield Row("no middle segment, in disorder", over(begin + lone[::-1]), [], [[BEGIN]], 3, wanted)
+    wire = Wire()
     both = [part for pair in zip(segments(wire, LONG, 3, 1), segments(wire, SECOND, 3, 2)) for part in pair]
     mixed = [wire.frames("A", wire.chunk("A", wire.m3ua("A", part)))[0] for part in both]
     yield Row("segments of two messages", over(mixed), [], [[LONG, SECOND]])
@@ -187,66 +215,6 @@ def of_sccp():
         yield Row(f"{name} SCCP", over(frames, made.MTP3), [], [[BEGIN]], 3, ["FAULT sccp, frame 2 of capture"])
 
 
-# ---- ends
-
-
-def ends():
-    one, two = Wire(), Wire(((101, 8), (202, 7)), tag=9)
-    mixed = one.frames(BEGIN) + two.frames(BEGIN) + two.frames(RESULT) + one.frames(RESULT)
-    yield Row("two pairs by SSN", over(mixed), [], [DIALOGUE, DIALOGUE])
-    yield Row("two pairs, one by point code", over(mixed), ["--by", "pc"], [[BEGIN, BEGIN, RESULT, RESULT]])
-    same = over(Wire(((101, 8), (202, 8))).all(DIALOGUE))
-    yield Row("one SSN for both", same, [], [DIALOGUE])
-    wanted = ["FAULT ends, frame 1 of capture: both ends are ssn=8"]
-    yield Row("one SSN for both, by SSN", same, ["--by", "ssn"], [], 3, wanted)
-    yield Row("no title", same, ["--by", "gt"], [], 3, ["FAULT ends, frame 1 of capture: nothing of gt"])
-    titles = Wire(((101, 6), (101, 6)), ("4917012", "491702"))
-    yield Row("by title", over(titles.all(DIALOGUE)), ["--by", "gt"], [DIALOGUE])
-    swapped = [("B" if line[0] == "A" else "A") + line[1:] for line in DIALOGUE]
-    for wanted in ("ssn=6", "pc=202", "pc=202,ssn=6"):
-        yield Row(f"A is {wanted}", over(Wire().all(DIALOGUE)), ["--a", wanted], [swapped])
-    yield Row("A is a title", over(titles.all(DIALOGUE)), ["--a", "gt=491702"], [swapped])
-    wanted = ["FAULT a, frame 1 of capture: no end"]
-    yield Row("A is no end", over(Wire().all(DIALOGUE)), ["--a", "ssn=9"], [], 3, wanted)
-    yield Row("A is both ends", same, ["--a", "ssn=8"], [], 3, ["FAULT a, frame 1 of capture: both ends"])
-    yield Row("B begins", over(Wire().all([swapped[0], swapped[1]])), [], [DIALOGUE])
-
-
-def frames_of(*turns):
-    """A capture of lines, each with the ends that send it."""
-    return over([frame for wire, line in turns for frame in wire.frames(line)])
-
-
-def answers():
-    asked = Wire(titles=("4917012", "491710001"))
-    answering = Wire(titles=("4917012", "491702"), tag=9)
-    frames = asked.frames(BEGIN) + answering.frames(RESULT)
-    yield Row("another address answers", over(frames), [], [[BEGIN]], 3, ["FAULT answer, frame 2 of capture", "--join"])
-    yield Row("it is one end", over(frames), ["--join"], [DIALOGUE])
-    parts = [[BEGIN], ["A" + RESULT[1:]]]
-    yield Row("it is another end", over(frames), ["--apart"], parts, 0, ["NOTE pair 2: messages to IDs"])
-    yield Row("titles are not looked at", over(frames), ["--by", "pc,ssn"], [DIALOGUE])
-    third = Wire(titles=("4917012", "491710002"), tag=20)
-    more = frames + third.frames(SECOND) + answering.frames(OTHER_RESULT)
-    yield Row("it answers for two", over(more), ["--join"], [[BEGIN, RESULT, SECOND, OTHER_RESULT]])
-    goes_on = "A 6506480101490107", "B 6403490101"
-    more = frames_of((asked, "A 6203480101"), (answering, GOES_ON), (answering, goes_on[0]), (third, goes_on[1]))
-    yield Row("it answers from three", more, ["--join"], [["A 6203480101", GOES_ON, *goes_on]])
-    yield Row("and may not", more, [], [["A 6203480101"]], 3, ["FAULT answer, frame 2 of capture"])
-    stranger = Wire(((303, 8), (404, 6)), tag=40)
-    more = frames_of((asked, BEGIN), (stranger, RESULT), (asked, RESULT))
-    yield Row("an ID of others", more, [], [DIALOGUE], 3, ["FAULT answer, frame 2 of capture"])
-    yield Row("an ID of others, under way", more, ["--under-way"], [DIALOGUE], 0, ["frame 2, left out: 1"])
-    back = Wire(titles=("4917013", "491710001"), tag=30)
-    yield Row("the asker's other address", over(asked.frames(BEGIN) + back.frames(RESULT)), ["--join"], [DIALOGUE])
-    begun = [GOES_ON, END, BEGIN, RESULT]
-    note = ["the first in frame 1, left out: 2"]
-    yield Row("under way", over(Wire().all(begun)), ["--under-way"], [[BEGIN, RESULT]], 0, note)
-    note = ["the first in frame 1, kept; --under-way leaves them out: 1"]
-    yield Row("under way, kept", over(Wire().all(begun)), [], [begun], 0, note)
-    yield Row("no Begin", over(Wire().all([GOES_ON])), [], [["A" + GOES_ON[1:]]], 0, note)
-
-
 # ---- faults
 
 
@@ -264,15 +232,8 @@ def contents():
     odd = "A 3003020100"
     yield Row("another element", then(odd), [], [[BEGIN, odd, RESULT]])
     wire = Wire()
-    other = wire.frames(BEGIN) + wire.frames(BEGIN, wire.chunk(BEGIN, b"\x01\0\x0b\1\0\0\0\x08", ppid=5))
-    yield Row("M2PA", over(other), [], [[BEGIN]], 3, ["FAULT adaptation, frame 2 of capture: a chunk of M2PA"])
-    wire = Wire()
     other = wire.frames(BEGIN) + wire.frames(BEGIN, wire.chunk(BEGIN, b"hello", ppid=46)) + wire.frames(RESULT)
     yield Row("another payload", over(other), [], [DIALOGUE], 0, ["payload protocol 46: 1"])
-    for name, payload in ("m3ua", b"\x01\0\1\1\0\0\0\x40"), ("pc", made.m3ua(Wire().sccp(BEGIN), 70000, 2)):
-        wire = Wire()
-        frames = wire.frames(BEGIN) + wire.frames(BEGIN, wire.chunk(BEGIN, payload)) + wire.frames(RESULT)
-        yield Row(f"a fault of {name}", over(frames), [], [[BEGIN]], 3, [f"FAULT {name}, frame 2 of capture"])
     wire = Wire()
     frames = wire.frames(BEGIN) + wire.frames(BEGIN, b"\0\3\0\2")
     yield Row("a short chunk", over(frames), [], [[BEGIN]], 3, ["FAULT sctp, frame 2 of capture"])
@@ -296,6 +257,81 @@ def captures():
     yield Row("other frames, cut", over(frames + long, limit=200), [], [DIALOGUE], 0, ["ip:udp"])
 
 
+def others():
+    """Frames of others, which end what they may be of."""
+    odd = {
+        "adaptation": b"\x01\0\x0b\1\0\0\0\x08",
+        "m3ua": b"\x01\0\1\1\0\0\0\x40",
+        "pc": made.m3ua(Wire().sccp(BEGIN), 101, 70000),
+        "sccp": made.m3ua(b"\x09", 303, 404),
+    }
+    for name, payload in odd.items():
+        wire, other = Wire(), Wire(((303, 8), (404, 6)), tag=9, hosts=(3, 4))
+        ppid, wanted = 5 if name == "adaptation" else 3, [f"FAULT {name}, frame 3 of capture"]
+
+        def between(third, payload=payload, ppid=ppid, wire=wire, other=other):
+            frames = wire.frames(BEGIN) + other.frames(BEGIN)
+            frames += third.frames(BEGIN, third.chunk(BEGIN, payload, ppid=ppid))
+            return over(frames + other.frames(RESULT) + wire.frames(RESULT))
+
+        parts = [DIALOGUE, DIALOGUE] if name == "pc" else [DIALOGUE, [BEGIN]]
+        yield Row(f"another association, {name}", between(other), [], parts, 3, wanted)
+        parts = {"pc": [DIALOGUE, DIALOGUE], "sccp": [DIALOGUE, [BEGIN]]}.get(name, [[BEGIN], DIALOGUE])
+        yield Row(f"the same association, {name}", between(wire), [], parts, 3, wanted)
+    near, third = Wire(), Wire(((303, 8), (404, 6)), tag=9, hosts=(3, 4))
+    for name, opc, dpc, parts in ("of them", 101, 202, [[BEGIN]]), ("of others", 303, 404, [DIALOGUE]):
+        wire, carried = Wire(), made.m2pa(made.mtp3(near.sccp(BEGIN), opc, dpc))
+        frames = wire.frames(BEGIN) + third.frames(BEGIN, third.chunk(BEGIN, carried, ppid=5)) + wire.frames(RESULT)
+        wanted = ["FAULT adaptation, frame 2 of capture: a chunk of M2PA", f"may be: {2 - len(parts[0])}"]
+        yield Row(f"M2PA {name}", over(frames), [], parts, 3, wanted)
+    units = [made.mtp3(near.sccp(BEGIN), 303, 404), made.mtp3(b"\x09", 303, 404), made.mtp3(near.sccp(RESULT), 404, 303)]
+    frames = [near.mtp3(BEGIN), *units, near.mtp3(RESULT)]
+    wanted = ["FAULT sccp, frame 3 of capture", "pairs of which it may be: 1"]
+    yield Row("SCCP of others", over(frames, made.MTP3), [], [DIALOGUE, [BEGIN]], 3, wanted)
+
+
+def cuts():
+    """Cut frames of others, and of the same association."""
+    def frames():
+        wire, other = Wire(), Wire(((303, 8), (404, 6)), tag=9, hosts=(3, 4))
+        turns = (other, BEGIN), (wire, BEGIN), (other, RESULT), (other, SECOND), (wire, RESULT)
+        return [frame for one, line in turns for frame in one.frames(line)]
+
+    for kept, parts in (100, [[BEGIN], DIALOGUE]), (40, [[BEGIN], DIALOGUE]), (20, [[BEGIN], [BEGIN]]):
+        cut = over(frames(), cuts={3: kept})
+        yield Row(f"a frame of others cut to {kept}", cut, [], parts, 3, [f"FAULT cut, frame 3 of capture: {kept} octets"])
+    alone = over(frames()[1:3] + frames()[4:], cuts={2: 100})
+    yield Row("the only frame of others, cut", alone, [], [DIALOGUE], 3, ["FAULT cut, frame 2 of capture", "may be: 0"])
+    lone = over(Wire().all([BEGIN, RESULT, END]), cuts={2: 60})
+    yield Row("the only frame of a direction, cut", lone, [], [[BEGIN]], 3, ["FAULT cut, frame 2 of capture"])
+    wire = Wire()
+    two = made.ip(wire.packet("A", wire.chunk(BEGIN), wire.chunk(SECOND)))
+    cut = over(two + wire.all([RESULT]), cuts={1: len(two[0]) - 4})
+    yield Row("the second chunk is cut", cut, [], [[BEGIN]], 3, ["FAULT cut, frame 1 of capture"])
+    wire, paths = Wire(), Wire(hosts=(11, 12))
+    paths.tsns = wire.tsns
+    turns = (wire, BEGIN), (paths, SECOND), (wire, OTHER_RESULT), (paths, RESULT)
+    both = [frame for one, line in turns for frame in one.frames(line)]
+    yield Row("an association of two paths", over(both), [], [[BEGIN, SECOND, OTHER_RESULT, RESULT]])
+    cut = over(both, cuts={4: 60})
+    yield Row("a frame of its second path is cut", cut, [], [[BEGIN, SECOND, OTHER_RESULT]], 3, ["FAULT cut, frame 4"])
+    titles = "4917012", "491702"
+    first, second = (Wire(((101, 8), (pc, 6)), titles, tag=10 * pc, hosts=(1, pc - 900)) for pc in (902, 903))
+    load = first.frames(OPEN) + second.frames(GOES_ON) + first.frames(END)
+    wanted = ["FAULT cut, frame 2 of capture", "may be: 1"]
+    yield Row("what goes by the other point is cut", over(load, cuts={2: 100}), [], [[OPEN]], 3, wanted)
+    other = Wire(((303, 8), (902, 6)), ("4917013", "491703"), tag=70, hosts=(3, 2))
+    point = first.frames(OPEN) + other.frames(BEGIN) + other.frames(RESULT) + first.frames(GOES_ON) + first.frames(END)
+    wanted = ["FAULT cut, frame 3 of capture", "may be: 1"]
+    yield Row("others at that transfer point, cut", over(point, cuts={3: 100}), [], [[OPEN, GOES_ON, END], [BEGIN]], 3, wanted)
+    isup = b"\x85" + Wire().mtp3(LONG)[1:]
+    units = [Wire().mtp3(BEGIN), isup, Wire().mtp3(RESULT)]
+    yield Row("a cut frame of ISUP", over(units, made.MTP3, cuts={2: 30}), [], [DIALOGUE], 0, ["protocols mtp3"])
+    units[1] = made.mtp3(Wire().sccp(LONG), 303, 404)
+    wanted = ["FAULT cut, frame 2 of capture", "may be: 0"]
+    yield Row("a cut frame of other point codes", over(units, made.MTP3, cuts={2: 30}), [], [DIALOGUE], 3, wanted)
+
+
 def rows():
-    for part in layers, transport, of_sccp, ends, answers, contents, captures:
+    for part in layers, transport, of_sccp, contents, captures, others, cuts:
         yield from part()

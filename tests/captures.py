@@ -3,7 +3,9 @@ shows these by the built program, and compares. Then it compares what `tshark` a
 vector and of random messages (wireshark.py). Where tshark is not installed it says so, and counts nothing."""
 
 import concurrent.futures
+import contextlib
 import glob
+import io
 import os
 import random
 import re
@@ -13,18 +15,22 @@ import sys
 import tempfile
 
 import made_captures as made
+import made_network
 from tested import PROGRAM
 
 sys.path.insert(0, "tools")
 
+import capture_answers
 import capture_frames
 import capture_rows
-import signalling
+import lines_of_capture
 import wireshark
 
 TOOL = "tools/lines_of_capture.py"
 VECTORS = "crates/tcap_msg_rows/src/vectors.rt"
 DAMAGED = 3000
+# Of the network.
+MESSAGES = 3000
 
 
 def run(*words, env=None):
@@ -32,7 +38,7 @@ def run(*words, env=None):
 
 
 def lines_of(folder, capture, options):
-    """What the tool says of a capture, and the entries of each file that it wrote."""
+    """What the tool says of a capture, and all lines of each file that it wrote."""
     path, out = f"{folder}/capture", f"{folder}/lines"
     shutil.rmtree(out, ignore_errors=True)
     if capture is not None:
@@ -42,8 +48,24 @@ def lines_of(folder, capture, options):
     files = []
     for number in range(1, 1 + len(os.listdir(out)) if os.path.isdir(out) else 1):
         with open(f"{out}/pair-{number}.hex", encoding="utf-8") as file:
-            files.append((file.name, [line for line in file.read().splitlines() if not line.startswith("#")]))
+            files.append((file.name, file.read().splitlines()))
     return said, files
+
+
+def entries_of(lines):
+    """The lines of digits."""
+    return [line for line in lines if not line.startswith("#")]
+
+
+def are_commented(lines, options):
+    """Whether each line of digits has its entry in the comment above it, though what was sent earlier stands earlier; and
+    whether the head says that dialogues were under way where that was said, and else not."""
+    at = [number for number, line in enumerate(lines) if not line.startswith("#")]
+    entries = [re.fullmatch(r"# frames? .*, entry (\d+)(, sent before frame \d+)?", lines[one - 1]) for one in at]
+    head = lines[: at[0]] if at else []
+    is_said = "# dialogues may have been under way" in head
+    counted = [int(found[1]) if found else None for found in entries]
+    return counted == list(range(len(at))) and is_said == ("--under-way" in options)
 
 
 def record_of(lines):
@@ -66,11 +88,13 @@ def is_as_wanted(row):
 
 def is_so(row, said, files):
     errors = said.stderr.decode()
-    holds = [lines for _, lines in files] == [list(lines) for lines in row.files] and said.returncode == row.status
+    wanted = [list(lines) for lines in row.files]
+    holds = [entries_of(lines) for _, lines in files] == wanted and said.returncode == row.status
+    holds = holds and all(are_commented(lines, row.options) for _, lines in files)
     holds = holds and all(word in errors for word in row.said) and "Traceback" not in errors
     # What is not foreseen is said by no run.
     holds = holds and (row.said or not errors)
-    holds = holds and all(packed(path)[0] == record_of(lines) for path, lines in files)
+    holds = holds and all(packed(path)[0] == record_of(entries_of(lines)) for path, lines in files)
     if not holds:
         print(f"{row.name}: {said.returncode}\n{said.stdout.decode()}{errors}{files}")
     return holds
@@ -79,7 +103,7 @@ def is_so(row, said, files):
 def is_shown_alike(folder, name, entries, frames, link):
     """Whether the records of examples, each of a pair of ends, come back from one capture, and are shown alike."""
     said, files = lines_of(folder, made.pcap(frames, link), ["--apart"])
-    found = {record_of(lines): packed(path) for path, lines in files}
+    found = {record_of(entries_of(lines)): packed(path) for path, lines in files}
     wanted = [record_of(lines) for lines in entries]
     holds = said.returncode == 0 and len(files) == len(entries)
     for record in wanted:
@@ -130,31 +154,84 @@ def vectors_come_back(folder):
     lines = [f"A {octets.hex()}" for octets, _ in rows]
     said, files = lines_of(folder, made.pcap([frame for line in lines for frame in wire.frames(line)]), [])
     wanted = "".join(f"{number}{printed[1:]}" for number, (_, printed) in enumerate(rows))
-    holds = [one for _, one in files] == [lines] and packed(files[0][0])[1].decode() == wanted and len(rows) > 20
+    holds = [entries_of(one) for _, one in files] == [lines] and packed(files[0][0])[1].decode() == wanted and len(rows) > 20
     if not holds:
         print(f"vectors: {said.returncode} {said.stdout.decode()}{said.stderr.decode()}")
     return holds
 
 
-def is_steady():
-    """Whether the reader takes damaged packets, and says what is wrong, without an error of its own."""
+def is_network_lawful(folder):
+    """Whether all dialogues of a lawful network pass that shares load, translates titles, and repeats packets and has them come
+    late: each in the record of its register, and each message in one."""
+    said, files = lines_of(folder, made.pcap(list(made_network.shaken(MESSAGES))), [])
+    judged = run(PROGRAM, "test", *(name for name, _ in files))
+    entries = sorted(len(entries_of(lines)) for _, lines in files)
+    holds = judged.returncode == 0 and sum(entries) == MESSAGES and len([one for one in entries if one > 9]) == 3
+    holds = holds and said.returncode == 3 and b"FAULT adaptation" in said.stderr and b"may be: 1" not in said.stderr
+    if not holds:
+        print(f"network: {entries} {said.stdout.decode()}{said.stderr.decode()}{judged.stdout.decode()[:2000]}")
+    return holds
+
+
+def damaged_frames():
+    """Frames of damaged packets, with their octets."""
     chance, packets = random.Random(7), capture_rows.PACKETS
-    for turn in range(DAMAGED):
+    for number in range(1, DAMAGED + 1):
         octets = bytearray(chance.choice(packets))
         for _ in range(chance.randint(1, 4)):
             octets[chance.randrange(12, len(octets))] = chance.choice([0, 1, 0x7F, 0x80, 0xFF, chance.randrange(256)])
         octets = octets[: chance.choice([len(octets), chance.randrange(1, len(octets))])]
-        reader = capture_frames.Reader()
-        frame = {"number": "1", "time": "1.5", "octets": octets.hex(), "ip": "132", "protocols": "ip:data"}
+        fields = {"number": str(number), "time": "1.5", "octets": octets.hex(), "ip": "132", "protocols": "ip:data"}
+        fields |= {"kept": "9", "length": chance.choice(["9", "10"]), "source": "10.0.0.1", "target": "10.0.0.2"}
+        values = [fields.get(name, "") for name in capture_frames.FIELDS]
+        yield octets, capture_frames.Frame(*values[: capture_frames.OWN], "\t".join(values[capture_frames.OWN :]))
+
+
+def is_steady():
+    """Whether the tool takes damaged packets, each alone and all in one capture, and says what is wrong, without an error of
+    its own."""
+    for octets, frame in damaged_frames():
         try:
-            reader.take(dict.fromkeys(capture_frames.FIELDS, "") | frame)
-            reader.close()
-            for message in reader.messages:
-                signalling.ids_of(message.octets or b"\0")
+            pairs_of_frames([frame], [])
         except Exception as error:
-            print(f"damaged packet {turn}: {octets.hex()} {error!r}")
+            print(f"damaged packet {frame.number}: {octets.hex()} {error!r}")
+            return False
+    for options in [], ["--join"], ["--apart"], ["--under-way"], ["--whole"], ["--by", "ssn"]:
+        try:
+            pairs_of_frames([frame for _, frame in damaged_frames()], options)
+        except Exception as error:
+            print(f"damaged packets, {options}: {error!r}")
             return False
     return True
+
+
+def pairs_of_frames(frames, options):
+    """What the tool makes of frames."""
+    reader, words = capture_frames.Reader(), lines_of_capture.words_of(["capture", "folder", *options])
+    for frame in frames:
+        reader.take(frame)
+    reader.close()
+    pairs, ends, _ = lines_of_capture.pairs_in(reader, list(reader.gaps()), words)
+    return [list(lines_of_capture.lines_of(pair, None, ends, reader.times)) for pair in pairs]
+
+
+def is_progress_said(folder):
+    """Whether a run says how far it is once a second, and nothing where that is not asked."""
+    with open(f"{folder}/capture", "wb") as file:
+        file.write(made.pcap(capture_rows.Wire().all(capture_rows.DIALOGUE)))
+    ended = run(sys.executable, TOOL, f"{folder}/capture", f"{folder}/said", "--progress")
+    form = re.compile(r"(frames read: \d+, messages written: \d+\n)*")
+    holds = ended.returncode == 0 and form.fullmatch(ended.stderr.decode()) is not None
+    for is_asked, wanted in (True, "frames read: 2, messages written: 0\n"), (False, ""):
+        progress, said = lines_of_capture.Progress(is_asked), io.StringIO()
+        with contextlib.redirect_stderr(said):
+            for number, _ in enumerate(progress.over("frames read", range(5))):
+                # The second is over while the second one is taken, and then not again.
+                progress.due = 0 if number == 1 else float("inf")
+        holds = holds and said.getvalue() == wanted
+    if not holds:
+        print(f"progress: {ended}")
+    return holds
 
 
 def words_are_refused(folder):
@@ -185,8 +262,10 @@ def main():
     with tempfile.TemporaryDirectory() as folder:
         # Most of the time goes into the start of tshark.
         with concurrent.futures.ThreadPoolExecutor(os.cpu_count()) as lanes:
-            held = list(lanes.map(is_as_wanted, capture_rows.rows()))
-        held += [*examples_come_back(folder), vectors_come_back(folder), is_steady(), words_are_refused(folder)]
+            rows = [*capture_rows.rows(), *capture_answers.rows()]
+            held = list(lanes.map(is_as_wanted, rows))
+        held += [*examples_come_back(folder), vectors_come_back(folder), is_network_lawful(folder), is_steady()]
+        held += [is_progress_said(folder), words_are_refused(folder)]
         messages = [octets for octets, _ in vectors()]
         messages += [bytes.fromhex(line[2:]) for lines in example_lines() for line in lines]
         held += [*wireshark.agreements(PROGRAM, folder, messages), wireshark.addresses_agree(folder)]

@@ -1,7 +1,7 @@
 """The library for programs in C, which tools/clib.py built: of the records of judged.py, blamed.py, alone.py and examples/,
 and of octets that are none, it says what the program prints, of both ends and of one alone, with and without a certificate;
-and so do its two examples, in C and in Python. Where an allocation fails, it says so, and gives back all that it took.
-Closes with `N passed, M failed`."""
+of traces it says what the program writes as JSON (clib_traces.py); and so do its two examples, in C and in Python. Where an
+allocation fails, it says so, and gives back all that it took. Closes with `N passed, M failed`."""
 
 import ctypes
 import glob
@@ -12,6 +12,7 @@ import tempfile
 
 import alone
 import blamed
+import clib_traces
 import judged
 import program
 from tested import PROGRAM
@@ -51,9 +52,7 @@ class Library:
     """The library, by ctypes."""
 
     def __init__(self):
-        self.of = ctypes.CDLL(example.LIBRARY)
-        for word in ("judge", "check", "blame"):
-            getattr(self.of, f"tcapjudge_{word}").restype = ctypes.c_uint8
+        self.of = example.loaded()
 
     def call(self, word, kind, texts, end=None):
         """What a word says of these texts, and its status. Fails where the octets beside the answer, or a text, change."""
@@ -66,6 +65,10 @@ class Library:
         assert room.raw[:8] + room.raw[-8:] == b"\xee" * 16
         assert all(octets.raw[: len(text)] == text for text, octets in zip(texts, held))
         return kind.from_buffer_copy(room.raw[8:-8]), status
+
+    def test(self, trace, book, **asked):
+        """The lines of what `test` says, and its status."""
+        return example.test(self.of, trace, book, **asked)
 
     def said(self, word, texts, end=""):
         """The lines of what `judge` or `check` says, of both ends or of one, and its status."""
@@ -103,9 +106,9 @@ def written(folder, texts):
     return paths
 
 
-def printed(words):
+def printed(words, **how):
     """What a program prints, and its status."""
-    run = subprocess.run(words, capture_output=True, check=False)
+    run = subprocess.run(words, capture_output=True, check=False, **how)
     return run.stdout, run.returncode
 
 
@@ -168,7 +171,8 @@ def compare(count, library, folder, name, record, table, cert):
 
 
 def run_examples(count, folder):
-    """Compares what the two examples print of each record of examples/."""
+    """Compares what the two examples print of each record of examples/, and of each trace; that in Python from another folder."""
+    python = [sys.executable, os.path.abspath("clib/example.py")]
     for name, record, table, cert in examples():
         if cert is not None:
             continue
@@ -176,7 +180,14 @@ def run_examples(count, folder):
         for end in ENDS:
             wanted, words = printed([PROGRAM, "judge", *flags_of(end), *paths]), [*paths, *filter(None, [end])]
             count.same(f"{EXAMPLE} {end} {name}", printed([EXAMPLE, *words]), wanted)
-            count.same(f"example.py {end} {name}", printed([sys.executable, "clib/example.py", *words]), wanted)
+            count.same(f"example.py {end} {name}", printed([*python, *words], cwd=folder), wanted)
+    word = clib_traces.Word(folder)
+    for path in sorted(glob.glob("examples/*.hex")):
+        for book in [], ["examples/operations.json"]:
+            wanted = word.said(octets_in(path), b"".join(map(octets_in, book)), "")[:2]
+            words = ["--test", *map(os.path.abspath, [path, *book])]
+            count.same(f"{EXAMPLE} {words}", printed([EXAMPLE, *words]), wanted)
+            count.same(f"example.py {words}", printed([*python, *words], cwd=folder), wanted)
 
 
 def wrong_calls(count, library):
@@ -209,6 +220,7 @@ def main():
         run_examples(count, folder)
         fails_each(count, folder)
     wrong_calls(count, library)
+    clib_traces.look_at(count, library, lambda: example.Asked(linger=10000))
     print(f"{count.passed} passed, {count.failed} failed")
     return int(count.failed != 0)
 

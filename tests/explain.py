@@ -2,23 +2,27 @@
 octet for octet. Of these and of further records, those of judged.py, blamed.py and alone.py and those of faults.json: the first
 line and the status are those of `judge`, of `judge --end`, or of `check` with the certificate that `judge` proposes; behind a line
 that is not LAWFUL stand the lines of `blame`; each line else begins with two blanks; under what is refuted or blamed that entry
-is named, and no entry that is not there; a run names each entry where it is sent, once and in order; and a chart is an SVG whose
-title is that line."""
+is named, and no entry that is not there; a run names each entry where it is sent, once and in order; and a chart is a page with one
+object, whose title is that line, and which says what is printed: of a run that is lawful its steps, else what stands behind the
+line. Two charts, and the rows of a long one that are told, are worked out by hand (made_reports.py)."""
 
+import json
 import os
 import re
 import subprocess
 import sys
 import tempfile
-import xml.etree.ElementTree
 
 import alone
 import blamed
 import explained
 import judged
+import made_reports
 from tested import PROGRAM
+from trace_page import TOLD_BY_NUMBER, lines_in
 
-SVG = "{http://www.w3.org/2000/svg}"
+# So many rows of a run are in its chart at most.
+MOST = 2_000
 SENT = re.compile(r"^  (?:[AB] (?:sends|tells) (\d+) |[AB]'s provider answers \d+ by (\d+)$|(all is quiet)$)")
 
 
@@ -47,7 +51,7 @@ class Files:
 
     def __init__(self, folder):
         self.record, self.table, self.cert = (f"{folder}/{name}" for name in ("record", "table", "cert"))
-        self.chart = f"{folder}/chart.svg"
+        self.chart = f"{folder}/chart.html"
 
     def write(self, path, octets):
         with open(path, "wb") as file:
@@ -111,11 +115,65 @@ def look_at(rows, name, text, count, blame):
         look_at_facts(rows, name, lines, count)
 
 
-def look_at_chart(rows, name, path, title):
-    """A chart is an SVG whose title is the first line of what is printed."""
-    root = xml.etree.ElementTree.parse(path).getroot()
-    texts = ["".join(text.itertext()) for text in root.iter(f"{SVG}text")]
-    rows.row(f"{name}: the chart", (root.tag, title in texts), (f"{SVG}svg", True))
+def chart_in(path):
+    """The object of a chart, and whether it stands alone in its page, with nothing in its texts that means something to HTML."""
+    with open(path, encoding="utf-8") as file:
+        lines = lines_in(file.read())
+    return json.loads(lines[0])["run"], len(lines) == 1 and not TOLD_BY_NUMBER.search(lines[0])
+
+
+def printed_step(it, heads, of):
+    """The line that `explain` prints of a step of a chart, which has the lines of `show` of its entries; none where it prints none."""
+    step, end, entry = it["step"], it.get("end"), it.get("entry")
+    if step in ("sends", "tells"):
+        return f"  {end} {step} {entry} {heads[entry].split(' ', 2)[2]}\n"
+    if step == "loses":
+        behind = "" if of is None else f" before {of}"
+        return "" if end == of else f"  {entry} is taken as lost{behind}\n"
+    forms = {
+        "receives": "  {end} receives {entry}\n", "replies": "  {end}'s provider answers {answers} by {entry}\n",
+        "discards": "  {end} could not receive {entry}: {reason}\n", "closes": "  {end}: {half} closes unseen\n",
+        "expires": "  {end}: invocation {invoke} of {half} ends unseen\n", "quiet": "  all is quiet\n", "stands": "",
+    }
+    return forms[step].format(**it)
+
+
+def look_at_chart(rows, name, path, text, count, end=None):
+    """A chart says what is printed, of so many entries, of both ends or of one."""
+    run, is_alone = chart_in(path)
+    title, _, behind = text.partition("\n")
+    place = re.match(r"(?:REFUTED|UNDECIDED|NOT SHOWN) (\d+)", title)
+    rows.row(f"{name}: one object", is_alone)
+    rows.row(f"{name}: its head", [run.get(key) for key in ("title", "of", "count", "marked", "text")],
+             [title, end, count, int(place[1]) if place else None, behind if place else None])
+    numbers = [it["entry"] for it in run["entries"]]
+    steps = [it["entry"] for it in run["steps"] if it["step"] in ("sends", "tells", "replies", "quiet", "stands")]
+    rows.row(f"{name}: its entries", (numbers, steps), (list(range(count)), list(range(count))))
+    if not place:
+        heads = {it["entry"]: it["show"].split("\n")[0] for it in run["entries"] if "show" in it}
+        lines = "".join(printed_step(it, heads, end) for it in run["steps"])
+        rows.row(f"{name}: its steps", f"  one run that shows it:\n{lines}", behind)
+
+
+def charts(rows, files):
+    """The charts that are worked out by hand, and which rows of a long run are told."""
+    worked_out = (made_reports.CROSSING_AND_LOSS, made_reports.lawful_run()), (made_reports.LATE_RESULT, made_reports.stopped_run())
+    for entries, wanted in worked_out:
+        files.fill(judged.octets_of(entries), judged.TABLE.encode())
+        run("explain", files.record, files.table, "--chart", files.chart)
+        rows.row(f"the chart of {entries}", chart_in(files.chart)[0], wanted["run"])
+    # Unidirectionals, of which each has two steps, and then a message to which nothing leads.
+    many, last = f"A {judged.LONE} ", f"B {judged.TO_NINE} "
+    for name, entries, left_out, told, marked in (
+        ("2,000 steps", many * 1000, [0, 0], MOST, None), ("2,002 steps", many * 1001, [0, 2], MOST, None),
+        ("1,998 steps and what is refuted", many * 999 + last, [0, 0], 1999, 999),
+        ("3,000 steps and what is refuted", many * 1500 + last, [1001, 0], MOST, 1500),
+        ("3,000 steps, what is refuted, and 1,500 entries", many * 1500 + last + many * 1500, [2000, 501], MOST, 1500),
+    ):
+        files.fill(judged.octets_of(entries.strip()), judged.TABLE.encode())
+        run("explain", files.record, files.table, "--chart", files.chart)
+        found = chart_in(files.chart)[0]
+        rows.row(name, (found["left_out"], len(found["steps"]), found.get("marked")), (left_out, told, marked))
 
 
 def agrees(rows, files):
@@ -130,10 +188,11 @@ def agrees(rows, files):
         first = found[0].partition("\n")[0]
         rows.row(f"{name}: the verdict", (f"{first}\n", found[1], found[2]), verdict)
         look_at(rows, name, found[0], count, [] if first.startswith("LAWFUL") else blame)
-        look_at_chart(rows, name, files.chart, first)
+        look_at_chart(rows, name, files.chart, found[0], count)
         for end in "AB":
             verdict = run("judge", "--end", end, *paths)
-            alone_text = run("explain", "--end", end, *paths)
+            alone_text = run("explain", "--end", end, *paths, "--chart", files.chart)
+            look_at_chart(rows, f"{name}: {end}", files.chart, alone_text[0], count, end)
             line = alone_text[0].partition("\n")[0]
             rows.row(f"{name}: {end}", (f"{line}\n", alone_text[1], alone_text[2]), verdict)
             look_at(rows, f"{name}: {end}", alone_text[0], count, [])
@@ -162,8 +221,11 @@ def faults(rows, files):
     record = why("the record: `tcapjudge show --why RECORD` says what is wrong")
     table = why("the operation table: `tcapjudge table TABLE` says what is wrong")
     chart = "--chart", files.chart
-    rows.row("a cut record", run("explain", files.table, files.table, *chart), (f"FAULT 20 0\n{record}", "", 3))
-    rows.row("no table", run("explain", files.record, files.record, *chart), (f"FAULT 30 0\n{table}", "", 3))
+    hint = "  hint: {}: this looks like {}\n".format
+    is_table = hint(files.table, "an operation table, which `tcapjudge table` prints")
+    is_record = hint(files.record, "a record, which `tcapjudge show` prints")
+    rows.row("a cut record", run("explain", files.table, files.table, *chart), (f"FAULT 20 0\n{record}", is_table, 3))
+    rows.row("no table", run("explain", files.record, files.record, *chart), (f"FAULT 30 0\n{table}", is_record, 3))
     cert = why("the certificate: its text is none")
     rows.row("no certificate", run("explain", files.record, files.table, files.cert), (f"FAULT 60 0\n{cert}", "", 3))
     unread = why("a file can't be opened or read: the table, the certificate or the record, the first that is needed")
@@ -184,6 +246,7 @@ def main():
     with tempfile.TemporaryDirectory() as folder:
         files = Files(folder)
         worked(rows, files)
+        charts(rows, files)
         faults(rows, files)
         checks(rows, files)
         agrees(rows, files)

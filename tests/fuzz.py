@@ -103,9 +103,9 @@ class Program:
         """The lines of a run over files: they are as they may be, and the status is theirs."""
         out, error, status = self.run(word, *words)
         text = out.decode()
-        # A hint may stand there, of a record that begins as something else does.
-        is_hint = word == "show" and status == 3 and re.fullmatch(rb"  hint: [^\n]+\n", error)
-        must(error == b"" or is_hint, f"{word} {words} says {error} on standard error")
+        # Hints may stand there, of files that begin as something else does.
+        are_hints = status == 3 and re.fullmatch(rb"(  hint: [^\n]+: this looks like [^\n]+\n)+", error)
+        must(error == b"" or are_hints, f"{word} {words} says {error} on standard error")
         must(re.fullmatch(LINES[word], text), f"{word} {words} prints {text!r}")
         first = text.split(" ")[0].strip()
         if word == "show":
@@ -450,9 +450,13 @@ def look_at_pieces(program, case):
         lines = mutated(rng, lines)
     for word, octets in ("show", case.record), ("pack", lines):
         whole = program.run(word, given=octets)
-        must(program.run(word, program.file("whole", octets)) == whole, f"{word} says another thing of a file")
+        path = program.file("whole", octets)
+        out, error, status = program.run(word, path)
+        of_file = out, error.replace(f"  hint: {path}: ".encode(), b"  hint: "), status
+        must(of_file == whole, f"{word} says another thing of a file")
         must(in_pieces(program, word, octets, rng) == whole, f"{word} says another thing of pieces")
-    must(re.fullmatch(rb"|FAULT 24 [1-9]\d*\n  why: [^\n]+; column [1-9]\d*\n", whole[1]), f"pack says {whole[1]!r} on standard error")
+    fault = rb"FAULT 24 [1-9]\d*\n  why: [^\n]+; column [1-9]\d*\n(  hint: [^\n]+\n)?"
+    must(re.fullmatch(rb"|" + fault, whole[1]), f"pack says {whole[1]!r} on standard error")
     must(whole[2] == (3 if whole[1] else 0), f"pack ends with {whole[2]} behind {whole[1]!r}")
     program.said["pack FAULT 24" if whole[1] else "pack, all"] += 1
     if not is_broken and case.is_whole:

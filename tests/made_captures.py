@@ -8,11 +8,12 @@ M3UA_PPID = 3
 START = 1_700_000_000
 
 
-def pcap(frames, link=ETHERNET, limit=None):
-    """A capture of these frames, one each millisecond, of each of which at most so many octets were kept."""
+def pcap(frames, link=ETHERNET, limit=None, cuts=None):
+    """A capture of these frames, one each millisecond, of each of which at most so many octets were kept: of some, by their
+    numbers, other counts."""
     parts = [struct.pack("<IHHiIII", 0xA1B2C3D4, 2, 4, 0, 0, limit or 262144, link)]
     for at, frame in enumerate(frames):
-        kept = frame[:limit]
+        kept = frame[: (cuts or {}).get(at + 1, limit)]
         parts.append(struct.pack("<IIII", START + at // 1000, at % 1000 * 1000, len(kept), len(frame)) + kept)
     return b"".join(parts)
 
@@ -70,6 +71,11 @@ def m3ua(sccp, opc=101, dpc=202, indicator=3):
     content = struct.pack(">IIBBBB", opc, dpc, indicator, 2, 0, 5) + sccp
     parts = struct.pack(">HHIHH", 6, 8, 1, 0x210, 4 + len(content)) + content + bytes(-len(content) % 4)
     return struct.pack(">BBBBI", 1, 0, 1, 1, 8 + len(parts)) + parts
+
+
+def m2pa(unit):
+    """A message of M2PA (RFC 4165): its header, two sequence numbers, a priority, and a message signal unit."""
+    return struct.pack(">BBBBI", 1, 0, 11, 1, 17 + len(unit)) + bytes(9) + unit
 
 
 def mtp3(sccp, opc=101, dpc=202):

@@ -130,7 +130,7 @@ ROWS = [
     (["blame", NONE, "TABLE"], b"", b"FAULT 23 0\n", SOME, 3),
     (["blame", "DIALOGUE", NONE], b"", b"FAULT 23 0\n", SOME, 3),
     (["blame", NONE, "BROKEN"], b"", b"FAULT 30 0\n", SOME, 3),
-    (["blame", "TABLE", "DIALOGUE"], b"", b"FAULT 30 0\n", b"", 3),
+    (["blame", "TABLE", "DIALOGUE"], b"", b"FAULT 30 0\n", SOME, 3),
     (["blame"], b"", b"", SOME, 4),
     (["blame", "DIALOGUE"], b"", b"", SOME, 4),
     (["blame", "DIALOGUE", "TABLE", "x"], b"", b"", SOME, 4),

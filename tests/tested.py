@@ -4,6 +4,7 @@ TCAPJUDGE holds."""
 import os
 import sys
 
-PROGRAM = os.environ.get("TCAPJUDGE") or "crates/tcapjudge/out/tcapjudge"
+# By its whole path, since some tests run it in another folder.
+PROGRAM = os.path.abspath(os.environ.get("TCAPJUDGE") or "crates/tcapjudge/out/tcapjudge")
 if not os.path.exists(PROGRAM):
     sys.exit(f"there is no program to run, {PROGRAM}: make program")

@@ -2,6 +2,7 @@
 to write has a fault."""
 
 import collections
+import itertools
 import json
 import re
 import xml.etree.ElementTree
@@ -11,7 +12,7 @@ import words
 from traced import Checks, Report, agree, content, put, run
 from trace_rows import OPERATIONS, SHORT, WRONG_END, lines
 
-NO_FILE, IS_FOLDER = "No such file or directory", "Is a directory"
+NO_FILE, IS_FOLDER, NO_SPACE = "No such file or directory", "Is a directory", "No space left on device"
 # Words that mean something to JSON or XML, and octets that are no text.
 ODD = [
     b'say "no" \\ /',
@@ -22,6 +23,7 @@ ODD = [
     b"\xff\xfe \xc0\xaf \xed\xa0\x80 \xf4\x90\x80\x80 \xe2\x82",
     b"a\rb",
     b"x" * 131_000,
+    b"</script><!--<script>'\"" + b"y" * 10_000,
 ]
 # What XML or JSON may show as something else.
 UNLIKE = re.compile(r"[^ -~]+")
@@ -123,6 +125,8 @@ def longest(case, folder):
     said = found["verdict"], found["A"].get("entry"), found["A"].get("kind"), len(found["entries"])
     checks.same("what is said", said, (*wanted, 100_010))
     checks.holds("why", wanted[0] == "fail" or "100,000" in found["A"]["text"])
+    told = [it["entry"] for it in found["messages"]], found["left_out"]
+    checks.same("the messages", told, ([*range(16), *range(99_936, 100_000)], 99_930))
     return checks
 
 
@@ -242,13 +246,17 @@ def unwritten(_, folder):
     checks = Checks("files that are written")
     text = lines(*SHORT).encode()
     good, table = put(folder, "good.hex", text), put(folder, "table.json", OPERATIONS.encode())
-    for flag in "--json", "--junit":
-        for path, why in (f"{folder}/none/x", NO_FILE), (folder, IS_FOLDER), ("/dev/full", ""):
+    for flag in "--json", "--junit", "--html":
+        for path, why in (f"{folder}/none/x", NO_FILE), (folder, IS_FOLDER), ("/dev/full", NO_SPACE):
             says(checks, run(["test", "--table", table, flag, path, good]), path, why)
         for path, kept in (good, text), (table, OPERATIONS.encode()):
             status = run(["test", "--table", table, flag, path, good]).returncode
             checks.same(f"{flag} over what is read: status, and it is kept", (status, content(path) == kept), (3, True))
             put(folder, path.rpartition("/")[2], kept)
+        checks.same(f"{flag} -", run(["test", "--table", table, flag, "-", good]).returncode, 4)
+    for one, other in itertools.permutations(("--json", "--junit", "--html"), 2):
+        ran = run(["test", "--table", table, one, f"{folder}/both", other, f"{folder}/both", good])
+        checks.same(f"{one} and {other} into one file: status, and no such file", (ran.returncode, content(f"{folder}/both")), (3, b""))
     with open("/dev/full", "wb") as full:
         checks.same("standard output is full", run(["test", "--table", table, good], stdout=full).returncode, 3)
     return checks

@@ -137,6 +137,7 @@ def lines(*entries):
 
 
 GIVEN_UP, MARK, CAME_AGAIN, LACKS = "given up", "quiet mark", "earlier", "table lacks"
+UNDER_WAY, MAY_BE_UNDER_WAY = "never sent in the trace", "# dialogues may have been under way"
 UNREAD, BEHIND, IS_OPEN, UNDECIDED = "can't be read", "no message", "inconc open", "no entry of it is blamed"
 
 # A dialogue that A begins and B ends; one that goes to and fro.
@@ -354,6 +355,52 @@ ROWS = [
             ("--ids settled", "fail 1 F5", ()),
         ]
     ),
+    *(
+        Row(
+            f"of several that had an ID the last is named, {name}",
+            "",
+            lines(*before, SHORT[0], WRONG_END),
+            [
+                *(Wanted(entries, "01", "", again=again) for entries, again in others),
+                Wanted(mine, "01", "", "pass", f"inconc 1 F5 {CAME_AGAIN}", again=True, says=(said,)),
+            ],
+        )
+        for name, before, others, mine, said in [
+            (
+                "the third",
+                [*SHORT, *SHORT],
+                [([0, 1], False), ([2, 3], True)],
+                [4, 5],
+                "this is dialogue 2, and that was dialogue 1",
+            ),
+            (
+                "behind a mark, which ends two others",
+                [*SHORT, *SHORT, "Q", *SHORT, *SHORT],
+                [([0, 1], False), ([2, 3], True), ([5, 6], False), ([7, 8], True)],
+                [9, 10],
+                "this is dialogue 4, and that was dialogue 3",
+            ),
+        ]
+    ),
+    Row(
+        "two IDs, each of another earlier dialogue: the last of these is named",
+        "",
+        lines(*SHORT, f"A {begin('02')}", f"B {end('02')}", SHORT[0], f"A {begin('02')}", BACK, f"B {go_on('07', '02')}"),
+        [
+            Wanted([0, 1], "01", ""),
+            Wanted([2, 3], "02", ""),
+            Wanted(
+                [4, 5, 6, 7],
+                "01 02",
+                "07",
+                "pass 1",
+                f"inconc 3 F3 {CAME_AGAIN}",
+                again=True,
+                open=True,
+                says=("this is dialogue 2, and that was dialogue 1",),
+            ),
+        ],
+    ),
     Row(
         "used once alone, the second Begin is of the same dialogue, and it can't be told whom its messages mean",
         "--ids once",
@@ -440,6 +487,102 @@ ROWS = [
         lines(SHORT[0], BACK, SHORT[0]),
         [Wanted([0, 1, 2], "01", "07", f"inconc {UNDECIDED}", "pass 1", open=True)],
         PREARRANGED,
+    ),
+    # ---- dialogues that may have been under way
+    *(
+        Row(
+            f"a message to an ID that was never sent, where dialogues may have been under way: {comment!r}",
+            "",
+            lines(comment, "", f"B {end('09')}"),
+            [Wanted([0], "09", "", *found)],
+            reads_comments=True,
+        )
+        for comment, *found in [
+            (MAY_BE_UNDER_WAY, f"inconc {UNDER_WAY}", f"inconc 0 F2 {UNDER_WAY}"),
+            ("#  \tdialogues may have been under way \t", f"inconc {UNDER_WAY}", f"inconc 0 F2 {UNDER_WAY}"),
+            ("#dialogues may have been under way\r", f"inconc {UNDER_WAY}", f"inconc 0 F2 {UNDER_WAY}"),
+            ("# dialogues may have been under way.", "pass", "fail 0 F2"),
+            ("# no dialogues may have been under way", "pass", "fail 0 F2"),
+            ("#", "pass", "fail 0 F2"),
+        ]
+    ),
+    Row(
+        "what would pass does not, and an answer to what was invoked before the trace is no failure",
+        "",
+        lines(MAY_BE_UNDER_WAY, "", BACK, f"B {go_on('08', '02')}", f"A {end('08', RESULT)}"),
+        [
+            Wanted([0], "01", "07", f"inconc {UNDER_WAY}", f"inconc 0 F2 {UNDER_WAY}", open=True),
+            Wanted([1, 2], "02", "08", f"inconc 1 F5 {UNDER_WAY}", f"inconc 0 F2 {UNDER_WAY}"),
+        ],
+        reads_comments=True,
+    ),
+    Row(
+        "it comes before what the table lacks, and before the doubt whose table it is",
+        "",
+        lines(MAY_BE_UNDER_WAY, "", BACK, f"A {go_on('01', '07', invoke('01', '63'))}", "Q", BACK),
+        [
+            Wanted([0, 1], "01", "07", f"inconc 1 F6 {UNDER_WAY}", f"inconc 0 F2 {UNDER_WAY}", more={"table": "wide"}),
+            Wanted([3], "01", "07", "inconc not sure", "fail 0 F2", open=True, more={"table": "wide"}),
+        ],
+        f'{{"tables":[{WIDE}]}}',
+        reads_comments=True,
+    ),
+    Row(
+        "it holds from that line on, also where the line comes again, up to the next mark",
+        "",
+        lines(
+            f"B {end('08')}",
+            MAY_BE_UNDER_WAY,
+            f"B {end('09')}",
+            MAY_BE_UNDER_WAY,
+            "",
+            f"B {end('0A')}",
+            "Q",
+            f"B {end('0B')}",
+        ),
+        [
+            Wanted([0], "08", "", "pass", "fail 0 F2"),
+            Wanted(
+                [1],
+                "09",
+                "",
+                f"inconc {UNDER_WAY}",
+                f"inconc 0 F2 {UNDER_WAY}",
+                more={"comment": MAY_BE_UNDER_WAY[2:]},
+            ),
+            Wanted([2], "0a", "", f"inconc {UNDER_WAY}", f"inconc 0 F2 {UNDER_WAY}"),
+            Wanted([4], "0b", "", "pass", "fail 0 F2"),
+        ],
+        reads_comments=True,
+    ),
+    Row(
+        "a dialogue with a Begin is judged as ever, and so is one without IDs",
+        "",
+        lines(MAY_BE_UNDER_WAY, "", SHORT[0], WRONG_END, f"A {uni(INVOKE)}", f"B {begin('05')}", f"A {end('05')}"),
+        [
+            Wanted([0, 1], "01", "", "pass", "fail 1 F5"),
+            Wanted([2], "", "", "fail 0 F6"),
+            Wanted([3, 4], "", "05"),
+        ],
+        reads_comments=True,
+    ),
+    Row(
+        "so is one whose first entry is no message",
+        "",
+        lines(MAY_BE_UNDER_WAY, "", f"A {BAD_CONTINUE}"),
+        [Wanted([0], "01", "07", "fail 0 F1", open=True)],
+        reads_comments=True,
+    ),
+    Row(
+        "an ID of an earlier dialogue was sent",
+        "--linger 1",
+        lines(MAY_BE_UNDER_WAY, "", *SHORT, f"B {begin('09')}", f"A {end('09')}", SHORT[1]),
+        [
+            Wanted([0, 1], "01", ""),
+            Wanted([2, 3], "", "09"),
+            Wanted([4], "01", "", "pass", f"inconc 0 F2 {CAME_AGAIN}", again=True),
+        ],
+        reads_comments=True,
     ),
     # ---- lingering
     Row(

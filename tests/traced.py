@@ -1,5 +1,5 @@
-"""What `tcapjudge test` said of traces, for tests/traces.py: its text, its lines of JSON and JUnit's XML, and whether
-these agree."""
+"""What `tcapjudge test` said of traces, for tests/traces.py: its text, its lines of JSON, JUnit's XML and the page, and
+whether these agree."""
 
 import collections
 import contextlib
@@ -11,7 +11,9 @@ import subprocess
 import sys
 import xml.etree.ElementTree
 
+from evidence import WORDS
 from tested import PROGRAM
+from trace_page import lines_in, look_at_page
 from trace_rows import CAME_AGAIN, OPERATIONS
 
 with contextlib.suppress(ImportError):
@@ -25,6 +27,8 @@ VERDICTS = ["pass", "inconc", "fail", "error"]
 STATUS = {"pass": 0, "fail": 1, "inconc": 2, "error": 3}
 # Of a dialogue so many entries are looked at by the schema.
 MOST_LOOKED_AT = 1000
+# No message of a testcase is longer.
+LONGEST = 400
 
 
 # ---- running
@@ -50,14 +54,17 @@ def content(path):
 
 
 class Report:
-    """What a run said: its streams and status, the lines of JSON, of dialogues by their traces, and JUnit's XML."""
+    """What a run said: its streams and status, the lines of JSON, of dialogues by their traces, JUnit's XML and the page."""
 
     def __init__(self, folder, flags, traces, given=b"", table=OPERATIONS):
         table = put(folder, "table.json", table.encode())
         files = {"--table": table, "--json": f"{folder}/report.json", "--junit": f"{folder}/report.xml"}
+        files |= {"--html": f"{folder}/report.html"}
         self.ran = run(["test", *itertools.chain(*files.items()), *flags, *traces], given)
         self.status, self.text = self.ran.returncode, self.ran.stdout.decode(errors="replace")
         self.json, self.junit = content(files["--json"]), content(files["--junit"])
+        self.page = content(files["--html"]).decode()
+        self.shown = lines_in(self.page)
         self.objects = [json.loads(line) for line in self.json.decode().split("\n") if line]
         # A quiet mark is the last entry of the dialogues that it ends; the rows speak of their messages.
         for it in self.objects:
@@ -132,12 +139,96 @@ def as_xml(name):
 
 
 def look_by_schema(checks, report):
-    for it in report.objects if SCHEMA else []:
+    for it in [*report.objects, *map(json.loads, report.shown[-1:])] if SCHEMA else []:
         # Of a dialogue of very many entries the first ones: the others look alike, and take long.
         it = it | {key: it[key][:MOST_LOOKED_AT] for key in ("entries", "lines") if key in it}
         it.pop("mark", None)
         wrong = next(iter(SCHEMA.iter_errors(it)), None)
         checks.same("the schema", wrong and f"{wrong.message} in {it}", None)
+
+
+def entries_in(text):
+    """The entries and marks of the lines of a trace: of each its end, its octets, its line and the comment above it."""
+    found, comment = [], ""
+    for number, line in enumerate(text.replace("\r\n", "\n").split("\n"), 1):
+        if re.match("[ABQ]", line):
+            found.append((line[:1], line[2:].lower(), number, comment))
+        comment = line.removeprefix("#").removeprefix(" ") if line.startswith("#") else ""
+    return found
+
+
+def show(folder, entries):
+    """What `show` prints of each of these entries, as one record."""
+    octets = b"".join(end.encode() + bytes.fromhex(digits) for end, digits, *_ in entries)
+    printed = run(["show", put(folder, "dialogue", octets)]).stdout.decode()
+    return re.findall(r"^\d.*\n(?:^ .*\n)*", printed, re.MULTILINE)
+
+
+def message_of(number, entry, shown, has_lines):
+    """What has to be told of an entry, but for its components and why it is no message."""
+    end, digits, line, comment = entry
+    wanted = {"entry": number, "line": line if has_lines else 0}
+    if end == "Q":
+        return wanted | {"mark": True}
+    found = re.match(r"\d+ [AB] (?!FAULT)(\w+)(?: otid=(\w+))?(?: dtid=(\w+))?", shown)
+    names = zip(("kind", "otid", "dtid"), found.groups()) if found else ()
+    wanted |= {name: word for name, word in names if word}
+    wanted |= {"comment": comment} if comment and has_lines else {}
+    return wanted | {"end": end, "show": shown, "octets": digits}
+
+
+def look_at_messages(checks, folder, it, text, has_lines=True):
+    """The messages of a dialogue are those of its trace, and `show` prints the same of each; of one that passes there are none."""
+    if it["verdict"] == "pass":
+        checks.holds("no messages", "messages" not in it and "left_out" not in it)
+        return
+    entries, numbers = entries_in(text), [*it["entries"], *([it["mark"][0]] if it["marked"] else [])]
+    entries = [entries[number] for number in numbers]
+    shown, found = show(folder, entries), it["messages"]
+    checks.same("left out", it.get("left_out", 0), len(entries) - len(found))
+    checks.same("in order", [one["entry"] for one in found], sorted({one["entry"] for one in found}))
+    for one in found:
+        number, parts, fault = one["entry"], one.get("components"), one.get("fault")
+        rest = {key: value for key, value in one.items() if key not in ("components", "fault")}
+        checks.same("a message", rest, message_of(number, entries[number], shown[number], has_lines))
+        checks.same("its components", None if parts is None else len(parts), shown[number].count("\n  ") if "kind" in one else None)
+        checks.same("why it is no message", bool(fault), " FAULT " in shown[number])
+    for end in "AB":
+        if it.get(end, {}).get("kind") == "F1":
+            look_at_why(checks, folder, end, it[end], entries[it[end]["entry"]])
+
+
+def look_at_why(checks, folder, end, said, entry):
+    """What is said of octets that are no message is what `show --why` says of them."""
+    octets = entry[0].encode() + bytes.fromhex(entry[1])
+    why = [line for line in run(["show", "--why", put(folder, "one", octets)]).stdout.decode().split("\n") if "why: " in line]
+    checks.same("why it is none", said["text"].split("\n"), [f"  entry {said['entry']} of {end}: {WORDS['F1']}", *why, ""])
+
+
+def in_order(it):
+    """The ends of a dialogue in the order in which it is said of them: where both are blamed the lower entry stands first."""
+    ends = [end for end in "AB" if end in it]
+    both = all("kind" in it[end] for end in ends)
+    return sorted(ends, key=lambda end: (it[end]["entry"] if both else 0, end))
+
+
+def headline(it):
+    """What the message of the testcase of a dialogue has to be."""
+    end = next((end for end in in_order(it) if it[end]["verdict"] == it["verdict"]), None)
+    if end is None:
+        return it["text"].strip()
+    said, words = it[end], it[end].get("text", "").split("\n")[0]
+    behind = re.match(r"entry (\d+) of the dialogue.* (is no message that .*)", words)
+    at = int(behind[1]) if behind else said.get("entry")
+    # The mark that ends a dialogue is the last of its entries.
+    line = 0 if at is None else [*it["lines"], *it.get("mark", [])[1:]][at]
+    place = f"line {line}" if line else f"entry {at} of the dialogue"
+    if "kind" in said:
+        words = f"{said['kind']}: " + WORDS.get(said["kind"], f"a transaction of {end} is open at this quiet mark")
+        words += f"; inconclusive: {said['doubt']}" if "doubt" in said else ""
+    elif behind:
+        words = f"which {behind[2]}"
+    return f"{end}: {words}" if at is None else f"{end}: {place}, {words}"
 
 
 def look_at_trace(checks, trace, dialogues, suite):
@@ -156,8 +247,12 @@ def look_at_trace(checks, trace, dialogues, suite):
     told = [it for case in cases for it in case]
     tags = [it.tag for it in told]
     checks.same("testcases", (len(cases), tags.count("failure"), tags.count("error")), wanted)
-    types = [it["verdict"] for it in dialogues if it["verdict"] != "pass"] + ["error"] * is_wrong
+    wrong = [it for it in dialogues if it["verdict"] != "pass"]
+    types = [it["verdict"] for it in wrong] + ["error"] * is_wrong
     checks.same("types of testcases", sorted(it.get("type") for it in told), sorted(types))
+    messages = [headline(it) for it in wrong] + [trace["text"] for _ in range(is_wrong)]
+    checks.same("messages of testcases", [it.get("message") for it in told], messages)
+    checks.holds("these are not long", all(len(it) <= LONGEST for it in messages))
 
 
 def look_by_junitparser(checks, junit):
@@ -186,7 +281,11 @@ def look_at_names(checks, dialogues):
 def agree(checks, report):
     """What is said of the traces is said alike as JSON, as JUnit's XML and as text, and sums up."""
     look_by_schema(checks, report)
-    suites = xml.etree.ElementTree.fromstring(report.junit).findall("testsuite")
+    look_at_page(checks, report.page, report.shown, report.json.decode())
+    root = xml.etree.ElementTree.fromstring(report.junit)
+    suites = root.findall("testsuite")
+    for name in "tests", "failures", "errors":
+        checks.same(f"the sum of {name}", int(root.get(name)), sum(int(suite.get(name)) for suite in suites))
     checks.same("a testsuite for each trace", [it.get("name") for it in suites], [*map(as_xml, report.traces)])
     for (name, trace), suite in zip(report.traces.items(), suites):
         look_at_trace(checks, trace, report.dialogues[name], suite)

@@ -1,5 +1,6 @@
 """Runs the built program's word `test` over traces. The rows of trace_rows.py have what must be said of each, and
-trace_files.py has cases of files, lines, comments and words. Then traces of random dialogues: of each dialogue, by the
+trace_files.py has cases of files, lines, comments and words, trace_messages.py of the messages of dialogues, trace_words.py of
+what is said of a blame. Then traces of random dialogues: of each dialogue, by the
 cut of trace_cut.py, `test` says what `blame` says of the record of that dialogue alone. All that is written as JSON is
 looked at by docs/report.schema.json, where python's jsonschema is installed, and all that is JUnit's XML by
 junitparser, where that is."""
@@ -15,9 +16,11 @@ import random_traces
 import runs
 import trace_cut
 import trace_files
+import trace_messages
 import trace_rows
+import trace_words
 from trace_rows import BEHIND, UNDECIDED, lines
-from traced import Checks, Report, agree, look_at_end, missing, put, run, worst
+from traced import Checks, Report, agree, in_order, look_at_end, look_at_messages, missing, put, run, worst
 
 RANDOM_TRACES, SIDE_BY_SIDE = 30, 4
 # How a random trace is cut: the words, and how many entries a dialogue lingers. IDs are used once, may come again, or,
@@ -97,9 +100,21 @@ def look_at_text(checks, row, report, path):
             checks.holds(f"the text has {word!r}: {block}", word in block)
         for end in "AB":
             if "kind" in it.get(end, {}):
-                line = next((line for line in block.splitlines() if line.startswith(f"  {end}: ")), "")
+                begins = f"  {end}: {it[end]['verdict']} "
+                line = next((line for line in block.splitlines() if line.startswith(begins)), "")
                 words = it[end]["verdict"], f"entry {it[end]['entry']} ", it[end]["kind"]
                 checks.holds(f"the text says {words} of {end}: {line}", all(word in line for word in words))
+        look_at_order(checks, it, block)
+
+
+def look_at_order(checks, it, block):
+    """Looks at the order of the ends that are blamed: the lower entry stands first, and of the other it is said that it is later."""
+    blamed = [end for end in in_order(it) if "kind" in it.get(end, {})]
+    found = re.findall("^  ([AB]): [a-z]+ at entry .*, (F[0-9]+)(.*)$", block, re.MULTILINE)
+    is_later = len({it[end]["entry"] for end in blamed}) > 1
+    clauses = ["", f"; it comes later, and may follow from that of {blamed[0]}" if is_later else ""]
+    wanted = [(end, it[end]["kind"], clause) for end, clause in zip(blamed, clauses)]
+    checks.same("the order of the ends", found, wanted)
 
 
 def look_at(row, folder):
@@ -111,12 +126,16 @@ def look_at(row, folder):
     agree(checks, report)
     look_at_row(checks, row, report, path, True)
     look_at_text(checks, row, report, path)
+    for it in report.dialogues[path]:
+        look_at_messages(checks, folder, it, row.lines)
     packed = run(["pack"], octets)
     if packed.returncode == 0 and row.error is None and not row.reads_comments:
         record = put(folder, "record", packed.stdout)
         report = Report(folder, row.words.split(), [record], table=row.table)
         agree(checks, report)
         look_at_row(checks, row, report, record, False)
+        for it in report.dialogues[record]:
+            look_at_messages(checks, folder, it, row.lines, has_lines=False)
     return checks
 
 
@@ -158,9 +177,10 @@ def begins(headings):
 
 
 class Alone:
-    """A dialogue of a random trace as a record of its own, with a quiet mark behind it where that is so."""
+    """A dialogue of a random trace as a record of its own, with a quiet mark behind it where that is so. Dialogues may
+    have been under way from that entry of its stretch on, if there is such."""
 
-    def __init__(self, folder, table, stretch, cut, is_marked, is_settled):
+    def __init__(self, folder, table, stretch, cut, is_marked, is_settled, under_way):
         self.table, self.cut, self.is_settled = table, cut, is_settled
         mine = [stretch[number] for number in cut.numbers]
         self.headings, octets = [heading for heading, _ in mine], octets_of(mine)
@@ -168,9 +188,17 @@ class Alone:
         # Behind an entry that is no message nothing is looked at.
         looked_at = [it[1] for it in self.said.values() if it[0] == "not blamed" and it[1] < len(octets)]
         self.before = blamed(folder, b"".join(octets[: looked_at[0]])) if looked_at else {}
+        may_be = under_way is not None and cut.numbers[0] >= under_way and not cut.again
+        self.is_under_way = may_be and self.headings[0].dtid is not None and self.begins_well()
+
+    def begins_well(self):
+        """Whether the first entry is a message."""
+        return not {("blamed", 0, "F1"), ("not blamed", 0)} & set(self.said.values())
 
     def doubt(self, end, entry, kind):
         """What makes it inconclusive that an end is blamed, where something does."""
+        if self.is_under_way:
+            return trace_rows.UNDER_WAY
         if kind == "F15":
             return trace_rows.MARK
         here = self.headings[entry]
@@ -184,11 +212,14 @@ class Alone:
             return trace_rows.UNREAD
         return None
 
+    def passes(self, unheard):
+        return f"inconc {trace_rows.UNDER_WAY}" if self.is_under_way else f"pass {unheard}"
+
     def wanted(self, end):
         """What has to be said of an end."""
         verdict, *found = self.said[end]
         if verdict == "lawful":
-            return f"pass {found[0]}"
+            return self.passes(found[0])
         if verdict == "blamed":
             entry, kind = found
             doubt = self.doubt(end, entry, kind)
@@ -197,7 +228,7 @@ class Alone:
         if before[0] != "lawful":
             return f"inconc {UNDECIDED}"
         is_behind = any(heading.end == end for heading in self.headings[found[0] :])
-        return f"inconc {BEHIND}" if is_behind else f"pass {before[1]}"
+        return f"inconc {BEHIND}" if is_behind else self.passes(before[1])
 
 
 class RandomTrace:
@@ -207,10 +238,13 @@ class RandomTrace:
         maker = random_traces.Maker(rng)
         self.table, (self.stretches, is_marked) = maker.table, maker.trace()
         self.marked = [True] * (len(self.stretches) - 1) + [is_marked]
-        self.first, self.at, self.text = [], [], []
+        self.first, self.at, self.text, self.under_way = [], [], [], []
         for stretch, marked in zip(self.stretches, self.marked):
             self.first.append(len(self.at))
-            for heading, digits in stretch:
+            # Before which entry of the stretch a line says that dialogues may have been under way.
+            self.under_way.append(rng.randrange(len(stretch)) if stretch and rng.random() < 0.3 else None)
+            for number, (heading, digits) in enumerate(stretch):
+                self.text += [trace_rows.MAY_BE_UNDER_WAY] * (number == self.under_way[-1])
                 self.text += [f"# entry {len(self.at)}"] * (rng.random() < 0.2)
                 self.add(f"{heading.end} {digits}")
             if marked:
@@ -227,9 +261,9 @@ class RandomTrace:
     def wanted(self, folder, flags, linger):
         """The dialogues that are wanted: the numbers of their entries, their IDs, whether one of these came again,
         whether they are open, and what is said of each end."""
-        for first, stretch, marked in zip(self.first, self.stretches, self.marked):
+        for first, stretch, marked, under_way in zip(self.first, self.stretches, self.marked, self.under_way):
             for cut in trace_cut.cut([heading for heading, _ in stretch], "once" in flags, linger):
-                alone = Alone(folder, self.table, stretch, cut, marked and not cut.is_past, flags == SETTLED)
+                alone = Alone(folder, self.table, stretch, cut, marked and not cut.is_past, flags == SETTLED, under_way)
                 ids = {end: sorted(id.hex() for of, id in cut.ids if of == end) for end in "AB"}
                 is_open = not marked and bool(cut.ids) and not cut.is_over
                 ends = {end: alone.wanted(end) for end in "AB"}
@@ -257,8 +291,10 @@ def look_at_random(seed, folder):
             for end, said in ends.items():
                 look_at_end(checks, f"{name}, {end}", it[end], said)
             checks.same(f"{name}, verdict", it["verdict"], worst([said.split()[0] for said in ends.values()]))
+            look_at_messages(checks, folder, it, lines(*made.text))
             seen[it["verdict"]] += 1
             seen["again"] += again
+            seen["under way"] += any(trace_rows.UNDER_WAY in str(it[end]) for end in "AB")
         whole = whole or blamed(folder, made.record())
         for end, said in whole.items():
             # That an ID has settled is the bench's word.
@@ -283,7 +319,7 @@ def main():
         print(f"what is written is not looked at by {name}, which is not installed")
     # The longest cases begin first.
     jobs = [(look_at_random, seed * 1000 + number) for number in range(RANDOM_TRACES)]
-    jobs += [*trace_files.jobs(), *((look_at, row) for row in trace_rows.ROWS)]
+    jobs += [*trace_files.jobs(), *trace_messages.jobs(), *trace_words.jobs(), *((look_at, row) for row in trace_rows.ROWS)]
     passed, failed, seen = 0, 0, collections.Counter()
     with concurrent.futures.ThreadPoolExecutor(SIDE_BY_SIDE) as pool:
         for checks, more in pool.map(looked_at, jobs):

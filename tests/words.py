@@ -1,9 +1,11 @@
 """Runs the built program over planted faults, and looks at what it says of each in words: `show --why`, the rule and the
-column of `pack`, `show --lines`, `table`, the hints of wrong input, and help. What is wanted was worked out by hand from
+column of `pack`, `show --lines`, `table`, the hints of files given by mistake, and help. What is wanted was worked out by hand from
 the standard. Then it changes messages at random: `show --why` prints the lines of `show`, and marks the octet at the
 place of each fault."""
 
 import concurrent.futures
+import itertools
+import json
 import os
 import random
 import re
@@ -11,6 +13,8 @@ import subprocess
 import sys
 import tempfile
 
+from looks import GIVEN, LOOKS, SHOWN_LOOKS, SWAPPED
+from table_rows import BOOKS, TABLES
 from tested import PROGRAM
 
 # So many octets are shown on each side of a place.
@@ -335,93 +339,11 @@ LINES = [
     ("\n" * 1_000_000 + "A 6203480101", 1_000_001, "too many lines", 1),
 ]
 
-# The text of a table, the lines that are wanted, and the status.
-TABLES = [
-    ('{"operations":[]}', "", 0),
-    ('{"operations":[{"class":1,"code":45}]}', "op=45 class=1\n", 0),
-    (
-        '{"prearranged":true,"operations":[{"class":4,"code":"2A03","expires":false},{"code":7,"class":2,"linked":[9,"2a04",-1]},'
-        '{"class":3,"code":-2},{"class":1,"code":"2901"}]}',
-        "op=-2 class=3\nop=7 class=2 linked=9,g:2a04,-1\nop=g:2901 class=1\nop=g:2a03 class=4 expires=false\n"
-        "prearranged=true\n",
-        0,
-    ),
-    ("", "FAULT 30 0\n  why: the text is no JSON\n", 3),
-    ("{", "FAULT 30 0\n  why: the text is no JSON\n", 3),
-    ('{"operations":[],}', "FAULT 30 0\n  why: the text is no JSON\n", 3),
-    ("[]", "FAULT 31 0\n  why: the table is no object\n", 3),
-    ("{}", 'FAULT 31 0\n  why: "operations" is missing\n', 3),
-    ('{"operations":{}}', 'FAULT 31 0\n  why: "operations" is no list\n', 3),
-    ('{"operations":[],"rows":1}', 'FAULT 31 0\n  why: no key "rows" may stand there\n', 3),
-    ('{"operations":[],"prearranged":1}', 'FAULT 31 0\n  why: "prearranged" is neither true nor false\n', 3),
-    ('{"operations":[7]}', "FAULT 31 0\n  why: row 0; the row is no object\n", 3),
-    ('{"operations":[{"class":1,"code":1},{"class":1}]}', 'FAULT 31 1\n  why: row 1; "code" is missing\n', 3),
-    ('{"operations":[{"code":1}]}', 'FAULT 31 0\n  why: row 0; "class" is missing\n', 3),
-    (
-        '{"operations":[{"code":1,"class":"1"}]}',
-        'FAULT 31 0\n  why: row 0; "class" is no whole number\n',
-        3,
-    ),
-    (
-        '{"operations":[{"code":1,"class":1.0}]}',
-        'FAULT 31 0\n  why: row 0; "class" is no whole number\n',
-        3,
-    ),
-    (
-        '{"operations":[{"code":2147483648,"class":1}]}',
-        'FAULT 31 0\n  why: row 0; "code" is neither a whole number of 32 bits nor the digits of an OBJECT IDENTIFIER\n',
-        3,
-    ),
-    (
-        '{"operations":[{"code":"2A80","class":1}]}',
-        'FAULT 31 0\n  why: row 0; "code" is neither a whole number of 32 bits nor the digits of an OBJECT IDENTIFIER\n',
-        3,
-    ),
-    (
-        '{"operations":[{"code":1,"class":1,"expires":0}]}',
-        'FAULT 31 0\n  why: row 0; "expires" is neither true nor false\n',
-        3,
-    ),
-    (
-        '{"operations":[{"code":1,"class":1,"timer":5}]}',
-        'FAULT 31 0\n  why: row 0; no key "timer" may stand there\n',
-        3,
-    ),
-    ('{"operations":[{"code":1,"class":1,"linked":2}]}', 'FAULT 31 0\n  why: row 0; "linked" is no list\n', 3),
-    (
-        '{"operations":[{"code":1,"class":1,"linked":[2,"x"]}]}',
-        'FAULT 31 0\n  why: row 0; "linked" has what is no code\n',
-        3,
-    ),
-    (
-        '{"operations":[{"code":1,"class":1,"linked":[' + ",".join(["2"] * 1001) + "]}]}",
-        'FAULT 31 0\n  why: row 0; "linked" has over 1,000 codes\n',
-        3,
-    ),
-    (
-        '{"operations":[{"code":1,"class":1},{"code":2,"class":1},{"code":1,"class":2}]}',
-        'FAULT 32 2\n  why: row 2; an earlier row has this "code"\n',
-        3,
-    ),
-    (
-        '{"operations":[{"code":"2a","class":1},{"code":"2A","class":1}]}',
-        'FAULT 32 1\n  why: row 1; an earlier row has this "code"\n',
-        3,
-    ),
-    ('{"operations":[{"code":1,"class":5}]}', 'FAULT 33 0\n  why: row 0; "class" is not 1, 2, 3 or 4\n', 3),
-    ('{"operations":[{"code":1,"class":0}]}', 'FAULT 33 0\n  why: row 0; "class" is not 1, 2, 3 or 4\n', 3),
-    (
-        '{"operations":[' + ",".join('{"code":%d,"class":1}' % code for code in range(1001)) + "]}",
-        "FAULT 34 0\n  why: there are over 1,000 rows\n",
-        3,
-    ),
-    (" " * 67_108_865, "FAULT 30 0\n  why: the text has over 67,108,864 octets\n", 3),
-]
-
 LINES_HINT = "  hint: this looks like lines of hexadecimal digits, which `tcapjudge show --lines` reads\n"
 ANSI_HINT = "  hint: this looks like TCAP of ANSI (T1.114), and a record holds that of ITU-T (Q.773)\n"
 SCCP_HINT = "  hint: this looks like SCCP, and an entry of a record holds the TCAP message in it\n"
 M3UA_HINT = "  hint: this looks like M3UA, and an entry of a record holds the TCAP message in it\n"
+RECORD_HINT = "  hint: this looks like a record, which `tcapjudge show` prints\n"
 # What is given as a record, and the hint that is wanted.
 WRONG = [
     (GOOD.encode(), LINES_HINT),
@@ -465,8 +387,8 @@ HELP = [
     (["pack", "--help"], "Example: tcapjudge pack dialogue.hex > record\n"),
     (["check", "--help"], "Example: tcapjudge check record table.json cert.json\n"),
     (["judge", "--help"], "Example: tcapjudge judge record table.json --cert\n"),
-    (["explain", "--help"], "Example: tcapjudge explain record table.json --chart run.svg\n"),
-    (["help", "explain"], "Example: tcapjudge explain record table.json --chart run.svg\n"),
+    (["explain", "--help"], "Example: tcapjudge explain record table.json --chart run.html\n"),
+    (["help", "explain"], "Example: tcapjudge explain record table.json --chart run.html\n"),
     (["blame", "--help"], "Example: tcapjudge blame record table.json\n"),
     (["table", "--help"], "Example: tcapjudge table table.json\n"),
     (["help", "table"], "Example: tcapjudge table table.json\n"),
@@ -478,12 +400,12 @@ EXPLAIN = [
     "Usage: tcapjudge explain [OPTIONS] <RECORD> <TABLE> [CERT]\n",
     "--end <END>",
     "--chart <FILE>",
+    "Writes a chart of the run, a page of HTML, to that file",
 ]
 SUBCOMMANDS = ["show", "pack", "check", "judge", "explain", "blame", "table", "test", "help"]
 
 # Words that are wrong, and what is said of them.
 REFUSED = [
-    (["table"], "<TABLE>"),
     (["table", "x", "y"], "unexpected argument 'y'"),
     (["show", "--why", "--why"], "cannot be used multiple times"),
     (["pack", "--why"], "unexpected argument '--why'"),
@@ -601,12 +523,29 @@ def good_lines(rows, folder):
     )
 
 
+def table_lines(number, table):
+    """The lines of a table of a book that has names, whose codes are all local."""
+    lines = [f'table {number} name="{table["name"]}"'] + [f"context={context}" for context in table["contexts"]]
+    for row in sorted(table["operations"], key=lambda row: row["code"]):
+        linked = " linked=" + ",".join(map(str, row["linked"])) if "linked" in row else ""
+        lines.append(f'op={row["code"]} class={row["class"]}{linked} name="{row["name"]}"')
+    return "\n".join(lines + ["prearranged=true"] * table["prearranged"]) + "\n"
+
+
 def tables(rows, folder):
     for number, (text, wanted, status) in enumerate(TABLES):
         path = f"{folder}/table"
         with open(path, "w", encoding="utf-8") as file:
             file.write(text)
         rows.row(f"table {number}", run(["table", path]), (wanted, "", status))
+    for number, (text, *wanted) in enumerate(BOOKS):
+        path = f"{folder}/book"
+        with open(path, "w", encoding="utf-8") as file:
+            file.write(text)
+        rows.row(f"book {number}", run(["table", path]), tuple(wanted))
+    with open("examples/tables/book.json", encoding="utf-8") as file:
+        carried = "".join(map(table_lines, itertools.count(), json.load(file)["tables"]))
+    rows.row("the carried book", run(["table"]), (carried, "", 0))
     why = "FAULT 23 0\n  why: the reader failed\n"
     text, told, status = run(["table", f"{folder}/none"])
     rows.row("no table", (text, told.startswith(f"error: {folder}/none: "), status), (why, True, 3))
@@ -620,6 +559,42 @@ def wrong_input(rows):
         rows.row(f"hint of {octets[:20]}, why", (why[0].endswith(f"\n{hint}"), "hint" in why[0], why[1:]), (True, hint != "", ("", 3)))
     # Where there is no fault, nothing is told.
     rows.row("no fault", run(["show"], b"Q"), ("0 Q\n", "", 0))
+
+
+def told_as(path, look):
+    return f"  hint: {path}: this looks like {look}\n"
+
+
+def mistaken(rows, folder):
+    """Each file of LOOKS as each word takes it: where it is not what it should be, that is told, and the status is 3."""
+    for name, (octets, _, _) in LOOKS.items():
+        with open(f"{folder}/{name}", "wb") as file:
+            file.write(octets)
+    paths = {name: f"{folder}/{name}" for name in LOOKS}
+    for asked, role in GIVEN:
+        for name, (_, look, roles) in LOOKS.items():
+            look = SHOWN_LOOKS.get(name, look) if role == "shown" else look
+            taken = {**paths, "-": paths[name]}
+            command, *others = asked.split()
+            out, error, status = run([command, *(taken.get(word, word) for word in others)])
+            told = "".join(line for line in error.splitlines(True) if "hint" in line)
+            if role in roles.split() or look is None:
+                rows.row(f"{asked}, {name}", (told, "hint" in out), ("", False))
+            else:
+                rows.row(f"{asked}, {name}", (told, "hint" in out, status), (told_as(paths[name], look), False, 3))
+    for asked, names in SWAPPED:
+        command, *others = asked.split()
+        error, status = run([command, *(paths.get(word, word) for word in others)])[1:]
+        rows.row(asked, (error, status), ("".join(told_as(paths[name], LOOKS[name][1]) for name in names), 3))
+    # The standard input has no path, and what `show --why` prints has none.
+    packed = run(["pack"], LOOKS["record"][0])
+    rows.row("a record as lines", packed, ("", f"FAULT 24 1\n  why: no space behind the end; column 2\n{RECORD_HINT}", 3))
+    why = run(["show", "--why", paths["lines"]])
+    rows.row("lines as a record", (why[0].endswith(f"\n{LINES_HINT}"), why[1:]), (True, ("", 3)))
+    # A directory is told as such, and not more; a file that can't be opened too.
+    for path in folder, f"{folder}/none":
+        told = run(["judge", path, paths["record"]])[1]
+        rows.row(f"judge {path}", (told.count("\n"), told_as(paths["record"], LOOKS["record"][1]) in told), (2, True))
 
 
 def words(rows):
@@ -691,6 +666,7 @@ def main():
     with tempfile.TemporaryDirectory() as folder:
         good_lines(rows, folder)
         tables(rows, folder)
+        mistaken(rows, folder)
     mutated(rows, random.Random(seed), 400)
     print(f"{rows.passed} passed, {rows.failed} failed")
     return int(rows.failed != 0)

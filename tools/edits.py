@@ -7,6 +7,7 @@ want of one that it calls. What is not seen to be refused so is tried in a check
 crate, as the kit's command `rt must-fail` tries it. What is checked is a copy of the crate's files, over the libraries below it.
 Checks go side by side, as many as there are processors and memory, or as RT_JOBS says."""
 
+import contextlib
 import glob
 import os
 import re
@@ -159,16 +160,23 @@ class Tries:
         self.rt, self.crate, self.edits, self.log = rt, crate, edits, log
         self.lock, self.start, self.failed = threading.Lock(), None, 0
 
+    @contextlib.contextmanager
+    def kept_work(self):
+        """A copy of what the crate's own check keeps, so that stays as it is, and no edit is checked over another. None where it keeps
+        nothing."""
+        self.start = self.start or time.monotonic()
+        folder = f"{self.crate.folder}/out/incremental"
+        if not os.path.isdir(folder):
+            yield None
+            return
+        with tempfile.TemporaryDirectory(prefix="kept-") as room:
+            kept.copy_folder(folder, room)
+            yield f"{room}/incremental"
+
     def check(self, texts, words):
         """What a check of the crate says with these texts in place of its own."""
-        self.start = self.start or time.monotonic()
-        over = f"{self.crate.folder}/out/incremental"
-        if not os.path.isdir(over):
-            return self.rt.checked(self.crate, texts, ["--jobs", "1", *words], None)
-        # A copy of what the crate's own check keeps, so that stays as it is, and no edit is checked over another.
-        with tempfile.TemporaryDirectory(prefix="kept-") as room:
-            kept.copy_folder(over, room)
-            return self.rt.checked(self.crate, texts, ["--jobs", "1", *words], f"{room}/incremental")
+        with self.kept_work() as work:
+            return self.rt.checked(self.crate, texts, ["--jobs", "1", *words], work)
 
     def try_group(self, group):
         """Tries edits together. Returns those that are seen to be refused."""
@@ -182,11 +190,12 @@ class Tries:
         return refused
 
     def try_whole(self, edit):
-        """Tries an edit in a check of the whole crate. Says so where it is not refused, or for a reason that says little. Returns
-        whether it is refused."""
-        self.start = self.start or time.monotonic()
-        kind, said = self.rt.must_fail(self.crate, edit, ["--jobs", "1"])[:2]
-        is_refused = kind in (self.rt.REFUSED, self.rt.AT_LIMIT)
+        """Tries an edit in a check of the whole crate, and where that does not refuse it over what is kept, from nothing. Says so where
+        it is not refused, or for a reason that says little. Returns whether it is refused."""
+        with self.kept_work() as work:
+            is_refused, said = self.rt.must_fail(self.crate, edit, ["--jobs", "1"], work)
+        if work and not is_refused:
+            is_refused, said = self.rt.must_fail(self.crate, edit, ["--jobs", "1"])
         said = f"{self.name(edit)}: {said.partition(': ')[2]}"
         self.note([said])
         if not is_refused or SAYS_LITTLE in said:

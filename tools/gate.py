@@ -1,8 +1,9 @@
 """The gate, which `make test` runs: `rt ci`, as many tasks side by side as RT_JOBS says or as this machine has room for, then the
-tests of TESTS on the program that `rt ci` built, tests/borrows.py, tools/clib.py over the libraries that `rt ci` built, and
-bench/memory.py, which lets each allocation of a run of that program fail in turn; beside them wrong bodies (tools/edits.py). What
-they print is passed on. Then it prints how many seconds each crate's proof and its tests' proof took, with their
-processor time, and closes with the line `N passed, M failed`, in which all are counted. The exit status is 0 where none failed.
+tests of TESTS on the program that `rt ci` built, tests/borrows.py, tools/clib.py over the libraries that `rt ci` built,
+tests/titan.py over the library that this made, and bench/memory.py, which lets each allocation of a run of that program fail
+in turn; beside them wrong bodies (tools/edits.py). What they print is passed on. Then it prints how many seconds each crate's
+proof and its tests' proof took, with their processor time, and closes with the line `N passed, M failed`, in which all are
+counted. The exit status is 0 where none failed.
 
 `rt ci` does not say when a part begins and ends. So twice a second this looks in /proc for the runs of `rattle` that
 `rt ci` started, which a word in their environment marks, and takes a part to last from the first to the last time that
@@ -35,13 +36,20 @@ TESTS = {
     "facts": "faults at entries in words",
     "pages": "examples and commands of pages",
     "captures": "tests of captures",
+    "real_parts": "tests over a real stack",
     "traces": "traces",
+    "archive": "looks at archives",
     "books": "tables, pages and the book that agree",
+    "page": "looks at pages of reports",
 }
 # The memory that the largest check takes, in GB.
 LARGEST = 5
 MARK = "GATE_RUN"
 COUNTS = re.compile(rb"(\d+) passed, (\d+) failed\n?")
+# Of each part that failed so many lines are printed once more at the end, cut at so many octets.
+LAST, WIDTH = 20, 400
+# What `rt ci` says of what failed has one of these words.
+FAILS = re.compile(rb"fail|not proved|no proof|killed|not run|differ|printed", re.IGNORECASE)
 TICKS = os.sysconf("SC_CLK_TCK")
 
 
@@ -87,10 +95,21 @@ def watch(start, parts, is_over):
                 part.last, part.used[run] = now, seconds
 
 
-def counts_of(run):
-    """Passes on what a command that runs prints, but for its line of counts. Returns how many passed and failed."""
+class Counts:
+    """How many of a part passed and failed, and the last lines that speak of what failed."""
+
+    def __init__(self, passed=0, failed=0, told=()):
+        self.passed, self.failed, self.told = passed, failed, told
+
+    def all(self):
+        return self.passed + self.failed
+
+
+def counts_of(run, speaks=lambda line: True):
+    """Passes on what a command that runs prints, but for its line of counts. Returns these, with the last of the other lines
+    that `speaks` holds of."""
     # What ends without its counts has failed.
-    passed, failed = 0, 1
+    passed, failed, told = 0, 1, collections.deque(maxlen=LAST)
     try:
         for line in run.stdout:
             counts = COUNTS.fullmatch(line)
@@ -99,18 +118,20 @@ def counts_of(run):
             else:
                 sys.stdout.buffer.write(line)
                 sys.stdout.buffer.flush()
+                if speaks(line):
+                    told.append(line[:WIDTH].rstrip() + b"\n")
     except BaseException:
         # At Ctrl-C a test ends by itself, and removes what it made.
         with contextlib.suppress(subprocess.TimeoutExpired):
             run.wait(3)
         run.terminate()
         raise
-    return passed, max(failed, int(run.wait() != 0))
+    return Counts(passed, max(failed, int(run.wait() != 0)), told)
 
 
 def started(*words):
-    """A command that runs, and whose output is read."""
-    return subprocess.Popen(words, stdout=subprocess.PIPE)
+    """A command that runs, and of which all that it prints is read."""
+    return subprocess.Popen(words, stdout=subprocess.PIPE, stderr=subprocess.STDOUT)
 
 
 def counts_of_script(path, *words):
@@ -129,7 +150,7 @@ def watched(command):
     parts, is_over, start, before = {}, threading.Event(), time.monotonic(), used_by_ended()
     watching = threading.Thread(target=watch, args=(start, parts, is_over), daemon=True)
     watching.start()
-    counts = counts_of(started(*command))
+    counts = counts_of(started(*command), FAILS.search)
     seconds = time.monotonic() - start
     is_over.set()
     watching.join()
@@ -149,6 +170,15 @@ def show_parts(parts, seconds, used):
         print(f"{own:15.0f} s of processor time  {kind} of all crates")
 
 
+def show_failures(named):
+    """Prints what failed by the names of the parts, with its last lines, once more at the end, where a log that is cut has it."""
+    for name, counts in named:
+        if counts.failed:
+            print(f"{name}: {counts.failed} failed", flush=True)
+            sys.stdout.buffer.writelines(counts.told)
+            sys.stdout.buffer.flush()
+
+
 def jobs():
     """How many tasks of `rt ci` go side by side: one for each processor, as far as each has memory for the largest check."""
     return max(1, min(machine.cores(), int(machine.free_memory() // LARGEST)))
@@ -158,10 +188,10 @@ def refused_memory():
     """Whether the program says what it has to where each allocation of a run fails in turn: as counts."""
     if not (shutil.which("cc") or shutil.which("gcc")):
         print("allocations that fail in turn: not tried, for want of a C compiler")
-        return 0, 0
+        return Counts()
     ended = subprocess.run([sys.executable, "bench/memory.py", "program"], check=False)
     print(f"allocations that fail in turn: {'said' if ended.returncode == 0 else 'NOT said'}")
-    return (0, 1) if ended.returncode else (1, 0)
+    return Counts(failed=1) if ended.returncode else Counts(1)
 
 
 def main():
@@ -175,22 +205,26 @@ def main():
     os.environ.pop("TCAPJUDGE", None)
     if os.path.exists(PROGRAM):
         os.remove(PROGRAM)
-    (passed, failed), parts, seconds, used = watched(["rt", "ci"])
+    ci, parts, seconds, used = watched(["rt", "ci"])
     # What that prints is little, so it waits for no reader.
     edits, others = started(sys.executable, "tools/edits.py", "--gate"), []
     for name, what in TESTS.items():
         others.append(counts_of_script(f"tests/{name}.py"))
-        print(f"{sum(others[-1])} {what}, {others[-1][1]} wrong")
+        print(f"{others[-1].all()} {what}, {others[-1].failed} wrong")
     lent = counts_of_script("tests/borrows.py")
-    print(f"feeding while an entry is lent: {'refused' if lent[0] else 'NOT refused'}")
+    print(f"feeding while an entry is lent: {'refused' if lent.passed else 'NOT refused'}")
     clib = counts_of_script("tools/clib.py", "--over-ci")
-    print(f"{clib[0] + clib[1]} comparisons of the library for C with the program, {clib[1]} that differ")
-    others += [lent, clib, refused_memory(), counts_of(edits)]
-    print(f"{sum(others[-1])} wrong bodies, {others[-1][1]} not refused")
+    print(f"{clib.all()} comparisons of the library for C with the program, {clib.failed} that differ")
+    titan = counts_of_script("tests/titan.py") if clib.all() else Counts()
+    print(f"{titan.all()} verdicts of a test case in TTCN-3, {titan.failed} wrong")
+    others += [lent, clib, titan, refused_memory(), counts_of(edits)]
+    print(f"{others[-1].all()} wrong bodies, {others[-1].failed} not refused")
     show_parts(parts, seconds, used)
-    both = [passed + sum(one[0] for one in others), failed + sum(one[1] for one in others)]
-    print(f"{both[0]} passed, {both[1]} failed", flush=True)
-    return int(both[1] != 0)
+    names = ["rt ci", *TESTS, "borrows", "the library for C", "TTCN-3", "allocations that fail", "wrong bodies"]
+    show_failures(zip(names, [ci, *others]))
+    passed, failed = (sum(getattr(it, what) for it in [ci, *others]) for what in ("passed", "failed"))
+    print(f"{passed} passed, {failed} failed", flush=True)
+    return int(failed != 0)
 
 
 if __name__ == "__main__":

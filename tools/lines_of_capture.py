@@ -1,28 +1,32 @@
 """Makes lines for `tcapjudge pack` of a capture, one file for each pair of ends: docs/CAPTURES.md says how.
 
     python3 tools/lines_of_capture.py CAPTURE FOLDER [--a WHAT] [--by PARTS] [--join | --apart] [--under-way] [--whole]
+        [--progress]
 
 Standard output has a line for each file; standard error has what was left out (NOTE) and what can't be told (FAULT).
 The exit status is 0, or 2 where tshark is not installed, or 3 where there was a fault, or 4 for wrong words."""
 
 import argparse
-import collections
+import datetime
+import gc
 import os
 import shutil
 import sys
+import time
 
 import capture_frames
 import signalling
+from capture_ends import PARTS, text_of
 from capture_frames import Fault
+from capture_pairs import lone_of, pairs_of, stop_by, with_ends
 
 NO_TSHARK, FAULTY, WRONG_WORDS = 2, 3, 4
-PARTS = "pc", "ssn", "gt"
-# The most entries that a record has.
-MOST = 100_000
 # The most faults of the capture, and gaps in it, that are printed.
 SHOWN = 10
 # The most addresses of one end that are printed.
 LISTED = 4
+# By this line `tcapjudge test` knows that the Begin of a dialogue may not be in the trace.
+UNDER_WAY = "# dialogues may have been under way"
 
 
 class Words(argparse.ArgumentParser):
@@ -61,166 +65,51 @@ def words_of(arguments):
     words.add_argument("--a", metavar="WHAT", type=wanted_of, help=which)
     words.add_argument("--by", metavar="PARTS", type=parts_of, default=PARTS, help=apart)
     answers = words.add_mutually_exclusive_group()
-    answers.add_argument("--join", action="store_true", help="an end may answer from another address than was called")
-    answers.add_argument("--apart", action="store_true", help="it may not: each address is an end")
-    words.add_argument("--under-way", action="store_true", help="leave out what was under way when the capture began")
+    answers.add_argument("--join", action="store_true", help="where it is not clear who answers: it is who was called")
+    answers.add_argument("--apart", action="store_true", help="each address is an end")
+    words.add_argument("--under-way", action="store_true", help="dialogues may be older than the capture: the files say so")
     words.add_argument("--whole", action="store_true", help="nothing was filtered: a missing chunk of SCTP is a fault")
+    words.add_argument("--progress", action="store_true", help="say on standard error each second how far it is")
     return words.parse_args(arguments)
 
 
-# ---- ends
+class Progress:
+    """Says once a second how many frames were read and how many messages were written, where that is asked."""
+
+    def __init__(self, is_asked):
+        self.is_asked, self.counts, self.due = is_asked, {"frames read": 0, "messages written": 0}, time.monotonic() + 1
+
+    def over(self, what, counted):
+        """The same things one after the other, counted."""
+        return self.each(what, counted) if self.is_asked else counted
+
+    def each(self, what, counted):
+        for one in counted:
+            yield one
+            self.counts[what] += 1
+            if time.monotonic() >= self.due:
+                self.due = time.monotonic() + 1
+                print(", ".join(f"{name}: {count}" for name, count in self.counts.items()), file=sys.stderr, flush=True)
 
 
-def named(end, by):
-    """An end by these parts alone, None where it has none of them."""
-    kept = end._replace(**{part: None for part in PARTS if part not in by})
-    kept = kept if "pc" in by else kept._replace(ni=None)
-    return kept if any(part is not None for part in kept[1:]) else None
-
-
-def text_of(end):
-    """How an end is printed."""
-    return " ".join(f"{part}={value}" for part, value in zip(end._fields, end) if value is not None)
-
-
-class Ends:
-    """Which addresses are one end: each stands for itself, until it is joined with another."""
-
-    def __init__(self):
-        self.parents, self.addresses = {}, None
-
-    def find(self, end):
-        while (parent := self.parents.setdefault(end, end)) != end:
-            self.parents[end] = end = self.parents[parent]
-        return end
-
-    def join(self, one, other):
-        self.parents[self.find(one)] = self.find(other)
-
-    def of(self, end):
-        """All addresses of that end, as they came. Nothing is joined from then on."""
-        if self.addresses is None:
-            self.addresses = collections.defaultdict(list)
-            for one in list(self.parents):
-                self.addresses[self.find(one)].append(one)
-        return self.addresses[self.find(end)]
-
-
-def other_asker(message, asked, ends, is_begun):
-    """Who sent the ID that a message goes to, and to whom, where that is not the pair of the message: None where it is,
-    and where nobody sent it. A capture that had begun in the middle has IDs that others happen to use too."""
-    _, _, dtid = signalling.ids_of(message.octets)
-    askers = [(ends.find(asker), ends.find(called)) for asker, called in asked.get(dtid, [])] if dtid else []
-    pair = ends.find(message.receiver), ends.find(message.sender)
-    if any(set(one) == set(pair) for one in askers):
-        return None
-    near = [one for one in askers if one[0] == pair[0]] or [one for one in askers if one[1] == pair[1]]
-    return (near or ([] if is_begun else askers) or [None])[-1]
-
-
-def with_ends(messages, words):
-    """The messages, with their ends named by --by and with the faults of these; the ends; and the faults of messages
-    that name none."""
-    ends, asked, named_ones, faults = Ends(), collections.defaultdict(list), [], []
-    for message in messages:
-        sender, receiver = (named(end, words.by) for end in (message.sender, message.receiver))
-        if sender is None or receiver is None:
-            lacking = f"nothing of {', '.join(words.by)} tells its {'sender' if sender is None else 'receiver'}"
-            faults.append(Fault(message.place, "ends", lacking))
-            continue
-        message = message._replace(sender=sender, receiver=receiver)
-        ends.find(sender), ends.find(receiver)
-        if not message.fault and not words.apart:
-            message = joined(message, other_asker(message, asked, ends, words.under_way), ends, words.join)
-        if not message.fault and (otid := signalling.ids_of(message.octets)[1]):
-            pair = sender, receiver
-            if pair not in asked[otid]:
-                asked[otid].append(pair)
-        named_ones.append(message)
-    return named_ones, ends, faults
-
-
-def joined(message, other, ends, may_join):
-    """The message, behind the joining of the address that it comes from, or goes to, with the one that was called, or
-    that asked; with its fault where they may not be joined."""
-    if other is None:
-        return message
-    if may_join and other[0] == ends.find(message.receiver):
-        ends.join(message.sender, other[1])
-    elif may_join and other[1] == ends.find(message.sender):
-        ends.join(message.receiver, other[0])
-    else:
-        return message._replace(fault=Fault(message.place, "answer", answer_text(message, other)))
-    return message
-
-
-def answer_text(message, other):
-    """What is said of an answer that does not come from whom was asked."""
-    ids = signalling.ids_of(message.octets)
-    return (
-        f"it goes from {text_of(message.sender)} to {text_of(message.receiver)}, to the ID {ids[2].hex()}, which"
-        f" {text_of(other[0])} sent to {text_of(other[1])}: --join where these are one end, --apart where they are not"
-    )
-
-
-# ---- pairs
-
-
-class Pair:
-    """What one pair of ends sent, in its order, up to the first fault; and that fault."""
-
-    def __init__(self, ends):
-        self.ends, self.messages, self.fault, self.behind, self.notes = ends, [], None, 0, []
-
-    def take(self, message):
-        """Takes the next message, or counts it where it stands behind a fault."""
-        self.fault = self.fault or message.fault
-        if self.fault:
-            self.behind += 1
-        elif len(self.messages) == MOST:
-            self.stop(Fault(message.place, "entries", f"a record has at most {MOST} entries"))
-            self.behind += 1
-        else:
-            self.messages.append(message)
-
-    def stop(self, fault):
-        self.fault = self.fault or fault
-
-
-def pairs_of(messages, faults, ends):
-    """The pairs, in the order in which they are met. A fault that is of no pair ends all, those too that come later."""
-    pairs, stopped, waiting = {}, None, sorted(faults)
-    for message in messages:
-        while waiting and waiting[0].place <= message.place:
-            stopped = stopped or waiting[0]
-            waiting.pop(0)
-        pair = frozenset((ends.find(message.sender), ends.find(message.receiver)))
-        own = pairs.setdefault(pair, Pair(pair))
-        if len(pair) == 1:
-            why = f"both ends are {text_of(message.sender)}: they can't be told apart so"
-            own.stop(Fault(message.place, "ends", why))
-        if stopped:
-            own.stop(stopped)
-        own.take(message)
-    for pair in pairs.values():
-        if waiting or stopped:
-            pair.stop(stopped or waiting[0])
-    return list(pairs.values())
+# ---- A and B
 
 
 def first_end(pair, ends, wanted):
-    """The end that is A: the one that --a asks for, else the first that begins, else the first that sends. Where --a
-    fits none, or both, that is the pair's fault."""
+    """The end that is A: the one that --a asks for; where it fits none the first that begins, else the first that sends.
+    Where it fits both, that is the pair's fault."""
     if wanted:
-        fits = [end for end in pair.ends if any(is_wanted(one, wanted) for one in ends.of(end))]
+        fits = [end for end in pair.ends if any(is_wanted(one, wanted) for one in ends.names_of(end))]
         if len(fits) == 1:
             return fits[0]
-        place = pair.messages[0].place if pair.messages else pair.fault.place
-        pair.fault = Fault(place, "a", f"{'both ends are' if fits else 'no end is'} the one that --a asks for")
-        pair.behind, pair.messages = pair.behind + len(pair.messages), []
-        return None
+        if fits:
+            place = pair.messages[0].place if pair.messages else pair.fault.place
+            pair.stop(Fault(place, "a", "both ends are the one that --a asks for"))
+            pair.cut()
+            return None
+        pair.notes.append("no end of it is the one that --a asks for: A is the end that begins first")
     for message in pair.messages:
-        if signalling.ids_of(message.octets)[0] in (0x61, signalling.BEGIN):
+        if message.tag in (signalling.UNIDIRECTIONAL, signalling.BEGIN):
             return ends.find(message.sender)
     return ends.find(pair.messages[0].sender) if pair.messages else None
 
@@ -229,22 +118,12 @@ def is_wanted(end, wanted):
     return all(getattr(end, part) == value for part, value in wanted.items())
 
 
-def looked_at_ids(pair, ends, leaves_out):
-    """Looks for messages to IDs that their receiver did not send before, and leaves them out where that is asked."""
-    known, kept, lone = set(), [], []
-    for message in pair.messages:
-        _, otid, dtid = signalling.ids_of(message.octets)
-        if dtid and (ends.find(message.receiver), dtid) not in known:
-            lone.append(message)
-            if leaves_out:
-                continue
-        known.add((ends.find(message.sender), otid))
-        kept.append(message)
-    pair.messages = kept
-    if lone:
-        what = "left out" if leaves_out else "kept; --under-way leaves them out"
+def note_lone(pair, ends, is_begun):
+    """Notes how many messages of a pair go to an ID that their receiver did not send before."""
+    if lone := lone_of(pair, ends):
         which = f"messages to IDs that their receiver did not send in the capture, the first in {frame_text(lone[0])}"
-        pair.notes.append(f"{which}, {what}: {len(lone)}")
+        hint = "" if is_begun else "; --under-way where their dialogues are older than the capture"
+        pair.notes.append(f"{which}: {len(lone)}{hint}")
 
 
 # ---- what is written
@@ -256,26 +135,48 @@ def frame_text(message):
     return f"frame {first}" if first == last else f"frames {first} to {last}"
 
 
+def stamps(times):
+    """Times of tshark, seconds since 1970, as ISO 8601 writes them, by the number of their frame."""
+    known, text = None, ""
+
+    def stamp(frame):
+        nonlocal known, text
+        seconds, _, rest = times[frame].partition(".")
+        if not seconds.isdecimal():
+            return "no time"
+        if seconds != known:
+            at = datetime.datetime.fromtimestamp(int(seconds), datetime.timezone.utc)
+            known, text = seconds, f"{at:%Y-%m-%dT%H:%M:%S}"
+        return f"{text}.{rest[:6].ljust(6, '0')}Z"
+
+    return stamp
+
+
 def addresses_of(end, ends):
     """The addresses of an end, a few of them where there are many: a line for `pack` is no longer than it takes."""
-    addresses = ends.of(end)
-    more = f", and {len(addresses) - LISTED} others" if len(addresses) > LISTED else ""
-    return ", ".join(text_of(one) for one in addresses[:LISTED]) + more
+    names = ends.names_of(end)
+    more = f", and {len(names) - LISTED} others" if len(names) > LISTED else ""
+    return ", ".join(text_of(one) for one in names[:LISTED]) + more
 
 
-def lines_of(pair, first, ends, times, capture, title):
-    """The lines of a file."""
-    others = [end for end in pair.ends if end != first]
-    yield f"# {title}"
-    for letter, end in zip("AB", [first, *others]):
-        yield f"# {letter}: {addresses_of(end, ends)}"
-    yield from (f"# NOTE {note}" for note in pair.notes)
+def head_of(pair, both, ends, words, title):
+    """The lines before the first message, of ends of which the first is A."""
+    yield f"# {title}\n"
+    for letter, end in zip("AB", both):
+        yield f"# {letter}: {addresses_of(end, ends)}\n"
+    if words.under_way:
+        yield f"{UNDER_WAY}\n"
+    yield from (f"# NOTE {note}\n" for note in pair.notes)
+
+
+def lines_of(pair, first, ends, times):
+    """The lines of each message."""
+    stamp = stamps(times)
     for entry, message in enumerate(pair.messages):
         moved = f", sent before frame {message.place[0]}" if message.place[0] < message.frames[0] else ""
-        yield f"# {frame_text(message)}, {times[message.frames[0]]}, entry {entry}{moved}"
-        yield f"{'A' if ends.find(message.sender) == first else 'B'} {message.octets.hex()}"
-    if pair.fault:
-        yield f"# {fault_text(pair.fault, capture)}; messages from there on, which are not in this file: {pair.behind}"
+        letter = "A" if ends.find(message.sender) is first else "B"
+        head = f"# {frame_text(message)}, {stamp(message.frames[0])}, entry {entry}{moved}"
+        yield f"{head}\n{letter} {message.octets.hex()}\n"
 
 
 def name_of(path):
@@ -287,13 +188,14 @@ def fault_text(fault, capture):
     return f"FAULT {fault.name}, frame {fault.place[0]} of {name_of(capture)}: {fault.why}"
 
 
-def write(pairs, ends, reader, words):
+def write(pairs, ends, reader, words, progress):
     """Writes the files, and says what is in them. A pair of which no message is left has none."""
+    told = set(map(id, reader.faults))
     for number, pair in enumerate(pairs, 1):
-        looked_at_ids(pair, ends, words.under_way)
+        note_lone(pair, ends, words.under_way)
         first = first_end(pair, ends, words.a)
-        names = " and ".join(addresses_of(end, ends) for end in sorted(pair.ends, key=text_of))
-        if pair.fault and pair.fault not in reader.faults:
+        names = " and ".join(addresses_of(end, ends) for end in pair.both())
+        if pair.fault and id(pair.fault) not in told:
             print(f"{fault_text(pair.fault, words.capture)} (pair {number}: {names})", file=sys.stderr)
         for note in pair.notes:
             print(f"NOTE pair {number}: {note}", file=sys.stderr)
@@ -302,16 +204,21 @@ def write(pairs, ends, reader, words):
             continue
         path = os.path.join(words.folder, f"pair-{number}.hex")
         title = f"pair {number} of {len(pairs)} of {name_of(words.capture)}, told apart by {', '.join(words.by)}"
+        both = first, next(end for end in pair.ends if end != first)
         with open(path, "x", encoding="utf-8") as file:
-            file.writelines(f"{line}\n" for line in lines_of(pair, first, ends, reader.times, words.capture, title))
-        second = next(end for end in pair.ends if end != first)
-        print(f"{path}: A is {text_of(first)}, B is {text_of(second)}, messages: {len(pair.messages)}")
+            file.writelines(head_of(pair, both, ends, words, title))
+            file.writelines(progress.over("messages written", lines_of(pair, both[0], ends, reader.times)))
+            if pair.fault:
+                fault = fault_text(pair.fault, words.capture)
+                file.write(f"# {fault}; messages from there on, which are not in this file: {pair.behind}\n")
+        names = ", ".join(f"{letter} is {addresses_of(end, ends)}" for letter, end in zip("AB", both))
+        print(f"{path}: {names}, messages: {len(pair.messages)}")
 
 
-def say(reader, gaps, pairs, capture):
-    """Says what is wrong with the capture as a whole, and what of it was left out."""
-    for fault in reader.faults[:SHOWN]:
-        print(fault_text(fault, capture), file=sys.stderr)
+def say(reader, counts, gaps, pairs, capture):
+    """Says what is wrong with the capture as a whole, of how many pairs it may be, and what of it was left out."""
+    for fault, count in list(zip(reader.faults, counts))[:SHOWN]:
+        print(f"{fault_text(fault, capture)}; pairs of which it may be: {count}", file=sys.stderr)
     if len(reader.faults) > SHOWN:
         print(f"NOTE faults of the capture behind these: {len(reader.faults) - SHOWN}", file=sys.stderr)
     for what, count in sorted(reader.told.items()):
@@ -324,16 +231,41 @@ def say(reader, gaps, pairs, capture):
         print(f"FAULT none, {name_of(capture)}: no message of TCAP was found", file=sys.stderr)
 
 
-def read(words):
+def read(words, progress):
     """The reader behind the last frame of the capture."""
     reader = capture_frames.Reader()
     try:
-        for frame in capture_frames.frames_of(words.capture):
+        for frame in progress.over("frames read", capture_frames.frames_of(words.capture)):
             reader.take(frame)
     except signalling.Refused as refused:
-        reader.fault(refused.name, refused.why, (reader.place[0] + 1, 0, 0))
+        reader.fault((reader.number + 1, 0, 0), refused)
     reader.close()
     return reader
+
+
+def pairs_in(reader, gaps, words):
+    """The pairs of a capture that was read, its ends, and of how many pairs each of its faults may be."""
+    reader.messages.sort(key=lambda message: message.place)
+    messages, ends, faults = with_ends(reader.messages, reader.addresses, words)
+    reader.faults = sorted(reader.faults + faults + (gaps if words.whole else []), key=lambda fault: fault.place)
+    pairs = pairs_of(messages, ends)
+    return pairs, ends, stop_by(reader.faults, pairs, ends)
+
+
+def lines_of_capture(words):
+    """Makes the files, and says of what. Returns the exit status."""
+    progress = Progress(words.progress)
+    reader = read(words, progress)
+    gaps = list(reader.gaps())
+    pairs, ends, counts = pairs_in(reader, gaps, words)
+    say(reader, counts, [] if words.whole else gaps, pairs, words.capture)
+    try:
+        write(pairs, ends, reader, words, progress)
+        sys.stdout.flush()
+    except OSError as error:
+        print(f"error: {error}", file=sys.stderr)
+        return FAULTY
+    return FAULTY if reader.faults or not pairs or any(pair.fault for pair in pairs) else 0
 
 
 def main(arguments):
@@ -351,19 +283,9 @@ def main(arguments):
     except OSError as error:
         print(f"error: {error}", file=sys.stderr)
         return WRONG_WORDS
-    reader = read(words)
-    gaps = list(reader.gaps())
-    messages, ends, faults = with_ends(sorted(reader.messages, key=lambda message: message.place), words)
-    reader.faults = sorted(reader.faults + faults + (gaps if words.whole else []))
-    pairs = pairs_of(messages, reader.faults, ends)
-    say(reader, [] if words.whole else gaps, pairs, words.capture)
-    try:
-        write(pairs, ends, reader, words)
-        sys.stdout.flush()
-    except OSError as error:
-        print(f"error: {error}", file=sys.stderr)
-        return FAULTY
-    return FAULTY if reader.faults or not pairs or any(pair.fault for pair in pairs) else 0
+    # Few objects here are in circles, so they are not looked for: that takes time with each message that is kept.
+    gc.disable()
+    return lines_of_capture(words)
 
 
 if __name__ == "__main__":

@@ -19,8 +19,9 @@ import unproved
 # Random cases, for so many seconds: the first ones of this seed.
 FUZZ = ["60", "1"]
 NOT_SHOWN = """Left to `make test`: proofs, wrong bodies, the tests within the crates, the stored runs, the second compiler,
-the library for C, allocations that fail, and feeding while an entry is lent. What ran is not the proved program: it is not
-optimised, and checks each index, sum and access as it runs, so it is slower, and nothing is said of speed."""
+the library for C, its example for TTCN-3, allocations that fail, and feeding while an entry is lent. What ran is not the
+proved program: it is not optimised, and checks each index, sum and access as it runs, so it is slower, and nothing is said of
+speed."""
 
 
 def begin(stack, name, words, env):
@@ -54,7 +55,7 @@ def run_all(env):
                 passed, failed, others = counts_of(run.returncode, printed)
                 both[0], both[1] = both[0] + passed, both[1] + failed
                 print(f"{time.monotonic() - start:6.0f} s  {what}: {passed} passed, {failed} failed", flush=True)
-                if failed or not passed:
+                if failed or not passed or any(line.startswith(b"skipped") for line in others):
                     sys.stdout.buffer.writelines(others)
                     sys.stdout.flush()
     return both

@@ -3,25 +3,34 @@ Q.713), and the outside of a TCAP message (ITU-T Q.773, X.690). Nothing here kee
 refused by a name and in words."""
 
 import collections
+import struct
 
+SCTP_HEADER = 12
 # What a chunk of SCTP carries, by its payload protocol identifier.
-M3UA = 3
-OTHERS = {2: "M2UA", 4: "SUA", 5: "M2PA"}
+M3UA, M2PA, M3UA_PORT = 3, 5, b"\x0b\x59"
+OTHERS = {2: "M2UA", 4: "SUA", M2PA: "M2PA"}
 # SCCP's own management, and the subsystems of 3GPP TS 23.003 that do not use TCAP: RANAP, RNSAP, BSSAP+ and the like.
 NO_TCAP = {1, 98, 142, 143, *range(249, 255)}
 # The kinds of Q.713 that carry data without a connection, with how many octets stand before the pointers, whether these
 # and the length of the data have two octets, and whether there is a pointer to an optional part.
-UNITDATA = {0x09: (2, False, False), 0x11: (3, False, True), 0x13: (3, True, True)}
-SERVICE = {0x0A: (2, False, False), 0x12: (3, False, True), 0x14: (3, True, True)}
+FORMS = {0x09: (2, False, False), 0x11: (3, False, True), 0x13: (3, True, True)}
+FORMS |= {0x0A: (2, False, False), 0x12: (3, False, True), 0x14: (3, True, True)}
+# Those that bring a message back to its sender.
+SERVICE = {0x0A, 0x12, 0x14}
 NAMES = {0x09: "UDT", 0x11: "XUDT", 0x13: "LUDT", 0x0A: "UDTS", 0x12: "XUDTS", 0x14: "LUDTS"}
-BEGIN, CONTINUE = 0x62, 0x65
+UNIDIRECTIONAL, BEGIN = 0x61, 0x62
 WITH_OTID, WITH_DTID = {0x62, 0x65}, {0x64, 0x65, 0x67}
 ANSI = {0xE1, 0xE2, 0xE3, 0xE4, 0xE5, 0xE6, 0xF6}
 
-Chunk = collections.namedtuple("Chunk", "tsn first last stream sequence ppid payload")
+# The head of a chunk; the TSN of one of data, and its payload protocol identifier; the head of a message of M3UA, and of a
+# parameter of it; of Protocol Data the point codes, the service indicator and the network indicator.
+CHUNK, DATA = struct.Struct(">BBH"), struct.Struct(">I4xI")
+M3UA_HEAD, PARAMETER, LABEL = struct.Struct(">BxHI"), struct.Struct(">HH"), struct.Struct(">IIBB")
+
+Chunk = collections.namedtuple("Chunk", "tsn first last ppid payload")
 Label = collections.namedtuple("Label", "ni opc dpc")
-Party = collections.namedtuple("Party", "pc ssn gt octets")
-# The segment is None or (first, left, reference).
+Party = collections.namedtuple("Party", "pc ssn gt")
+# The addresses are octets; the segment is None or (first, left, reference).
 Unitdata = collections.namedtuple("Unitdata", "kind called calling content segment")
 
 
@@ -47,50 +56,87 @@ def number(octets, at, count, name, what, order="big"):
 # ---- SCTP
 
 
-def association_of(packet):
-    """What names the direction that a packet goes: its ports and its verification tag."""
-    part(packet, 0, 12, "sctp", "the header of SCTP")
-    return int.from_bytes(packet[0:2], "big"), int.from_bytes(packet[2:4], "big"), int.from_bytes(packet[4:8], "big")
-
-
 def chunks_of(packet):
-    """The chunks of data of a packet, one after the other."""
-    at = 12
-    while at < len(packet):
-        size = number(packet, at + 2, 2, "sctp", "the header of a chunk")
+    """The chunks of data of a packet, one after the other, behind its header."""
+    at, end = SCTP_HEADER, len(packet)
+    while at < end:
+        if at + 4 > end:
+            raise Refused("sctp", "the header of a chunk goes past the end")
+        kind, flags, size = CHUNK.unpack_from(packet, at)
         if size < 4:
             raise Refused("sctp", "a chunk is shorter than its header")
-        chunk = part(packet, at, size, "sctp", "a chunk")
-        at += size + -size % 4
-        if chunk[0] == 64:
+        if at + size > end:
+            raise Refused("sctp", "a chunk goes past the end")
+        if kind == 64:
             raise Refused("sctp", "a chunk of I-DATA (RFC 8260), which is not read")
-        if chunk[0] == 0:
-            head = [number(chunk, *where, "sctp", "the header of DATA") for where in ((4, 4), (8, 2), (10, 2), (12, 4))]
-            yield Chunk(head[0], bool(chunk[1] & 2), bool(chunk[1] & 1), *head[1:], chunk[16:])
+        if kind == 0:
+            if size < 16:
+                raise Refused("sctp", "the header of DATA goes past the end")
+            tsn, ppid = DATA.unpack_from(packet, at + 4)
+            yield Chunk(tsn, flags & 2, flags & 1, ppid, packet[at + 16 : at + size])
+        at += size + -size % 4
 
 
-# ---- M3UA
+def cut_label(packet):
+    """The label of the message of M3UA in the midst of which a packet was cut; None where it stands behind the cut."""
+    at = SCTP_HEADER
+    while at + 4 <= len(packet):
+        kind, _, size = CHUNK.unpack_from(packet, at)
+        if kind == 0 and at + size > len(packet):
+            return first_label(packet[at + 16 :])
+        at += max(4, size + -size % 4)
+    return None
+
+
+# ---- M3UA, M2PA
+
+
+def first_label(message):
+    """The label of a message of M3UA that may be cut; None where there is none before the cut."""
+    at = 8
+    while at + 16 <= len(message):
+        tag, size = PARAMETER.unpack_from(message, at)
+        if tag == 0x210:
+            opc, dpc, _, ni = LABEL.unpack_from(message, at + 4)
+            return Label(ni, opc, dpc)
+        at += max(4, size + -size % 4)
+    return None
+
+
+def m2pa_label(message):
+    """The label of what a message of M2PA carries (RFC 4165 2.3.1, Q.704 2.2); None where it carries nothing."""
+    if len(message) < 22 or message[2:4] != b"\x0b\x01":
+        return None
+    label = int.from_bytes(message[18:22], "little")
+    return Label(message[17] >> 6, label >> 14 & 0x3FFF, label & 0x3FFF)
 
 
 def protocol_data(message):
     """The label and the message of SCCP that a message of M3UA carries; None where it carries none."""
-    part(message, 0, 8, "m3ua", "the header of M3UA")
-    length = int.from_bytes(message[4:8], "big")
-    if message[0] != 1 or length < 8:
+    if len(message) < 8:
+        raise Refused("m3ua", "the header of M3UA goes past the end")
+    version, kind, length = M3UA_HEAD.unpack_from(message)
+    if version != 1 or length < 8:
         raise Refused("m3ua", "neither its version nor its length is that of M3UA")
-    if message[2:4] != b"\x01\x01":
+    if kind != 0x101:
         return None
-    body, at = part(message, 8, length - 8, "m3ua", "a message of M3UA"), 0
-    while at < len(body):
-        tag, size = (number(body, at + off, 2, "m3ua", "a parameter") for off in (0, 2))
+    if length > len(message):
+        raise Refused("m3ua", "a message of M3UA goes past the end")
+    at = 8
+    while at < length:
+        if at + 4 > length:
+            raise Refused("m3ua", "a parameter goes past the end")
+        tag, size = PARAMETER.unpack_from(message, at)
         if size < 4:
             raise Refused("m3ua", "a parameter is shorter than its header")
-        content = part(body, at + 4, size - 4, "m3ua", "a parameter")
-        at += size + -size % 4
+        if at + size > length:
+            raise Refused("m3ua", "a parameter goes past the end")
         if tag == 0x210:
-            part(content, 0, 12, "m3ua", "Protocol Data")
-            label = Label(content[9], int.from_bytes(content[0:4], "big"), int.from_bytes(content[4:8], "big"))
-            return (label, content[12:]) if content[8] == 3 else None
+            if size < 16:
+                raise Refused("m3ua", "Protocol Data goes past the end")
+            opc, dpc, indicator, ni = LABEL.unpack_from(message, at + 4)
+            return (Label(ni, opc, dpc), message[at + 16 : at + size]) if indicator == 3 else None
+        at += size + -size % 4
     raise Refused("m3ua", "a message of data without Protocol Data")
 
 
@@ -119,7 +165,7 @@ def party(octets):
         ssn, at = number(octets, at, 1, "sccp", "an address"), at + 1
     if indicator >> 2 & 15:
         gt = digits_of(indicator >> 2 & 15, octets[at:])
-    return Party(pc, ssn, gt, octets)
+    return Party(pc, ssn, gt)
 
 
 def segment_of(octets, at):
@@ -134,36 +180,38 @@ def segment_of(octets, at):
     return None
 
 
-def pointed(octets, at, is_long, is_wide):
-    """What the pointer there points to: None where it is 0, else where the content begins and its length."""
-    size = 2 if is_long else 1
-    where = number(octets, at, size, "sccp", "a pointer", "little")
+def pointed(octets, at, kind, is_long, is_wide):
+    """The octets of the parameter to which the pointer there points: behind a length of two octets where it is wide."""
+    try:
+        where = octets[at] | octets[at + 1] << 8 if is_long else octets[at]
+        begin = at + is_long + where
+        end = begin + 1 + (octets[begin] | octets[begin + 1] << 8 if is_wide else octets[begin]) + is_wide
+    except IndexError:
+        raise Refused("sccp", f"a parameter of the {NAMES[kind]} goes past the end") from None
     if where == 0:
-        return None
-    begin = at + size - 1 + where
-    head = 2 if is_wide else 1
-    return begin + head, number(octets, begin, head, "sccp", "a parameter", "little")
+        raise Refused("sccp", f"a {NAMES[kind]} without one of its parameters")
+    if end > len(octets):
+        raise Refused("sccp", f"a parameter of the {NAMES[kind]} goes past the end")
+    return octets[begin + 1 + is_wide : end]
 
 
 def unitdata(octets):
     """What a message of SCCP carries without a connection; None where it is of another kind."""
-    kind = number(octets, 0, 1, "sccp", "a message of SCCP")
-    form = UNITDATA.get(kind) or SERVICE.get(kind)
-    if form is None:
+    if not octets:
+        raise Refused("sccp", "a message of SCCP without octets")
+    kind = octets[0]
+    if kind not in FORMS:
         return None
-    fixed, is_long, has_more = form
-    size, contents = 2 if is_long else 1, []
-    for turn in range(3):
-        found = pointed(octets, fixed + turn * size, is_long, is_long and turn == 2)
-        if found is None:
-            raise Refused("sccp", f"a {NAMES[kind]} without one of its parameters")
-        contents.append(part(octets, *found, "sccp", f"a parameter of the {NAMES[kind]}"))
-    segment = None
+    at, is_long, has_more = FORMS[kind]
+    size = 1 + is_long
+    called = pointed(octets, at, kind, is_long, False)
+    calling = pointed(octets, at + size, kind, is_long, False)
+    content, segment = pointed(octets, at + 2 * size, kind, is_long, is_long), None
     if has_more:
-        at = fixed + 3 * size
+        at += 3 * size
         where = number(octets, at, size, "sccp", "a pointer", "little")
         segment = segment_of(octets, at + size - 1 + where) if where else None
-    return Unitdata(kind, party(contents[0]), party(contents[1]), contents[2], segment)
+    return Unitdata(kind, called, calling, content, segment)
 
 
 # ---- the outside of a TCAP message
@@ -171,23 +219,24 @@ def unitdata(octets):
 
 def header(octets, at):
     """Where the content of the element there begins, and its length, None for an indefinite one (X.690 8.1)."""
-    begin, what = at, "an element"
-    tag = number(octets, at, 1, "element", what)
-    at += 1
-    if tag & 31 == 31:
-        while number(octets, at, 1, "element", what) & 0x80:
+    begin = at
+    try:
+        if octets[at] & 31 == 31:
             at += 1
-        at += 1
-    length = number(octets, at, 1, "element", what)
+            while octets[at] & 0x80:
+                at += 1
+        length = octets[at + 1]
+    except IndexError:
+        raise Refused("element", "an element goes past the end") from None
     if length < 0x80:
-        return at + 1, length
+        return at + 2, length
     if length == 0x80:
         if not octets[begin] & 0x20:
             raise Refused("element", "a primitive element of indefinite length")
-        return at + 1, None
+        return at + 2, None
     if length > 0x84:
         raise Refused("element", f"the length octet {length:02x}")
-    return at + 1 + (length & 127), number(octets, at + 1, length & 127, "element", what)
+    return at + 2 + (length & 127), number(octets, at + 2, length & 127, "element", "an element")
 
 
 def end_of(octets):
@@ -215,17 +264,23 @@ def refuse_no_message(octets):
         raise Refused("element", f"{over} octets stand behind the message")
 
 
+def id_at(octets, at, tag):
+    """The content of the element there where it has that tag, else None; and where it ends."""
+    if at >= len(octets) or octets[at] != tag:
+        return None, at
+    begin, length = header(octets, at)
+    return part(octets, begin, length, "element", "a transaction ID"), begin + length
+
+
 def ids_of(octets):
     """The tag of a message, its originating and its destination transaction ID: None for those that are not read."""
-    tag, otid, dtid = octets[0], None, None
+    tag, otid, dtid = octets[0] if octets else None, None, None
     try:
         at, _ = header(octets, 0)
-        for wanted, tags in ((0x48, WITH_OTID), (0x49, WITH_DTID)):
-            if tag in tags and octets[at : at + 1] == bytes([wanted]):
-                begin, length = header(octets, at)
-                found = part(octets, begin, length, "element", "a transaction ID")
-                otid, dtid = (found, dtid) if wanted == 0x48 else (otid, found)
-                at = begin + length
+        if tag in WITH_OTID:
+            otid, at = id_at(octets, at, 0x48)
+        if tag in WITH_DTID:
+            dtid, _ = id_at(octets, at, 0x49)
     except Refused:
         # No message of the profile: `judge` says so of the entry.
         pass

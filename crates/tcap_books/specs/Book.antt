@@ -1,5 +1,5 @@
 -- A book of operation tables: which of them a dialogue is judged by, and the names of operations.
-use Rattle.std.specs.Prelude.{ℕ, Bool, true, false, List, [], ◌∷◌, length, Option, Some, None, cond, nat_lt, ◌==◌}
+use Rattle.std.specs.Prelude.{ℕ, suc, Bool, true, false, List, [], ◌∷◌, length, Option, Some, None, cond, nat_lt, ◌==◌}
 use Rattle.std.specs.Option.{option_or}
 use Rattle.std.specs.List.{starts_with}
 use Rattle.std.specs.Map.{lookup}
@@ -58,6 +58,15 @@ has_none (first ∷ more) = false
 abbrev pub first_without : List NamedTable → Option NamedTable
 first_without [] = None
 first_without (table ∷ more) = cond (has_none table.contexts) (Some table) (first_without more)
+
+-- how many tables are without contexts
+abbrev pub count_without : List NamedTable → ℕ
+count_without [] = 0
+count_without (table ∷ more) = cond (has_none table.contexts) (suc (count_without more)) (count_without more)
+
+-- whether more than one is: then it is not told which is for a dialogue without one
+abbrev pub is_ambiguous : List NamedTable → Bool
+is_ambiguous tables = nat_lt 1 (count_without tables)
 
 -- the one table of a book, where it has no contexts
 abbrev pub sole : List NamedTable → Option NamedTable

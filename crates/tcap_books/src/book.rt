@@ -2,7 +2,7 @@
 
 ghost use Rattle.std.specs.Prelude.{◌≡◌, ◌∷◌, [], ◌++◌, None, OnOk, OnErr, option_copied, option_map};
 ghost use Rattle.tcap_parts.specs.Meaning.{code_of};
-ghost use Rattle.tcap_books.specs.Book.{best, first_without, fit, is_better, name_of, sole, table_fit, table_of};
+ghost use Rattle.tcap_books.specs.Book.{best, first_without, fit, is_ambiguous, is_better, name_of, sole, table_fit, table_of};
 
 use crate::names::Names;
 use std::alloc::{AllocError, Global};
@@ -178,6 +178,10 @@ fn sole(tables: &[NamedTable]) -> Option<&NamedTable>
     }
 }
 
+/// What is wrong with a book that is ambiguous, in words.
+pub const AMBIGUOUS: &str =
+    "more than one table is without contexts, so which is for which dialogue is not told";
+
 impl Book {
     /// A book of no tables.
     pub(crate) fn new(alloc: Global) -> Book
@@ -210,6 +214,22 @@ impl Book {
     {
         let mut tables = other.tables;
         self.tables.append(&mut tables)
+    }
+
+    /// Whether more than one table is without contexts, so that it is not told which is for a dialogue without one.
+    pub fn is_ambiguous(&self) -> bool
+        ensures { result ≡ is_ambiguous self.now }
+    {
+        let mut has_one = false;
+        for table in &self.tables {
+            if table.contexts.is_empty() {
+                if has_one {
+                    return true;
+                }
+                has_one = true;
+            }
+        }
+        false
     }
 
     /// The table by which a dialogue is judged whose Begin asks for that application context name, given as the octets of

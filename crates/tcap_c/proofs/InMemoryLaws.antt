@@ -6,6 +6,7 @@ use Rattle.tcap_record.specs.declared.entry.End.{End as Side}
 use Rattle.tcap_record.specs.declared.entry.End.TheVariants as sides
 use Rattle.tcap_record.specs.declared.entry.Entry.{Entry}
 use Rattle.tcap_record.specs.declared.fault.FeedFault.{FeedFault}
+use Rattle.tcap_record.specs.Framed.{FramedFrom}
 use Rattle.tcap_record.specs.Reading.{IsReadAs}
 use Rattle.tcap_end.specs.Table.{Table}
 use Rattle.tcap_end.specs.TableText.{IsTableOf}
@@ -24,12 +25,12 @@ use Rattle.tcap_judge.specs.declared.outcome.Outcome.{Outcome}
 use Rattle.tcap_judge.specs.declared.outcome.Outcome.TheVariants.{Lawful, LawfulFor, NotShown, Refuted, Undecided, Faulty}
 use Rattle.tcap_judge.specs.declared.status.Status.TheVariants as statuses
 use Rattle.tcap_judge.specs.Outcome.{outcome_status}
-use Rattle.tcap_judge.specs.Judged.{AreLawful, replayed_by}
+use Rattle.tcap_judge.specs.Judged.{AreLawful, MayBeSent, MayBeSentUnheard, replayed_by}
 use Rattle.tcap_judge.specs.Checked.{JudgesWith, ReadsRecord, ReadsTable}
 use Rattle.tcap_judge.specs.LawfulRecord.{SpellsRecord}
 use Rattle.tcap_judge.specs.Verdict.{GivesVerdictWith, IsAtFaultBy, certificate_line, named_by, proposed_by}
 use Rattle.tcap_judge.specs.Blamed.{AreFound, GivesBlame, GivesBlameWith, IsFound, ends_of, finding, finding_by, items_before, record_ends}
-use Rattle.tcap_judge.proofs.LawfulLaws.{IsFoundBy, by_certificate, fine_fault, found_of, no_fault, said_lawful, table_fault, table_text}
+use Rattle.tcap_judge.proofs.LawfulLaws.{IsFoundBy, by_certificate, fine_fault, no_fault, spells_items, table_fault, table_text}
 use Rattle.tcap_judge.proofs.VerdictLaws.{NamesRightly, blames_rightly, by_refutation, lawful_record, names_rightly, refuted_record}
 use Rattle.tcap_c.specs.declared.answer.Answer.{Answer}
 use Rattle.tcap_c.specs.InMemory.{AreRight, IsAtFaultIn, IsRight, MayBeSentBy, SaysBlamed, SaysChecked, SaysJudged, blame_answers, finding_answer, in_memory, no_answer, outcome_answer, refutation_answer}
@@ -45,6 +46,12 @@ text_is text left operations reads =
     let (octets, tells, is) = table_text (in_memory text left) operations reads in
     subst (λ (t : List ℕ). IsTableOf t (Ok operations)) (told_all text left octets tells.0 tells.1) is
 
+-- However many are unheard, the items may be sent.
+without_unheard : (judged : Option Side) (items : List Item) (operations : Table) (unheard : ℕ)
+    → MayBeSentUnheard judged items operations unheard → MayBeSent judged items operations
+without_unheard None items operations unheard sent = sent
+without_unheard (Some side) items operations unheard (events, w, runs, same, keeps, left, lost) = (events, (w, runs, same), keeps)
+
 may_be_sent : (judged : Option Side) (octets text left left_of_text : List ℕ) (operations : Table) (outcome : Outcome)
     → ReadsTable (in_memory text left_of_text) (Ok operations)
     → IsFoundBy judged operations (in_memory octets left) outcome → MayBeSentBy judged octets text
@@ -53,8 +60,23 @@ may_be_sent judged octets text left left_of_text operations outcome reads found 
   items = found.items;
   is_table = text_is text left_of_text operations reads;
   spells = subst (SpellsRecord found.items) (told_all octets left found.octets found.tells.0 found.tells.1) found.spells;
-  lawful = found.lawful;
+  lawful = without_unheard judged found.items operations found.unheard found.lawful;
 }
+
+-- entries that are all that was told, and are lawful
+entries_may_be_sent : (judged : Option Side) (octets text left left_of_text : List ℕ) (operations : Table) (entries : List Entry)
+    (end : Unit {0}) → ReadsTable (in_memory text left_of_text) (Ok operations)
+    → ReadsRecord (in_memory octets left) entries (Ok end) → AreLawful judged operations entries → MayBeSentBy judged octets text
+entries_may_be_sent judged octets text left left_of_text operations entries end reads told (items, are, sent) =
+    let framed = subst (FramedFrom 0 entries told.told) told.is_read.ends told.is_read.framed in
+    record {
+      operations = operations;
+      items = items;
+      is_table = text_is text left_of_text operations reads;
+      spells = subst (SpellsRecord items) (told_all octets left told.told told.tells told.ended)
+          (spells_items 0 entries items told.told framed are);
+      lawful = sent;
+    }
 
 is_at_fault : (judged : Option Side) (octets text left left_of_text : List ℕ) (operations : Table) (entries : List Entry)
     (end : Unit {0}) (r : Refutation) (given : Answer) → ReadsTable (in_memory text left_of_text) (Ok operations)
@@ -243,9 +265,7 @@ end_right side octets text left left_of_text operations entries end said reads t
     end_right_of side octets text said
     (λ count unheard lawful.
     let are : AreLawful (Some side) operations entries = subst (IsFound side operations entries) lawful found in
-    may_be_sent (Some side) octets text left left_of_text operations (said_lawful (Some side) (length entries) 0) reads
-    (found_of (Some side) operations (in_memory octets left) (said_lawful (Some side) (length entries) 0) 0 entries end told
-    are refl))
+    entries_may_be_sent (Some side) octets text left left_of_text operations entries end reads told are)
     (λ r blamed.
     let refuted = named_by_finding (items_before (map item_of entries)) _ r (sym is ∙ blamed) in
     is_at_fault (Some side) octets text left left_of_text operations entries end r (refutation_answer 5 r) reads told

@@ -1,36 +1,34 @@
-//! `tcapjudge` for programs in C: what its words `judge`, `check` and `blame` say of octets that are in memory, as numbers.
+//! `tcapjudge` for programs in C: what its words `judge`, `check` and `blame` say of octets that are in memory, as numbers, and
+//! what its word `test` says of a trace, as lines of JSON.
 //! The header `clib/tcapjudge.h` declares these functions; `make clib` makes the library.
 #![tactic(auto)]
 
 mod answer;
+mod asked;
 mod octets;
 mod outcomes;
+mod room;
 #[cfg(test)]
 mod tests;
+#[cfg(test)]
+mod trace_tests;
+mod traces;
 
-ghost use Rattle.std.specs.Prelude.{◌≡◌, Option, None, Some};
+ghost use Rattle.std.specs.Prelude.{◌≡◌, ◌≢◌, ◌<◌, length, Option, None, Some};
 ghost use Rattle.tcap_record.specs.declared.entry.End.{End as Side};
 ghost use Rattle.tcap_c.specs.InMemory.{AreRight, Gives, GivesBlame, IsRight, IsWrongCall, MayBeSentBy, SaysChecked, SaysJudged, judged_by};
+ghost use Rattle.tcap_c.specs.Traces.{IsClearBook, Tells, TellsNothing, rules_of};
 
+use crate::asked::who_is;
 use crate::outcomes::{blamed, checked, judged};
+use crate::traces::test;
 pub use answer::{Answer, Answers};
+pub use asked::Asked;
 use std::alloc::Global;
 use tcap_record::End;
 
-/// The answer to a call that names neither both ends nor one.
+/// The answer to a call with a number that is unknown.
 const WRONG_CALL: u8 = 4;
-
-/// Who is judged: both ends, which 0 names, or the one that its octet names.
-fn who_is(number: u8) -> Option<Option<End>>
-    ensures { result ≡ judged_by number }
-{
-    match number {
-        0 => Some(None),
-        0x41 => Some(Some(End::A)),
-        0x42 => Some(Some(End::B)),
-        _ => None,
-    }
-}
 
 /// Judges a record, and puts what is said into `answer`.
 fn judge(alloc: Global, octets: &[u8], table: &[u8], who: Option<End>, answer: &mut Answer) -> u8
@@ -128,4 +126,31 @@ pub extern "C" fn tcapjudge_blame(
     tcap_refute::laws::refuted_is_at_fault();
     tcap_faults::laws::blamed_is_at_fault();
     answers.put(blamed(alloc, octets, table))
+}
+
+/// Judges each dialogue of a trace, as `tcapjudge test` does: of lines of digits or of a record, by the text of a table or of a
+/// book, or, where that is empty, by the book that the library carries. Lays the lines of JSON over `lines`, as many octets as it
+/// has room for, puts into `len` how many they all are, and answers the exit status: 0 pass, 1 fail, 2 inconclusive, 3 error: also
+/// where the book has a fault or memory ran out, which the one line then says. 4 where a number of `asked` is unknown; then nothing
+/// is written.
+#[unsafe(no_mangle)]
+pub extern "C" fn tcapjudge_test(
+    alloc: Global,
+    trace: &[u8],
+    book: &[u8],
+    asked: &Asked,
+    lines: &mut [u8],
+    len: &mut usize,
+) -> u8
+    ensures tells { rules_of asked.now ≢ None → Tells lines.old lines.new len.new result }
+    ensures book { rules_of asked.now ≢ None → result ≢ 3 → 0 < length book.now → IsClearBook book.now }
+    ensures wrong { rules_of asked.now ≡ None → TellsNothing lines.old lines.new len.new result }
+{
+    match asked.rules() {
+        Some(rules) => test(alloc, trace, book, rules, lines, len),
+        None => {
+            *len = 0;
+            WRONG_CALL
+        }
+    }
 }

@@ -20,7 +20,8 @@ use Rattle.tcap_model.specs.Run.{Event, Sends, Receives, Replies, Loses, Expires
 use Rattle.tcap_check.specs.Follows.{without_losses}
 use Rattle.tcap_check.specs.Replayed.{Replay, if_lost, lost_before, lost_from_both, lost_from_front, lost_front, stepped, with_step}
 use Rattle.tcap_model.proofs.RunLaws.{played_on}
-use Rattle.tcap_check.proofs.ReplaySteps.{with_same, channel_with}
+use Rattle.tcap_check.proofs.ReplaySteps.{channel_with}
+use Rattle.tcap_check.proofs.WorldLaws.{with_same}
 use Rattle.tcap_model.proofs.RunLaws.{closing, delivery, expiry, loss, quiet, reply, then_some}
 
 -- ---- messages that are not lost

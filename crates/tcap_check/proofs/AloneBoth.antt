@@ -23,8 +23,8 @@ use Rattle.tcap_model.specs.Run.{Event, Quiet, after}
 use Rattle.tcap_check.specs.Certificate.{Certificate}
 use Rattle.tcap_model.specs.Entries.{AreItems, item_of}
 use Rattle.tcap_check.specs.Follows.{losses_from, lost_from, sending_by, taken_by}
-use Rattle.tcap_check.specs.Replayed.{Replay, certificate_fits, entries_replayed, entry_replayed, fault_at, gap_replayed, is_gap, is_nothing, is_overtaking, item_replayed, lost_from_both, lost_from_front, message_by, message_replayed, next_entry, nothing_replayed, quiet_replayed, replayed, sent_replayed, stepped}
-use Rattle.tcap_check.specs.Alone.{all_lost_from, closed_at_mark, entries_heard, gap_heard, item_heard, mark_replayed, own_replayed, replayed_for, tied_to_next, told_replayed}
+use Rattle.tcap_check.specs.Replayed.{Replay, all_lost_from, certificate_fits, closed_at_mark, entries_replayed, entry_replayed, fault_at, gap_replayed, is_gap, is_nothing, is_overtaking, item_replayed, lost_from_both, lost_from_front, message_by, message_replayed, next_entry, nothing_replayed, quiet_replayed, replayed, sent_replayed, stepped, told_replayed}
+use Rattle.tcap_check.specs.Alone.{entries_heard, gap_heard, item_heard, mark_replayed, own_replayed, replayed_for, tied_to_next}
 use Rattle.tcap_check.specs.AloneGiven.{DiscardsNothing}
 use Rattle.tcap_check.proofs.DescribedGaps.{ok_both, ok_needs, ok_some, ok_then}
 use Rattle.tcap_check.proofs.DescribedRuns.{items_of, items_same}
@@ -78,16 +78,16 @@ own_item side table c fate m r next s is mirrors reached =
     let taken = taken_by (next_entry mid) 0 c.fates in
     let sends = own_reflects side table c m (next_entry mid) taken mid next gap.made gap.reached on gap.mirrors in
     let last = all_lost_from side sends.made in
-    let there : message_by table c side m (sending_by c (next_entry s) (Sent side m) (tied_to_next side c s)) gap.made
+    let there : message_by table c side m (sending_by c (next_entry gap.made) (Sent side m) (tied_to_next side c gap.made)) gap.made
     ≡ Ok sends.made =
     ap (λ (items : List Item). message_by table c side m
     (sending_by c (length items) (Sent side m) (ties side c items)) gap.made)
-    (sym gap.sent) ∙ sends.is in
+    (same_sent side mid gap.made gap.mirrors) ∙ sends.is in
     record {
       made = last;
       is = ok_then (gap_heard table c side s) _ gap.made last gap.is
           (ok_then (message_by table c side m
-          (sending_by c (next_entry s) (Sent side m) (tied_to_next side c s)) gap.made)
+          (sending_by c (next_entry gap.made) (Sent side m) (tied_to_next side c gap.made)) gap.made)
           (λ x. Ok (all_lost_from side x)) sends.made last there refl);
       mirrors = all_lost_mirrors side next sends.made sends.mirrors;
     }

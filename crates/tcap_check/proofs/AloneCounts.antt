@@ -17,9 +17,10 @@ use Rattle.tcap_model.specs.Run.{Event, Sends, Receives, Replies, Loses, Expires
 use Rattle.tcap_model.specs.Entries.{count_components}
 use Rattle.tcap_check.specs.Alone.{is_lost_from, steps_of, unheard_of}
 use Rattle.tcap_model.proofs.RunLaws.{closing, delivery, expiry, loss, quiet, reply, runs_keep, sending, sound as ends_sound, telling}
-use Rattle.tcap_check.proofs.ReplaySteps.{sent_with_channel}
+use Rattle.tcap_check.proofs.WorldLaws.{sent_with_channel}
 use Rattle.tcap_check.proofs.StepCounts.{taken_most}
 use Rattle.tcap_check.proofs.AloneLoad.{closes_load, expires_load, load, receives_load, sends_load}
+use Rattle.tcap_check.proofs.WorldLaws.{apart, sent_joined, sent_with_end}
 
 -- What happens in a run of one end: it acts, its peer tells, and messages are lost.
 abbrev pub IsOwn : Side → Event → Type 0
@@ -34,14 +35,10 @@ IsOwn side (Tells teller message) = teller ≡ other side
 
 -- ---- rules
 
-not_other : (side : Side) → is_side side (other side) ≡ false
-not_other A = refl
-not_other B = refl
-
 -- The end tells nothing.
 pub own_keeps : (side : Side) (events : List Event) → AllByRecursion (IsOwn side) events → KeepsRules side events
 own_keeps side [] all = refl
-own_keeps side (Tells teller m ∷ events) all = rw (all.0, not_other side) (own_keeps side events all.1)
+own_keeps side (Tells teller m ∷ events) all = rw (all.0, apart side) (own_keeps side events all.1)
 own_keeps side (Sends sender m ∷ events) all = own_keeps side events all.1
 own_keeps side (Receives receiver n ∷ events) all = own_keeps side events all.1
 own_keeps side (Replies replier n ∷ events) all = own_keeps side events all.1
@@ -110,15 +107,6 @@ count_both (Item.Quiet ∷ xs) ys = count_both xs ys
 
 allowed_both : (xs ys : List Item) → allowed (xs ++ ys) ≡ allowed xs + allowed ys
 allowed_both xs ys = omega (arith, count_both xs ys, length-append xs ys)
-
--- the world behind each step
-pub sent_joined : (side : Side) (m : Message) (w : World) → (joined side m w).sent ≡ w.sent ++ Sent side m ∷ []
-sent_joined A m w = refl
-sent_joined B m w = refl
-
-sent_with_end : (side : Side) (e : End) (w : World) → (with_end side e w).sent ≡ w.sent
-sent_with_end A e w = refl
-sent_with_end B e w = refl
 
 waits_sent : (side : Side) (m : Message) (made : End) (w : World)
     → waiting side (joined side m (with_end side made w)) ≡ load made + 2 * length (channel_from (other side) w)

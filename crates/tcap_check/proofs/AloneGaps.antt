@@ -25,10 +25,10 @@ use Rattle.tcap_model.specs.Run.{Event, Receives, Expires, Closes, after, then_s
 use Rattle.tcap_check.specs.Certificate.{Certificate}
 use Rattle.tcap_model.specs.Since.{originating}
 use Rattle.tcap_check.specs.Follows.{closing_by, closing_event, expiry_by, expiry_event, half_begun, invoke_id, losses_from, named_entry}
-use Rattle.tcap_check.specs.Replayed.{Replay, closings_replayed, deliveries_replayed, delivery_replayed, expiries_replayed, fault_at, gap_replayed, happens, lost_before, lost_from_front, next_entry, stepped}
-use Rattle.tcap_check.specs.Alone.{deliveries_heard, delivery_heard, gap_heard, heard}
+use Rattle.tcap_check.specs.Replayed.{Replay, closings_replayed, deliveries_replayed, delivery_replayed, expiries_replayed, fault_at, gap_replayed, happens, heard, lost_before, lost_from_front, next_entry, stepped}
+use Rattle.tcap_check.specs.Alone.{deliveries_heard, delivery_heard, gap_heard}
 use Rattle.tcap_check.proofs.DescribedGaps.{ok_some, ok_then}
-use Rattle.tcap_check.proofs.GivenLosses.{same_side}
+use Rattle.tcap_model.proofs.RunLaws.{same_side}
 use Rattle.tcap_model.proofs.RunLaws.{closing, delivery, expiry, some_is, then_some, where_some}
 use Rattle.tcap_check.proofs.AloneMirrors.{Mirrors, Reflects, front_mirrors, own_front_mirrors, reflects_then, reflects_this, same_sent, seen_step, unseen_step}
 use Rattle.tcap_check.proofs.AloneViews.{seen_by, seen_closing, seen_delivery, seen_expiry, unseen_channel, unseen_end}
@@ -93,7 +93,7 @@ expiry_hidden table items x event is =
         subst (IsHiddenOf table x.side) (some_is id.2) (hidden_expiry table x.side (names.Own name.0) id.0)
     by Item.Quiet e = cc
 
-other_side : (side place : Side) → is_side side place ≡ false → place ≡ other side
+pub other_side : (side place : Side) → is_side side place ≡ false → place ≡ other side
 other_side A A is = cc
 other_side A B is = refl
 other_side B A is = refl

@@ -10,8 +10,7 @@ use Rattle.tcap_model.specs.World.{OnItsWay, World, channel_from, with_channel}
 use Rattle.tcap_model.specs.Run.{Event, Loses, after, numbers_of}
 use Rattle.tcap_check.specs.Certificate.{Certificate}
 use Rattle.tcap_check.specs.Follows.{losses_from}
-use Rattle.tcap_check.specs.Replayed.{Replay, lost_from_both, lost_from_front, lost_front, stepped, with_step}
-use Rattle.tcap_check.specs.Alone.{all_lost_from}
+use Rattle.tcap_check.specs.Replayed.{Replay, all_lost_from, lost_from_both, lost_from_front, lost_front, stepped, with_step}
 use Rattle.tcap_check.proofs.DescribedGaps.{ok_then}
 use Rattle.tcap_check.proofs.NumberLaws.{loss_of, losses_first}
 use Rattle.tcap_model.proofs.RunLaws.{map_some}

@@ -1,5 +1,5 @@
 -- What is replayed for one end is a run of that end, part by part.
-use Rattle.std.proofs.Common.{◌≡◌, ℕ, ◌+◌, ◌==◌, Bool, true, false, cond, List, [], ◌∷◌, map, filter, length, Option, Some, None, Result, Ok, Err, refl, sym, ap₂, subst, ◌∙◌}
+use Rattle.std.proofs.Common.{◌≡◌, ℕ, ◌+◌, ◌==◌, Bool, true, false, cond, List, [], ◌∷◌, map, filter, length, Option, Some, None, Result, Ok, Err, refl, sym, ap₂, subst, ◌∙◌, ap, append-nil}
 use Rattle.std.specs.Prelude.{◌&&◌, not, ok_or, slice_get}
 use Rattle.std.specs.List.{AllByRecursion}
 use Rattle.tcap_msg.specs.declared.message.Message.{Message}
@@ -24,11 +24,11 @@ use Rattle.tcap_model.specs.World.{Item, Sent, end_at, is_side}
 use Rattle.tcap_model.specs.Run.{Event, Sends, Receives, Replies, Loses, Expires, Closes, Quiet, Tells, joined, then_so}
 use Rattle.tcap_check.specs.Certificate.{Certificate}
 use Rattle.tcap_model.specs.Since.{originating}
-use Rattle.tcap_check.specs.Follows.{IsImplied, closing_by, closing_event, expiry_by, expiry_event, invoke_id, invoking_half, named_entry, sending_by}
-use Rattle.tcap_check.specs.Replayed.{Replay, closings_replayed, expiries_replayed, fault_at, implied_over, is_gap, is_nothing, is_overtaking, lost_from_front, message_by, next_entry, stepped, with_step}
-use Rattle.tcap_check.specs.Alone.{all_lost_from, closed_at_mark, deliveries_heard, delivery_heard, entries_heard, entry_heard, gap_heard, heard, item_heard, mark_replayed, or_else, own_replayed, tied_to_next, told_replayed}
+use Rattle.tcap_check.specs.Follows.{IsImplied, closing_by, closing_event, expiry_by, expiry_event, invoke_id, invoking_half, named_entry, sending_by, taken_by}
+use Rattle.tcap_check.specs.Replayed.{Replay, all_lost_from, closed_at_mark, closings_replayed, expiries_replayed, fault_at, heard, implied_over, is_gap, is_nothing, is_overtaking, lost_from_front, message_by, next_entry, or_else, stepped, told_replayed, with_step, is_sent_by}
+use Rattle.tcap_check.specs.Alone.{deliveries_heard, delivery_heard, entries_heard, entry_heard, gap_heard, item_heard, mark_replayed, own_replayed, tied_to_next}
 use Rattle.tcap_model.proofs.RunLaws.{some_is, then_some, where_some}
-use Rattle.tcap_check.proofs.GivenLosses.{same_side}
+use Rattle.tcap_model.proofs.RunLaws.{same_side}
 use Rattle.tcap_check.proofs.ReplayEntries.{ok_item}
 use Rattle.tcap_check.proofs.ReplayLaws.{closings_replay, expiries_replay, implied_by, reply_replays, send_replays}
 use Rattle.tcap_check.proofs.AloneCounts.{IsOwn}
@@ -207,13 +207,20 @@ own_rest side table c m o r next is =
     (leads_then side table r sent.0 (all_lost_from side sent.0) (Sent side m ∷ []) []
     (message_leads side table c m o r sent.0 sent.1) (all_lost_leads side table sent.0))
 
+-- A gap takes no message for the entry behind it.
+pub tied_behind : (side : Side) (table : Table) (c : Certificate) (r behind : Replay) → gap_heard table c side r ≡ Ok behind
+    → tied_to_next side c behind ≡ tied_to_next side c r
+tied_behind side table c r behind is =
+    ap (λ (s : List Item). filter (λ n. is_sent_by (other side) (slice_get s n)) (taken_by (length s) 0 c.fates))
+    ((gap_leads side table c r behind is).sent ∙ append-nil r.world.sent)
+
 own_leads : (side : Side) (table : Table) (c : Certificate) (m : Message) (r next : Replay)
     → own_replayed table c side m r ≡ Ok next
     → Leads side table r (Sent side m ∷ []) next
 own_leads side table c m r next is =
     let gap = then_ok (gap_heard table c side r) _ next is in
     leads_then side table r gap.0 next [] (Sent side m ∷ []) (gap_leads side table c r gap.0 gap.1)
-    (own_rest side table c m (sending_by c (next_entry r) (Sent side m) (tied_to_next side c r)) gap.0 next gap.2)
+    (own_rest side table c m (sending_by c (next_entry gap.0) (Sent side m) (tied_to_next side c gap.0)) gap.0 next gap.2)
 
 -- or of its peer.
 pub peer_rest : (side : Side) (table : Table) (m : Message) (so : Bool) (fault : CheckFault) (r next : Replay)

@@ -1,19 +1,20 @@
 -- What a certificate gives for one end is a run of that end, which sends the entries.
-use Rattle.std.proofs.Common.{arith, ◌≡◌, List, [], ◌++◌, map, length, Ok, sym, ap, subst, append-nil}
+use Rattle.std.proofs.Common.{arith, ◌≡◌, List, [], ◌++◌, map, length, Ok, sym, ap, subst, ◌∙◌, append-nil}
 use Rattle.tcap_record.specs.declared.entry.End.{End as Side}
 use Rattle.tcap_record.specs.declared.entry.Entry.{Entry}
 use Rattle.tcap_end.specs.Table.{Table}
 use Rattle.tcap_end.proofs.AnsweringLaws.{ok_same, then_ok}
 use Rattle.tcap_check.specs.declared.fault.CheckFault.{CheckFault}
 use Rattle.tcap_record.specs.Ends.{other}
-use Rattle.tcap_model.specs.World.{Item}
-use Rattle.tcap_model.specs.Run.{Event}
+use Rattle.tcap_model.specs.World.{Item, channel_from}
+use Rattle.tcap_model.specs.Run.{Event, Runs}
 use Rattle.tcap_check.specs.Certificate.{Certificate}
 use Rattle.tcap_model.specs.Entries.{AreItems, count_components, item_of}
 use Rattle.tcap_check.specs.Replayed.{Replay, certificate_fits, lost_from_front, nothing_replayed}
 use Rattle.tcap_check.specs.Alone.{entries_heard, replayed_for}
 use Rattle.tcap_check.specs.AloneGiven.{IsGivenFor}
 use Rattle.tcap_check.proofs.GivenRuns.{are_items, both_ok}
+use Rattle.tcap_check.proofs.AloneLeft.{none_waits}
 use Rattle.tcap_check.proofs.AloneCounts.{own_keeps, own_most, unheard_most}
 use Rattle.tcap_check.proofs.AloneReplays.{entries_lead}
 use Rattle.tcap_check.proofs.AloneSteps.{Leads, front_leads, leads_then}
@@ -22,8 +23,8 @@ use Rattle.tcap_check.proofs.AloneSteps.{Leads, front_leads, leads_then}
 led_from_nothing : (side : Side) (table : Table) (c : Certificate) (entries : List Entry) (items : List Item)
     (next : Replay)
     → AreItems entries items → length items ≡ length entries → Leads side table nothing_replayed items next
-    → IsGivenFor side table c entries next.events
-led_from_nothing side table c entries items next are count leads =
+    → channel_from (other side) next.world ≡ [] → IsGivenFor side table c entries next.events
+led_from_nothing side table c entries items next are count leads left =
     let runs = leads.extends.plays in
     let sent : next.world.sent ≡ items = leads.sent in
     subst (IsGivenFor side table c entries) (sym leads.extends.events) (record {
@@ -31,6 +32,7 @@ led_from_nothing side table c entries items next are count leads =
       are = are;
       run = (next.world, runs, sent);
       keeps = own_keeps side leads.steps leads.own;
+      left = left;
       bound = omega (
         arith,
         own_most table side leads.steps next.world runs leads.own,
@@ -52,6 +54,8 @@ gives_for side table c entries events is =
     let none : heard.items ++ [] ≡ heard.items = append-nil heard.items in
     let all = leads_then side table nothing_replayed r.0 last heard.items [] heard.leads
     (front_leads side table c (other side) r.0) in
-    subst (IsGivenFor side table c entries) (ok_same {F = CheckFault} last.events events r.2)
-    (led_from_nothing side table c entries heard.items last are.0 are.1
-    (subst (λ (x : List Item). Leads side table nothing_replayed x last) none all))
+    let led = subst (λ (x : List Item). Leads side table nothing_replayed x last) none all in
+    let same : last.events ≡ events = ok_same {F = CheckFault} last.events events r.2 in
+    let left = none_waits side table c entries events last.world is
+    (subst (λ (x : List Event). Runs table x last.world) (sym led.extends.events ∙ same) led.extends.plays) in
+    subst (IsGivenFor side table c entries) same (led_from_nothing side table c entries heard.items last are.0 are.1 led left)

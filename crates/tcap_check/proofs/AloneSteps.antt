@@ -11,11 +11,12 @@ use Rattle.tcap_model.specs.World.{Item, OnItsWay, Sent, World, channel_from, wi
 use Rattle.tcap_model.specs.Run.{Adds, Event, Sends, Receives, Replies, Loses, Expires, Closes, Quiet, Tells, after, joined, numbers_of, played}
 use Rattle.tcap_check.specs.Certificate.{Certificate}
 use Rattle.tcap_check.specs.Follows.{without_losses}
-use Rattle.tcap_check.specs.Replayed.{Replay, lost_from_front, stepped, with_step}
-use Rattle.tcap_check.specs.Alone.{all_lost_from}
+use Rattle.tcap_check.specs.Replayed.{Replay, all_lost_from, lost_from_front, stepped, with_step}
 use Rattle.tcap_model.proofs.ListLaws.{all_both}
 use Rattle.tcap_model.proofs.RunLaws.{grows, map_some}
-use Rattle.tcap_check.proofs.ReplaySteps.{Extends, Replays, channel_with, extends_nothing, extends_then, losing_replays, sent_with_channel, stepped_extends, with_same}
+use Rattle.tcap_check.proofs.ReplaySteps.{Extends, Replays, channel_with, extends_nothing, extends_then, losing_replays, stepped_extends}
+use Rattle.tcap_check.proofs.WorldLaws.{with_same}
+use Rattle.tcap_check.proofs.WorldLaws.{sent_with_channel}
 use Rattle.tcap_check.proofs.AloneCounts.{IsOwn}
 
 -- Steps of a run of that end lead from the one to the other, and add these items to the sent list.

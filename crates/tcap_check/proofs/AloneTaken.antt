@@ -20,8 +20,8 @@ use Rattle.tcap_model.specs.World.{Item, Sent, is_side}
 use Rattle.tcap_model.specs.Run.{Event, Receives, Replies, Loses, after, numbers_taken, takes_from}
 use Rattle.tcap_check.specs.Certificate.{Certificate}
 use Rattle.tcap_check.specs.Follows.{sending_by, taken_by}
-use Rattle.tcap_check.specs.Replayed.{Replay, closings_replayed, expiries_replayed, fault_at, is_gap, is_nothing, is_overtaking, lost_from_front, message_by, next_entry, reply_replayed, stepped}
-use Rattle.tcap_check.specs.Alone.{all_lost_from, deliveries_heard, delivery_heard, entries_heard, entry_heard, gap_heard, heard, item_heard, mark_replayed, or_else, own_replayed, tied_to_next, told_replayed}
+use Rattle.tcap_check.specs.Replayed.{Replay, all_lost_from, closings_replayed, expiries_replayed, fault_at, heard, is_gap, is_nothing, is_overtaking, lost_from_front, message_by, next_entry, or_else, reply_replayed, stepped, told_replayed}
+use Rattle.tcap_check.specs.Alone.{deliveries_heard, delivery_heard, entries_heard, entry_heard, gap_heard, item_heard, mark_replayed, own_replayed, tied_to_next}
 use Rattle.tcap_check.proofs.GivenEvents.{IsSender, by_mark, by_reply, by_send, sender_is}
 use Rattle.tcap_check.proofs.GivenRuns.{replied_at}
 use Rattle.tcap_check.proofs.NumberLaws.{IsAmong, among_plain, taken_left, taken_right}
@@ -29,9 +29,12 @@ use Rattle.tcap_check.proofs.ReplayEntries.{nothing_is}
 use Rattle.tcap_check.proofs.ReplayGaps.{get_before}
 use Rattle.tcap_check.proofs.ReplayLaws.{reply_replays}
 use Rattle.tcap_model.proofs.RunLaws.{map_some}
-use Rattle.tcap_check.proofs.AloneReplays.{deliveries_lead, entries_lead, gap_leads, item_leads, mark_rest, own_rest, peer_rest}
+use Rattle.tcap_check.proofs.AloneReplays.{deliveries_lead, entries_lead, gap_leads, item_leads, mark_rest, own_rest, peer_rest, tied_behind}
 use Rattle.tcap_check.proofs.AloneSteps.{Leads, all_lost_leads}
-use Rattle.tcap_check.proofs.AloneTies.{is_from, is_same}
+use Rattle.tcap_check.proofs.AloneTies.{is_from}
+use Rattle.tcap_check.proofs.WorldLaws.{itself}
+use Rattle.tcap_check.proofs.TakenLaws.{takes_replied}
+use Rattle.tcap_check.proofs.LeftLaws.{among_filter}
 
 -- The message of that number was taken from the peer's channel.
 abbrev pub Took : Side → ℕ → Replay → Type 0
@@ -61,10 +64,6 @@ received_takes B n = refl
 lost_takes : (side : Side) (n : ℕ) → takes_from (other side) (Loses (other side) n) ≡ n ∷ []
 lost_takes A n = refl
 lost_takes B n = refl
-
-replied_takes : (side : Side) (n : ℕ) → takes_from (other side) (Replies side n) ≡ n ∷ []
-replied_takes A n = refl
-replied_takes B n = refl
 
 -- as where it is received or discarded.
 heard_takes : (side : Side) (table : Table) (c : Certificate) (n : ℕ) (r next : Replay)
@@ -98,7 +97,7 @@ deliveries_take side table c m gap n zero (f ∷ fates) (x ∷ items) r next is 
     sym (ap₂ (λ (g : Fate) (y : Item). delivery_heard table c side gap n g y r) same_fate same_item) ∙ one.1 in
     let took = heard_takes side table c n r one.0
     (let so : ((gap == gap) && is_side (other side) (other side))
-    ≡ true = rw (eq-eqb gap gap refl) (is_same (other side)) in
+    ≡ true = rw (eq-eqb gap gap refl) (itself (other side)) in
     sym (ap (λ (b : Bool). cond b (heard table c side n r) (Ok r)) so) ∙ at) in
     let e : n ≡ n + 0 = omega arith in
     subst (λ (k : ℕ). Took side k next) e
@@ -126,24 +125,14 @@ gap_takes side table c m n r next is fate item =
 
 -- ---- ties
 
--- A number that passes stays.
-among_passed : (p : ℕ → Bool) (n : ℕ) (xs : List ℕ) → p n ≡ true → IsAmong n xs → IsAmong n (filter p xs)
-among_passed p n [] passes is = is
-among_passed p n (x ∷ xs) passes (inl e) = let so : p x ≡ true = rw (← e) passes in rw so (inl e)
-among_passed p n (x ∷ xs) passes (inr is) = by (p x) (among_passed p n xs passes is)
-  where
-    by : (b : Bool) → IsAmong n (filter p xs) → IsAmong n (cond b (x ∷ filter p xs) (filter p xs))
-    by true rest = inr rest
-    by false rest = rest
-
 -- A message of the peer whose fate is the next entry is tied to it.
 is_tied : (side : Side) (c : Certificate) (m : Message) (n : ℕ) (r : Replay) → slice_get c.fates n
     ≡ Some (By (next_entry r))
     → slice_get r.world.sent n ≡ Some (Sent (other side) m) → IsAmong n (tied_to_next side c r)
 is_tied side c m n r fate item =
     let e : 0 + n ≡ n = omega arith in
-    among_passed (is_from (other side) r.world.sent) n (taken_by (next_entry r) 0 c.fates)
-    (rw item (is_same (other side)))
+    among_filter (is_from (other side) r.world.sent) n (taken_by (next_entry r) 0 c.fates)
+    (rw item (itself (other side)))
     (subst (λ (k : ℕ). IsAmong k (taken_by (next_entry r) 0 c.fates)) e (replied_at (next_entry r) 0 n c.fates fate))
 
 -- Where nothing is tied none is.
@@ -160,7 +149,7 @@ message_takes side table c m n k taken r next is tied = by (sending_by c k (Sent
     replied t (inr there) e = absurd there
     replied t (inl same) e =
         let steps = reply_replays table c side m t r next e in
-        let one : IsAmong n (numbers_taken (other side) (Replies side t ∷ [])) = rw (replied_takes side t) (inl same) in
+        let one : IsAmong n (numbers_taken (other side) (Replies side t ∷ [])) = rw (takes_replied side t) (inl same) in
         let plain = subst (λ (events : List Event). IsAmong n (numbers_taken (other side) events))
         (sym steps.are) one in
         subst (λ (events : List Event). IsAmong n (numbers_taken (other side) events)) (sym steps.extends.events)
@@ -204,15 +193,16 @@ own_takes : (side : Side) (table : Table) (c : Certificate) (sent m : Message) (
     → slice_get r.world.sent n ≡ Some (Sent (other side) m) → Took side n next
 own_takes side table c sent m n f r next is fate now item =
     let gap = then_ok (gap_heard table c side r) _ next is in
-    let taken = tied_to_next side c r in
-    let event = sending_by c (next_entry r) (Sent side sent) taken in
+    let taken = tied_to_next side c gap.0 in
+    let event = sending_by c (next_entry gap.0) (Sent side sent) taken in
     let behind = then_ok (message_by table c side sent event gap.0) (λ x. Ok (all_lost_from side x)) next gap.2 in
     by_next side table c m n f r gap.0 (Sent side sent ∷ [])
     next gap.1 (own_rest side table c sent event gap.0 next gap.2)
     (λ tied.
     subst (Took side n) (ok_same {F = CheckFault} (all_lost_from side behind.0) next behind.2)
     (took_on side table n behind.0 [] (all_lost_from side behind.0) (all_lost_leads side table behind.0)
-    (message_takes side table c sent n (next_entry r) taken gap.0 behind.0 behind.1 tied))) fate now item
+    (message_takes side table c sent n (next_entry gap.0) taken gap.0 behind.0 behind.1
+    (subst (IsAmong n) (sym (tied_behind side table c r gap.0 gap.1)) tied)))) fate now item
 
 peer_takes : (side : Side) (table : Table) (c : Certificate) (own : Fate) (sent m : Message) (n : ℕ) (f : Fate)
     (r next : Replay)

@@ -21,17 +21,17 @@ use Rattle.tcap_model.specs.World.{Item, OnItsWay, Sent, World, channel_from, em
 use Rattle.tcap_model.specs.Run.{Event, Sends, Receives, Replies, Loses, Expires, Closes, Quiet, Tells, Runs, after, joined, played}
 use Rattle.tcap_check.specs.Certificate.{Certificate}
 use Rattle.tcap_check.specs.Follows.{invoke_id, invoking_half, losses_from, sending_by}
-use Rattle.tcap_check.specs.Replayed.{Replay, fault_at, happens, implied, implied_over, is_abort, lost_from_front, message_by, next_entry, or_same, reply_replayed, send_replayed, sent_or_refused, stepped, with_step}
+use Rattle.tcap_check.specs.Replayed.{Replay, fault_at, happens, implied, implied_over, is_abort, is_sent_by, lost_from_front, message_by, next_entry, or_same, reply_replayed, send_replayed, sent_or_refused, stepped, with_step}
 use Rattle.tcap_model.specs.Since.{WasSent}
-use Rattle.tcap_check.specs.Alone.{is_sent_by}
 use Rattle.tcap_model.proofs.ChannelLaws.{were_sent}
 use Rattle.tcap_check.proofs.DescribedGaps.{ok_needs, ok_some, ok_then}
 use Rattle.tcap_check.proofs.GivenEvents.{IsSender, by_mark, by_reply, by_send, sender_is}
 use Rattle.tcap_check.proofs.ReplayLaws.{reply_replays}
 use Rattle.tcap_model.proofs.RunLaws.{played_on}
-use Rattle.tcap_check.proofs.ReplaySteps.{losing_replays, sent_with_channel}
+use Rattle.tcap_check.proofs.ReplaySteps.{losing_replays}
+use Rattle.tcap_check.proofs.WorldLaws.{sent_with_channel}
 use Rattle.tcap_model.proofs.RunLaws.{expiry, map_some, reply}
-use Rattle.tcap_check.proofs.AloneCounts.{sent_joined}
+use Rattle.tcap_check.proofs.WorldLaws.{itself, sent_joined}
 use Rattle.tcap_check.proofs.AloneMirrors.{Mirrors, MirrorsBut, front_mirrors, more_losses, own_front_mirrors, same_sent, unseen_step}
 use Rattle.tcap_check.proofs.AloneViews.{seen_by, seen_end, seen_sent, seen_expiry, seen_reply, seen_sending, seen_told, unseen_channel, unseen_end}
 
@@ -75,10 +75,6 @@ reply_takes table c side abort n r next reached is =
 -- whether a number is that of a message of that end
 abbrev pub is_from : Side → List Item → ℕ → Bool
 is_from side items n = is_sent_by side (slice_get items n)
-
-pub is_same : (side : Side) → is_side side side ≡ true
-is_same A = refl
-is_same B = refl
 
 -- ---- the end sends
 
@@ -199,7 +195,7 @@ own_ties side table c m n taken r next reached is = by (sending_by c n (Sent sid
     sent event (by_mark is) e = none taken is
     sent event (by_reply place t is) e =
         let there = reply_takes table c side m t r next reached e in
-        one taken t is (ap (is_sent_by (other side)) there.1 ∙ is_same (other side))
+        one taken t is (ap (is_sent_by (other side)) there.1 ∙ itself (other side))
 
     by : (o : Option Event) → sending_by c n (Sent side m) taken ≡ o → message_by table c side m o r ≡ Ok next
         → filter (is_from (other side) r.world.sent) taken ≡ taken

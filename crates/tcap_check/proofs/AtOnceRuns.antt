@@ -10,7 +10,7 @@ use Rattle.tcap_record.specs.declared.entry.End.{End as Side}
 use Rattle.tcap_record.specs.declared.entry.End.TheVariants as sides
 use Rattle.tcap_record.specs.Ends.{other}
 use Rattle.tcap_model.specs.World.{Item, Sent}
-use Rattle.tcap_model.specs.Run.{Event, Sends, Receives, Replies, Loses, Expires, Closes, Quiet, Tells, numbers_sent, numbers_taken, takes_from, where_so}
+use Rattle.tcap_model.specs.Run.{Event, Sends, Receives, Replies, Loses, Expires, Closes, Quiet, Tells, numbers_sent, numbers_taken, where_so}
 use Rattle.tcap_check.specs.declared.certificate.Fate.{Fate}
 use Rattle.tcap_check.specs.declared.certificate.Fate.TheVariants.{Gap, Lost, By}
 use Rattle.tcap_check.specs.Certificate.{Certificate, IsPrompt, prompt_fates, prompt_from}
@@ -19,6 +19,7 @@ use Rattle.tcap_check.specs.Given.{is_over_or_sends}
 use Rattle.tcap_model.proofs.ListLaws.{all_both}
 use Rattle.tcap_model.proofs.RunLaws.{same_events}
 use Rattle.tcap_check.proofs.PromptLaws.{none_taken}
+use Rattle.tcap_check.proofs.NumberLaws.{taken_both}
 
 -- ---- prompt fates
 
@@ -261,14 +262,6 @@ sent_both (Loses side number ∷ xs) ys = sent_both xs ys
 sent_both (Expires side name id ∷ xs) ys = sent_both xs ys
 sent_both (Closes side name ∷ xs) ys = sent_both xs ys
 sent_both (Tells side m ∷ xs) ys = sent_both xs ys
-
--- and so they take.
-taken_both : (side : Side) (xs ys : List Event)
-    → numbers_taken side (xs ++ ys) ≡ numbers_taken side xs ++ numbers_taken side ys
-taken_both side [] ys = refl
-taken_both side (x ∷ xs) ys =
-    ap (λ (numbers : List ℕ). takes_from side x ++ numbers) (taken_both side xs ys)
-    ∙ sym (append_assoc (takes_from side x) (numbers_taken side xs) (numbers_taken side ys))
 
 -- Nothing is before nothing.
 nothing_before : {A : Type 0} (xs ys : List A) → xs ++ ys ≡ [] → xs ≡ []

@@ -1,85 +1,165 @@
 -- What a checker answers is what it stands for.
-use Rattle.std.proofs.Common.{◌≡◌, ℕ, ◌+◌, List, [], ◌∷◌, ◌++◌, length, Option, Some, None, Result, Ok, Err, refl, sym, ap, subst, ◌∙◌, IsTrue, false, is_ok}
+use Rattle.std.proofs.Common.{◌≡◌, ℕ, ◌+◌, ◌-◌, Bool, true, false, cond, List, [], ◌∷◌, ◌++◌, filter, length, Option, Some, None, Result, Ok, Err, refl, sym, ap, ap₂, subst, ◌∙◌, IsTrue, is_ok, arith}
+use Rattle.std.specs.Prelude.{not}
+use Rattle.tcap_record.specs.declared.entry.End.{End as Side}
 use Rattle.tcap_record.specs.declared.entry.End.TheVariants as sides
 use Rattle.tcap_end.specs.End.{nothing}
 use Rattle.tcap_end.specs.Table.{Table}
-use Rattle.tcap_check.specs.declared.certificate.Fate.{Fate}
 use Rattle.tcap_end.specs.Step.{◌>>◌, ◌>>=◌}
+use Rattle.tcap_check.specs.declared.certificate.Fate.{Fate}
 use Rattle.tcap_check.specs.declared.checker.Report.{Report}
 use Rattle.tcap_check.specs.declared.fault.CheckFault.{CheckFault}
+use Rattle.tcap_check.specs.declared.hearing.Hearing.{Hearing}
 use Rattle.tcap_model.specs.declared.reason.Reason.{Reason}
-use Rattle.tcap_check.specs.declared.progress.Progress.{Progress}
-use Rattle.tcap_model.specs.World.{Item}
+use Rattle.tcap_record.specs.Ends.{other}
+use Rattle.tcap_model.specs.World.{Item, channel_from}
 use Rattle.tcap_model.specs.Run.{Event}
 use Rattle.tcap_check.specs.Certificate.{Certificate}
-use Rattle.tcap_check.specs.Replayed.{Replay, certificate_fits, entries_replayed, lost_from_both, nothing_replayed}
-use Rattle.tcap_check.specs.Progress.{nothing_kept}
-use Rattle.tcap_check.specs.Checking.{Checking, Kept, Took, count_ahead, latest_of, kept_ended, kept_next, kept_of, map_ok, progress_of, reported, run_of, so_far_of, taken}
-use Rattle.tcap_check.proofs.KeptEntries.{took_end, took_next}
+use Rattle.tcap_check.specs.Hearing.{nothing_heard}
+use Rattle.tcap_check.specs.Replayed.{Replay, certificate_fits, entries_by, lost_from_both, lost_from_front, lost_last, nothing_replayed, run_by}
+use Rattle.tcap_check.specs.Checking.{Checking, Kept, Took, count_ahead, count_losses, count_lost, count_waiting, hearing_by, hearing_of, kept_ended, kept_next, kept_of, map_ok, progress_of, report_of, reported, so_far_of, taken}
+use Rattle.tcap_check.specs.Unheard.{is_lost_from, steps_of}
+use Rattle.tcap_check.proofs.EntryLaws.{took_end, took_next}
+use Rattle.tcap_check.proofs.HeardMessages.{each_of_both}
+use Rattle.tcap_check.proofs.HeardPending.{nothing_waits}
+use Rattle.tcap_check.proofs.HeardSteps.{losing_heard}
+use Rattle.tcap_check.proofs.KeptBasics.{front_none}
 use Rattle.tcap_check.proofs.KeptPending.{moves_are, pending_is}
 
 -- a checker with what it keeps, or why there is none
-abbrev pub checking : Table → Certificate → Option CheckFault → Kept → Checking
-checking table c fault k = record { table = table; certificate = c; so_far = so_far_of fault k }
+abbrev pub checking : Option Side → Table → Certificate → Option CheckFault → Kept → Checking
+checking judged table c fault k = record { judged = judged; table = table; certificate = c; so_far = so_far_of fault k }
 
 -- what is kept of no entry
 abbrev pub first_kept : Kept
-first_kept = record { progress = nothing_kept; entries = []; since = 0 }
+first_kept = record { hearing = nothing_heard; entries = []; since = 0 }
+
+-- what is said of the run that is given
+abbrev pub given : Option Side → Table → Certificate → List (Result Item Reason) → Result Report CheckFault
+given judged table c entries = map_ok (reported judged) (run_by judged table c entries)
+
+abbrev pub refusing : CheckFault → Result Report CheckFault
+refusing fault = Err fault
 
 -- One more entry is taken,
-pub took_ok : (table : Table) (c : Certificate) (k next : Kept) (entry : Result Item Reason)
-    → kept_next table c entry k ≡ Ok next → (entries : List (Result Item Reason)) → Took (checking table c None k) entries
-    → Took (checking table c None next) (entries ++ entry ∷ [])
-took_ok table c k next entry is entries took = sym is ∙ took_next (checking table c None k) entries entry took
+pub took_ok : (judged : Option Side) (table : Table) (c : Certificate) (k next : Kept) (entry : Result Item Reason)
+    → kept_next judged table c entry k ≡ Ok next → (entries : List (Result Item Reason)) → Took (checking judged table c None k) entries
+    → Took (checking judged table c None next) (entries ++ entry ∷ [])
+took_ok judged table c k next entry is entries took = sym is ∙ took_next (checking judged table c None k) entries entry took
 
 -- or refused.
-pub took_err : (table : Table) (c : Certificate) (k next : Kept) (entry : Result Item Reason) (fault : CheckFault)
-    → kept_next table c entry k ≡ Err fault → (entries : List (Result Item Reason)) → Took (checking table c None k) entries
-    → Took (checking table c (Some fault) next) (entries ++ entry ∷ [])
-took_err table c k next entry fault is entries took =
-    sym is ∙ took_next (checking table c None k) entries entry took
+pub took_err : (judged : Option Side) (table : Table) (c : Certificate) (k next : Kept) (entry : Result Item Reason) (fault : CheckFault)
+    → kept_next judged table c entry k ≡ Err fault → (entries : List (Result Item Reason))
+    → Took (checking judged table c None k) entries → Took (checking judged table c (Some fault) next) (entries ++ entry ∷ [])
+took_err judged table c k next entry fault is entries took =
+    sym is ∙ took_next (checking judged table c None k) entries entry took
+
+-- ---- the report
+
+steps_and_losses : (side : Side) (events : List Event) → steps_of side events + count_losses side events ≡ length events
+steps_and_losses side [] = refl
+steps_and_losses side (event ∷ events) = by (is_lost_from side event) (steps_and_losses side events)
+  where
+    steps : List Event
+    steps = filter (λ x. not (is_lost_from side x)) events
+
+    losses : List Event
+    losses = filter (is_lost_from side) events
+
+    by : (b : Bool) → length steps + length losses ≡ length events
+        → length (cond (not b) (event ∷ steps) steps) + length (cond b (event ∷ losses) losses) ≡ length (event ∷ events)
+    by true rest = omega (arith, rest)
+    by false rest = omega (arith, rest)
+
+-- The steps of both ends, without the losses of what the end sent, where nothing of its peer is on its way.
+counted_steps : (c : Certificate) (side : Side) (r : Replay) → channel_from (other side) r.world ≡ []
+    → (hearing_of side c r).progress.moves - (hearing_of side c r).own ≡ steps_of side r.events
+counted_steps c sides.A r empty =
+    let each = each_of_both c.fates r.world.from_a in
+    let all = steps_and_losses sides.A r.events in
+    let none : count_lost c.fates r.world.from_b ≡ 0 = ap (count_lost c.fates) empty in
+    omega (arith, each, all, none)
+counted_steps c sides.B r empty =
+    let each = each_of_both c.fates r.world.from_b in
+    let all = steps_and_losses sides.B r.events in
+    let none : count_lost c.fates r.world.from_a ≡ 0 = ap (count_lost c.fates) empty in
+    omega (arith, each, all, none)
+
+-- What is counted at the end is what is said of the run.
+report_of_one : (side : Side) (table : Table) (c : Certificate) (entries : List (Result Item Reason)) (r : Replay)
+    → (certificate_fits c >> entries_by (Some side) table c entries nothing_replayed) ≡ Ok r
+    → report_of (hearing_of side c r) ≡ reported (Some side) (lost_from_front c (other side) r).events
+report_of_one side table c entries r is =
+    let last = lost_from_front c (other side) r in
+    let empty = front_none c (other side) r (nothing_waits side table c entries r is) in
+    let none : count_lost c.fates (channel_from (other side) last.world) ≡ 0 = ap (count_lost c.fates) empty in
+    let unheard : (hearing_of side c last).unheard ≡ count_losses (other side) last.events = omega (arith, none) in
+    ap report_of (sym (losing_heard side c r))
+    ∙ ap₂ (λ (m n : ℕ). let report : Report = record { moves = m; unheard = n } in report) (counted_steps c side last empty) unheard
+
+report_is : (judged : Option Side) (table : Table) (c : Certificate) (entries : List (Result Item Reason)) (r : Replay)
+    → (certificate_fits c >> entries_by judged table c entries nothing_replayed) ≡ Ok r
+    → report_of (hearing_by judged c r) ≡ reported judged (lost_last judged c r).events
+report_is None table c entries r is =
+    let same = moves_are table c entries r is in
+    let less : (progress_of c r).moves - 0 ≡ length (lost_from_both c r).events = omega (arith, same) in
+    ap (λ (n : ℕ). let report : Report = record { moves = n; unheard = 0 } in report) less
+report_is (Some judged) table c entries r is = report_of_one judged table c entries r is
+
+-- ---- the end
 
 -- The last gap: the report, or the reason.
-pub ends_so : (table : Table) (c : Certificate) (entries : List (Result Item Reason)) (o : Result Replay CheckFault)
-    → (certificate_fits c >> entries_replayed table c entries nothing_replayed) ≡ o
-    → run_of table c entries ≡ (o >>= λ r. Ok (lost_from_both c r).events)
-ends_so table c entries o is = by (certificate_fits c) is
+pub ends_so : (judged : Option Side) (table : Table) (c : Certificate) (entries : List (Result Item Reason)) (o : Result Replay CheckFault)
+    → (certificate_fits c >> entries_by judged table c entries nothing_replayed) ≡ o
+    → run_by judged table c entries ≡ (o >>= λ r. Ok (lost_last judged c r).events)
+ends_so judged table c entries o is = by (certificate_fits c) is
   where
-    by : (x : Result (Unit {0}) CheckFault) → (x >> entries_replayed table c entries nothing_replayed) ≡ o
-        → (x >> (entries_replayed table c entries nothing_replayed >>= λ r. Ok (lost_from_both c r).events))
-        ≡ (o >>= λ r. Ok (lost_from_both c r).events)
-    by (Ok fits) e = ap (λ (z : Result Replay CheckFault). z >>= λ r. (let a : Result (List Event) CheckFault = Ok (lost_from_both c r).events in a)) e
-    by (Err fault) e = ap (λ (z : Result Replay CheckFault). z >>= λ r. (let a : Result (List Event) CheckFault = Ok (lost_from_both c r).events in a)) e
+    events_of : Replay → Result (List Event) CheckFault
+    events_of r = Ok (lost_last judged c r).events
 
-pub finished_ok : (table : Table) (c : Certificate) (k : Kept) (left : Progress)
-    → kept_ended table c k ≡ Ok left → (entries : List (Result Item Reason)) → Took (checking table c None k) entries
-    → (let report : Result Report CheckFault = Ok (record { moves = left.moves }) in report) ≡ map_ok reported (run_of table c entries)
-finished_ok table c k left is entries took =
-    by (certificate_fits c >> entries_replayed table c entries nothing_replayed) refl (sym is ∙ took_end (checking table c None k) entries took)
+    by : (x : Result (Unit {0}) CheckFault) → (x >> entries_by judged table c entries nothing_replayed) ≡ o
+        → (x >> (entries_by judged table c entries nothing_replayed >>= events_of)) ≡ (o >>= events_of)
+    by (Ok fits) e = ap (λ (z : Result Replay CheckFault). z >>= events_of) e
+    by (Err fault) e = ap (λ (z : Result Replay CheckFault). z >>= events_of) e
+
+abbrev report_ok : Hearing → Result Report CheckFault
+report_ok h = Ok (report_of h)
+
+pub finished_ok : (judged : Option Side) (table : Table) (c : Certificate) (k : Kept) (left : Hearing)
+    → kept_ended judged table c k ≡ Ok left → (entries : List (Result Item Reason)) → Took (checking judged table c None k) entries
+    → report_ok left ≡ given judged table c entries
+finished_ok judged table c k left is entries took =
+    by (certificate_fits c >> entries_by judged table c entries nothing_replayed) refl
+    (sym is ∙ took_end (checking judged table c None k) entries took)
   where
-    by : (o : Result Replay CheckFault) → (certificate_fits c >> entries_replayed table c entries nothing_replayed) ≡ o
-        → (let a : Result Progress CheckFault = Ok left in a) ≡ map_ok (progress_of c) o
-        → (let report : Result Report CheckFault = Ok (record { moves = left.moves }) in report) ≡ map_ok reported (run_of table c entries)
+    by : (o : Result Replay CheckFault) → (certificate_fits c >> entries_by judged table c entries nothing_replayed) ≡ o
+        → (let a : Result Hearing CheckFault = Ok left in a) ≡ map_ok (hearing_by judged c) o → report_ok left ≡ given judged table c entries
     by (Err fault) e same = cc
     by (Ok r) e same =
-        let is : left ≡ progress_of c r = cc in
-        let moves : left.moves ≡ length (lost_from_both c r).events = ap (λ (p : Progress). p.moves) is ∙ moves_are table c entries r e in
-        ap (λ (n : ℕ). let report : Result Report CheckFault = Ok (record { moves = n }) in report) moves
-        ∙ sym (ap (map_ok reported) (ends_so table c entries (Ok r) e))
+        let is : left ≡ hearing_by judged c r = cc in
+        ap report_ok is
+        ∙ ap (λ (x : Report). let a : Result Report CheckFault = Ok x in a) (report_is judged table c entries r e)
+        ∙ sym (ap (map_ok (reported judged)) (ends_so judged table c entries (Ok r) e))
 
-pub finished_err : (table : Table) (c : Certificate) (k : Kept) (fault : CheckFault)
-    → kept_ended table c k ≡ Err fault → (entries : List (Result Item Reason)) → Took (checking table c None k) entries
-    → (let report : Result Report CheckFault = Err fault in report) ≡ map_ok reported (run_of table c entries)
-finished_err table c k fault is entries took =
-    by (certificate_fits c >> entries_replayed table c entries nothing_replayed) refl (sym is ∙ took_end (checking table c None k) entries took)
+refused_at_end : (judged : Option Side) (table : Table) (c : Certificate) (entries : List (Result Item Reason)) (fault : CheckFault)
+    → (let a : Result Hearing CheckFault = Err fault in a)
+    ≡ map_ok (hearing_by judged c) (certificate_fits c >> entries_by judged table c entries nothing_replayed)
+    → refusing fault ≡ given judged table c entries
+refused_at_end judged table c entries fault same =
+    by (certificate_fits c >> entries_by judged table c entries nothing_replayed) refl same
   where
-    by : (o : Result Replay CheckFault) → (certificate_fits c >> entries_replayed table c entries nothing_replayed) ≡ o
-        → (let a : Result Progress CheckFault = Err fault in a) ≡ map_ok (progress_of c) o
-        → (let report : Result Report CheckFault = Err fault in report) ≡ map_ok reported (run_of table c entries)
+    by : (o : Result Replay CheckFault) → (certificate_fits c >> entries_by judged table c entries nothing_replayed) ≡ o
+        → (let a : Result Hearing CheckFault = Err fault in a) ≡ map_ok (hearing_by judged c) o → refusing fault ≡ given judged table c entries
     by (Ok r) e same = cc
     by (Err other) e same =
         let is : fault ≡ other = cc in
-        ap (λ (f : CheckFault). let report : Result Report CheckFault = Err f in report) is ∙ sym (ap (map_ok reported) (ends_so table c entries (Err other) e))
+        ap refusing is ∙ sym (ap (map_ok (reported judged)) (ends_so judged table c entries (Err other) e))
+
+pub finished_err : (judged : Option Side) (table : Table) (c : Certificate) (k : Kept) (fault : CheckFault)
+    → kept_ended judged table c k ≡ Err fault → (entries : List (Result Item Reason)) → Took (checking judged table c None k) entries
+    → refusing fault ≡ given judged table c entries
+finished_err judged table c k fault is entries took =
+    refused_at_end judged table c entries fault (sym is ∙ took_end (checking judged table c None k) entries took)
 
 -- ---- a checker as it is kept
 
@@ -87,89 +167,85 @@ finished_err table c k fault is entries took =
 pub stays : (s : Checking) (fault : CheckFault) (entry : Result Item Reason) → s.so_far ≡ Err fault
     → (entries : List (Result Item Reason)) → Took s entries → Took s (entries ++ entry ∷ [])
 stays s fault entry is entries took =
-    is ∙ sym (ap (λ (o : Result Kept CheckFault). o >>= kept_next s.table s.certificate entry) is) ∙ took_next s entries entry took
+    is ∙ sym (ap (λ (o : Result Kept CheckFault). o >>= kept_next s.judged s.table s.certificate entry) is)
+    ∙ took_next s entries entry took
 
 -- It is one with what it keeps.
-pub turned : (s : Checking) (table : Table) (c : Certificate) (o fault : Option CheckFault) (k : Kept) → s ≡ checking table c o k
-    → o ≡ fault → (entries : List (Result Item Reason)) → Took s entries → Took (checking table c fault k) entries
-turned s table c o fault k is same entries took =
-    subst (λ (x : Option CheckFault). Took (checking table c x k) entries) same (subst (λ (x : Checking). Took x entries) is took)
+pub turned : (s : Checking) (judged : Option Side) (table : Table) (c : Certificate) (o fault : Option CheckFault) (k : Kept)
+    → s ≡ checking judged table c o k → o ≡ fault → (entries : List (Result Item Reason)) → Took s entries
+    → Took (checking judged table c fault k) entries
+turned s judged table c o fault k is same entries took =
+    subst (λ (x : Option CheckFault). Took (checking judged table c x k) entries) same (subst (λ (x : Checking). Took x entries) is took)
 
 -- At first it took no entry.
-pub took_nothing : (table : Table) (c : Certificate) (k : Kept) → certificate_fits c ≡ Ok tt → k ≡ first_kept
-    → Took (checking table c None k) []
-took_nothing table c k fits is = rw (is, fits) (ap (λ (x : Kept). let a : Result Kept CheckFault = Ok x in a) (by c.fates))
+pub took_nothing : (judged : Option Side) (table : Table) (c : Certificate) (k : Kept) → certificate_fits c ≡ Ok tt → k ≡ first_kept
+    → Took (checking judged table c None k) []
+took_nothing judged table c k fits is = rw (is, fits) (ap (λ (x : Kept). let a : Result Kept CheckFault = Ok x in a) (by judged c.fates))
   where
-    by : (fates : List Fate) → first_kept ≡ (let x : Kept = record {
-      progress = record {
-        a = record { end = nothing; waiting = []; latest = latest_of sides.A fates [] };
-        b = record { end = nothing; waiting = []; latest = latest_of sides.B fates [] };
-        moves = 0;
-      };
-      entries = [];
-      since = 0;
-    } in x)
-    by [] = refl
-    by (fate ∷ fates) = refl
+    by : (judged : Option Side) (fates : List Fate) → first_kept ≡ kept_of judged (record c { fates = fates }) nothing_replayed
+    by None [] = refl
+    by None (fate ∷ fates) = refl
+    by (Some sides.A) [] = refl
+    by (Some sides.A) (fate ∷ fates) = refl
+    by (Some sides.B) [] = refl
+    by (Some sides.B) (fate ∷ fates) = refl
 
--- How many messages wait.
-pub waits : (table : Table) (c : Certificate) (k : Kept) (entries : List (Result Item Reason)) → Took (checking table c None k) entries
-    → length k.progress.a.waiting + length k.progress.b.waiting ≡ count_ahead (length entries) c.fates entries
-waits table c k entries took = by (taken table c entries) refl took
+-- At the end it answers a refusal again.
+pub finishes_still : (s : Checking) (fault : CheckFault) → s.so_far ≡ Err fault → (entries : List (Result Item Reason)) → Took s entries
+    → refusing fault ≡ given s.judged s.table s.certificate entries
+finishes_still s fault is entries took =
+    refused_at_end s.judged s.table s.certificate entries fault
+    (sym (ap (λ (o : Result Kept CheckFault). o >>= kept_ended s.judged s.table s.certificate) is) ∙ took_end s entries took)
+
+-- or what its replay does.
+pub finishes_so : (s : Checking) (judged : Option Side) (table : Table) (c : Certificate) (o : Option CheckFault) (k : Kept)
+    (report : Result Report CheckFault) → s ≡ checking judged table c o k → o ≡ None → (entries : List (Result Item Reason))
+    → (Took (checking judged table c None k) entries → report ≡ given judged table c entries) → Took s entries
+    → report ≡ given s.judged s.table s.certificate entries
+finishes_so s judged table c o k report is none entries so took =
+    so (turned s judged table c o None k is none entries took)
+    ∙ ap (λ (x : Checking). given x.judged x.table x.certificate entries) (sym is)
+
+-- A refusal that it stands for is the one that it keeps.
+pub kept_fault : (s : Checking) (judged : Option Side) (table : Table) (c : Certificate) (o : Option CheckFault) (k : Kept) (fault : CheckFault)
+    → s ≡ checking judged table c o k → o ≡ Some fault → (f : CheckFault) → s.so_far ≡ Err f → refusing fault ≡ Err f
+kept_fault s judged table c o k fault is some f refused =
+    let same : so_far_of (Some fault) k ≡ Err f =
+    ap (λ (x : Option CheckFault). so_far_of x k) (sym some) ∙ ap (λ (x : Checking). x.so_far) (sym is) ∙ refused in
+    let one : fault ≡ f = cc in ap refusing one
+
+pub no_fault : (s : Checking) (judged : Option Side) (table : Table) (c : Certificate) (o : Option CheckFault) (k : Kept) (f : CheckFault)
+    → s ≡ checking judged table c o k → o ≡ None → s.so_far ≡ Err f → ⊥
+no_fault s judged table c o k f is none refused =
+    let same : so_far_of None k ≡ Err f =
+    ap (λ (x : Option CheckFault). so_far_of x k) (sym none) ∙ ap (λ (x : Checking). x.so_far) (sym is) ∙ refused in cc
+
+-- ---- how many messages wait
+
+-- What it stands for is what it keeps.
+pub keeps_so : (s : Checking) (judged : Option Side) (table : Table) (c : Certificate) (o : Option CheckFault) (k : Kept)
+    → s ≡ checking judged table c o k → (kept : Kept) → s.so_far ≡ Ok kept → k ≡ kept
+keeps_so s judged table c None k is kept so =
+    let same : (let a : Result Kept CheckFault = Ok k in a) ≡ Ok kept = ap (λ (x : Checking). x.so_far) (sym is) ∙ so in cc
+keeps_so s judged table c (Some fault) k is kept so =
+    let same : (let a : Result Kept CheckFault = Err fault in a) ≡ Ok kept = ap (λ (x : Checking). x.so_far) (sym is) ∙ so in cc
+
+waits : (table : Table) (c : Certificate) (k : Kept) (entries : List (Result Item Reason)) → Took (checking None table c None k) entries
+    → count_waiting None k.hearing.progress ≡ count_ahead (length entries) c.fates entries
+waits table c k entries took = by (taken None table c entries) refl took
   where
-    by : (o : Result Replay CheckFault) → taken table c entries ≡ o → (let a : Result Kept CheckFault = Ok k in a) ≡ map_ok (kept_of c) o
-        → length k.progress.a.waiting + length k.progress.b.waiting ≡ count_ahead (length entries) c.fates entries
+    by : (o : Result Replay CheckFault) → taken None table c entries ≡ o → (let a : Result Kept CheckFault = Ok k in a) ≡ map_ok (kept_of None c) o
+        → count_waiting None k.hearing.progress ≡ count_ahead (length entries) c.fates entries
     by (Err fault) e same = cc
     by (Ok r) e same =
-        let is : k ≡ kept_of c r = cc in
-        ap (λ (x : Kept). length x.progress.a.waiting + length x.progress.b.waiting) is ∙ pending_is table c entries r e
+        let is : k ≡ kept_of None c r = cc in
+        ap (λ (x : Kept). count_waiting None x.hearing.progress) is ∙ pending_is table c entries r e
 
-pub waits_so : (s : Checking) (table : Table) (c : Certificate) (o : Option CheckFault) (k : Kept) → s ≡ checking table c o k
+pub waits_so : (s : Checking) (table : Table) (c : Certificate) (o : Option CheckFault) (k : Kept) → s ≡ checking None table c o k
     → (entries : List (Result Item Reason)) → Took s entries → IsTrue (is_ok s.so_far)
-    → length k.progress.a.waiting + length k.progress.b.waiting ≡ count_ahead (length entries) s.certificate.fates entries
+    → count_waiting None k.hearing.progress ≡ count_ahead (length entries) s.certificate.fates entries
 waits_so s table c None k is entries took so =
     waits table c k entries (subst (λ (x : Checking). Took x entries) is took)
     ∙ ap (λ (x : Checking). count_ahead (length entries) x.certificate.fates entries) (sym is)
 waits_so s table c (Some fault) k is entries took so =
     let no : is_ok s.so_far ≡ false = ap (λ (x : Checking). is_ok x.so_far) is in cc
-
--- At the end it answers a refusal again.
-pub finishes_still : (s : Checking) (fault : CheckFault) → s.so_far ≡ Err fault → (entries : List (Result Item Reason)) → Took s entries
-    → (let report : Result Report CheckFault = Err fault in report) ≡ map_ok reported (run_of s.table s.certificate entries)
-finishes_still s fault is entries took =
-    by (certificate_fits s.certificate >> entries_replayed s.table s.certificate entries nothing_replayed) refl
-    (sym (ap (λ (o : Result Kept CheckFault). o >>= kept_ended s.table s.certificate) is) ∙ took_end s entries took)
-  where
-    by : (o : Result Replay CheckFault)
-        → (certificate_fits s.certificate >> entries_replayed s.table s.certificate entries nothing_replayed) ≡ o
-        → (let a : Result Progress CheckFault = Err fault in a) ≡ map_ok (progress_of s.certificate) o
-        → (let report : Result Report CheckFault = Err fault in report) ≡ map_ok reported (run_of s.table s.certificate entries)
-    by (Ok r) e same = cc
-    by (Err other) e same =
-        let is : fault ≡ other = cc in
-        ap (λ (f : CheckFault). let report : Result Report CheckFault = Err f in report) is
-        ∙ sym (ap (map_ok reported) (ends_so s.table s.certificate entries (Err other) e))
-
--- or what its replay does.
-pub finishes_so : (s : Checking) (table : Table) (c : Certificate) (o : Option CheckFault) (k : Kept) (report : Result Report CheckFault)
-    → s ≡ checking table c o k → o ≡ None → (entries : List (Result Item Reason))
-    → (Took (checking table c None k) entries → report ≡ map_ok reported (run_of table c entries)) → Took s entries
-    → report ≡ map_ok reported (run_of s.table s.certificate entries)
-finishes_so s table c o k report is none entries so took =
-    so (turned s table c o None k is none entries took)
-    ∙ ap (λ (x : Checking). map_ok reported (run_of x.table x.certificate entries)) (sym is)
-
--- A refusal that it stands for is the one that it keeps.
-pub kept_fault : (s : Checking) (table : Table) (c : Certificate) (o : Option CheckFault) (k : Kept) (fault : CheckFault)
-    → s ≡ checking table c o k → o ≡ Some fault → (f : CheckFault) → s.so_far ≡ Err f
-    → (let report : Result Report CheckFault = Err fault in report) ≡ Err f
-kept_fault s table c o k fault is some f refused =
-    let same : so_far_of (Some fault) k ≡ Err f =
-    ap (λ (x : Option CheckFault). so_far_of x k) (sym some) ∙ ap (λ (x : Checking). x.so_far) (sym is) ∙ refused in
-    let one : fault ≡ f = cc in ap (λ (x : CheckFault). let report : Result Report CheckFault = Err x in report) one
-
-pub no_fault : (s : Checking) (table : Table) (c : Certificate) (o : Option CheckFault) (k : Kept) (f : CheckFault)
-    → s ≡ checking table c o k → o ≡ None → s.so_far ≡ Err f → ⊥
-no_fault s table c o k f is none refused =
-    let same : so_far_of None k ≡ Err f =
-    ap (λ (x : Option CheckFault). so_far_of x k) (sym none) ∙ ap (λ (x : Checking). x.so_far) (sym is) ∙ refused in cc

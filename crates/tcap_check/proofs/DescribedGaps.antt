@@ -1,5 +1,5 @@
 -- A gap of a run that a certificate describes is replayed.
-use Rattle.std.proofs.Common.{arith, ◌≡◌, ℕ, ℤ, suc, ◌+◌, ◌==◌, Bool, true, false, cond, List, [], ◌∷◌, ◌++◌, map, filter, length, Option, Some, Result, Ok, refl, sym, ap, ap₂, subst, ◌∙◌, append_assoc, append-nil}
+use Rattle.std.proofs.Common.{arith, ◌≡◌, ℕ, ℤ, suc, ◌+◌, ◌==◌, Bool, true, false, cond, List, [], ◌∷◌, ◌++◌, map, filter, length, Option, Some, Result, Ok, refl, sym, ap, subst, ◌∙◌, append_assoc, append-nil}
 use Rattle.std.specs.Prelude.{ok_or, slice_get}
 use Rattle.std.specs.List.{AllByRecursion}
 use Rattle.std.proofs.lemmas.Bool.{eqb-true}
@@ -26,7 +26,7 @@ use Rattle.tcap_check.specs.Certificate.{Certificate}
 use Rattle.tcap_model.specs.Since.{originating}
 use Rattle.tcap_check.specs.Follows.{closing_by, closing_event, deliveries, expiry_by, expiry_event, gap_events, half_begun, invoke_id, is_loss, losses_from, lost_from, named_entry, taken_by, without_losses}
 use Rattle.tcap_check.specs.Replayed.{Replay, closings_replayed, deliveries_replayed, expiries_replayed, fault_at, gap_replayed, happens, lost_before, next_entry, stepped, with_step}
-use Rattle.tcap_model.proofs.RunLaws.{grows, map_some, where_some, then_some}
+use Rattle.tcap_model.proofs.RunLaws.{grows, map_some, same_events, then_some, where_some}
 use Rattle.tcap_check.proofs.ReplaySteps.{Replays, without_both}
 use Rattle.tcap_check.proofs.ReplayLaws.{gap_replays}
 use Rattle.tcap_check.proofs.AlikeLaws.{Ahead, Alike, LossFits, closes_goes, expires_goes, go_on, next_step, receives_goes}
@@ -333,14 +333,6 @@ deliveries_go table c final items gap n (Gap g ∷ fates) (Sent side m ∷ its) 
         }
     by false then at = then r sent at
 
--- Steps that are listed alike are the same.
-listed_same : (xs ys : List Event) → map Some xs ≡ map Some ys → xs ≡ ys
-listed_same [] [] is = refl
-listed_same [] (y ∷ ys) is = cc
-listed_same (x ∷ xs) [] is = cc
-listed_same (x ∷ xs) (y ∷ ys) is =
-    let rest = listed_same xs ys (cc) in let first : x ≡ y = cc in ap₂ (λ (z : Event) (zs : List Event). z ∷ zs) first rest
-
 -- A gap was replayed.
 pub record IsGap (table : Table) (c : Certificate) (final : World) (here rest : List Event) (r : Replay) : Type 0 where
   pub next : Replay
@@ -363,13 +355,13 @@ gap_goes table c final here rest r are ahead =
     (are ∙ append_assoc (map (closing_event items) closing) (map (expiry_event items) expiring) (map Some delivered)) refl ahead in
     let expired = expiries_go table c final items expiring (map Some delivered) closed.left rest closed.next closed.left_are closed.sent closed.ahead in
     let ahead_of : Ahead table c.fates final (delivered ++ rest) expired.next.world =
-    subst (λ (x : List Event). Ahead table c.fates final (x ++ rest) expired.next.world) (listed_same expired.left delivered expired.left_are) expired.ahead in
+    subst (λ (x : List Event). Ahead table c.fates final (x ++ rest) expired.next.world) (same_events expired.left delivered expired.left_are) expired.ahead in
     let last = deliveries_go table c final items gap 0 c.fates items rest expired.next (from_start c.fates) expired.sent ahead_of in
     let is : gap_replayed table c r ≡ Ok last.next =
     ok_then (closings_replayed table c closing r) _ closed.next last.next closed.is
     (ok_then (expiries_replayed table c expiring closed.next) _ expired.next last.next expired.is last.is) in
     let found = gap_replays table c r last.next is in
-    let count : length found.0 ≡ length here = ap length (listed_same found.0 here (found.1 ∙ sym are)) in
+    let count : length found.0 ≡ length here = ap length (same_events found.0 here (found.1 ∙ sym are)) in
     record {
       next = last.next;
       is = is;

@@ -32,6 +32,7 @@ use Rattle.tcap_check.proofs.ImpliedLaws.{implied_same}
 use Rattle.tcap_check.proofs.AlikeLaws.{Ahead, Alike, alike_end, alike_joined, to_same, ends_same, expires_goes, go_on, next_step, replies_goes}
 use Rattle.tcap_check.proofs.DescribedGaps.{from_start, ok_needs, ok_some, ok_then, plain, plain_more, plain_step, some_same, taken_are}
 use Rattle.tcap_model.proofs.RunLaws.{then_some}
+use Rattle.tcap_check.proofs.WorldLaws.{sent_with_end}
 
 -- ---- a message
 
@@ -76,11 +77,6 @@ end_twice sides.B a b w = refl
 end_itself : (side : Side) (w : World) → w ≡ with_end side (end_at side w) w
 end_itself sides.A w = refl
 end_itself sides.B w = refl
-
--- an end is no matter of the sent list
-sent_with_end : (side : Side) (e : End) (w : World) → (with_end side e w).sent ≡ w.sent
-sent_with_end sides.A e w = refl
-sent_with_end sides.B e w = refl
 
 -- the world behind a step that was replayed
 after_stepped : (table : Table) (event : Event) (r next : Replay) → stepped table event r ≡ Some next → after table event r.world ≡ Some next.world

@@ -8,7 +8,6 @@ use Rattle.std.specs.Ordering.{nat_cmp}
 use Rattle.std.proofs.lemmas.List.Elements.{filter-append}
 use Rattle.tcap_msg.specs.declared.message.Message.{Message}
 use Rattle.tcap_record.specs.declared.entry.End.{End as Side}
-use Rattle.tcap_record.specs.declared.entry.End.TheVariants.{A, B}
 use Rattle.tcap_end.specs.Table.{Table}
 use Rattle.tcap_record.specs.Ends.{other}
 use Rattle.tcap_model.specs.World.{Item, OnItsWay, Sent, World, channel_from, is_side}
@@ -19,6 +18,7 @@ use Rattle.tcap_check.specs.Follows.{FatesFit, deliveries, is_loss, losses_from,
 use Rattle.tcap_model.specs.Since.{WasSent}
 use Rattle.tcap_model.proofs.ChannelLaws.{are_whole, in_order, were_sent}
 use Rattle.tcap_check.proofs.NumberLaws.{IsAmong, among_left, among_losses, among_plain, filter_all, loss_of, losses_apart, losses_first, parts_apart}
+use Rattle.tcap_model.proofs.RunLaws.{same_side}
 
 -- ---- fates
 
@@ -223,13 +223,6 @@ fits_reply count n (By h ∷ fates) (suc i) k fit at = fits_reply count (n + 1) 
 fits_reply count n (Lost ∷ fates) (suc i) k fit at = fits_reply count (n + 1) fates i k fit at
 
 -- ---- losses
-
--- Two ends are the same where the test says so.
-pub same_side : (side sender : Side) → is_side side sender ≡ true → side ≡ sender
-same_side A A is = refl
-same_side B B is = refl
-same_side A B is = cc
-same_side B A is = cc
 
 -- The item of that number, counted from another on, is a message of the end.
 abbrev IsSentAt : Side → ℕ → List Item → ℕ → Type 0

@@ -5,8 +5,6 @@ use Rattle.std.specs.List.{AllByRecursion}
 use Rattle.std.proofs.lemmas.Bool.{eq-eqb}
 use Rattle.std.proofs.lemmas.Option.{slice_get_cases, slice_get_within}
 use Rattle.tcap_msg.specs.declared.message.Message.{Message}
-use Rattle.tcap_record.specs.declared.entry.Body.{Body}
-use Rattle.tcap_record.specs.declared.entry.Body.TheVariants.{Good, Bad, Quiet as QuietMark}
 use Rattle.tcap_record.specs.declared.entry.End.{End as Side}
 use Rattle.tcap_record.specs.declared.entry.End.TheVariants as sides
 use Rattle.tcap_record.specs.declared.entry.End.TheVariants.{A, B}
@@ -24,7 +22,7 @@ use Rattle.tcap_check.specs.declared.certificate.Fate.TheVariants.{Gap, Lost, By
 use Rattle.tcap_check.specs.declared.fault.CheckFault.{CheckFault}
 use Rattle.tcap_model.specs.declared.reason.Reason.{Reason}
 use Rattle.tcap_check.specs.Certificate.{Certificate}
-use Rattle.tcap_model.specs.Entries.{AreItems, IsItem, count_components, item_by, item_of}
+use Rattle.tcap_model.specs.Entries.{AreItems, count_components, item_of}
 use Rattle.tcap_check.specs.Follows.{FatesFit, Follows, FollowsFrom, deliveries, taken_by, without_losses}
 use Rattle.tcap_check.specs.Given.{IsGiven}
 use Rattle.tcap_check.specs.Replayed.{Replay, all_fit, certificate_fits, entries_replayed, fates_fit, if_lost, lost_from_both, lost_front, nothing_replayed, replayed}
@@ -35,6 +33,7 @@ use Rattle.tcap_check.proofs.ReplayEntries.{entries_replay}
 use Rattle.tcap_check.proofs.ReplayGaps.{fates_ok, listed_ok}
 use Rattle.tcap_check.proofs.ReplaySteps.{Extends, both_replay, extends_then, without_both}
 use Rattle.tcap_check.proofs.GivenEvents.{follows_fated, gap_at, sender_at, sender_is, sender_takes, some_parts, unseen}
+use Rattle.tcap_check.proofs.ReasonLaws.{item_is}
 
 -- ---- each message is settled
 
@@ -190,19 +189,6 @@ none_left : (c : Certificate) (r : Replay)
     → (side : Side) → channel_from side (lost_from_both c r).world ≡ []
 none_left c r all A = front_empty c.fates r.world.from_a (all A)
 none_left c r all B = front_empty c.fates r.world.from_b (all B)
-
--- An entry is the item that it gives.
-item_is : (entry : Entry) (item : Item) → item_of entry ≡ Ok item → IsItem entry item
-item_is entry item is = by entry.side entry.body refl refl is
-  where
-    by : (side : Option Side) (body : Body) → entry.side ≡ side → entry.body ≡ body → item_by side body ≡ Ok item
-        → IsItem entry item
-    by (Some side) (Good message) a b e = subst (IsItem entry) (ok_same (Sent side message) item e) (a, b)
-    by None (Good message) a b e = cc
-    by (Some side) (Bad fault) a b e = cc
-    by None (Bad fault) a b e = cc
-    by (Some side) QuietMark a b e = cc
-    by None QuietMark a b e = subst (IsItem entry) (ok_same Item.Quiet item e) (a, b)
 
 -- Entries are the items that they give.
 pub are_items : (entries : List Entry) (items : List Item)

@@ -7,7 +7,7 @@ use Rattle.tcap_record.specs.declared.entry.End.{End as Side}
 use Rattle.tcap_check.specs.declared.certificate.Fate.{Fate}
 use Rattle.tcap_check.specs.declared.certificate.Fate.TheVariants.{Gap, Lost, By}
 use Rattle.tcap_model.specs.World.{Item, Sent, is_side}
-use Rattle.tcap_check.specs.Alone.{is_sent_by}
+use Rattle.tcap_check.specs.Replayed.{is_sent_by}
 use Rattle.tcap_check.specs.Follows.{FatesFit, taken_by}
 use Rattle.tcap_check.proofs.KeptCounts.{is_behind, is_next, none_taken, not_next}
 

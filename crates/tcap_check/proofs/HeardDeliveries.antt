@@ -1,6 +1,6 @@
 -- The deliveries of a gap to one end, over what is kept, are those of its replay.
-use Rattle.std.proofs.Common.{◌≡◌, ℕ, suc, ◌+◌, ◌==◌, Bool, true, false, cond, List, [], ◌∷◌, filter, Option, Some, None, Result, Ok, Err, refl, sym, ap, ◌∙◌, arith}
-use Rattle.std.specs.Prelude.{◌&&◌, ok_or, slice_get}
+use Rattle.std.proofs.Common.{◌≡◌, ℕ, ◌+◌, ◌==◌, Bool, true, false, cond, List, [], ◌∷◌, None, Result, Ok, Err, refl, sym, ap, ◌∙◌, arith}
+use Rattle.std.specs.Prelude.{slice_get}
 use Rattle.tcap_record.specs.declared.entry.End.{End as Side}
 use Rattle.tcap_record.specs.declared.entry.End.TheVariants as sides
 use Rattle.tcap_end.specs.declared.fault.EndFault.{EndFault}
@@ -17,17 +17,16 @@ use Rattle.tcap_check.specs.declared.fault.CheckFault.{CheckFault}
 use Rattle.tcap_model.specs.declared.reason.Reason.TheVariants.{BadReply}
 use Rattle.tcap_check.specs.declared.hearing.Hearing.{Hearing}
 use Rattle.tcap_check.specs.declared.outline.Outline.{Outline}
-use Rattle.tcap_check.specs.declared.progress.Progress.{Progress}
 use Rattle.tcap_check.specs.declared.progress.Seat.{Seat}
 use Rattle.tcap_check.specs.declared.progress.Waiting.{Waiting}
 use Rattle.tcap_check.specs.Certificate.{Certificate}
-use Rattle.tcap_check.specs.Replayed.{Replay, fault_at, lost_from_front, next_entry, with_step}
-use Rattle.tcap_check.specs.Alone.{deliveries_heard, delivery_heard, heard}
+use Rattle.tcap_check.specs.Replayed.{Replay, fault_at, heard, lost_from_front, next_entry, with_step}
+use Rattle.tcap_check.specs.Alone.{deliveries_heard, delivery_heard}
 use Rattle.tcap_check.specs.Outlines.{outlines_from}
-use Rattle.tcap_check.specs.Progress.{due_in, moved, seat_at, with_seat_end, with_waiting}
+use Rattle.tcap_check.specs.Progress.{due_in, moved, with_seat_end, with_waiting}
 use Rattle.tcap_check.specs.Checking.{map_ok, progress_of, waiting}
-use Rattle.tcap_check.specs.Hearing.{all_heard, first_heard, is_told, message_heard, received_or_dropped, told_among, with_progress}
-use Rattle.tcap_check.specs.EndChecking.{all_lost, hearing_of}
+use Rattle.tcap_check.specs.Hearing.{all_heard, first_heard, message_heard, received_or_dropped, told_among, with_progress}
+use Rattle.tcap_check.specs.Checking.{hearing_of}
 use Rattle.tcap_check.proofs.KeptBasics.{HasFront, end_kept, front_is, front_none, then_is, waiting_kept}
 use Rattle.tcap_check.proofs.KeptDeliveries.{StandsFrom, first_stands, none_next, stands_next}
 use Rattle.tcap_check.proofs.HeardLost.{end_stays, peer_stays}

@@ -1,5 +1,5 @@
 -- The gap before an entry, over what is kept for one end, is that of its replay.
-use Rattle.std.proofs.Common.{◌≡◌, ℕ, ◌==◌, Bool, true, List, [], ◌∷◌, filter, length, Result, Ok, Err, refl, sym, ap, subst, ◌∙◌}
+use Rattle.std.proofs.Common.{◌≡◌, ℕ, ◌==◌, Bool, true, List, filter, length, Result, Ok, refl, ap, subst, ◌∙◌}
 use Rattle.std.specs.List.{AllByRecursion}
 use Rattle.tcap_record.specs.declared.entry.End.{End as Side}
 use Rattle.tcap_end.specs.Table.{Table}
@@ -17,10 +17,10 @@ use Rattle.tcap_check.specs.Certificate.{Certificate}
 use Rattle.tcap_check.specs.Replayed.{Replay, closings_replayed, expiries_replayed, next_entry}
 use Rattle.tcap_check.specs.Alone.{deliveries_heard, gap_heard}
 use Rattle.tcap_check.specs.Outlines.{outlines_from, since_from}
-use Rattle.tcap_check.specs.Progress.{closings_kept, due_in, expiries_kept}
+use Rattle.tcap_check.specs.Progress.{due_in}
 use Rattle.tcap_check.specs.Checking.{map_ok, progress_of}
 use Rattle.tcap_check.specs.Hearing.{all_heard, gap_passed, own_closings, own_expiries, told_among, with_progress}
-use Rattle.tcap_check.specs.EndChecking.{all_lost, hearing_of}
+use Rattle.tcap_check.specs.Checking.{all_lost, hearing_of}
 use Rattle.tcap_model.proofs.ListLaws.{all_weaker}
 use Rattle.tcap_check.proofs.KeptBasics.{then_is}
 use Rattle.tcap_check.proofs.KeptEntries.{map_both, then_then}

@@ -1,5 +1,5 @@
 -- What is kept of two ends, where nothing of what one of them sent is: each step does to it what it does to all that is kept.
-use Rattle.std.proofs.Common.{◌≡◌, ℕ, ℤ, ◌+◌, ◌==◌, Bool, true, false, List, [], ◌∷◌, ◌++◌, length, Option, Some, None, Result, Ok, Err, refl, sym, ap, ◌∙◌, arith}
+use Rattle.std.proofs.Common.{◌≡◌, ℕ, ℤ, ◌+◌, ◌==◌, Bool, true, false, List, [], ◌∷◌, length, Option, Some, None, Result, Ok, Err, refl, ap, ◌∙◌, arith}
 use Rattle.std.specs.Prelude.{◌&&◌, filter_map, ok_or}
 use Rattle.std.proofs.lemmas.List.{length-append}
 use Rattle.tcap_msg.specs.declared.message.AbortReason.TheVariants.{Cause, Dialogue as ByDialogue}
@@ -33,7 +33,7 @@ use Rattle.tcap_check.specs.Replayed.{fault_at}
 use Rattle.tcap_check.specs.Outlines.{half_closed, invocation_ended}
 use Rattle.tcap_check.specs.Progress.{closings_kept, end_moved, end_tried, expiries_kept, first_answered, half_closes, ids_ended, ids_ended_over, invocation_ends, message_kept, moved, moves_with, or_still, seat_at, send_kept, sent_by, sent_or_not, waiting_with, with_seat_end, with_waiting}
 use Rattle.tcap_check.specs.Checking.{map_ok}
-use Rattle.tcap_check.specs.EndChecking.{all_lost}
+use Rattle.tcap_check.specs.Checking.{all_lost}
 
 -- ---- one step
 

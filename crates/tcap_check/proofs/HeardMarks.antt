@@ -1,6 +1,6 @@
 -- A quiet mark, over what is kept for one end, is that of its replay.
-use Rattle.std.proofs.Common.{◌≡◌, ℕ, suc, ◌+◌, Bool, true, false, List, [], ◌∷◌, ◌++◌, length, Option, Some, None, Result, Ok, Err, refl, sym, ap, ap₂, subst, ◌∙◌, arith, append-nil}
-use Rattle.std.specs.Prelude.{◌&&◌, ok_or, slice_get}
+use Rattle.std.proofs.Common.{◌≡◌, ℕ, suc, ◌+◌, Bool, true, false, List, [], ◌∷◌, length, Option, Some, Result, Ok, Err, refl, sym, ap, ap₂, subst, ◌∙◌, arith, append-nil}
+use Rattle.std.specs.Prelude.{◌&&◌, ok_or}
 use Rattle.tcap_record.specs.declared.entry.End.{End as Side}
 use Rattle.tcap_record.specs.declared.entry.End.TheVariants as sides
 use Rattle.tcap_end.specs.declared.fault.EndFault.{EndFault}
@@ -10,7 +10,7 @@ use Rattle.tcap_end.specs.End.{End, all_closed, nothing, quiet}
 use Rattle.tcap_end.specs.Hidden.{close, close_each, open_halves, quiet_unseen}
 use Rattle.tcap_end.specs.Table.{Table}
 use Rattle.tcap_end.specs.Step.{needs, ◌>>◌, ◌>>=◌}
-use Rattle.tcap_end.proofs.AnsweringLaws.{needs_ok, ok_same, some_ok, then_ok}
+use Rattle.tcap_end.proofs.AnsweringLaws.{needs_ok, ok_same, some_ok}
 use Rattle.tcap_check.specs.declared.fault.CheckFault.{CheckFault}
 use Rattle.tcap_model.specs.declared.reason.Reason.TheVariants.{NotQuiet}
 use Rattle.tcap_check.specs.declared.hearing.Hearing.{Hearing}
@@ -20,18 +20,18 @@ use Rattle.tcap_record.specs.Ends.{other}
 use Rattle.tcap_model.specs.World.{Item, OnItsWay, World, channel_from, end_at, with_end}
 use Rattle.tcap_model.specs.Run.{Event, Closes, Quiet, after}
 use Rattle.tcap_check.specs.Certificate.{Certificate}
-use Rattle.tcap_check.specs.Alone.{closed_at_mark}
-use Rattle.tcap_check.specs.Replayed.{Replay, fault_at, happens, is_nothing, lost_from_both, lost_from_front, next_entry, refused, stepped, with_step}
+use Rattle.tcap_check.specs.Replayed.{Replay, closed_at_mark, fault_at, happens, is_nothing, lost_from_both, lost_from_front, next_entry, stepped, with_step}
 use Rattle.tcap_check.specs.Progress.{both_quiet, is_empty, mark_kept, moved, seat_at, with_seat_end}
 use Rattle.tcap_check.specs.Checking.{count_lost, map_ok, progress_of, waiting}
 use Rattle.tcap_check.specs.Hearing.{mark_by, mark_taken, quieted, with_progress}
-use Rattle.tcap_check.specs.EndChecking.{all_lost, count_losses, hearing_of}
+use Rattle.tcap_check.specs.Checking.{all_lost, count_losses, hearing_of}
 use Rattle.tcap_model.proofs.RunLaws.{map_some, quiet as quiet_step}
 use Rattle.tcap_check.proofs.KeptBasics.{end_kept, waiting_kept}
-use Rattle.tcap_check.proofs.KeptEntries.{map_both, mark_by_is}
+use Rattle.tcap_check.proofs.KeptEntries.{mark_by_is}
 use Rattle.tcap_check.proofs.HeardLost.{end_is_moved, end_stays}
 use Rattle.tcap_check.proofs.HeardStays.{Stays, closes_stays, no_loss, stays_same, stays_then}
 use Rattle.tcap_check.proofs.HeardSteps.{end_step_heard, losing_heard, same_hearing}
+use Rattle.tcap_check.proofs.WorldLaws.{end_with}
 
 -- ---- the open halves close
 
@@ -51,10 +51,6 @@ record Closed (table : Table) (c : Certificate) (side : Side) (mark : ℕ) (name
 abbrev Closings : Table → Certificate → Side → ℕ → List HalfName → Replay → Result End EndFault → Type 0
 Closings table c side mark names r (Ok e) = Closed table c side mark names r e
 Closings table c side mark names r (Err reason) = closed_at_mark table side mark names r ≡ Err (fault_at NotQuiet mark)
-
-end_with : (side : Side) (e : End) (w : World) → end_at side (with_end side e w) ≡ e
-end_with sides.A e w = refl
-end_with sides.B e w = refl
 
 -- One step more.
 later_more : (side : Side) (first last : End) (n : ℕ) (p : Progress)

@@ -1,5 +1,5 @@
 -- A message of the end, or of its peer, over what is kept for the end, is that of its replay.
-use Rattle.std.proofs.Common.{◌≡◌, ◌⊎◌, inl, inr, ℕ, suc, ◌+◌, Bool, true, false, List, [], ◌∷◌, ◌++◌, map, drop, length, Option, Some, None, Result, Ok, Err, refl, sym, ap, ap₂, ◌∙◌, arith}
+use Rattle.std.proofs.Common.{◌≡◌, ℕ, suc, ◌+◌, Bool, true, false, List, [], ◌∷◌, ◌++◌, map, drop, length, Option, Some, None, Result, Ok, Err, refl, sym, ap, ap₂, ◌∙◌, arith}
 use Rattle.std.specs.Prelude.{slice_get}
 use Rattle.std.proofs.lemmas.List.{length-append, length-map}
 use Rattle.tcap_msg.specs.declared.message.Message.{Message}
@@ -22,19 +22,18 @@ use Rattle.tcap_model.specs.World.{OnItsWay, Sent, World, channel_from, end_at, 
 use Rattle.tcap_model.specs.Run.{Event, Sends, Receives, Replies, Loses, Expires, Closes, Quiet, Tells, after, joined, numbers_of}
 use Rattle.tcap_check.specs.Certificate.{Certificate}
 use Rattle.tcap_check.specs.Follows.{invoking_half, sending_by}
-use Rattle.tcap_check.specs.Alone.{all_lost_from}
-use Rattle.tcap_check.specs.Replayed.{Replay, fault_at, happens, if_lost, implied_over, is_abort, is_nothing, lost_from_front, lost_front, message_by, next_entry, reply_replayed, send_replayed, sent_or_refused, stepped, with_step}
-use Rattle.tcap_check.specs.Progress.{message_kept, sent_by}
+use Rattle.tcap_check.specs.Replayed.{Replay, all_lost_from, fault_at, happens, if_lost, implied_over, is_abort, is_nothing, lost_from_front, lost_front, message_by, next_entry, send_replayed, sent_or_refused, stepped, with_step}
 use Rattle.tcap_check.specs.Checking.{count_lost, lost_by, map_ok, progress_of, waiting, waiting_by}
 use Rattle.tcap_check.specs.Hearing.{own_counted, own_taken, told_taken, told_with, unheard_with}
-use Rattle.tcap_check.specs.EndChecking.{all_lost, count_losses, hearing_of}
+use Rattle.tcap_check.specs.Checking.{all_lost, count_losses, hearing_of}
 use Rattle.tcap_model.proofs.RunLaws.{map_some, reply}
 use Rattle.tcap_check.proofs.ReplaySteps.{channel_with}
 use Rattle.tcap_check.proofs.KeptMessages.{message_by_is}
 use Rattle.tcap_check.proofs.KeptSends.{joined_is, lost_more, lost_one}
 use Rattle.tcap_check.proofs.HeardLost.{message_lost, told_joins}
 use Rattle.tcap_check.proofs.HeardStays.{implied_over_stays, losses_both, no_loss}
-use Rattle.tcap_check.proofs.HeardSteps.{all_are_losses, apart, losing_heard, same_hearing}
+use Rattle.tcap_check.proofs.HeardSteps.{all_are_losses, losing_heard, same_hearing}
+use Rattle.tcap_check.proofs.WorldLaws.{own_with_channel, own_with_end}
 
 -- ---- what is on its way from the end is lost
 
@@ -132,10 +131,6 @@ pub peer_joined : (side : Side) (message : Message) (w : World) → channel_from
 peer_joined sides.A message w = refl
 peer_joined sides.B message w = refl
 
-own_with_end : (side : Side) (e : End) (w : World) → channel_from side (with_end side e w) ≡ channel_from side w
-own_with_end sides.A e w = refl
-own_with_end sides.B e w = refl
-
 pub peer_with_end : (side : Side) (e : End) (w : World) → channel_from (other side) (with_end side e w) ≡ channel_from (other side) w
 peer_with_end sides.A e w = refl
 peer_with_end sides.B e w = refl
@@ -198,11 +193,6 @@ head_waits fates (first ∷ channel) head more is = by (slice_get fates first.nu
     by (Some (Gap g)) at on e = here (Some (Gap g)) at refl e
     by (Some (By k)) at on e = here (Some (By k)) at refl e
     by (Some Lost) at on e = on e
-
-own_with_channel : (side : Side) (messages : List OnItsWay) (w : World)
-    → channel_from side (with_channel (other side) messages w) ≡ channel_from side w
-own_with_channel sides.A messages w = refl
-own_with_channel sides.B messages w = refl
 
 replies_one : (table : Table) (c : Certificate) (side : Side) (number entry : ℕ) (r next : Replay)
     → happens table c (Replies side number) BadReply entry r ≡ Ok next → OneMore side c r next

@@ -1,13 +1,12 @@
 -- Between entries nothing is on its way from the end: what it sends is lost at once, and a gap sends nothing.
-use Rattle.std.proofs.Common.{◌≡◌, ℕ, ◌+◌, ◌==◌, Bool, true, false, cond, List, [], ◌∷◌, ◌++◌, filter, length, Option, Some, None, Result, Ok, Err, refl, sym, ap, ◌∙◌}
+use Rattle.std.proofs.Common.{◌≡◌, ℕ, ◌+◌, ◌==◌, Bool, true, false, cond, List, [], ◌∷◌, filter, Option, Some, None, Result, Ok, Err, refl, sym, ap, ◌∙◌}
 use Rattle.std.specs.Prelude.{◌&&◌, not, ok_or, slice_get}
 use Rattle.tcap_msg.specs.declared.message.Message.{Message}
 use Rattle.tcap_record.specs.declared.entry.End.{End as Side}
 use Rattle.tcap_record.specs.declared.entry.End.TheVariants as sides
-use Rattle.tcap_end.specs.End.{End}
 use Rattle.tcap_end.specs.Hidden.{open_halves}
 use Rattle.tcap_end.specs.Table.{Table}
-use Rattle.tcap_end.specs.Step.{needs, ◌>>◌, ◌>>=◌}
+use Rattle.tcap_end.specs.Step.{◌>>◌}
 use Rattle.tcap_end.proofs.AnsweringLaws.{needs_ok, ok_same, some_ok, then_ok}
 use Rattle.tcap_check.specs.declared.certificate.Closing.{Closing}
 use Rattle.tcap_check.specs.declared.certificate.Expiry.{Expiry}
@@ -17,27 +16,20 @@ use Rattle.tcap_check.specs.declared.fault.CheckFault.{CheckFault}
 use Rattle.tcap_model.specs.declared.reason.Reason.{Reason}
 use Rattle.tcap_model.specs.declared.reason.Reason.TheVariants.{BadReply, FateCount, FateRange, NotQuiet, OutOfOrder}
 use Rattle.tcap_record.specs.Ends.{other}
-use Rattle.tcap_model.specs.World.{Item, OnItsWay, Sent, World, channel_from, end_at, is_side, with_channel, with_end}
+use Rattle.tcap_model.specs.World.{Item, Sent, channel_from, end_at, is_side, with_channel}
 use Rattle.tcap_model.specs.Run.{Loses, Quiet, Receives, Tells, after, joined}
 use Rattle.tcap_check.specs.Certificate.{Certificate}
 use Rattle.tcap_check.specs.Follows.{sending_by}
-use Rattle.tcap_check.specs.Alone.{all_lost_from, closed_at_mark, deliveries_heard, delivery_heard, entry_heard, gap_heard, heard, item_heard, mark_replayed, or_else, own_replayed, tied_to_next, told_replayed}
-use Rattle.tcap_check.specs.Replayed.{Replay, certificate_fits, closings_replayed, expiries_replayed, fault_at, is_gap, is_nothing, is_overtaking, lost_from_front, message_by, next_entry, nothing_replayed, stepped, with_step}
-use Rattle.tcap_check.specs.EndChecking.{heard_from, heard_next, heard_of}
+use Rattle.tcap_check.specs.Alone.{deliveries_heard, delivery_heard, entry_heard, gap_heard, item_heard, mark_replayed, own_replayed, tied_to_next}
+use Rattle.tcap_check.specs.Replayed.{Replay, all_lost_from, certificate_fits, closed_at_mark, closings_replayed, expiries_replayed, fault_at, heard, is_gap, is_nothing, is_overtaking, lost_from_front, message_by, next_entry, nothing_replayed, or_else, stepped, told_replayed, with_step}
+use Rattle.tcap_check.specs.Checking.{taken, taken_from, taken_next}
 use Rattle.tcap_model.proofs.RunLaws.{delivery, loss, map_some}
 use Rattle.tcap_check.proofs.HeardStays.{closings_stay, expiries_stay}
 use Rattle.tcap_check.proofs.HeardMarks.{quiet_empty}
 use Rattle.tcap_check.proofs.HeardMessages.{nothing_left, own_told}
+use Rattle.tcap_check.proofs.WorldLaws.{own_with_channel, own_with_end}
 
 -- ---- a gap
-
-with_other : (side : Side) (messages : List OnItsWay) (w : World) → channel_from side (with_channel (other side) messages w) ≡ channel_from side w
-with_other sides.A messages w = refl
-with_other sides.B messages w = refl
-
-with_own : (side : Side) (e : End) (w : World) → channel_from side (with_end side e w) ≡ channel_from side w
-with_own sides.A e w = refl
-with_own sides.B e w = refl
 
 -- A message of its peer that the end hears, or does not.
 heard_keeps : (side : Side) (table : Table) (c : Certificate) (n : ℕ) (r next : Replay) → heard table c side n r ≡ Ok next
@@ -45,7 +37,7 @@ heard_keeps : (side : Side) (table : Table) (c : Certificate) (n : ℕ) (r next 
 heard_keeps side table c n r next is =
     by (stepped table (Receives side n) before) refl
     (some_ok (or_else (stepped table (Receives side n) before) (stepped table (Loses (other side) n) before)) (fault_at BadReply n) next is)
-    ∙ with_other side _ r.world
+    ∙ own_with_channel side _ r.world
   where
     before : Replay
     before = lost_from_front c (other side) r
@@ -58,12 +50,12 @@ heard_keeps side table c n r next is =
         let step = map_some _ (after table event before.world) next (at ∙ found) in
         let d = delivery table side n before.world step.0 step.1 in
         ap (λ (x : Replay). channel_from side x.world) (sym step.2) ∙ ap (channel_from side) d.next_is
-        ∙ with_own side d.made (with_channel (other side) d.more before.world) ∙ with_other side d.more before.world
+        ∙ own_with_end side d.made (with_channel (other side) d.more before.world) ∙ own_with_channel side d.more before.world
     by None at found =
         let event = Loses (other side) n in
         let step = map_some _ (after table event before.world) next found in
         let l = loss table (other side) n before.world step.0 step.1 in
-        ap (λ (x : Replay). channel_from side x.world) (sym step.2) ∙ ap (channel_from side) l.next_is ∙ with_other side l.more before.world
+        ap (λ (x : Replay). channel_from side x.world) (sym step.2) ∙ ap (channel_from side) l.next_is ∙ own_with_channel side l.more before.world
 
 same_channel : (side : Side) (r next : Replay) → r ≡ next → channel_from side next.world ≡ channel_from side r.world
 same_channel side r next is = ap (λ (x : Replay). channel_from side x.world) (sym is)
@@ -104,7 +96,7 @@ own_empty : (side : Side) (table : Table) (c : Certificate) (message : Message) 
     → own_replayed table c side message r ≡ Ok next → channel_from side next.world ≡ []
 own_empty side table c message r next is =
     let gap = then_ok (gap_heard table c side r) _ next is in
-    let event = sending_by c (next_entry r) (Sent side message) (tied_to_next side c r) in
+    let event = sending_by c (next_entry gap.0) (Sent side message) (tied_to_next side c gap.0) in
     let sent = then_ok (message_by table c side message event gap.0) _ next gap.2 in
     same_channel side (all_lost_from side sent.0) next (ok_same {F = CheckFault} (all_lost_from side sent.0) next sent.2)
     ∙ nothing_left side sent.0
@@ -142,7 +134,7 @@ item_empty side table c fate (Sent sender message) r next is empty = by (is_side
     by false e = told_empty side table c fate message r next e empty
 
 entry_empty : (side : Side) (table : Table) (c : Certificate) (entry : Result Item Reason) (r next : Replay)
-    → heard_next side table c entry r ≡ Ok next → channel_from side r.world ≡ [] → channel_from side next.world ≡ []
+    → taken_next (Some side) table c entry r ≡ Ok next → channel_from side r.world ≡ [] → channel_from side next.world ≡ []
 entry_empty side table c entry r next is empty =
     let fate = then_ok (ok_or (slice_get c.fates (next_entry r)) (fault_at FateCount (next_entry r))) _ next is in by entry fate.0 fate.2
   where
@@ -151,10 +143,10 @@ entry_empty side table c entry r next is empty =
     by (Err reason) fate e = cc
 
 from_empty : (side : Side) (table : Table) (c : Certificate) (entries : List (Result Item Reason)) (r next : Replay)
-    → heard_from side table c entries r ≡ Ok next → channel_from side r.world ≡ [] → channel_from side next.world ≡ []
+    → taken_from (Some side) table c entries r ≡ Ok next → channel_from side r.world ≡ [] → channel_from side next.world ≡ []
 from_empty side table c [] r next is empty = same_channel side r next (ok_same {F = CheckFault} r next is) ∙ empty
 from_empty side table c (entry ∷ entries) r next is empty =
-    let one = then_ok (heard_next side table c entry r) _ next is in
+    let one = then_ok (taken_next (Some side) table c entry r) _ next is in
     from_empty side table c entries one.0 next one.2 (entry_empty side table c entry r one.0 one.1 empty)
 
 nothing_sent : (side : Side) → channel_from side nothing_replayed.world ≡ []
@@ -163,10 +155,10 @@ nothing_sent sides.B = refl
 
 -- Behind entries.
 pub heard_empty : (side : Side) (table : Table) (c : Certificate) (entries : List (Result Item Reason)) (r : Replay)
-    → heard_of side table c entries ≡ Ok r → channel_from side r.world ≡ []
+    → taken (Some side) table c entries ≡ Ok r → channel_from side r.world ≡ []
 heard_empty side table c entries r is = by (certificate_fits c) is
   where
-    by : (fits : Result (Unit {0}) CheckFault) → (fits >> heard_from side table c entries nothing_replayed) ≡ Ok r
+    by : (fits : Result (Unit {0}) CheckFault) → (fits >> taken_from (Some side) table c entries nothing_replayed) ≡ Ok r
         → channel_from side r.world ≡ []
     by (Ok done) e = from_empty side table c entries nothing_replayed r e (nothing_sent side)
     by (Err fault) e = cc

@@ -1,5 +1,5 @@
 -- What waits for an end behind entries is what is delivered to it, or taken, behind them; at the end nothing does.
-use Rattle.std.proofs.Common.{◌≡◌, ℕ, suc, ◌+◌, ◌==◌, arith, Bool, true, false, cond, nat_le, List, [], ◌∷◌, ◌++◌, drop, filter, length, Option, Some, None, Result, Ok, Err, refl, sym, ap, subst, ◌∙◌, append-nil}
+use Rattle.std.proofs.Common.{◌≡◌, ℕ, ◌+◌, ◌==◌, arith, Bool, true, false, cond, nat_le, List, [], ◌∷◌, ◌++◌, drop, filter, length, Option, Some, None, Result, Ok, Err, refl, sym, ap, subst, ◌∙◌, append-nil}
 use Rattle.std.specs.Prelude.{◌&&◌, not, ok_or, slice_get}
 use Rattle.std.proofs.lemmas.Bool.{eqb-false, eqb-true}
 use Rattle.std.proofs.lemmas.List.{length-append}
@@ -14,7 +14,7 @@ use Rattle.tcap_end.specs.End.{End}
 use Rattle.tcap_end.specs.Hidden.{open_halves}
 use Rattle.tcap_end.specs.Message.{send}
 use Rattle.tcap_end.specs.Table.{Table}
-use Rattle.tcap_end.specs.Step.{needs, ◌>>◌, ◌>>=◌}
+use Rattle.tcap_end.specs.Step.{◌>>◌, ◌>>=◌}
 use Rattle.tcap_end.proofs.AnsweringLaws.{needs_ok, ok_same, some_ok, then_ok}
 use Rattle.tcap_check.specs.declared.certificate.Closing.{Closing}
 use Rattle.tcap_check.specs.declared.certificate.Expiry.{Expiry}
@@ -26,26 +26,26 @@ use Rattle.tcap_model.specs.declared.reason.Reason.TheVariants.{BadReply, FateCo
 use Rattle.tcap_check.specs.declared.progress.Waiting.{Waiting}
 use Rattle.tcap_record.specs.Ends.{other}
 use Rattle.tcap_model.specs.World.{Item, OnItsWay, Sent, World, channel_from, end_at, is_side, with_channel, with_end}
-use Rattle.tcap_model.specs.Run.{Event, Closes, Sends, Receives, Replies, Loses, Quiet, Tells, after, joined}
+use Rattle.tcap_model.specs.Run.{Closes, Sends, Receives, Replies, Loses, Quiet, Tells, after, joined}
 use Rattle.tcap_check.specs.Certificate.{Certificate}
-use Rattle.tcap_check.specs.Follows.{FatesFit, invoking_half, sending_by, taken_by}
-use Rattle.tcap_check.specs.Alone.{all_lost_from, closed_at_mark, deliveries_heard, delivery_heard, entries_heard, entry_heard, gap_heard, heard, item_heard, mark_replayed, or_else, own_replayed, tied_to_next, told_replayed}
-use Rattle.tcap_check.specs.Replayed.{Replay, certificate_fits, closings_replayed, expiries_replayed, fault_at, happens, implied_over, is_abort, is_gap, is_nothing, is_overtaking, lost_from_front, lost_front, message_by, next_entry, nothing_replayed, send_replayed, sent_or_refused, stepped, with_step}
+use Rattle.tcap_check.specs.Follows.{FatesFit, invoking_half, sending_by}
+use Rattle.tcap_check.specs.Alone.{deliveries_heard, entries_heard, entry_heard, gap_heard, item_heard, mark_replayed, own_replayed, tied_to_next}
+use Rattle.tcap_check.specs.Replayed.{Replay, all_lost_from, certificate_fits, closed_at_mark, closings_replayed, expiries_replayed, fault_at, happens, heard, implied_over, is_abort, is_gap, is_nothing, is_overtaking, lost_from_front, lost_front, message_by, next_entry, nothing_replayed, or_else, send_replayed, sent_or_refused, stepped, told_replayed, with_step}
 use Rattle.tcap_check.specs.Checking.{waiting}
-use Rattle.tcap_check.specs.EndChecking.{heard_ended, heard_from, heard_next, heard_of}
+use Rattle.tcap_check.specs.Checking.{ended, taken, taken_from, taken_next}
 use Rattle.tcap_model.proofs.RunLaws.{delivery, loss, map_some, quiet as quiet_step, reply}
 use Rattle.tcap_check.proofs.PendingLaws.{IsAhead, ahead}
 use Rattle.tcap_check.proofs.ReplaySteps.{channel_with}
 use Rattle.tcap_check.proofs.ReplayEntries.{nothing_is}
-use Rattle.tcap_check.proofs.AloneReplays.{gap_leads, item_leads}
+use Rattle.tcap_check.proofs.AloneReplays.{gap_leads, item_leads, tied_behind}
 use Rattle.tcap_check.proofs.KeptCounts.{front_waits, head_waits, is_next, new_behind, new_by, not_next, one_waits}
 use Rattle.tcap_check.proofs.KeptPending.{both_ok, fit_by}
 use Rattle.tcap_check.proofs.HeardCounts.{count_told, none_behind, one_told, told_mark, told_more, told_replies}
-use Rattle.tcap_check.proofs.HeardEntries.{replayed_is}
+use Rattle.tcap_check.proofs.EntryLaws.{replayed_is}
 use Rattle.tcap_check.proofs.HeardMarks.{quiet_empty}
 use Rattle.tcap_check.proofs.HeardMessages.{peer_joined, peer_stays, peer_told, peer_with_end}
 use Rattle.tcap_check.proofs.HeardStays.{Stays, closes_stays, closings_stay, expiries_stay, implied_over_stays, stays_same, stays_then}
-use Rattle.tcap_check.proofs.HeardSteps.{apart, itself}
+use Rattle.tcap_check.proofs.WorldLaws.{itself}
 
 -- so many of its peer's messages wait for an end
 abbrev pub count_for : Side → Certificate → Replay → ℕ
@@ -321,17 +321,18 @@ module _ (table : Table) (c : Certificate) (side : Side) (r next : Replay) (fate
       → next.world.sent ≡ r.world.sent ++ Sent side message ∷ [] → Waits side c next
   own_entry message is sent =
       let gap = then_ok (gap_heard table c side r) _ next is in
-      let takes = tied_to_next side c r in
-      let made = then_ok (message_by table c side message (sending_by c n (Sent side message) takes) gap.0) _ next gap.2 in
+      let takes = tied_to_next side c gap.0 in
+      let made = then_ok (message_by table c side message (sending_by c (next_entry gap.0) (Sent side message) takes) gap.0) _ next gap.2 in
       let same = ok_same {F = CheckFault} (all_lost_from side made.0) next made.2 in
       let waits = behind_gap table c side r gap.0 fit old gap.1 in
-      let took = own_waits table c side n message takes gap.0 made.0 made.1 in
+      let took = own_waits table c side (next_entry gap.0) message takes gap.0 made.0 made.1 in
+      let tied = ap (length {A = ℕ}) (tied_behind side table c r gap.0 gap.1) in
       let left : count_for side c next ≡ count_for side c made.0 =
       ap (count_for side c) (sym same) ∙ ap (λ (x : List OnItsWay). length (waiting c.fates x)) (peer_stays side _ made.0.world) in
       behind_more side c r next (Sent side message) 0 sent
       (told_more (other side) (n + 1) c.fates r.world.sent side message fate has
       ∙ ap (λ (b : Bool). count_told (other side) (n + 1) (n + 1) c.fates r.world.sent + one_told b (n + 1) fate) (not_its side))
-      (omega (arith, waits, took, left))
+      (omega (arith, waits, took, left, tied))
     where
       not_its : (side : Side) → is_side (other side) side ≡ false
       not_its sides.A = refl
@@ -406,10 +407,10 @@ item_waits table c side fate item r next fit has old is = by item is (item_leads
             (subst (λ (x : Side). next.world.sent ≡ r.world.sent ++ Sent x message ∷ []) (told side sender so) sent)
 
 entries_wait : (table : Table) (c : Certificate) (side : Side) (entries : List (Result Item Reason)) (r next : Replay)
-    → FatesFit (length c.fates) 0 c.fates → Waits side c r → heard_from side table c entries r ≡ Ok next → Waits side c next
+    → FatesFit (length c.fates) 0 c.fates → Waits side c r → taken_from (Some side) table c entries r ≡ Ok next → Waits side c next
 entries_wait table c side [] r next fit old is = subst (Waits side c) (ok_same {F = CheckFault} r next is) old
 entries_wait table c side (entry ∷ entries) r next fit old is =
-    let one = then_ok (heard_next side table c entry r) (heard_from side table c entries) next is in
+    let one = then_ok (taken_next (Some side) table c entry r) (taken_from (Some side) table c entries) next is in
     let fate = then_ok (ok_or (slice_get c.fates (next_entry r)) (fault_at FateCount (next_entry r))) _ one.0 one.1 in
     let has = some_ok (slice_get c.fates (next_entry r)) (fault_at FateCount (next_entry r)) fate.0 fate.1 in
     entries_wait table c side entries one.0 next fit (by entry fate.0 one.0 has fate.2) one.2
@@ -443,8 +444,8 @@ pub nothing_waits : (side : Side) (table : Table) (c : Certificate) (entries : L
     → waiting c.fates (channel_from (other side) r.world) ≡ []
 unfolding Waits
 nothing_waits side table c entries r is =
-    let all = then_ok (heard_of side table c entries) (heard_ended side table c) r (sym (replayed_is side table c entries) ∙ is) in
-    let both = both_ok (certificate_fits c) (heard_from side table c entries nothing_replayed) all.1 in
+    let all = then_ok (taken (Some side) table c entries) (ended (Some side) table c) r (sym (replayed_is (Some side) table c entries) ∙ is) in
+    let both = both_ok (certificate_fits c) (taken_from (Some side) table c entries nothing_replayed) all.1 in
     let fit = fit_by c both.0 in
     let before = all.0 in
     let waits = entries_wait table c side entries nothing_replayed before fit (none_yet side c) both.1 in

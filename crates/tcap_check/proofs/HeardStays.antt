@@ -1,5 +1,5 @@
 -- What happens unseen in a replay: nothing is lost, sent or taken, and each channel stays as it is.
-use Rattle.std.proofs.Common.{◌≡◌, ℕ, ℤ, ◌+◌, Bool, true, false, cond, List, [], ◌∷◌, ◌++◌, filter, length, Option, Some, None, Result, Ok, refl, sym, ap, subst, ◌∙◌, arith}
+use Rattle.std.proofs.Common.{◌≡◌, ℕ, ℤ, ◌+◌, Bool, true, false, cond, List, [], ◌∷◌, ◌++◌, filter, length, Option, Some, None, Ok, refl, sym, ap, subst, ◌∙◌, arith}
 use Rattle.std.specs.Prelude.{filter_map, ok_or, slice_get}
 use Rattle.tcap_msg.specs.declared.message.Message.{Message}
 use Rattle.tcap_msg.specs.declared.message.Message.TheVariants.{Unidirectional, Begin, Continue, End as EndMessage, Abort}
@@ -11,22 +11,20 @@ use Rattle.tcap_end.specs.declared.half.HalfName.{HalfName}
 use Rattle.tcap_end.specs.declared.half.HalfName.TheVariants as names
 use Rattle.tcap_end.specs.End.{End}
 use Rattle.tcap_end.specs.Table.{Table}
-use Rattle.tcap_end.specs.Step.{◌>>=◌}
 use Rattle.tcap_end.proofs.AnsweringLaws.{ok_same, some_ok, then_ok}
 use Rattle.tcap_check.specs.declared.certificate.Closing.{Closing}
 use Rattle.tcap_check.specs.declared.certificate.Expiry.{Expiry}
 use Rattle.tcap_check.specs.declared.fault.CheckFault.{CheckFault}
 use Rattle.tcap_model.specs.declared.reason.Reason.{Reason}
 use Rattle.tcap_model.specs.declared.reason.Reason.TheVariants.{FateRange, HiddenRefused}
-use Rattle.tcap_record.specs.Ends.{other}
-use Rattle.tcap_model.specs.World.{Item, OnItsWay, Sent, World, channel_from, is_side, with_end}
+use Rattle.tcap_model.specs.World.{Item, Sent, World, channel_from, is_side, with_end}
 use Rattle.tcap_model.specs.Run.{Event, Closes, Expires, after, then_so}
 use Rattle.tcap_check.specs.Certificate.{Certificate}
 use Rattle.tcap_model.specs.Since.{originating}
 use Rattle.tcap_check.specs.Follows.{closing_by, closing_event, expiry_by, expiry_event, half_begun, invoke_id, named_entry}
 use Rattle.tcap_check.specs.Alone.{is_lost_from}
 use Rattle.tcap_check.specs.Replayed.{Replay, closings_replayed, expiries_replayed, fault_at, happens, implied, implied_over, or_same, stepped, with_step}
-use Rattle.tcap_check.specs.EndChecking.{count_losses}
+use Rattle.tcap_check.specs.Checking.{count_losses}
 use Rattle.tcap_model.proofs.RunLaws.{closing, expiry, map_some, some_is, then_some, where_some}
 
 -- ---- losses
@@ -94,6 +92,34 @@ end_step_stays event at e r next w none w_is is = record {
 
 -- ---- what is listed
 
+-- What holds of each closing holds of what is listed as one, and the same of expiries.
+pub of_closing : (P : Event → Type 0) → ((side : Side) (name : HalfName) → P (Closes side name))
+    → (items : List Item) (x : Closing) (event : Event) → closing_event items x ≡ Some event → P event
+of_closing P closes items x event is =
+    let found = then_some (named_entry items x.gap x.entry) (closing_by x) event is in by found.0 found.2
+  where
+    by : (item : Item) → closing_by x item ≡ Some event → P event
+    by (Sent sender (Begin otid dialogue components)) e =
+        subst P (some_is e) (closes x.side (half_begun x.side sender otid))
+    by (Sent sender (Unidirectional dialogue components)) e = cc
+    by (Sent sender (Continue otid dtid dialogue components)) e = cc
+    by (Sent sender (EndMessage dtid dialogue components)) e = cc
+    by (Sent sender (Abort dtid reason)) e = cc
+    by Item.Quiet e = cc
+
+pub of_expiry : (P : Event → Type 0) → ((side : Side) (name : HalfName) (id : ℤ) → P (Expires side name id))
+    → (items : List Item) (x : Expiry) (event : Event) → expiry_event items x ≡ Some event → P event
+of_expiry P expires items x event is =
+    let found = then_some (named_entry items x.gap x.entry) (expiry_by x) event is in by found.0 found.2
+  where
+    by : (item : Item) → expiry_by x item ≡ Some event → P event
+    by (Sent sender message) e =
+        let so = where_some (is_side x.side sender) _ event e in
+        let named = then_some (originating message) _ event so.1 in
+        let id = then_some (then_so (slice_get (components_in message) x.component) invoke_id) _ event named.2 in
+        subst P (some_is id.2) (expires x.side (names.Own named.0) id.0)
+    by Item.Quiet e = cc
+
 abbrev IsUnseen : Event → Type 0
 IsUnseen event = (table : Table) (c : Certificate) (reason : Reason) (entry : ℕ) (r next : Replay)
     → happens table c event reason entry r ≡ Ok next → Stays r next
@@ -122,31 +148,6 @@ expires_unseen : (at : Side) (name : HalfName) (id : ℤ) → IsUnseen (Expires 
 expires_unseen at name id table c reason entry r next is =
     expires_stays table at name id r next (some_ok (stepped table (Expires at name id) r) (fault_at reason entry) next is)
 
-closing_unseen : (items : List Item) (x : Closing) (event : Event) → closing_event items x ≡ Some event → IsUnseen event
-closing_unseen items x event is =
-    let found = then_some (named_entry items x.gap x.entry) (closing_by x) event is in by found.0 found.2
-  where
-    by : (item : Item) → closing_by x item ≡ Some event → IsUnseen event
-    by (Sent sender (Begin otid dialogue components)) e =
-        subst IsUnseen (some_is e) (closes_unseen x.side (half_begun x.side sender otid))
-    by (Sent sender (Unidirectional dialogue components)) e = cc
-    by (Sent sender (Continue otid dtid dialogue components)) e = cc
-    by (Sent sender (EndMessage dtid dialogue components)) e = cc
-    by (Sent sender (Abort dtid reason)) e = cc
-    by Item.Quiet e = cc
-
-expiry_unseen : (items : List Item) (x : Expiry) (event : Event) → expiry_event items x ≡ Some event → IsUnseen event
-expiry_unseen items x event is =
-    let found = then_some (named_entry items x.gap x.entry) (expiry_by x) event is in by found.0 found.2
-  where
-    by : (item : Item) → expiry_by x item ≡ Some event → IsUnseen event
-    by (Sent sender message) e =
-        let so = where_some (is_side x.side sender) _ event e in
-        let named = then_some (originating message) _ event so.1 in
-        let id = then_some (then_so (slice_get (components_in message) x.component) invoke_id) _ event named.2 in
-        subst IsUnseen (some_is id.2) (expires_unseen x.side (names.Own named.0) id.0)
-    by Item.Quiet e = cc
-
 pub closings_stay : (table : Table) (c : Certificate) (listed : List Closing) (r next : Replay)
     → closings_replayed table c listed r ≡ Ok next → Stays r next
 closings_stay table c [] r next is = stays_same r next (ok_same {F = CheckFault} r next is)
@@ -155,7 +156,7 @@ closings_stay table c (x ∷ more) r next is =
     let named = some_ok (closing_event r.world.sent x) (fault_at FateRange x.entry) found.0 found.1 in
     let then = then_ok (happens table c found.0 (HiddenRefused faults.CannotClose) x.entry r) _ next found.2 in
     stays_then r then.0 next
-    (closing_unseen r.world.sent x found.0 named table c (HiddenRefused faults.CannotClose) x.entry r then.0 then.1)
+    (of_closing IsUnseen closes_unseen r.world.sent x found.0 named table c (HiddenRefused faults.CannotClose) x.entry r then.0 then.1)
     (closings_stay table c more then.0 next then.2)
 
 pub expiries_stay : (table : Table) (c : Certificate) (listed : List Expiry) (r next : Replay)
@@ -166,7 +167,7 @@ expiries_stay table c (x ∷ more) r next is =
     let named = some_ok (expiry_event r.world.sent x) (fault_at FateRange x.entry) found.0 found.1 in
     let then = then_ok (happens table c found.0 (HiddenRefused faults.CannotExpire) x.entry r) _ next found.2 in
     stays_then r then.0 next
-    (expiry_unseen r.world.sent x found.0 named table c (HiddenRefused faults.CannotExpire) x.entry r then.0 then.1)
+    (of_expiry IsUnseen expires_unseen r.world.sent x found.0 named table c (HiddenRefused faults.CannotExpire) x.entry r then.0 then.1)
     (expiries_stay table c more then.0 next then.2)
 
 -- ---- what a message implies

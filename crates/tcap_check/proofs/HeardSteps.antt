@@ -1,15 +1,14 @@
 -- What is kept of a replay for one end, and its single steps.
-use Rattle.std.proofs.Common.{◌≡◌, ℕ, ◌+◌, Bool, true, false, cond, List, [], ◌∷◌, ◌++◌, map, length, drop, refl, sym, ap, ap₂, ◌∙◌, arith}
+use Rattle.std.proofs.Common.{◌≡◌, ℕ, ◌+◌, false, List, [], ◌∷◌, ◌++◌, map, length, drop, refl, sym, ap, ap₂, ◌∙◌, arith}
 use Rattle.std.proofs.lemmas.List.{length-append}
 use Rattle.tcap_record.specs.declared.entry.End.{End as Side}
 use Rattle.tcap_record.specs.declared.entry.End.TheVariants as sides
 use Rattle.tcap_end.specs.End.{End}
-use Rattle.tcap_check.specs.declared.certificate.Fate.{Fate}
 use Rattle.tcap_check.specs.declared.hearing.Hearing.{Hearing}
 use Rattle.tcap_check.specs.declared.progress.Progress.{Progress}
 use Rattle.tcap_check.specs.declared.progress.Waiting.{Waiting}
 use Rattle.tcap_record.specs.Ends.{other}
-use Rattle.tcap_model.specs.World.{OnItsWay, World, channel_from, is_side, with_channel, with_end}
+use Rattle.tcap_model.specs.World.{OnItsWay, World, channel_from, with_channel, with_end}
 use Rattle.tcap_model.specs.Run.{Event, Loses}
 use Rattle.tcap_check.specs.Certificate.{Certificate}
 use Rattle.tcap_check.specs.Alone.{is_lost_from}
@@ -17,20 +16,13 @@ use Rattle.tcap_check.specs.Replayed.{Replay, lost_from_front, lost_front, with_
 use Rattle.tcap_check.specs.Progress.{moved, with_seat_end, with_waiting}
 use Rattle.tcap_check.specs.Checking.{count_lost, progress_of}
 use Rattle.tcap_check.specs.Hearing.{with_progress}
-use Rattle.tcap_check.specs.EndChecking.{all_lost, count_losses, hearing_of}
+use Rattle.tcap_check.specs.Checking.{all_lost, count_losses, hearing_of}
 use Rattle.tcap_check.proofs.KeptBasics.{HasFront, counted_front, end_step_is, head_taken_is, losing_is}
 use Rattle.tcap_check.proofs.HeardLost.{end_is_moved, moved_is, waiting_is}
 use Rattle.tcap_check.proofs.HeardStays.{Stays, losses_both, no_loss}
+use Rattle.tcap_check.proofs.WorldLaws.{apart, itself, own_with_channel}
 
 -- ---- sides
-
-pub apart : (side : Side) → is_side side (other side) ≡ false
-apart sides.A = refl
-apart sides.B = refl
-
-pub itself : (side : Side) → is_side side side ≡ true
-itself sides.A = refl
-itself sides.B = refl
 
 -- ---- losses
 
@@ -106,11 +98,6 @@ lost_step_heard side c number r =
     (omega (arith, both, one))
 
 -- ---- the front of its peer's channel
-
-own_with_channel : (side : Side) (messages : List OnItsWay) (w : World)
-    → channel_from side (with_channel (other side) messages w) ≡ channel_from side w
-own_with_channel sides.A messages w = refl
-own_with_channel sides.B messages w = refl
 
 peer_with_channel : (side : Side) (messages : List OnItsWay) (w : World)
     → channel_from (other side) (with_channel (other side) messages w) ≡ messages

@@ -1,5 +1,5 @@
 -- Messages that an end hears, one after the other: what is left, and what it does to what is kept now, tell of all.
-use Rattle.std.proofs.Common.{◌≡◌, ℕ, ◌+◌, ◌^◌, ◌<◌, ◌≤◌, ◌==◌, Bool, true, false, List, [], ◌∷◌, length, drop, Option, Some, None, Result, Ok, Err, refl, sym, ap, subst, ◌∙◌, arith}
+use Rattle.std.proofs.Common.{◌≡◌, ℕ, ◌+◌, ◌^◌, ◌<◌, ◌≤◌, ◌==◌, List, [], ◌∷◌, length, drop, Some, Result, Ok, Err, refl, sym, ap, subst, ◌∙◌, arith}
 use Rattle.std.specs.Prelude.{OnOk, slice_get}
 use Rattle.std.proofs.lemmas.Bool.{eq-eqb, ne_eqb}
 use Rattle.tcap_record.specs.declared.entry.End.{End as Side}
@@ -7,7 +7,6 @@ use Rattle.tcap_record.specs.declared.entry.End.TheVariants as sides
 use Rattle.tcap_end.specs.declared.fault.EndFault.{EndFault}
 use Rattle.tcap_end.specs.End.{End}
 use Rattle.tcap_end.specs.Message.{receive}
-use Rattle.tcap_end.specs.Step.{needs, ◌>>◌, ◌>>=◌}
 use Rattle.tcap_end.proofs.AnsweringLaws.{needs_ok, ok_same, then_ok}
 use Rattle.tcap_check.specs.declared.fault.CheckFault.{CheckFault}
 use Rattle.tcap_model.specs.declared.reason.Reason.TheVariants.{BadReply}
@@ -18,9 +17,9 @@ use Rattle.tcap_check.specs.declared.hearing.Hearing.{Hearing}
 use Rattle.tcap_check.specs.declared.outline.Outline.{Outline}
 use Rattle.tcap_record.specs.Ends.{other}
 use Rattle.tcap_check.specs.Replayed.{fault_at}
-use Rattle.tcap_check.specs.Progress.{IsTakenFrom, YieldsInMemory, moved, seat_at, with_seat_end, with_waiting}
+use Rattle.tcap_check.specs.Progress.{IsTakenFrom, YieldsInMemory, seat_at, with_waiting}
 use Rattle.tcap_check.specs.Hearing.{all_heard, first_heard, heard_or_dropped, is_told, message_heard, received_or_dropped, told_among, with_progress}
-use Rattle.tcap_check.proofs.KeptGrowth.{some_listed}
+use Rattle.tcap_check.proofs.KeptGrowth.{some_listed, waiting_moves}
 
 -- What the numbers from that index on do to what is kept now is what all do to what was kept first; there is room for them.
 pub record Listening (table : Table) (side : Side) (entries : List Outline) (first : Hearing) (numbers : List ℕ)
@@ -71,10 +70,6 @@ pub counts_more : (side : Side) (p : Progress) (h : Hearing) (o : Result End End
 counts_more sides.A p h (Ok e) = (refl, omega arith, refl)
 counts_more sides.B p h (Ok e) = (refl, omega arith, refl)
 counts_more side p h (Err reason) = (refl, omega arith, refl)
-
-waiting_moves : (side : Side) (messages : List Waiting) (p : Progress) → (with_waiting side messages p).moves ≡ p.moves
-waiting_moves sides.A messages p = refl
-waiting_moves sides.B messages p = refl
 
 -- A message that is heard is one step.
 pub heard_counts : (table : Table) (side : Side) (number : ℕ) (messages : List Waiting) (h next : Hearing)

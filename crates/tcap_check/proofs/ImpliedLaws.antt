@@ -44,6 +44,7 @@ use Rattle.tcap_check.specs.Replayed.{Replay, implied, or_same, stepped, with_st
 use Rattle.tcap_model.proofs.RunLaws.{expiry}
 use Rattle.tcap_model.proofs.ListLaws.{contains_first}
 use Rattle.tcap_check.proofs.ExpiryLaws.{Expire, all_in_use, ends_in_use, expires_first, in_use, not_in_use, one_of_them}
+use Rattle.tcap_check.proofs.WorldLaws.{end_with}
 
 -- ---- what a send needs
 
@@ -224,11 +225,6 @@ is_expiry side message name (Expires other half id) is over =
 is_expiry side message name (Closes other half) is over = absurd is
 is_expiry side message name Quiet is over = absurd is
 is_expiry side message name (Tells sender m) is over = absurd is
-
--- The end behind a change.
-end_with : (side : Side) (e : End) (w : World) → end_at side (with_end side e w) ≡ e
-end_with sides.A e w = refl
-end_with sides.B e w = refl
 
 -- The end as it is changes nothing.
 with_same : (side : Side) (w : World) → with_end side (end_at side w) w ≡ w

@@ -24,6 +24,7 @@ use Rattle.tcap_check.specs.Progress.{end_moved, first_delivered, moved, seat_at
 use Rattle.tcap_check.specs.Checking.{count_lost, latest_of, lost_by, map_ok, progress_of, waiting, waiting_by}
 use Rattle.std.proofs.lemmas.List.{length-append, length-map}
 use Rattle.tcap_check.proofs.ReplaySteps.{channel_with}
+use Rattle.tcap_check.proofs.KeptCounts.{front_waits}
 
 -- What is kept of an end.
 pub seat_is : (c : Certificate) (side : Side) (r : Replay) → seat_at side (progress_of c r)
@@ -50,21 +51,6 @@ end_step_is c side event e r = by side
     by sides.B = ap (λ (n : ℕ). let p : Progress = record (progress_of c (with_step event r (with_end sides.B e r.world))) { moves = n } in p) counted
 
 -- ---- the front of a channel
-
--- What is lost at the front is not kept,
-waiting_front : (fates : List Fate) (channel : List OnItsWay)
-    → waiting fates (drop (length (lost_front fates channel)) channel) ≡ waiting fates channel
-waiting_front fates [] = refl
-waiting_front fates (first ∷ more) = by (slice_get fates first.number) refl (waiting_front fates more)
-  where
-    by : (o : Option Fate) → slice_get fates first.number ≡ o
-        → waiting fates (drop (length (lost_front fates more)) more) ≡ waiting fates more
-        → waiting fates (drop (length (if_lost o (first.number ∷ lost_front fates more))) (first ∷ more))
-        ≡ waiting_by o first (waiting fates more)
-    by None at is = rw at refl
-    by (Some (Gap g)) at is = rw at refl
-    by (Some (By k)) at is = rw at refl
-    by (Some Lost) at is = is
 
 -- and it was counted.
 pub counted_front : (fates : List Fate) (channel : List OnItsWay)
@@ -99,7 +85,7 @@ losing_is c side r = by side
         ≡ length r.events + (count_lost c.fates r.world.from_a + count_lost c.fates r.world.from_b) = omega (arith, one, two) in
         ap₂ (λ (messages : List Waiting) (n : ℕ).
         let p : Progress = record (progress_of c r) { a = record (progress_of c r).a { waiting = messages }; moves = n } in p)
-        (waiting_front c.fates r.world.from_a) moves
+        (front_waits c.fates r.world.from_a) moves
     by sides.B =
         let lost = lost_front c.fates r.world.from_b in
         let left = drop (length lost) r.world.from_b in
@@ -109,7 +95,7 @@ losing_is c side r = by side
         ≡ length r.events + (count_lost c.fates r.world.from_a + count_lost c.fates r.world.from_b) = omega (arith, one, two) in
         ap₂ (λ (messages : List Waiting) (n : ℕ).
         let p : Progress = record (progress_of c r) { b = record (progress_of c r).b { waiting = messages }; moves = n } in p)
-        (waiting_front c.fates r.world.from_b) moves
+        (front_waits c.fates r.world.from_b) moves
 
 pub losing_both_is : (c : Certificate) (r : Replay) → progress_of c (lost_from_both c r) ≡ progress_of c r
 losing_both_is c r = losing_is c sides.B (lost_from_front c sides.A r) ∙ losing_is c sides.A r

@@ -1,6 +1,6 @@
--- A checker's steps, over what is kept, are those of the replay, entry by entry.
-use Rattle.std.proofs.Common.{◌≡◌, ℕ, ◌+◌, ◌==◌, Bool, true, false, List, [], ◌∷◌, ◌++◌, length, Option, Some, None, Result, Ok, Err, refl, sym, ap, ap₂, subst, ◌∙◌, arith, zero-add, append-nil}
-use Rattle.std.specs.Prelude.{◌&&◌, filter, not, ok_or, slice_get}
+-- A checker's steps, over what is kept of both ends, are those of the replay, entry by entry.
+use Rattle.std.proofs.Common.{◌≡◌, ℕ, ◌+◌, ◌==◌, Bool, true, false, List, [], ◌∷◌, ◌++◌, length, Some, None, Result, Ok, Err, refl, ap, ap₂, subst, ◌∙◌, arith, append-nil}
+use Rattle.std.specs.Prelude.{◌&&◌, filter, not, slice_get}
 use Rattle.std.proofs.lemmas.List.{length-append}
 use Rattle.tcap_record.specs.declared.entry.End.{End as Side}
 use Rattle.tcap_record.specs.declared.entry.End.TheVariants as sides
@@ -10,8 +10,7 @@ use Rattle.tcap_end.specs.End.{End, quiet}
 use Rattle.tcap_end.specs.Step.{needs, ◌>>◌, ◌>>=◌}
 use Rattle.tcap_check.specs.declared.certificate.Fate.{Fate}
 use Rattle.tcap_check.specs.declared.fault.CheckFault.{CheckFault}
-use Rattle.tcap_model.specs.declared.reason.Reason.{Reason}
-use Rattle.tcap_model.specs.declared.reason.Reason.TheVariants.{FateCount, FateRange, NotQuiet, OutOfOrder}
+use Rattle.tcap_model.specs.declared.reason.Reason.TheVariants.{FateRange, NotQuiet, OutOfOrder}
 use Rattle.tcap_check.specs.declared.outline.Outline.{Outline}
 use Rattle.tcap_check.specs.declared.progress.Progress.{Progress}
 use Rattle.tcap_check.specs.declared.progress.Waiting.{Waiting}
@@ -19,10 +18,12 @@ use Rattle.tcap_model.specs.World.{Item, Sent}
 use Rattle.tcap_model.specs.Run.{Quiet}
 use Rattle.tcap_check.specs.Certificate.{Certificate}
 use Rattle.tcap_check.specs.Follows.{taken_by}
-use Rattle.tcap_check.specs.Replayed.{Replay, certificate_fits, closings_replayed, deliveries_replayed, entries_replayed, entry_replayed, expiries_replayed, fault_at, gap_replayed, happens, is_gap, is_nothing, is_overtaking, item_replayed, lost_from_both, lost_from_front, message_replayed, next_entry, nothing_replayed}
+use Rattle.tcap_check.specs.Replayed.{Replay, closings_replayed, deliveries_replayed, expiries_replayed, fault_at, gap_replayed, happens, is_gap, is_nothing, is_overtaking, item_replayed, lost_from_both, lost_from_front, message_replayed, next_entry}
 use Rattle.tcap_check.specs.Outlines.{is_named, outline_of, outlines_from, since_from}
 use Rattle.tcap_check.specs.Progress.{both_quiet, closings_kept, deliveries_kept, due_in, expiries_kept, gap_kept, is_empty, mark_kept, message_kept, moved, overtakes, seat_at, with_seat_end}
-use Rattle.tcap_check.specs.Checking.{Checking, Kept, Took, count_lost, ended, entry_kept, item_kept, kept_ended, kept_next, kept_of, kept_with, latest_of, map_ok, progress_of, taken, taken_from, taken_next, waiting}
+use Rattle.tcap_check.specs.declared.hearing.Hearing.{Hearing}
+use Rattle.tcap_check.specs.Checking.{Kept, count_lost, gap_before, hearing_by, item_kept, kept_of, latest_of, map_ok, progress_of, waiting}
+use Rattle.tcap_check.specs.Hearing.{with_progress}
 use Rattle.tcap_check.proofs.ReplayLaws.{gap_replays}
 use Rattle.tcap_check.proofs.ReplayEntries.{item_replays}
 use Rattle.tcap_check.proofs.ReplaySteps.{replays_then}
@@ -240,46 +241,34 @@ since_more since n (Item.Quiet ∷ items) item =
     since_more (n + 1) (n + 1) items item
     ∙ ap (λ (k : ℕ). since_from (since_from (n + 1) (n + 1) items) k (item ∷ [])) same
 
--- What is kept of an entry more.
-kept_more : (c : Certificate) (item : Item) (r next : Replay) → next.world.sent ≡ r.world.sent ++ item ∷ []
-    → kept_with c item (kept_of c r) (progress_of c next) ≡ kept_of c next
-kept_more c item r next sent =
-    ap₂ (λ (entries : List Outline) (since : ℕ).
-    let k : Kept = record { progress = progress_of c next; entries = entries; since = since } in k) entries since
-  where
-    items : List Item
-    items = r.world.sent
-
-    -- the number of the entry, counted over the outlines
-    count : 0 + length items ≡ length (outlines_from c 0 items)
-    count = zero-add (length items) ∙ sym (outlines_count c 0 items)
-
-    entries : outlines_from c 0 items ++ outline_of (is_named c (length (outlines_from c 0 items))) item ∷ []
-        ≡ outlines_from c 0 next.world.sent
-    entries = sym (ap (outlines_from c 0) sent ∙ outlines_more c 0 items item
-        ∙ ap (λ (k : ℕ). outlines_from c 0 items ++ outline_of (is_named c k) item ∷ []) count)
-
-    since : since_from (since_from 0 0 items) (length (outlines_from c 0 items)) (item ∷ [])
-        ≡ since_from 0 0 next.world.sent
-    since = sym (ap (since_from 0 0) sent ∙ since_more 0 0 items item
-        ∙ ap (λ (k : ℕ). since_from (since_from 0 0 items) k (item ∷ [])) count)
-
 -- A gap sends nothing.
 gap_sends_nothing : (table : Table) (c : Certificate) (r next : Replay) → gap_replayed table c r ≡ Ok next
     → next.world.sent ≡ r.world.sent
 gap_sends_nothing table c r next is = (gap_replays table c r next is).2.sent ∙ append-nil r.world.sent
 
-item_sends : (table : Table) (c : Certificate) (fate : Fate) (item : Item) (r next : Replay)
+pub item_sends : (table : Table) (c : Certificate) (fate : Fate) (item : Item) (r next : Replay)
     → slice_get c.fates (next_entry r) ≡ Some fate
     → item_replayed table c fate item r ≡ Ok next → next.world.sent ≡ r.world.sent ++ item ∷ []
 item_sends table c fate item r next has is =
     let one = item_replays table c fate item r next has is in
     (replays_then table r one.mid next one.here _ [] (item ∷ []) one.gap one.sent.replays).sent
 
-item_is : (table : Table) (c : Certificate) (fate : Fate) (item : Item) (r : Replay)
+-- the steps of an entry over the progress of both ends
+abbrev both_kept : Table → Certificate → Fate → Item → List Outline → ℕ → Progress → Result Progress CheckFault
+both_kept table c fate (Sent side message) entries since p =
+    needs (not (overtakes fate (seat_at side p))) (fault_at OutOfOrder (length entries))
+    >> gap_kept table c entries since p
+    >>= message_kept table side fate (length entries) message (taken_by (length entries) 0 c.fates)
+both_kept table c fate Item.Quiet entries since p =
+    needs (is_gap (length entries + 1) fate) (fault_at FateRange (length entries))
+    >> gap_kept table c entries since p
+    >>= mark_kept (length entries) (taken_by (length entries) 0 c.fates)
+
+both_is : (table : Table) (c : Certificate) (fate : Fate) (item : Item) (r : Replay)
     → slice_get c.fates (next_entry r) ≡ Some fate
-    → item_kept table c fate item (kept_of c r) ≡ map_ok (progress_of c) (item_replayed table c fate item r)
-item_is table c fate (Sent side message) r has =
+    → both_kept table c fate item (outlines_from c 0 r.world.sent) (since_from 0 0 r.world.sent) (progress_of c r)
+    ≡ map_ok (progress_of c) (item_replayed table c fate item r)
+both_is table c fate (Sent side message) r has =
     ap (λ (k : ℕ). needs (not (overtakes fate (seat_at side (progress_of c r)))) (fault_at OutOfOrder k)
     >> gap_kept table c (outlines_from c 0 r.world.sent) (since_from 0 0 r.world.sent) (progress_of c r)
     >>= message_kept table side fate k message (taken_by k 0 c.fates)) (outlines_count c 0 r.world.sent)
@@ -307,7 +296,7 @@ item_is table c fate (Sent side message) r has =
     by true = then_is (progress_of c) (gap_replayed table c r)
         (message_kept table side fate n message (taken_by n 0 c.fates)) (message_replayed table c side message) behind
     by false = refl
-item_is table c fate Item.Quiet r has =
+both_is table c fate Item.Quiet r has =
     ap (λ (k : ℕ). needs (is_gap (k + 1) fate) (fault_at FateRange k)
     >> gap_kept table c (outlines_from c 0 r.world.sent) (since_from 0 0 r.world.sent) (progress_of c r)
     >>= mark_kept k (taken_by k 0 c.fates)) (outlines_count c 0 r.world.sent)
@@ -337,104 +326,42 @@ item_is table c fate Item.Quiet r has =
     by true = then_is (progress_of c) (gap_replayed table c r) (mark_kept n (taken_by n 0 c.fates)) mark behind
     by false = refl
 
-entry_is : (table : Table) (c : Certificate) (fate : Fate) (entry : Result Item Reason) (r : Replay)
+-- ---- what is kept beside the progress stays
+
+over_progress : (h : Hearing) (b : Bool) (fault : CheckFault) (step : Result Progress CheckFault) (on : Progress → Result Progress CheckFault)
+    → (needs b fault >> map_ok (with_progress h) step >>= λ x. map_ok (with_progress x) (on x.progress))
+    ≡ map_ok (with_progress h) (needs b fault >> step >>= on)
+over_progress h false fault step on = refl
+over_progress h true fault (Err reason) on = refl
+over_progress h true fault (Ok p) on = by (on p)
+  where
+    by : (o : Result Progress CheckFault) → map_ok (with_progress (with_progress h p)) o ≡ map_ok (with_progress h) o
+    by (Ok q) = refl
+    by (Err reason) = refl
+
+item_over : (table : Table) (c : Certificate) (fate : Fate) (item : Item) (k : Kept)
+    → item_kept None table c fate item k
+    ≡ map_ok (with_progress k.hearing) (both_kept table c fate item k.entries k.since k.hearing.progress)
+item_over table c fate (Sent side message) k =
+    over_progress k.hearing (not (overtakes fate (seat_at side k.hearing.progress))) (fault_at OutOfOrder (length k.entries))
+    (gap_kept table c k.entries k.since k.hearing.progress)
+    (message_kept table side fate (length k.entries) message (taken_by (length k.entries) 0 c.fates))
+item_over table c fate Item.Quiet k =
+    over_progress k.hearing (is_gap (length k.entries + 1) fate) (fault_at FateRange (length k.entries))
+    (gap_kept table c k.entries k.since k.hearing.progress)
+    (mark_kept (length k.entries) (taken_by (length k.entries) 0 c.fates))
+
+pub gap_of_both : (table : Table) (c : Certificate) (r : Replay)
+    → gap_before None table c (kept_of None c r) ≡ map_ok (hearing_by None c) (gap_replayed table c r)
+gap_of_both table c r =
+    ap (map_ok (with_progress (hearing_by None c r))) (gap_is table c r)
+    ∙ map_both (progress_of c) (with_progress (hearing_by None c r)) (hearing_by None c) (gap_replayed table c r) (λ next is. refl)
+
+pub item_of_both : (table : Table) (c : Certificate) (fate : Fate) (item : Item) (r : Replay)
     → slice_get c.fates (next_entry r) ≡ Some fate
-    → entry_kept table c fate entry (kept_of c r) ≡ map_ok (kept_of c) (entry_replayed table c fate entry r)
-entry_is table c fate (Ok item) r has =
-    ap (map_ok (kept_with c item (kept_of c r))) (item_is table c fate item r has)
-    ∙ map_both (progress_of c) (kept_with c item (kept_of c r)) (kept_of c) (item_replayed table c fate item r)
-    (λ next is. kept_more c item r next (item_sends table c fate item r next has is))
-entry_is table c fate (Err reason) r has = rw (outlines_count c 0 r.world.sent) refl
-
-pub next_is : (table : Table) (c : Certificate) (entry : Result Item Reason) (r : Replay)
-    → kept_next table c entry (kept_of c r) ≡ map_ok (kept_of c) (taken_next table c entry r)
-next_is table c entry r =
-    ap (λ (n : ℕ). ok_or (slice_get c.fates n) (fault_at FateCount n)
-    >>= λ fate. entry_kept table c fate entry (kept_of c r))
-    (outlines_count c 0 r.world.sent)
-    ∙ by (slice_get c.fates (next_entry r)) refl
-  where
-    by : (o : Option Fate) → slice_get c.fates (next_entry r) ≡ o
-        → (ok_or o (fault_at FateCount (next_entry r)) >>= λ fate. entry_kept table c fate entry (kept_of c r))
-        ≡ map_ok (kept_of c) (ok_or o (fault_at FateCount (next_entry r))
-        >>= λ fate. entry_replayed table c fate entry r)
-    by None has = refl
-    by (Some fate) has = entry_is table c fate entry r has
-
-pub ended_is : (table : Table) (c : Certificate) (r : Replay)
-    → kept_ended table c (kept_of c r) ≡ map_ok (progress_of c) (ended table c r)
-ended_is table c r =
-    ap (λ (n : ℕ). needs (n == length c.fates) (fault_at FateCount n)
-    >> gap_kept table c (outlines_from c 0 r.world.sent) (since_from 0 0 r.world.sent) (progress_of c r))
-    (outlines_count c 0 r.world.sent)
-    ∙ by (next_entry r == length c.fates)
-  where
-    by : (b : Bool)
-        → (needs b (fault_at FateCount (next_entry r))
-        >> gap_kept table c (outlines_from c 0 r.world.sent) (since_from 0 0 r.world.sent) (progress_of c r))
-        ≡ map_ok (progress_of c) (needs b (fault_at FateCount (next_entry r)) >> gap_replayed table c r)
-    by true = gap_is table c r
-    by false = refl
-
--- ---- entries, one after the other
-
-more_from : (table : Table) (c : Certificate) (entries : List (Result Item Reason)) (entry : Result Item Reason)
-    (r : Replay)
-    → taken_from table c (entries ++ entry ∷ []) r ≡ (taken_from table c entries r >>= taken_next table c entry)
-more_from table c [] entry r = ok_behind (taken_next table c entry r)
-more_from table c (first ∷ entries) entry r =
-    then_same (taken_next table c first r) (taken_from table c (entries ++ entry ∷ []))
-    (λ next. taken_from table c entries next >>= taken_next table c entry) (more_from table c entries entry)
-    ∙ sym (then_then (taken_next table c first r) (taken_from table c entries) (taken_next table c entry))
-
-pub taken_more : (table : Table) (c : Certificate) (entries : List (Result Item Reason)) (entry : Result Item Reason)
-    → taken table c (entries ++ entry ∷ []) ≡ (taken table c entries >>= taken_next table c entry)
-taken_more table c entries entry = by (certificate_fits c)
-  where
-    by : (fits : Result (Unit {0}) CheckFault)
-        → (fits >> taken_from table c (entries ++ entry ∷ []) nothing_replayed)
-        ≡ (fits >> taken_from table c entries nothing_replayed >>= taken_next table c entry)
-    by (Ok done) = more_from table c entries entry nothing_replayed
-    by (Err fault) = refl
-
-replayed_from : (table : Table) (c : Certificate) (entries : List (Result Item Reason)) (r : Replay)
-    → entries_replayed table c entries r ≡ (taken_from table c entries r >>= ended table c)
-replayed_from table c [] r = refl
-replayed_from table c (entry ∷ entries) r =
-    sym (then_then (ok_or (slice_get c.fates (next_entry r)) (fault_at FateCount (next_entry r)))
-    (λ fate. entry_replayed table c fate entry r) (entries_replayed table c entries))
-    ∙ then_same (taken_next table c entry r) (entries_replayed table c entries)
-    (λ next. taken_from table c entries next >>= ended table c) (replayed_from table c entries)
-    ∙ sym (then_then (taken_next table c entry r) (taken_from table c entries) (ended table c))
-
-pub replayed_is : (table : Table) (c : Certificate) (entries : List (Result Item Reason))
-    → (certificate_fits c >> entries_replayed table c entries nothing_replayed) ≡ (taken table c entries >>= ended table c)
-replayed_is table c entries = by (certificate_fits c)
-  where
-    by : (fits : Result (Unit {0}) CheckFault)
-        → (fits >> entries_replayed table c entries nothing_replayed)
-        ≡ (fits >> taken_from table c entries nothing_replayed >>= ended table c)
-    by (Ok done) = replayed_from table c entries nothing_replayed
-    by (Err fault) = refl
-
--- ---- a checker
-
--- Where a checker stands for these entries, its next step stands for one more.
-pub took_next : (s : Checking) (entries : List (Result Item Reason)) (entry : Result Item Reason) → Took s entries
-    → (s.so_far >>= kept_next s.table s.certificate entry)
-    ≡ map_ok (kept_of s.certificate) (taken s.table s.certificate (entries ++ entry ∷ []))
-took_next s entries entry took =
-    ap (λ (x : Result Kept CheckFault). x >>= kept_next s.table s.certificate entry) took
-    ∙ then_both (kept_of s.certificate) (kept_of s.certificate) (taken s.table s.certificate entries)
-    (kept_next s.table s.certificate entry) (taken_next s.table s.certificate entry)
-    (next_is s.table s.certificate entry)
-    ∙ ap (map_ok (kept_of s.certificate)) (sym (taken_more s.table s.certificate entries entry))
-
-pub took_end : (s : Checking) (entries : List (Result Item Reason)) → Took s entries
-    → (s.so_far >>= kept_ended s.table s.certificate)
-    ≡ map_ok (progress_of s.certificate) (certificate_fits s.certificate >> entries_replayed s.table s.certificate entries nothing_replayed)
-took_end s entries took =
-    ap (λ (x : Result Kept CheckFault). x >>= kept_ended s.table s.certificate) took
-    ∙ then_both (kept_of s.certificate) (progress_of s.certificate) (taken s.table s.certificate entries)
-    (kept_ended s.table s.certificate) (ended s.table s.certificate) (ended_is s.table s.certificate)
-    ∙ ap (map_ok (progress_of s.certificate)) (sym (replayed_is s.table s.certificate entries))
+    → item_kept None table c fate item (kept_of None c r) ≡ map_ok (hearing_by None c) (item_replayed table c fate item r)
+item_of_both table c fate item r has =
+    item_over table c fate item (kept_of None c r)
+    ∙ ap (map_ok (with_progress (hearing_by None c r))) (both_is table c fate item r has)
+    ∙ map_both (progress_of c) (with_progress (hearing_by None c r)) (hearing_by None c) (item_replayed table c fate item r)
+    (λ next is. refl)

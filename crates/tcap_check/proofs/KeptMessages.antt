@@ -35,6 +35,7 @@ use Rattle.tcap_model.proofs.ChannelLaws.{get_new}
 use Rattle.tcap_check.proofs.ReplayLaws.{abort_of}
 use Rattle.tcap_check.proofs.KeptBasics.{HasFront, end_kept, end_step_is, front_is, front_none, head_taken_is, waiting_kept}
 use Rattle.tcap_check.proofs.KeptSends.{joined_is}
+use Rattle.tcap_check.proofs.WorldLaws.{sent_with_end}
 
 -- ---- expiries that a message implies
 
@@ -95,10 +96,6 @@ end_put : (c : Certificate) (side : Side) (e : End) (r : Replay)
 end_put c sides.A e r = refl
 end_put c sides.B e r = refl
 
-sent_with_end : (side : Side) (e : End) (w : World) → (with_end side e w).sent ≡ w.sent
-sent_with_end sides.A e w = refl
-sent_with_end sides.B e w = refl
-
 sent_is : (c : Certificate) (fate : Fate) (side : Side) (message : Message) (number : ℕ) (r : Replay) (o : Result End EndFault)
     → next_entry r ≡ number → slice_get c.fates number ≡ Some fate
     → sent_or_not side fate number message (progress_of c r) o ≡ map_ok (progress_of c) (sent_or_refused side message r o)
@@ -133,7 +130,7 @@ record IsAnswerable (e : End) (message abort : Message) : Type 0 where
   reply : reply_to e message ≡ where_so so (Some (provider_abort id cause))
   may : may_refuse e message abort ≡ (aborts cause id abort && so)
 
-itself : (cause : ℕ) (id : List ℕ) → aborts cause id (provider_abort id cause) ≡ true
+pub itself : (cause : ℕ) (id : List ℕ) → aborts cause id (provider_abort id cause) ≡ true
 itself cause id = rw (eq-eqb cause cause refl, (bytes_eq-Decides id id).1 refl) refl
 
 not_both : (x : Bool) → false ≡ (x && false)

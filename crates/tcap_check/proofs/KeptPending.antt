@@ -143,14 +143,14 @@ quiet_waits table c fate r next fit has old goes =
 
 -- Behind entries.
 entries_wait : (table : Table) (c : Certificate) (entries : List (Result Item Reason)) (r next : Replay)
-    → FatesFit (length c.fates) 0 c.fates → Waits c r → taken_from table c entries r ≡ Ok next
+    → FatesFit (length c.fates) 0 c.fates → Waits c r → taken_from None table c entries r ≡ Ok next
     → Waits c next × (map ok_item next.world.sent ≡ map ok_item r.world.sent ++ entries)
 entries_wait table c [] r next fit old is =
     let same = ok_same {F = CheckFault} r next is in
     let are = ap (λ (x : Replay). map ok_item x.world.sent) (sym same) in
     (subst (Waits c) same old, are ∙ sym (append-nil (map ok_item r.world.sent)))
 entries_wait table c (entry ∷ entries) r next fit old is =
-    let one = then_ok (taken_next table c entry r) (taken_from table c entries) next is in
+    let one = then_ok (taken_next None table c entry r) (taken_from None table c entries) next is in
     let fate = then_ok (ok_or (slice_get c.fates (next_entry r)) (fault_at FateCount (next_entry r))) _ one.0 one.1 in
     let has = some_ok (slice_get c.fates (next_entry r)) (fault_at FateCount (next_entry r)) fate.0 fate.1 in
     let here = by entry fate.0 one.0 has fate.2 in
@@ -188,10 +188,10 @@ nothing_waits c = record { waits = none c.fates; marks = no_marks c.fates }
 
 -- What waits behind entries is what is delivered, or taken, behind them.
 pub pending_is : (table : Table) (c : Certificate) (entries : List (Result Item Reason)) (r : Replay)
-    → taken table c entries ≡ Ok r
+    → taken None table c entries ≡ Ok r
     → length (waiting c.fates r.world.from_a) + length (waiting c.fates r.world.from_b) ≡ count_ahead (length entries) c.fates entries
 pending_is table c entries r is =
-    let both = both_ok (certificate_fits c) (taken_from table c entries nothing_replayed) is in
+    let both = both_ok (certificate_fits c) (taken_from None table c entries nothing_replayed) is in
     let behind = entries_wait table c entries nothing_replayed r (fit_by c both.0) (nothing_waits c) both.1 in
     let are : map ok_item r.world.sent ≡ entries = behind.1 in
     let number : next_entry r ≡ length entries = sym (length-map r.world.sent ok_item) ∙ ap length are in

@@ -1,16 +1,14 @@
 -- What waits behind each step of a replay, behind a gap, and behind a message.
-use Rattle.std.proofs.Common.{◌≡◌, inl, inr, ℕ, ℤ, ◌+◌, ◌==◌, arith, Bool, true, false, cond, nat_le, List, [], ◌∷◌, filter, filter_map, length, Option, Some, None, Result, Ok, Err, refl, sym, ap, subst, ◌∙◌}
+use Rattle.std.proofs.Common.{◌≡◌, inl, inr, ℕ, ℤ, ◌+◌, ◌==◌, arith, Bool, true, false, cond, nat_le, List, [], ◌∷◌, filter, filter_map, length, Option, Some, None, Result, Ok, Err, refl, sym, ap, ◌∙◌}
 use Rattle.std.specs.Prelude.{ok_or, slice_get}
 use Rattle.std.proofs.lemmas.Bool.{eqb-false}
 use Rattle.tcap_msg.specs.declared.message.Message.{Message}
-use Rattle.tcap_msg.specs.declared.message.Message.TheVariants.{Unidirectional, Begin, Continue, End as EndMessage, Abort}
 use Rattle.tcap_msg.specs.Parts.{components_in}
 use Rattle.tcap_record.specs.declared.entry.End.{End as Side}
 use Rattle.tcap_record.specs.declared.entry.End.TheVariants as sides
 use Rattle.tcap_end.specs.declared.fault.EndFault.{EndFault}
 use Rattle.tcap_end.specs.declared.fault.EndFault.TheVariants as faults
 use Rattle.tcap_end.specs.declared.half.HalfName.{HalfName}
-use Rattle.tcap_end.specs.declared.half.HalfName.TheVariants as names
 use Rattle.tcap_end.specs.Table.{Table}
 use Rattle.tcap_end.specs.End.{End}
 use Rattle.tcap_end.specs.Message.{send}
@@ -24,17 +22,18 @@ use Rattle.tcap_check.specs.declared.certificate.Expiry.{Expiry}
 use Rattle.tcap_check.specs.declared.certificate.Fate.{Fate}
 use Rattle.tcap_check.specs.declared.certificate.Fate.TheVariants.{Gap, Lost, By}
 use Rattle.tcap_record.specs.Ends.{other}
-use Rattle.tcap_model.specs.World.{Item, OnItsWay, Sent, World, end_at, is_side, with_channel, with_end}
-use Rattle.tcap_model.specs.Run.{Event, Sends, Receives, Replies, Loses, Expires, Closes, Quiet, Tells, after, joined, then_so}
+use Rattle.tcap_model.specs.World.{Item, OnItsWay, Sent, World, end_at, with_channel, with_end}
+use Rattle.tcap_model.specs.Run.{Event, Sends, Receives, Replies, Loses, Expires, Closes, Quiet, Tells, after, joined}
 use Rattle.tcap_check.specs.Certificate.{Certificate}
-use Rattle.tcap_model.specs.Since.{originating}
-use Rattle.tcap_check.specs.Follows.{closing_by, closing_event, expiry_by, expiry_event, half_begun, invoke_id, invoking_half, named_entry, sending, taken_by}
+use Rattle.tcap_check.specs.Follows.{closing_event, expiry_event, invoke_id, invoking_half, sending, taken_by}
 use Rattle.tcap_check.specs.Replayed.{Replay, closings_replayed, deliveries_replayed, expiries_replayed, fault_at, gap_replayed, happens, implied, implied_over, is_abort, lost_from_both, lost_from_front, message_by, message_replayed, next_entry, or_same, reply_replayed, send_replayed, sent_or_refused, stepped, with_step}
 use Rattle.tcap_check.specs.Checking.{waiting}
-use Rattle.tcap_model.proofs.RunLaws.{closing, delivery, expiry, map_some, quiet, reply, some_is, then_some, where_some}
+use Rattle.tcap_model.proofs.RunLaws.{closing, delivery, expiry, map_some, quiet, reply}
 use Rattle.tcap_check.proofs.TakenLaws.{takes_replied}
 use Rattle.tcap_check.proofs.OrderLaws.{Takes, sending_takes}
 use Rattle.tcap_check.proofs.KeptCounts.{end_waits, joined_waits, losses_wait, taken_waits, not_next, is_next, count_waiting, new_by, count_behind}
+use Rattle.tcap_check.proofs.WorldLaws.{sent_with_channel, sent_with_end}
+use Rattle.tcap_check.proofs.HeardStays.{of_closing, of_expiry}
 
 -- ---- steps
 
@@ -51,14 +50,6 @@ as_itself c r next same = record {
 
 as_then : (c : Certificate) (r mid next : Replay) → IsAsBefore c r mid → IsAsBefore c mid next → IsAsBefore c r next
 as_then c r mid next a b = record { waits = b.waits ∙ a.waits; sent = b.sent ∙ a.sent }
-
-sent_with_end : (side : Side) (e : End) (w : World) → (with_end side e w).sent ≡ w.sent
-sent_with_end sides.A e w = refl
-sent_with_end sides.B e w = refl
-
-sent_with_channel : (side : Side) (messages : List OnItsWay) (w : World) → (with_channel side messages w).sent ≡ w.sent
-sent_with_channel sides.A messages w = refl
-sent_with_channel sides.B messages w = refl
 
 -- So it is where a step changes an end alone:
 as_hidden : (c : Certificate) (event : Event) (side : Side) (e : End) (r next : Replay) (w : World)
@@ -95,31 +86,6 @@ expires_unseen : (side : Side) (name : HalfName) (id : ℤ) → IsUnseen (Expire
 expires_unseen side name id table c reason entry r next is =
     expires_as table c side name id r next
     (some_ok (stepped table (Expires side name id) r) (fault_at reason entry) next is)
-
-closing_unseen : (items : List Item) (x : Closing) (event : Event) → closing_event items x ≡ Some event → IsUnseen event
-closing_unseen items x event is =
-    let found = then_some (named_entry items x.gap x.entry) (closing_by x) event is in by found.0 found.2
-  where
-    by : (item : Item) → closing_by x item ≡ Some event → IsUnseen event
-    by (Sent sender (Begin otid dialogue components)) e =
-        subst IsUnseen (some_is e) (closes_unseen x.side (half_begun x.side sender otid))
-    by (Sent sender (Unidirectional dialogue components)) e = cc
-    by (Sent sender (Continue otid dtid dialogue components)) e = cc
-    by (Sent sender (EndMessage dtid dialogue components)) e = cc
-    by (Sent sender (Abort dtid reason)) e = cc
-    by Item.Quiet e = cc
-
-expiry_unseen : (items : List Item) (x : Expiry) (event : Event) → expiry_event items x ≡ Some event → IsUnseen event
-expiry_unseen items x event is =
-    let found = then_some (named_entry items x.gap x.entry) (expiry_by x) event is in by found.0 found.2
-  where
-    by : (item : Item) → expiry_by x item ≡ Some event → IsUnseen event
-    by (Sent sender message) e =
-        let so = where_some (is_side x.side sender) _ event e in
-        let named = then_some (originating message) _ event so.1 in
-        let id = then_some (then_so (slice_get (components_in message) x.component) invoke_id) _ event named.2 in
-        subst IsUnseen (some_is id.2) (expires_unseen x.side (names.Own named.0) id.0)
-    by Item.Quiet e = cc
 
 -- What is received waited,
 receives_wait : (table : Table) (c : Certificate) (side : Side) (number : ℕ) (reason : Reason) (entry : ℕ)
@@ -184,7 +150,7 @@ closings_wait table c (x ∷ more) r next is =
     let named = some_ok (closing_event r.world.sent x) (fault_at FateRange x.entry) found.0 found.1 in
     let then = then_ok (happens table c found.0 (HiddenRefused faults.CannotClose) x.entry r) _ next found.2 in
     as_then c r then.0 next
-    (closing_unseen r.world.sent x found.0 named table c (HiddenRefused faults.CannotClose) x.entry r then.0 then.1)
+    (of_closing IsUnseen closes_unseen r.world.sent x found.0 named table c (HiddenRefused faults.CannotClose) x.entry r then.0 then.1)
     (closings_wait table c more then.0 next then.2)
 
 expiries_wait : (table : Table) (c : Certificate) (listed : List Expiry) (r next : Replay)
@@ -195,7 +161,7 @@ expiries_wait table c (x ∷ more) r next is =
     let named = some_ok (expiry_event r.world.sent x) (fault_at FateRange x.entry) found.0 found.1 in
     let then = then_ok (happens table c found.0 (HiddenRefused faults.CannotExpire) x.entry r) _ next found.2 in
     as_then c r then.0 next
-    (expiry_unseen r.world.sent x found.0 named table c (HiddenRefused faults.CannotExpire) x.entry r then.0 then.1)
+    (of_expiry IsUnseen expires_unseen r.world.sent x found.0 named table c (HiddenRefused faults.CannotExpire) x.entry r then.0 then.1)
     (expiries_wait table c more then.0 next then.2)
 
 -- What is delivered in a gap does not lie behind it any more.

@@ -15,7 +15,7 @@ use Rattle.tcap_check.proofs.GivenLosses.{IsSettled, filter_sent, is_lost, left_
 use Rattle.tcap_check.proofs.GivenRuns.{settled_by}
 
 -- What passes a test stays in a list of those that do.
-among_filter : (p : ℕ → Bool) (n : ℕ) (xs : List ℕ) → p n ≡ true → IsAmong n xs → IsAmong n (filter p xs)
+pub among_filter : (p : ℕ → Bool) (n : ℕ) (xs : List ℕ) → p n ≡ true → IsAmong n xs → IsAmong n (filter p xs)
 among_filter p n [] so is = is
 among_filter p n (x ∷ xs) so (inl e) = let here : p x ≡ true = ap p (sym e) ∙ so in rw here (inl e)
 among_filter p n (x ∷ xs) so (inr rest) = by (p x) (among_filter p n xs so rest)

@@ -2,6 +2,7 @@ pub mod WorkedRuns
 pub mod WorkedRefusals
 pub mod PromptLaws
 pub mod NotDescribed
+pub mod WorldLaws
 pub mod ReplaySteps
 pub mod ReplayLaws
 pub mod ReplayGaps
@@ -45,9 +46,7 @@ pub mod KeptSteps
 pub mod KeptPending
 pub mod SendingLaws
 pub mod PlanLaws
-pub mod CheckerLaws
 pub mod KeptSends
-pub mod RecordLaws
 pub mod HearingLaws
 pub mod HeardLost
 pub mod HeardStays
@@ -59,9 +58,11 @@ pub mod HeardMarks
 pub mod HeardOwn
 pub mod HeardEntries
 pub mod HeardCounts
+pub mod EntryLaws
 pub mod HeardPending
-pub mod EndCheckerLaws
-pub mod EndRecordLaws
+pub mod CheckerLaws
+pub mod RecordLaws
+pub mod RefusalLaws
 pub mod AloneWeights
 pub mod AloneLoad
 pub mod AloneCounts

@@ -72,7 +72,7 @@ filter_all p (x ∷ xs) pass = rw (pass x (inl refl)) (ap (λ more. x ∷ more) 
 -- ---- what was taken
 
 -- What two runs of events take, one behind the other.
-taken_both : (side : Side) (xs ys : List Event)
+pub taken_both : (side : Side) (xs ys : List Event)
     → numbers_taken side (xs ++ ys) ≡ numbers_taken side xs ++ numbers_taken side ys
 taken_both side [] ys = refl
 taken_both side (x ∷ xs) ys =

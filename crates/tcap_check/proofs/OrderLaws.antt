@@ -1,5 +1,5 @@
 -- The order in which a run that follows a certificate takes the messages of an end: by number, and by time.
-use Rattle.std.proofs.Common.{arith, ◌≡◌, ◌⊎◌, inl, inr, ℕ, suc, ◌+◌, ◌*◌, ◌≤◌, ◌<◌, ◌==◌, Bool, true, false, cond, nat_lt, List, [], ◌∷◌, ◌++◌, map, filter, Option, Some, None, refl, sym, ap, subst, ◌∙◌, append_assoc, append-nil}
+use Rattle.std.proofs.Common.{arith, ◌≡◌, ◌⊎◌, inl, inr, ℕ, suc, ◌+◌, ◌*◌, ◌≤◌, ◌<◌, ◌==◌, Bool, true, false, cond, nat_lt, List, [], ◌∷◌, ◌++◌, map, filter, Option, Some, None, refl, sym, ap, subst, ◌∙◌, append-nil}
 use Rattle.std.specs.Prelude.{slice_get}
 use Rattle.std.specs.Cmp.{nat_cmp_is}
 use Rattle.std.specs.List.{AllByRecursion}
@@ -25,6 +25,7 @@ use Rattle.tcap_check.specs.Follows.{FollowsFrom, IsImplied, closing_by, closing
 use Rattle.tcap_check.specs.Replayed.{time_of}
 use Rattle.tcap_model.proofs.ListLaws.{all_both}
 use Rattle.tcap_model.proofs.RunLaws.{where_some, then_some, some_is, same_events}
+use Rattle.tcap_check.proofs.NumberLaws.{taken_both}
 
 -- ---- numbers in lists
 
@@ -192,14 +193,6 @@ in_turn fates t first second u v (x ∷ xs) rises timed (inr more_a) (inr more_b
     in_turn fates timed.0 first second u v xs rises.1 timed.3 more_a more_b below at_a at_b
 
 -- ---- what events take
-
--- Of some events and then others both take.
-pub taken_both : (side : Side) (xs ys : List Event)
-    → numbers_taken side (xs ++ ys) ≡ numbers_taken side xs ++ numbers_taken side ys
-taken_both side [] ys = refl
-taken_both side (x ∷ xs) ys =
-    ap (λ ns. takes_from side x ++ ns) (taken_both side xs ys)
-    ∙ sym (append_assoc (takes_from side x) (numbers_taken side xs) (numbers_taken side ys))
 
 -- A closing takes no message,
 closing_takes : (side : Side) (items : List Item) (x : Closing) (event : Event)

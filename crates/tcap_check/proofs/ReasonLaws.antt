@@ -35,7 +35,7 @@ use Rattle.tcap_check.proofs.ReplayEntries.{nothing_is, quiet_happens}
 -- ---- entries, one after the other
 
 -- An entry that is an item is that item,
-item_is : (entry : Entry) (item : Item) → item_of entry ≡ Ok item → IsItem entry item
+pub item_is : (entry : Entry) (item : Item) → item_of entry ≡ Ok item → IsItem entry item
 item_is entry item is = by entry.side entry.body refl refl is
   where
     by : (side : Option Side) (body : Body) → entry.side ≡ side → entry.body ≡ body → item_by side body ≡ Ok item → IsItem entry item

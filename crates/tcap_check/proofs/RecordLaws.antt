@@ -1,84 +1,96 @@
 -- A record that is checked, entry by entry.
-use Rattle.std.proofs.Common.{◌≡◌, ◌<◌, ◌≤◌, get_or, ℕ, ◌+◌, suc, zero, List, [], ◌∷◌, ◌++◌, map, take, drop, length, Some, None, Result, Ok, Err, refl, sym, ap, subst, ◌∙◌, append_assoc, append-nil, arith}
+use Rattle.std.proofs.Common.{◌≡◌, ◌<◌, ◌≤◌, get_or, ℕ, ◌+◌, suc, zero, List, [], ◌∷◌, ◌++◌, map, take, drop, length, Option, Some, None, Result, Ok, Err, refl, sym, ap, subst, ◌∙◌, append_assoc, append-nil, arith}
 use Rattle.std.specs.Prelude.{slice_get}
 use Rattle.std.proofs.lemmas.List.{map-append, take-append-drop, take_all}
 use Rattle.std.proofs.lemmas.Option.{slice_get-get_or}
+use Rattle.tcap_record.specs.declared.entry.End.{End as Side}
 use Rattle.tcap_record.specs.declared.entry.Entry.{Entry}
 use Rattle.tcap_end.specs.Table.{Table}
 use Rattle.tcap_end.specs.Step.{◌>>=◌}
-use Rattle.tcap_check.specs.declared.checker.Replaying.{Replaying}
+use Rattle.tcap_check.specs.declared.replaying.Replaying.{Replaying}
 use Rattle.tcap_check.specs.declared.checker.Report.{Report}
 use Rattle.tcap_check.specs.declared.fault.CheckFault.{CheckFault}
 use Rattle.tcap_model.specs.declared.reason.Reason.{Reason}
 use Rattle.tcap_model.specs.World.{Item}
-use Rattle.tcap_model.specs.Run.{Event, IsLawful}
+use Rattle.tcap_model.specs.Run.{Event}
 use Rattle.tcap_check.specs.Certificate.{Certificate}
 use Rattle.tcap_model.specs.Entries.{AreItems, item_of}
-use Rattle.tcap_check.specs.Replayed.{Replay, replayed}
-use Rattle.tcap_check.specs.Checking.{Checking, Kept, Took, ended, kept_next, kept_of, map_ok, reported, run_of, taken, taken_next}
+use Rattle.tcap_check.specs.Given.{SaysLawful}
+use Rattle.tcap_check.specs.Replayed.{Replay, replayed_by}
+use Rattle.tcap_check.specs.Checking.{Checking, Kept, Took, ended, kept_next, kept_of, map_ok, reported, taken, taken_next}
 use Rattle.tcap_check.specs.Ready.{checking_of, kept_in}
-use Rattle.tcap_check.proofs.KeptEntries.{replayed_is, taken_more}
-use Rattle.tcap_check.proofs.CheckerLaws.{checking, ends_so, took_err, took_ok}
+use Rattle.tcap_check.proofs.AloneRuns.{gives_for}
+use Rattle.tcap_check.proofs.CheckerLaws.{checking, ends_so, given, refusing, took_err, took_ok}
+use Rattle.tcap_check.proofs.EntryLaws.{replayed_is, taken_more}
 use Rattle.tcap_check.proofs.GivenRuns.{gives}
 
 -- ---- a refusal before the end
 
 -- What is refused among the first entries is refused with more.
-taken_short : (table : Table) (c : Certificate) (entries more : List (Result Item Reason)) (fault : CheckFault)
-    → taken table c entries ≡ Err fault → taken table c (entries ++ more) ≡ Err fault
-taken_short table c entries [] fault is = subst (λ (x : List (Result Item Reason)). taken table c x ≡ Err fault) (sym (append-nil entries)) is
-taken_short table c entries (entry ∷ more) fault is =
-    subst (λ (x : List (Result Item Reason)). taken table c x ≡ Err fault) (append_assoc entries (entry ∷ []) more)
-    (taken_short table c (entries ++ entry ∷ []) more fault
-    (taken_more table c entries entry ∙ ap (λ (o : Result Replay CheckFault). o >>= taken_next table c entry) is))
+pub taken_short : (judged : Option Side) (table : Table) (c : Certificate) (entries more : List (Result Item Reason)) (fault : CheckFault)
+    → taken judged table c entries ≡ Err fault → taken judged table c (entries ++ more) ≡ Err fault
+taken_short judged table c entries [] fault is =
+    subst (λ (x : List (Result Item Reason)). taken judged table c x ≡ Err fault) (sym (append-nil entries)) is
+taken_short judged table c entries (entry ∷ more) fault is =
+    subst (λ (x : List (Result Item Reason)). taken judged table c x ≡ Err fault) (append_assoc entries (entry ∷ []) more)
+    (taken_short judged table c (entries ++ entry ∷ []) more fault
+    (taken_more judged table c entries entry ∙ ap (λ (o : Result Replay CheckFault). o >>= taken_next judged table c entry) is))
 
 -- A checker that refuses stands for a replay that is refused.
-refused_is : (s : Checking) (entries : List (Result Item Reason)) (fault : CheckFault) → Took s entries → s.so_far ≡ Err fault
-    → taken s.table s.certificate entries ≡ Err fault
-refused_is s entries fault took is = by (taken s.table s.certificate entries) (sym is ∙ took)
+pub refused_is : (s : Checking) (entries : List (Result Item Reason)) (fault : CheckFault) → Took s entries → s.so_far ≡ Err fault
+    → taken s.judged s.table s.certificate entries ≡ Err fault
+refused_is s entries fault took is = by (taken s.judged s.table s.certificate entries) (sym is ∙ took)
   where
-    by : (o : Result Replay CheckFault) → (let a : Result Kept CheckFault = Err fault in a) ≡ map_ok (kept_of s.certificate) o → o ≡ Err fault
+    by : (o : Result Replay CheckFault) → (let a : Result Kept CheckFault = Err fault in a) ≡ map_ok (kept_of s.judged s.certificate) o
+        → o ≡ Err fault
     by (Ok r) same = cc
     by (Err other) same = let is : fault ≡ other = cc in ap (λ (f : CheckFault). let a : Result Replay CheckFault = Err f in a) (sym is)
 
 refused_short : (s : Checking) (entries more all : List (Result Item Reason)) (fault : CheckFault) → Took s entries
-    → s.so_far ≡ Err fault → entries ++ more ≡ all
-    → (let report : Result Report CheckFault = Err fault in report) ≡ map_ok reported (run_of s.table s.certificate all)
+    → s.so_far ≡ Err fault → entries ++ more ≡ all → refusing fault ≡ given s.judged s.table s.certificate all
 refused_short s entries more all fault took is whole =
-    let short = taken_short s.table s.certificate entries more fault (refused_is s entries fault took is) in
-    let at : taken s.table s.certificate all ≡ Err fault = ap (taken s.table s.certificate) (sym whole) ∙ short in
-    let behind = replayed_is s.table s.certificate all ∙ ap (λ (o : Result Replay CheckFault). o >>= ended s.table s.certificate) at in
-    sym (ap (map_ok reported) (ends_so s.table s.certificate all (Err fault) behind))
+    let short = taken_short s.judged s.table s.certificate entries more fault (refused_is s entries fault took is) in
+    let at : taken s.judged s.table s.certificate all ≡ Err fault = ap (taken s.judged s.table s.certificate) (sym whole) ∙ short in
+    let behind = replayed_is s.judged s.table s.certificate all
+    ∙ ap (λ (o : Result Replay CheckFault). o >>= ended s.judged s.table s.certificate) at in
+    sym (ap (map_ok (reported s.judged)) (ends_so s.judged s.table s.certificate all (Err fault) behind))
 
 -- A replay that took these entries takes one more.
-pub took_more : (x y : Replaying) (entry : Result Item Reason) → y.table ≡ x.table → y.certificate ≡ x.certificate
-    → kept_next x.table.now x.certificate.now entry (kept_in x) ≡ Ok (kept_in y) → (before : List (Result Item Reason))
+pub took_more : (x y : Replaying) (entry : Result Item Reason) → y.judged ≡ x.judged → y.table ≡ x.table → y.certificate ≡ x.certificate
+    → kept_next x.judged x.table.now x.certificate.now entry (kept_in x) ≡ Ok (kept_in y) → (before : List (Result Item Reason))
     → Took (checking_of x) before → Took (checking_of y) (before ++ entry ∷ [])
-took_more x y entry table certificate is before took =
-    rw (table, certificate) (took_ok x.table.now x.certificate.now (kept_in x) (kept_in y) entry is before took)
+took_more x y entry judged table certificate is before took =
+    rw (judged, table, certificate)
+    (took_ok x.judged x.table.now x.certificate.now (kept_in x) (kept_in y) entry is before took)
 
 -- An entry that a replay refuses is the reason for all of them.
-pub refused_at : (table : Table) (c : Certificate) (k : Kept) (entry : Result Item Reason) (fault : CheckFault)
-    → kept_next table c entry k ≡ Err fault → (before more all : List (Result Item Reason)) → Took (checking table c None k) before
-    → (before ++ entry ∷ []) ++ more ≡ all → (let report : Result Report CheckFault = Err fault in report) ≡ map_ok reported (run_of table c all)
-refused_at table c k entry fault is before more all took whole =
-    refused_short (checking table c (Some fault) k) (before ++ entry ∷ []) more all fault (took_err table c k k entry fault is before took) refl whole
+pub refused_at : (judged : Option Side) (table : Table) (c : Certificate) (k : Kept) (entry : Result Item Reason) (fault : CheckFault)
+    → kept_next judged table c entry k ≡ Err fault → (before more all : List (Result Item Reason))
+    → Took (checking judged table c None k) before → (before ++ entry ∷ []) ++ more ≡ all
+    → refusing fault ≡ given judged table c all
+refused_at judged table c k entry fault is before more all took whole =
+    refused_short (checking judged table c (Some fault) k) (before ++ entry ∷ []) more all fault
+    (took_err judged table c k k entry fault is before took) refl whole
 
 -- ---- a run
 
--- A report is of a run of two lawful ends that sends the entries.
-pub lawful_is : (table : Table) (c : Certificate) (entries : List Entry) (report : Report)
-    → map_ok reported (replayed table c entries) ≡ Ok report
-    → (items : List Item) × AreItems entries items × IsLawful items table report.moves
-lawful_is table c entries report is = by (replayed table c entries) refl is
+-- A report is of a run that sends the entries, in which those who are judged keep the rules.
+pub lawful_is : (judged : Option Side) (table : Table) (c : Certificate) (entries : List Entry) (report : Report)
+    → map_ok (reported judged) (replayed_by judged table c entries) ≡ Ok report
+    → (items : List Item) × AreItems entries items × SaysLawful judged items table report
+lawful_is judged table c entries report is = by judged (replayed_by judged table c entries) refl is
   where
-    by : (o : Result (List Event) CheckFault) → replayed table c entries ≡ o → map_ok reported o ≡ Ok report
-        → (items : List Item) × AreItems entries items × IsLawful items table report.moves
-    by (Err fault) at e = cc
-    by (Ok events) at e =
-        let given = gives table c entries events at in
-        let same : (let r : Report = reported events in r) ≡ report = cc in
-        (given.items, given.are, (events, given.run, given.keeps, ap (λ (r : Report). r.moves) same))
+    by : (judged : Option Side) (o : Result (List Event) CheckFault) → replayed_by judged table c entries ≡ o
+        → map_ok (reported judged) o ≡ Ok report → (items : List Item) × AreItems entries items × SaysLawful judged items table report
+    by judged (Err fault) at e = cc
+    by None (Ok events) at e =
+        let run = gives table c entries events at in
+        let same : reported None events ≡ report = cc in
+        (run.items, run.are, (events, run.run, run.keeps, ap (λ (r : Report). r.moves) same))
+    by (Some side) (Ok events) at e =
+        let run = gives_for side table c entries events at in
+        let same : reported (Some side) events ≡ report = cc in
+        (run.items, run.are, (events, run.run.0, run.run.1, run.run.2, run.keeps, run.left, ap (λ (r : Report). r.unheard) same))
 
 -- ---- places
 

@@ -14,6 +14,7 @@ use Rattle.tcap_check.specs.Certificate.{Certificate}
 use Rattle.tcap_check.specs.Follows.{is_loss, without_losses}
 use Rattle.tcap_model.proofs.RunLaws.{map_some, played_on}
 use Rattle.tcap_check.specs.Replayed.{Replay, lost_before, lost_from_both, lost_from_front, if_lost, lost_front, stepped}
+use Rattle.tcap_check.proofs.WorldLaws.{sent_with_channel, with_same}
 
 -- ---- runs, one behind the other
 
@@ -42,10 +43,6 @@ stepped_extends table event r next is =
     }
 
 -- ---- losses
-
-pub with_same : (side : Side) (w : World) → with_channel side (channel_from side w) w ≡ w
-with_same sides.A w = refl
-with_same sides.B w = refl
 
 with_twice : (side : Side) (a b : List OnItsWay) (w : World) → with_channel side a (with_channel side b w) ≡ with_channel side a w
 with_twice sides.A a b w = refl
@@ -115,10 +112,6 @@ replays_then table r mid next xs ys before behind a b = record {
   are = without_both a.steps b.steps ∙ ap (λ (x : List Event). x ++ without_losses b.steps) a.are ∙ ap (λ (y : List Event). xs ++ y) b.are;
   sent = b.sent ∙ ap (λ (x : List Item). x ++ behind) a.sent ∙ append_assoc r.world.sent before behind;
 }
-
-pub sent_with_channel : (side : Side) (messages : List OnItsWay) (w : World) → (with_channel side messages w).sent ≡ w.sent
-sent_with_channel sides.A messages w = refl
-sent_with_channel sides.B messages w = refl
 
 pub losing_replays : (table : Table) (c : Certificate) (side : Side) (r : Replay) → Replays table r [] [] (lost_from_front c side r)
 losing_replays table c side r =

@@ -1,22 +1,24 @@
 -- What a certificate gives for one end alone: a run in which that end keeps the rules.
-use Rattle.std.specs.Prelude.{◌≡◌, ◌+◌, ◌*◌, ◌≤◌, List, length}
+use Rattle.std.specs.Prelude.{◌≡◌, ◌+◌, ◌*◌, ◌≤◌, List, [], length}
 use Rattle.tcap_record.specs.declared.entry.End.{End as Side}
 use Rattle.tcap_record.specs.declared.entry.Entry.{Entry}
 use Rattle.tcap_end.specs.Table.{Table}
 use Rattle.tcap_record.specs.Ends.{other}
-use Rattle.tcap_model.specs.World.{Item}
+use Rattle.tcap_model.specs.World.{Item, channel_from}
 use Rattle.tcap_model.specs.Run.{Event, IsRunOf, KeepsRules}
 use Rattle.tcap_check.specs.Certificate.{Certificate}
 use Rattle.tcap_model.specs.Entries.{AreItems, count_components}
 use Rattle.tcap_check.specs.Follows.{losses_from, lost_from}
 use Rattle.tcap_check.specs.Alone.{steps_of, unheard_of}
 
--- The entries are items, and these events are a run that sends them, in which that end keeps the rules, whatever its peer sends.
+-- The entries are items, and these events are a run that sends them, in which that end keeps the rules, whatever its peer sends, and
+-- that leaves nothing on its way to it.
 pub record IsGivenFor (side : Side) (table : Table) (c : Certificate) (entries : List Entry) (events : List Event) : Type 0 where
   pub items : List Item
   pub are : AreItems entries items
   pub run : IsRunOf items table events
   pub keeps : KeepsRules side events
+  pub left : channel_from (other side) run.0 ≡ []
   pub bound : steps_of side events ≤ 3 * length entries + count_components items
   pub unheard : unheard_of side events ≤ length entries
 

@@ -1,5 +1,5 @@
--- What a checker stands for: the replay of the entries that it took (`Replayed`).
-use Rattle.std.specs.Prelude.{◌≡◌, ℕ, ◌+◌, Bool, false, List, [], ◌∷◌, ◌++◌, slice_get, length, Option, Some, None, Result, Ok, Err, ok_or, ◌==◌, not, nat_le, cond}
+-- What a checker stands for: the replay of the entries that it took (`Replayed`), for both ends, or for the one that is judged.
+use Rattle.std.specs.Prelude.{◌≡◌, ℕ, ◌+◌, ◌-◌, Bool, false, List, [], ◌∷◌, ◌++◌, filter, slice_get, length, Option, Some, None, Result, Ok, Err, ok_or, ◌==◌, ◌||◌, not, nat_le, cond}
 use Rattle.tcap_msg.specs.declared.message.Message.{Message}
 use Rattle.tcap_ber.specs.declared.fault.Fault.{Fault}
 use Rattle.tcap_record.specs.declared.entry.End.{End as Side}
@@ -11,42 +11,47 @@ use Rattle.tcap_check.specs.declared.certificate.Fate.TheVariants.{Gap, Lost, By
 use Rattle.tcap_check.specs.declared.fault.CheckFault.{CheckFault}
 use Rattle.tcap_model.specs.declared.reason.Reason.{Reason}
 use Rattle.tcap_model.specs.declared.reason.Reason.TheVariants.{BadMessage, FateCount, FateRange, OutOfOrder}
+use Rattle.tcap_check.specs.declared.hearing.Hearing.{Hearing}
 use Rattle.tcap_check.specs.declared.outline.Outline.{Outline}
 use Rattle.tcap_check.specs.declared.progress.Progress.{Progress}
 use Rattle.tcap_check.specs.declared.progress.Waiting.{Waiting}
 use Rattle.tcap_check.specs.declared.checker.Report.{Report}
+use Rattle.tcap_record.specs.Ends.{other}
 use Rattle.tcap_model.specs.Run.{Event}
-use Rattle.tcap_model.specs.World.{Item, OnItsWay, Sent, is_side}
+use Rattle.tcap_model.specs.World.{Item, OnItsWay, Sent, channel_from, is_side}
 use Rattle.tcap_check.specs.Certificate.{Certificate}
 use Rattle.tcap_check.specs.Follows.{taken_by}
+use Rattle.tcap_check.specs.Hearing.{gap_passed, mark_taken, own_taken, told_among, told_taken, with_progress}
 use Rattle.tcap_check.specs.Outlines.{is_named, outline_of, outlines_from, since_from}
-use Rattle.tcap_check.specs.Progress.{gap_kept, greater, mark_kept, message_kept, overtakes, seat_at, time_or_zero}
-use Rattle.tcap_check.specs.Replayed.{Replay, certificate_fits, entries_replayed, entry_replayed, fault_at, gap_replayed, is_gap, lost_from_both, next_entry, nothing_replayed, refused}
+pub use Rattle.tcap_check.specs.Progress.{map_ok}
+use Rattle.tcap_check.specs.Progress.{gap_kept, greater, mark_kept, message_kept, overtakes, seat_at, time_or_zero, with_seat}
+use Rattle.tcap_check.specs.Replayed.{Replay, certificate_fits, entry_by, fault_at, gap_by, is_gap, next_entry, nothing_replayed, refused}
+use Rattle.tcap_check.specs.Unheard.{is_lost_from, steps_of, unheard_of}
 
 -- ---- the replay of entries, one after the other
 
 -- one entry more
-abbrev pub taken_next : Table → Certificate → Result Item Reason → Replay → Result Replay CheckFault
-taken_next table c entry r =
-    ok_or (slice_get c.fates (next_entry r)) (fault_at FateCount (next_entry r)) >>= λ fate. entry_replayed table c fate entry r
+abbrev pub taken_next : Option Side → Table → Certificate → Result Item Reason → Replay → Result Replay CheckFault
+taken_next judged table c entry r =
+    ok_or (slice_get c.fates (next_entry r)) (fault_at FateCount (next_entry r)) >>= λ fate. entry_by judged table c fate entry r
 
-abbrev pub taken_from : Table → Certificate → List (Result Item Reason) → Replay → Result Replay CheckFault
-taken_from table c [] r = Ok r
-taken_from table c (entry ∷ entries) r = taken_next table c entry r >>= taken_from table c entries
+abbrev pub taken_from : Option Side → Table → Certificate → List (Result Item Reason) → Replay → Result Replay CheckFault
+taken_from judged table c [] r = Ok r
+taken_from judged table c (entry ∷ entries) r = taken_next judged table c entry r >>= taken_from judged table c entries
 
 -- what was replayed of these entries, from the first on
-abbrev pub taken : Table → Certificate → List (Result Item Reason) → Result Replay CheckFault
-taken table c entries = certificate_fits c >> taken_from table c entries nothing_replayed
+abbrev pub taken : Option Side → Table → Certificate → List (Result Item Reason) → Result Replay CheckFault
+taken judged table c entries = certificate_fits c >> taken_from judged table c entries nothing_replayed
 
 -- the last gap
-abbrev pub ended : Table → Certificate → Replay → Result Replay CheckFault
-ended table c r =
-    needs (next_entry r == length c.fates) (fault_at FateCount (next_entry r)) >> gap_replayed table c r
+abbrev pub ended : Option Side → Table → Certificate → Replay → Result Replay CheckFault
+ended judged table c r =
+    needs (next_entry r == length c.fates) (fault_at FateCount (next_entry r)) >> gap_by judged table c r
 
 -- ---- what is kept of a replay
 
 pub record Kept : Type 0 where
-  pub progress : Progress
+  pub hearing : Hearing
   pub entries : List Outline
   pub since : ℕ
 
@@ -84,22 +89,43 @@ progress_of c r = record {
   moves = length r.events + (count_lost c.fates r.world.from_a + count_lost c.fates r.world.from_b);
 }
 
-abbrev pub kept_of : Certificate → Replay → Kept
-kept_of c r = record {
-  progress = progress_of c r;
+-- Nothing is kept of what an end sent but that it is lost.
+abbrev pub all_lost : Side → Progress → Progress
+all_lost side p =
+    record (with_seat side (record (seat_at side p) { waiting = []; latest = 0 }) p) {
+      moves = p.moves + length (seat_at side p).waiting;
+    }
+
+-- how many of an end's messages are lost in these events
+abbrev pub count_losses : Side → List Event → ℕ
+count_losses side events = length (filter (is_lost_from side) events)
+
+-- the end that is judged, what is on its way to it and not lost, and the steps and losses, with those that are still to come
+abbrev pub hearing_of : Side → Certificate → Replay → Hearing
+hearing_of side c r = record {
+  progress = all_lost side (progress_of c r);
+  own = count_losses side r.events + length (channel_from side r.world);
+  unheard = count_losses (other side) r.events + count_lost c.fates (channel_from (other side) r.world);
+}
+
+-- the same of both ends, where nothing has to be counted beside the steps
+abbrev pub hearing_by : Option Side → Certificate → Replay → Hearing
+hearing_by None c r = record { progress = progress_of c r; own = 0; unheard = 0 }
+hearing_by (Some judged) c r = hearing_of judged c r
+
+abbrev pub kept_of : Option Side → Certificate → Replay → Kept
+kept_of judged c r = record {
+  hearing = hearing_by judged c r;
   entries = outlines_from c 0 r.world.sent;
   since = since_from 0 0 r.world.sent;
 }
 
-abbrev pub map_ok : {A B F : Type 0} → (A → B) → Result A F → Result B F
-map_ok f (Ok x) = Ok (f x)
-map_ok f (Err reason) = Err reason
-
 -- ---- a checker
 
--- The table, the certificate, and what is kept of the replay, or the first reason why there is none, or that memory ran
--- out.
+-- Who is judged, the table, the certificate, and what is kept of the replay, or the first reason why there is none, or that
+-- memory ran out.
 pub record Checking : Type 0 where
+  pub judged : Option Side
   pub table : Table
   pub certificate : Certificate
   pub so_far : Result Kept CheckFault
@@ -120,56 +146,87 @@ reading side (Err fault) = Err (BadMessage fault)
 
 -- A checker took these entries: it stands for their replay.
 abbrev pub Took : Checking → List (Result Item Reason) → Type 0
-Took checking entries = checking.so_far ≡ map_ok (kept_of checking.certificate) (taken checking.table checking.certificate entries)
+Took checking entries = checking.so_far
+    ≡ map_ok (kept_of checking.judged checking.certificate) (taken checking.judged checking.table checking.certificate entries)
 
 -- ---- its steps, over what is kept
 
 -- one entry more
-abbrev pub kept_with : Certificate → Item → Kept → Progress → Kept
-kept_with c item k p = record {
-  progress = p;
+abbrev pub kept_with : Certificate → Item → Kept → Hearing → Kept
+kept_with c item k h = record {
+  hearing = h;
   entries = k.entries ++ outline_of (is_named c (length k.entries)) item ∷ [];
   since = since_from k.since (length k.entries) (item ∷ []);
 }
 
-abbrev pub item_kept : Table → Certificate → Fate → Item → Kept → Result Progress CheckFault
-item_kept table c fate (Sent side message) k =
-    needs (not (overtakes fate (seat_at side k.progress))) (fault_at OutOfOrder (length k.entries))
-    >> gap_kept table c k.entries k.since k.progress
-    >>= message_kept table side fate (length k.entries) message (taken_by (length k.entries) 0 c.fates)
-item_kept table c fate Item.Quiet k =
+-- the gap before the next entry
+abbrev pub gap_before : Option Side → Table → Certificate → Kept → Result Hearing CheckFault
+gap_before None table c k = map_ok (with_progress k.hearing) (gap_kept table c k.entries k.since k.hearing.progress)
+gap_before (Some judged) table c k = gap_passed table c judged k.entries k.since k.hearing
+
+-- the messages that the next entry takes: of both ends, or of the peer alone
+abbrev pub tied_now : Option Side → Certificate → Kept → List ℕ
+tied_now None c k = taken_by (length k.entries) 0 c.fates
+tied_now (Some judged) c k = told_among (other judged) k.entries (taken_by (length k.entries) 0 c.fates)
+
+-- whether that end alone is judged: what it sends comes to nobody
+abbrev pub is_alone : Option Side → Side → Bool
+is_alone None side = false
+is_alone (Some judged) side = is_side judged side
+
+-- a message that an end sends, or that the peer of the judged one tells
+abbrev pub message_taken : Option Side → Table → Side → Fate → ℕ → Message → List ℕ → Hearing → Result Hearing CheckFault
+message_taken None table side fate number message takes h =
+    map_ok (with_progress h) (message_kept table side fate number message takes h.progress)
+message_taken (Some judged) table side fate number message takes h =
+    cond (is_side judged side) (own_taken table judged number message takes h) (told_taken judged fate number message takes h)
+
+-- a quiet mark, at which both ends are quiet, or the judged one, whose open halves close unseen
+abbrev pub quiet_by : Option Side → Table → ℕ → List ℕ → Hearing → Result Hearing CheckFault
+quiet_by None table number takes h = map_ok (with_progress h) (mark_kept number takes h.progress)
+quiet_by (Some judged) table number takes h = mark_taken table judged number takes h
+
+abbrev pub item_kept : Option Side → Table → Certificate → Fate → Item → Kept → Result Hearing CheckFault
+item_kept judged table c fate (Sent side message) k =
+    needs (is_alone judged side || not (overtakes fate (seat_at side k.hearing.progress))) (fault_at OutOfOrder (length k.entries))
+    >> gap_before judged table c k
+    >>= message_taken judged table side fate (length k.entries) message (tied_now judged c k)
+item_kept judged table c fate Item.Quiet k =
     needs (is_gap (length k.entries + 1) fate) (fault_at FateRange (length k.entries))
-    >> gap_kept table c k.entries k.since k.progress
-    >>= mark_kept (length k.entries) (taken_by (length k.entries) 0 c.fates)
+    >> gap_before judged table c k
+    >>= quiet_by judged table (length k.entries) (tied_now judged c k)
 
-abbrev pub entry_kept : Table → Certificate → Fate → Result Item Reason → Kept → Result Kept CheckFault
-entry_kept table c fate (Ok item) k = map_ok (kept_with c item k) (item_kept table c fate item k)
-entry_kept table c fate (Err reason) k = refused reason (length k.entries)
+abbrev pub entry_kept : Option Side → Table → Certificate → Fate → Result Item Reason → Kept → Result Kept CheckFault
+entry_kept judged table c fate (Ok item) k = map_ok (kept_with c item k) (item_kept judged table c fate item k)
+entry_kept judged table c fate (Err reason) k = refused reason (length k.entries)
 
-abbrev pub kept_next : Table → Certificate → Result Item Reason → Kept → Result Kept CheckFault
-kept_next table c entry k =
-    ok_or (slice_get c.fates (length k.entries)) (fault_at FateCount (length k.entries)) >>= λ fate. entry_kept table c fate entry k
+abbrev pub kept_next : Option Side → Table → Certificate → Result Item Reason → Kept → Result Kept CheckFault
+kept_next judged table c entry k =
+    ok_or (slice_get c.fates (length k.entries)) (fault_at FateCount (length k.entries))
+    >>= λ fate. entry_kept judged table c fate entry k
 
 -- the last gap
-abbrev pub kept_ended : Table → Certificate → Kept → Result Progress CheckFault
-kept_ended table c k =
-    needs (length k.entries == length c.fates) (fault_at FateCount (length k.entries))
-    >> gap_kept table c k.entries k.since k.progress
+abbrev pub kept_ended : Option Side → Table → Certificate → Kept → Result Hearing CheckFault
+kept_ended judged table c k =
+    needs (length k.entries == length c.fates) (fault_at FateCount (length k.entries)) >> gap_before judged table c k
 
 -- ---- a report
 
--- the count of the steps of the run that is given
-abbrev pub reported : List Event → Report
-reported events = record { moves = length events }
+-- What is said of the run that is given. Where both ends are judged nothing is counted as unheard: those messages are lost whose fates say so.
+abbrev pub reported : Option Side → List Event → Report
+reported None events = record { moves = length events; unheard = 0 }
+reported (Some judged) events = record { moves = steps_of judged events; unheard = unheard_of judged events }
 
--- what a certificate gives for entries, by what they are
-abbrev pub run_of : Table → Certificate → List (Result Item Reason) → Result (List Event) CheckFault
-run_of table c entries = do
-  certificate_fits c
-  r ← entries_replayed table c entries nothing_replayed
-  Ok (lost_from_both c r).events
+-- the same, by what is kept at the end
+abbrev pub report_of : Hearing → Report
+report_of h = record { moves = h.progress.moves - h.own; unheard = h.unheard }
 
 -- ---- what waits
+
+-- how many messages are kept that are on their way to an end that is judged
+abbrev pub count_waiting : Option Side → Progress → ℕ
+count_waiting None p = length p.a.waiting + length p.b.waiting
+count_waiting (Some judged) p = length (seat_at (other judged) p).waiting
 
 -- whether a fate is a gap, or an entry, of that number or above
 abbrev pub is_ahead : ℕ → Fate → Bool

@@ -1,5 +1,5 @@
 -- What a certificate gives: a run, or the reason why it gives none.
-use Rattle.std.specs.Prelude.{◌≡◌, ◌⊎◌, ℕ, ◌+◌, ◌*◌, ◌≤◌, ◌<◌, ℤ, Bool, true, false, List, [], ◌∷◌, ◌++◌, length, take, slice_get, Contains, Some, None, Err}
+use Rattle.std.specs.Prelude.{◌≡◌, ◌≢◌, ◌⊎◌, ℕ, ◌+◌, ◌*◌, ◌≤◌, ◌<◌, ℤ, Bool, true, false, List, [], ◌∷◌, ◌++◌, length, map, take, slice_get, Contains, Option, Some, None, Result, Err}
 use Rattle.tcap_msg.specs.declared.message.Message.{Message}
 use Rattle.tcap_record.specs.declared.entry.End.{End as Side}
 use Rattle.tcap_record.specs.declared.entry.Body.TheVariants.{Bad, Good, Quiet as QuietMark}
@@ -14,14 +14,18 @@ use Rattle.tcap_check.specs.declared.certificate.Closing.{Closing}
 use Rattle.tcap_check.specs.declared.certificate.Expiry.{Expiry}
 use Rattle.tcap_check.specs.declared.certificate.Fate.{Fate}
 use Rattle.tcap_check.specs.declared.certificate.Fate.TheVariants.{Gap, Lost, By}
+use Rattle.tcap_check.specs.declared.checker.Report.{Report}
+use Rattle.tcap_check.specs.declared.fault.CheckFault.{CheckFault}
 use Rattle.tcap_model.specs.declared.reason.Reason.{Reason}
 use Rattle.tcap_model.specs.declared.reason.Reason.TheVariants as reasons
 use Rattle.tcap_model.specs.World.{Item, Sent, World, end_at}
-use Rattle.tcap_model.specs.Run.{BothKeepRules, Event, IsRunOf, Runs, Sends, Replies, Loses, Expires, Closes, Quiet, Tells}
+use Rattle.tcap_model.specs.Run.{BothKeepRules, Event, IsLawful, IsRunOf, Runs, Sends, Replies, Loses, Expires, Closes, Quiet, Tells}
 use Rattle.tcap_check.specs.Certificate.{Certificate}
-use Rattle.tcap_model.specs.Entries.{AreItems, IsItem, count_components}
+use Rattle.tcap_model.specs.Entries.{AreItems, IsItem, count_components, item_of}
 use Rattle.tcap_check.specs.Follows.{Follows, FollowsFrom, closing_event, expiry_event, without_losses}
-use Rattle.tcap_check.specs.Replayed.{fate_fits, is_later, time_of}
+use Rattle.tcap_check.specs.Checking.{Checking, Took}
+use Rattle.tcap_check.specs.Replayed.{fate_fits, fault_at, is_later, replayed_by, time_of}
+use Rattle.tcap_check.specs.Unheard.{IsLawfulUnheard}
 
 -- ---- a run
 
@@ -150,3 +154,28 @@ IsReason table c entries number reasons.NoItem =
 IsReason table c entries number reasons.CertificateShape = ⊥
 IsReason table c entries number reasons.Memory = ⊥
 IsReason table c entries number reason = Unit {0}
+
+-- What a refusal shows of the certificate and the entries. Where one end alone is judged nothing is said.
+abbrev pub ShowsReason : Option Side → Table → Certificate → List Entry → CheckFault → Type 0
+ShowsReason None table c entries fault = IsReason table c entries fault.entry fault.reason
+ShowsReason (Some judged) table c entries fault = Unit {0}
+
+-- These entries are refused with that fault whatever comes behind them; where both ends are judged, of each reason but 64, 65 and 66 the
+-- certificate and they show it.
+abbrev pub IsRefused : Option Side → Table → Certificate → List Entry → CheckFault → Type 0
+IsRefused judged table c entries fault = (more : List Entry)
+    → (replayed_by judged table c (entries ++ more) ≡ Err fault) × ShowsReason judged table c (entries ++ more) fault
+
+-- Where a checker refuses the next entry, memory aside, it is refused whatever comes behind it.
+abbrev pub RefusesForGood : Checking → Result Item Reason → Result (Unit {0}) CheckFault → Type 0
+RefusesForGood s next answer = (entries : List Entry) (entry : Entry) (fault : CheckFault) → Took s (map item_of entries)
+    → item_of entry ≡ next → answer ≡ Err fault → fault ≢ fault_at reasons.Memory 0
+    → IsRefused s.judged s.table s.certificate (entries ++ entry ∷ []) fault
+
+-- ---- reports
+
+-- What a report says of items: two lawful ends may have sent them, by so many steps; or the end that is judged its part of them, by a run that
+-- loses so many of its peer's messages.
+abbrev pub SaysLawful : Option Side → List Item → Table → Report → Type 0
+SaysLawful None items table report = IsLawful items table report.moves
+SaysLawful (Some judged) items table report = IsLawfulUnheard judged items table report.unheard

@@ -1,6 +1,6 @@
--- What a checker keeps of one end alone, and its steps: those of `Alone`, over what is kept. What the end sends is lost at
--- once, so nothing of it waits; what waits is what its peer told.
-use Rattle.std.specs.Prelude.{ℕ, ◌+◌, Bool, false, List, [], ◌∷◌, filter, slice_get, length, Option, Some, None, Result, Ok, Err, ◌==◌}
+-- What a checker keeps of a replay, and its steps where one end alone is judged: those of `Alone`, over what is kept. What that end sends
+-- is lost at once, so nothing of it waits; what waits is what its peer told.
+use Rattle.std.specs.Prelude.{ℕ, ◌+◌, Bool, false, List, [], ◌∷◌, filter, slice_get, length, Option, Some, Result, Ok, Err, ◌==◌}
 use Rattle.tcap_msg.specs.declared.message.Message.{Message}
 use Rattle.tcap_record.specs.declared.entry.End.{End as Side}
 use Rattle.tcap_end.specs.declared.fault.EndFault.{EndFault}
@@ -23,11 +23,10 @@ use Rattle.tcap_check.specs.declared.progress.Waiting.{Waiting}
 use Rattle.tcap_record.specs.Ends.{other}
 use Rattle.tcap_model.specs.World.{is_side}
 use Rattle.tcap_check.specs.Certificate.{Certificate}
-use Rattle.tcap_check.specs.Checking.{map_ok}
 use Rattle.tcap_check.specs.Replayed.{fault_at, is_nothing, refused}
-use Rattle.tcap_check.specs.Progress.{closings_kept, due_in, expiries_kept, mark_kept, message_kept, moved, nothing_kept, seat_at, sent_by, with_seat_end, with_waiting}
+use Rattle.tcap_check.specs.Progress.{closings_kept, due_in, expiries_kept, map_ok, mark_kept, message_kept, moved, nothing_kept, seat_at, sent_by, with_seat_end, with_waiting}
 
--- an end over which nothing went yet
+-- nothing went yet
 abbrev pub nothing_heard : Hearing
 nothing_heard = record { progress = nothing_kept; own = 0; unheard = 0 }
 

@@ -7,6 +7,7 @@ pub mod Refused
 pub mod Replayed
 pub mod Alone
 pub mod AloneGiven
+pub mod Unheard
 pub mod AloneWorked
 pub mod Given
 pub mod Replays
@@ -19,5 +20,3 @@ pub mod Buckets
 pub mod Plan
 pub mod Ready
 pub mod Hearing
-pub mod EndChecking
-pub mod EndReady

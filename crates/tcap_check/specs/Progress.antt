@@ -44,6 +44,11 @@ abbrev pub YieldsInMemory : {A : Type 0} → Result A CheckFault → Result (Uni
 YieldsInMemory step (Ok done) left = step ≡ Ok left
 YieldsInMemory step (Err fault) left = fault ≢ fault_at Memory 0 → step ≡ Err fault
 
+-- what is Ok, by that function; a reason stays as it is
+abbrev pub map_ok : {A B F : Type 0} → (A → B) → Result A F → Result B F
+map_ok f (Ok x) = Ok (f x)
+map_ok f (Err reason) = Err reason
+
 -- ---- an end, and what it sent that is on its way
 
 abbrev pub seat_at : Side → Progress → Seat

@@ -1,5 +1,7 @@
 -- The run that a certificate gives for the entries of a record, built entry by entry, or the first reason why it gives
--- none.
+-- none. Two ends are judged, or one alone, whatever its peer sends. A peer that is not judged keeps no rule: its messages are
+-- told, in an order that their fates allow; what the end that is judged can't receive is taken as lost; and what that end sends is
+-- lost at once, since nothing is asked of what the peer hears.
 use Rattle.std.specs.Prelude.{ℕ, ℤ, ◌+◌, ◌*◌, Bool, true, false, List, [], ◌∷◌, ◌++◌, map, length, drop, filter, filter_map, slice_get, Option, Some, None, Result, Ok, Err, ok_or, ◌==◌, ◌&&◌, ◌||◌, not, nat_lt, nat_le, cond, option_map}
 use Rattle.tcap_msg.specs.declared.message.AbortReason.TheVariants.{Cause}
 use Rattle.tcap_msg.specs.declared.message.Message.{Message}
@@ -13,6 +15,7 @@ use Rattle.tcap_end.specs.declared.fault.EndFault.TheVariants as faults
 use Rattle.tcap_end.specs.declared.half.HalfName.{HalfName}
 use Rattle.tcap_end.specs.Table.{Table}
 use Rattle.tcap_end.specs.End.{End}
+use Rattle.tcap_end.specs.Hidden.{open_halves}
 use Rattle.tcap_end.specs.Message.{send}
 use Rattle.tcap_end.specs.Reply.{aborts}
 use Rattle.tcap_end.specs.Step.{needs, ◌>>◌, ◌>>=◌}
@@ -21,14 +24,14 @@ use Rattle.tcap_model.specs.declared.reason.Reason.{Reason}
 use Rattle.tcap_model.specs.declared.reason.Reason.TheVariants.{FateCount, FateRange, OutOfOrder, BadReply, SendRefused, HiddenRefused, NotQuiet}
 use Rattle.tcap_record.specs.Ends.{other}
 use Rattle.tcap_model.specs.World.{Item, OnItsWay, Sent, World, channel_from, empty, end_at, is_side, with_channel, with_end}
-use Rattle.tcap_model.specs.Run.{Event, Sends, Receives, Replies, Loses, Expires, Quiet, after, joined}
+use Rattle.tcap_model.specs.Run.{Event, Sends, Receives, Replies, Loses, Expires, Closes, Quiet, Tells, after, joined, numbers_of}
 use Rattle.tcap_check.specs.declared.certificate.Closing.{Closing}
 use Rattle.tcap_check.specs.declared.certificate.Expiry.{Expiry}
 use Rattle.tcap_check.specs.declared.certificate.Fate.{Fate}
 use Rattle.tcap_check.specs.declared.certificate.Fate.TheVariants.{Gap, Lost, By}
 use Rattle.tcap_check.specs.Certificate.{Certificate}
 use Rattle.tcap_model.specs.Entries.{item_of}
-use Rattle.tcap_check.specs.Follows.{closing_event, expiry_event, invoking_half, invoke_id, sending, taken_by}
+use Rattle.tcap_check.specs.Follows.{closing_event, expiry_event, invoking_half, invoke_id, sending_by, taken_by}
 
 -- ---- reasons
 
@@ -140,24 +143,57 @@ expiries_replayed table c (x ∷ more) r = do
   next ← happens table c event (HiddenRefused faults.CannotExpire) x.entry r
   expiries_replayed table c more next
 
+-- this, or the other where there is none
+abbrev pub or_else : {A : Type 0} → Option A → Option A → Option A
+or_else None other = other
+or_else (Some a) other = Some a
+
+-- The message of that number, which its peer sent, is received, or, where it can't be, lost: a discard.
+abbrev pub heard : Table → Certificate → Side → ℕ → Replay → Result Replay CheckFault
+heard table c side number r = by (lost_from_front c (other side) r)
+  where
+    by : Replay → Result Replay CheckFault
+    by before = ok_or
+        (or_else (stepped table (Receives side number) before) (stepped table (Loses (other side) number) before))
+        (fault_at BadReply number)
+
+-- Whether a message of that gap is delivered to an end that is judged.
+abbrev pub is_due : Option Side → ℕ → ℕ → Side → Bool
+is_due None gap g sender = g == gap
+is_due (Some judged) gap g sender = (g == gap) && is_side (other judged) sender
+
+-- An end receives it. Where it alone is judged it may fail to: that its peer sent what it can't receive is no fault of the end.
+abbrev pub received : Option Side → Table → Certificate → Side → ℕ → Replay → Result Replay CheckFault
+received None table c sender number r = happens table c (Receives (other sender) number) BadReply number r
+received (Some judged) table c sender number r = heard table c judged number r
+
 -- the message of that number, where it is delivered in the gap
-abbrev pub delivery_replayed : Table → Certificate → ℕ → ℕ → Fate → Item → Replay → Result Replay CheckFault
-delivery_replayed table c gap number (Gap g) (Sent side message) r =
-    cond (g == gap) (happens table c (Receives (other side) number) BadReply number r) (Ok r)
-delivery_replayed table c gap number _ _ r = Ok r
+abbrev pub delivery_by : Option Side → Table → Certificate → ℕ → ℕ → Fate → Item → Replay → Result Replay CheckFault
+delivery_by judged table c gap number (Gap g) (Sent sender message) r =
+    cond (is_due judged gap g sender) (received judged table c sender number r) (Ok r)
+delivery_by judged table c gap number _ _ r = Ok r
 
 -- the messages of these items that are, by number; the first item has this number
-abbrev pub deliveries_replayed : Table → Certificate → ℕ → ℕ → List Fate → List Item → Replay → Result Replay CheckFault
-deliveries_replayed table c gap number (fate ∷ fates) (item ∷ items) r =
-    delivery_replayed table c gap number fate item r >>= deliveries_replayed table c gap (number + 1) fates items
-deliveries_replayed table c gap number _ _ r = Ok r
+abbrev pub deliveries_by : Option Side → Table → Certificate → ℕ → ℕ → List Fate → List Item → Replay → Result Replay CheckFault
+deliveries_by judged table c gap number (fate ∷ fates) (item ∷ items) r =
+    delivery_by judged table c gap number fate item r >>= deliveries_by judged table c gap (number + 1) fates items
+deliveries_by judged table c gap number _ _ r = Ok r
+
+-- What is listed of the ends that are judged. What is listed of a peer that is not is passed over.
+abbrev pub closings_judged : Option Side → List Closing → List Closing
+closings_judged None listed = listed
+closings_judged (Some judged) listed = filter (λ x. is_side judged x.side) listed
+
+abbrev pub expiries_judged : Option Side → List Expiry → List Expiry
+expiries_judged None listed = listed
+expiries_judged (Some judged) listed = filter (λ x. is_side judged x.side) listed
 
 -- the gap before the next entry: its closings, then its expiries, each as they are listed, then its deliveries
-abbrev pub gap_replayed : Table → Certificate → Replay → Result Replay CheckFault
-gap_replayed table c r = do
-  closed ← closings_replayed table c (filter (λ x. x.gap == next_entry r) c.close) r
-  expired ← expiries_replayed table c (filter (λ x. x.gap == next_entry r) c.expire) closed
-  deliveries_replayed table c (next_entry r) 0 c.fates r.world.sent expired
+abbrev pub gap_by : Option Side → Table → Certificate → Replay → Result Replay CheckFault
+gap_by judged table c r = do
+  closed ← closings_replayed table c (closings_judged judged (filter (λ x. x.gap == next_entry r) c.close)) r
+  expired ← expiries_replayed table c (expiries_judged judged (filter (λ x. x.gap == next_entry r) c.expire)) closed
+  deliveries_by judged table c (next_entry r) 0 c.fates r.world.sent expired
 
 -- ---- an entry
 
@@ -224,10 +260,6 @@ message_by table c side message (Some (Sends sender sent)) r =
 message_by table c side message (Some (Replies replier number)) r = reply_replayed table c side message number r
 message_by table c side message _ r = refused BadReply (next_entry r)
 
-abbrev pub message_replayed : Table → Certificate → Side → Message → Replay → Result Replay CheckFault
-message_replayed table c side message r = message_by table c side message
-    (sending c (next_entry r) (Sent side message)) r
-
 abbrev pub is_gap : ℕ → Fate → Bool
 is_gap gap (Gap g) = g == gap
 is_gap gap _ = false
@@ -236,46 +268,143 @@ abbrev pub is_nothing : List ℕ → Bool
 is_nothing [] = true
 is_nothing (number ∷ more) = false
 
+abbrev pub is_sent_by : Side → Option Item → Bool
+is_sent_by side (Some (Sent sender message)) = is_side side sender
+is_sent_by side _ = false
+
+-- The numbers of the messages that the next entry takes. Where one end is judged, only its peer's fates say anything.
+abbrev pub tied : Option Side → Certificate → Replay → List ℕ
+tied None c r = taken_by (next_entry r) 0 c.fates
+tied (Some judged) c r =
+    filter (λ n. is_sent_by (other judged) (slice_get r.world.sent n)) (taken_by (next_entry r) 0 c.fates)
+
+-- Messages come in the order in which they were sent. What the end sends that alone is judged comes to nobody.
+abbrev pub comes_in_order : Option Side → Side → Fate → Certificate → Replay → Result (Unit {0}) CheckFault
+comes_in_order None sender fate c r =
+    needs (not (is_overtaking sender fate c.fates r.world.sent)) (fault_at OutOfOrder (next_entry r))
+comes_in_order (Some judged) sender fate c r = Ok tt
+
+-- all that is on its way from an end is lost
+abbrev pub all_lost_from : Side → Replay → Replay
+all_lost_from side r = losing side (numbers_of (channel_from side r.world)) r
+
+-- What an end sent that alone is judged is lost at once.
+abbrev pub behind_sending : Option Side → Result Replay CheckFault → Result Replay CheckFault
+behind_sending None sent = sent
+behind_sending (Some judged) sent = sent >>= λ next. Ok (all_lost_from judged next)
+
+-- a message that an end which is judged sends, or its provider
+abbrev pub own_message : Option Side → Table → Certificate → Side → Message → Replay → Result Replay CheckFault
+own_message judged table c side message r = message_by table c side message
+    (sending_by c (next_entry r) (Sent side message) (tied judged c r)) r
+
+-- the same, with this fate, behind its gap
+abbrev pub own_judged : Option Side → Table → Certificate → Fate → Side → Message → Replay → Result Replay CheckFault
+own_judged judged table c fate side message r = do
+  comes_in_order judged side fate c r
+  behind ← gap_by judged table c r
+  behind_sending judged (own_message judged table c side message behind)
+
+-- A message that the peer of the end tells which alone is judged, behind its gap: it does not come before what the peer told
+-- earlier, and takes none of that.
+abbrev pub told_replayed : Table → Certificate → Fate → Side → Message → Replay → Result Replay CheckFault
+told_replayed table c fate judged message r = do
+  needs (not (is_overtaking (other judged) fate c.fates r.world.sent)) (fault_at OutOfOrder (next_entry r))
+  behind ← gap_by (Some judged) table c r
+  needs (is_nothing (tied (Some judged) c r)) (fault_at BadReply (next_entry r))
+  Ok (with_step (Tells (other judged) message) behind (joined (other judged) message behind.world))
+
+abbrev pub message_judged : Option Side → Table → Certificate → Fate → Side → Message → Replay → Result Replay CheckFault
+message_judged None table c fate sender message r = own_judged None table c fate sender message r
+message_judged (Some judged) table c fate sender message r = cond (is_side judged sender)
+    (own_judged (Some judged) table c fate judged message r) (told_replayed table c fate judged message r)
+
+-- Each of these halves closes unseen; one that may not is still open at the mark.
+abbrev pub closed_at_mark : Table → Side → ℕ → List HalfName → Replay → Result Replay CheckFault
+closed_at_mark table side mark [] r = Ok r
+closed_at_mark table side mark (name ∷ more) r =
+    ok_or (stepped table (Closes side name) r) (fault_at NotQuiet mark) >>= closed_at_mark table side mark more
+
+-- The halves of the end that alone is judged close before a mark: nobody but the end says when they did.
+abbrev pub closed_before : Option Side → Table → ℕ → Replay → Result Replay CheckFault
+closed_before None table mark r = Ok r
+closed_before (Some judged) table mark r = closed_at_mark table judged mark (open_halves (end_at judged r.world)) r
+
+-- what is still on its way to an end that is judged is lost
+abbrev pub lost_last : Option Side → Certificate → Replay → Replay
+lost_last None c r = lost_from_both c r
+lost_last (Some judged) c r = lost_from_front c (other judged) r
+
 -- a quiet mark with this fate, which is the next gap; no message is taken by it
-abbrev pub quiet_replayed : Table → Certificate → Fate → Replay → Result Replay CheckFault
-quiet_replayed table c fate r = do
+abbrev pub mark_judged : Option Side → Table → Certificate → Fate → Replay → Result Replay CheckFault
+mark_judged judged table c fate r = do
   needs (is_gap (next_entry r + 1) fate) (fault_at FateRange (next_entry r))
-  behind ← gap_replayed table c r
-  needs (is_nothing (taken_by (next_entry r) 0 c.fates)) (fault_at NotQuiet (next_entry r))
-  happens table c Quiet NotQuiet (next_entry r) behind
+  behind ← gap_by judged table c r
+  needs (is_nothing (tied judged c r)) (fault_at NotQuiet (next_entry r))
+  closed ← closed_before judged table (next_entry r) behind
+  ok_or (stepped table Quiet (lost_last judged c closed)) (fault_at NotQuiet (next_entry r))
 
--- a message with this fate
-abbrev pub sent_replayed : Table → Certificate → Fate → Side → Message → Replay → Result Replay CheckFault
-sent_replayed table c fate side message r = do
-  needs (not (is_overtaking side fate c.fates r.world.sent)) (fault_at OutOfOrder (next_entry r))
-  behind ← gap_replayed table c r
-  message_replayed table c side message behind
-
-abbrev pub item_replayed : Table → Certificate → Fate → Item → Replay → Result Replay CheckFault
-item_replayed table c fate (Sent side message) r = sent_replayed table c fate side message r
-item_replayed table c fate Item.Quiet r = quiet_replayed table c fate r
+abbrev pub item_by : Option Side → Table → Certificate → Fate → Item → Replay → Result Replay CheckFault
+item_by judged table c fate (Sent sender message) r = message_judged judged table c fate sender message r
+item_by judged table c fate Item.Quiet r = mark_judged judged table c fate r
 
 -- what an entry is, with this fate, and the gap before it
-abbrev pub entry_replayed : Table → Certificate → Fate → Result Item Reason → Replay → Result Replay CheckFault
-entry_replayed table c fate (Ok item) r = item_replayed table c fate item r
-entry_replayed table c fate (Err reason) r = refused reason (next_entry r)
+abbrev pub entry_by : Option Side → Table → Certificate → Fate → Result Item Reason → Replay → Result Replay CheckFault
+entry_by judged table c fate (Ok item) r = item_by judged table c fate item r
+entry_by judged table c fate (Err reason) r = refused reason (next_entry r)
 
 -- what the entries from the next one on are, and the last gap
-abbrev pub entries_replayed : Table → Certificate → List (Result Item Reason) → Replay → Result Replay CheckFault
-entries_replayed table c [] r = do
+abbrev pub entries_by : Option Side → Table → Certificate → List (Result Item Reason) → Replay → Result Replay CheckFault
+entries_by judged table c [] r = do
   needs (next_entry r == length c.fates) (fault_at FateCount (next_entry r))
-  gap_replayed table c r
-entries_replayed table c (entry ∷ entries) r = do
+  gap_by judged table c r
+entries_by judged table c (entry ∷ entries) r = do
   fate ← ok_or (slice_get c.fates (next_entry r)) (fault_at FateCount (next_entry r))
-  next ← entry_replayed table c fate entry r
-  entries_replayed table c entries next
+  next ← entry_by judged table c fate entry r
+  entries_by judged table c entries next
 
--- The run that the certificate gives for these entries; what is still on its way behind the last gap is lost.
-abbrev pub replayed : Table → Certificate → List Entry → Result (List Event) CheckFault
-replayed table c entries = do
+-- The run that the certificate gives for what entries are read as; what is still on its way behind the last gap is lost.
+abbrev pub run_by : Option Side → Table → Certificate → List (Result Item Reason) → Result (List Event) CheckFault
+run_by judged table c entries = do
   certificate_fits c
-  r ← entries_replayed table c (map item_of entries) nothing_replayed
-  Ok (lost_from_both c r).events
+  r ← entries_by judged table c entries nothing_replayed
+  Ok (lost_last judged c r).events
+
+-- the same for the entries of a record: where an end is named it alone is judged, else both are
+abbrev pub replayed_by : Option Side → Table → Certificate → List Entry → Result (List Event) CheckFault
+replayed_by judged table c entries = run_by judged table c (map item_of entries)
+
+-- ---- two ends
+
+abbrev pub delivery_replayed : Table → Certificate → ℕ → ℕ → Fate → Item → Replay → Result Replay CheckFault
+delivery_replayed = delivery_by None
+
+abbrev pub deliveries_replayed : Table → Certificate → ℕ → ℕ → List Fate → List Item → Replay → Result Replay CheckFault
+deliveries_replayed = deliveries_by None
+
+abbrev pub gap_replayed : Table → Certificate → Replay → Result Replay CheckFault
+gap_replayed = gap_by None
+
+abbrev pub message_replayed : Table → Certificate → Side → Message → Replay → Result Replay CheckFault
+message_replayed = own_message None
+
+abbrev pub sent_replayed : Table → Certificate → Fate → Side → Message → Replay → Result Replay CheckFault
+sent_replayed = own_judged None
+
+abbrev pub quiet_replayed : Table → Certificate → Fate → Replay → Result Replay CheckFault
+quiet_replayed = mark_judged None
+
+abbrev pub item_replayed : Table → Certificate → Fate → Item → Replay → Result Replay CheckFault
+item_replayed = item_by None
+
+abbrev pub entry_replayed : Table → Certificate → Fate → Result Item Reason → Replay → Result Replay CheckFault
+entry_replayed = entry_by None
+
+abbrev pub entries_replayed : Table → Certificate → List (Result Item Reason) → Replay → Result Replay CheckFault
+entries_replayed = entries_by None
+
+abbrev pub replayed : Table → Certificate → List Entry → Result (List Event) CheckFault
+replayed = replayed_by None
 
 -- how many steps it has
 abbrev pub moves_of : Table → Certificate → List Entry → Result ℕ CheckFault

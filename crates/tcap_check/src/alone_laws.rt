@@ -16,7 +16,7 @@ ghost use Rattle.tcap_check.specs.Alone.{replayed_for, unheard_of};
 ghost use Rattle.tcap_check.specs.AloneGiven.{DiscardsNothing, IsGivenFor};
 
 /// A run of one end from any certificate: what it gives is a run, from the empty world, which sends the items that the
-/// entries are, in their order, and nothing else, and in which that end keeps the rules. But for the losses of what the
+/// entries are, in their order, and nothing else, and in which that end keeps the rules; it leaves nothing on its way to it. But for the losses of what the
 /// end sent, it has at most three times as many steps as there are entries, and one for each component; no more of the
 /// peer's messages are lost than there are entries.
 pub fn gives_a_run_of_one_end()

@@ -1,15 +1,15 @@
-//! What a checker keeps of one end alone and of what its peer told, and the steps of that end (Q.774 3.2 and 3.3).
+//! What a checker keeps of a replay, and its steps where one end alone is judged (Q.774 3.2 and 3.3).
 
 ghost use Rattle.std.specs.Prelude.{◌≡◌, ◌<◌, ◌≤◌, ◌+◌, ◌^◌, IfOk, IfSome, OnOk, length, slice_get};
 ghost use Rattle.tcap_check.specs.Hearing.{all_heard, gap_passed, heard_or_dropped, is_told, mark_taken, message_heard, nothing_heard};
 ghost use Rattle.tcap_check.specs.Hearing.{own_closings, own_expiries, own_taken, told_among, told_taken};
-ghost use Rattle.tcap_check.specs.EndChecking.{end_report_of};
+ghost use Rattle.tcap_check.specs.Checking.{report_of};
 ghost use Rattle.tcap_check.specs.Plan.{IsPlan};
 ghost use Rattle.tcap_check.specs.Progress.{Yields, YieldsInMemory};
 ghost use Rattle.tcap_record.specs.Ends.{other};
 
 use crate::certificate::{Certificate, Closing, Expiry, Fate};
-use crate::end_checker::EndReport;
+use crate::checker::Report;
 use crate::fault::CheckFault;
 use crate::held::Held;
 use crate::outline::Outline;
@@ -21,8 +21,8 @@ use tcap_model::Reason;
 use tcap_msg::{Message, MessageParts};
 use tcap_record::End;
 
-/// What is kept of a replay for one end. That end's seat has nothing on its way, since what it sends is lost at once; its
-/// peer's has what the peer told, and an end over which nothing goes.
+/// What is kept of a replay. Where one end alone is judged, its seat has nothing on its way, since what it sends is lost at once; its
+/// peer's has what the peer told, and an end over which nothing goes. Where both are, neither count grows.
 #[derive(Debug, Drop)]
 pub(crate) struct Hearing<'r> {
     pub(crate) progress: Progress<'r>,
@@ -104,7 +104,7 @@ impl Progress<'_> {
 }
 
 impl<'r> Hearing<'r> {
-    /// An end over which nothing went yet.
+    /// Nothing went yet.
     pub(crate) fn new(alloc: Global) -> Hearing<'r>
         ensures { result ≡ nothing_heard }
     {
@@ -209,10 +209,10 @@ impl<'r> Hearing<'r> {
     }
 
     /// What is said of the run.
-    pub(crate) fn report(&self) -> EndReport
-        ensures { result ≡ end_report_of self.now }
+    pub(crate) fn report(&self) -> Report
+        ensures { result ≡ report_of self.now }
     {
-        EndReport {
+        Report {
             moves: self.progress.moves.saturating_sub(u128::from(self.own)),
             unheard: self.unheard,
         }

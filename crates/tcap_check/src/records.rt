@@ -1,22 +1,26 @@
 //! A certificate, replayed over a record.
 
-ghost use Rattle.std.specs.Prelude.{◌≡◌, ◌≢◌, ◌++◌, ◌∷◌, [], List, Result, Ok, Err, OnOk};
+ghost use Rattle.std.specs.Prelude.{◌≡◌, ◌≢◌, ◌++◌, ◌∷◌, [], List, None, Some, Result, Ok, Err, OnOk};
 ghost use Rattle.tcap_record.specs.Viewed.{entry_read};
+ghost use Rattle.tcap_check.specs.Given.{RefusesForGood, SaysLawful};
 ghost use Rattle.tcap_check.specs.declared.fault.CheckFault.{CheckFault as Refusal};
 ghost use Rattle.tcap_model.specs.declared.reason.Reason.{Reason as Why};
 ghost use Rattle.tcap_model.specs.declared.reason.Reason.TheVariants as reasons;
 ghost use Rattle.tcap_model.specs.World.{Item};
 ghost use Rattle.tcap_model.specs.Run.{IsLawful};
+ghost use Rattle.tcap_check.specs.Unheard.{IsLawfulUnheard};
 ghost use Rattle.tcap_model.specs.Entries.{AreItems, item_of};
-ghost use Rattle.tcap_check.specs.Replayed.{fault_at, replayed};
+ghost use Rattle.tcap_check.specs.Replayed.{fault_at, replayed, replayed_by};
+ghost use Rattle.tcap_check.specs.Alone.{replayed_for};
 ghost use Rattle.tcap_check.specs.Checking.{Took, answer_of, kept_next, map_ok, reported};
 ghost use Rattle.tcap_check.specs.Progress.{YieldsInMemory};
 ghost use Rattle.tcap_check.specs.Ready.{IsReady, kept_in};
 ghost use Rattle.tcap_check.specs.declared.checker.Report.{Report as Reported};
 
 use crate::certificate::Certificate;
-use crate::checker::{Checker, Replaying, Report};
+use crate::checker::{Checker, Report};
 use crate::fault::CheckFault;
+use crate::replaying::Replaying;
 use std::alloc::Global;
 use tcap_end::Table;
 use tcap_model::Reason;
@@ -29,7 +33,9 @@ impl<'a> Checker<'a> {
     pub fn take(&mut self, entry: &EntryView) -> Result<(), CheckFault>
         ensures took { (entries : List (Result Item Why)) → Took self.old entries → result ≢ Err (fault_at reasons.Memory 0)
             → Took self.new (entries ++ item_of (entry_read entry.now) ∷ []) }
+        ensures refuses { RefusesForGood self.old (item_of (entry_read entry.now)) result }
         ensures answers { result ≡ answer_of self.new.so_far }
+        ensures judged { self.new.judged ≡ self.old.judged }
         ensures table { self.new.table ≡ self.old.table }
         ensures certificate { self.new.certificate ≡ self.old.certificate }
         ensures for_ever { (f : Refusal) → self.old.so_far ≡ Err f → self.new ≡ self.old }
@@ -47,9 +53,10 @@ impl<'r> Replaying<'_, 'r> {
     /// Takes the next entry of a record that outlives the replay; its message is lent while it waits.
     fn take_entry(&mut self, entry: &'r Entry) -> Result<(), CheckFault>
         requires ready { IsReady self.old }
-        ensures taken { YieldsInMemory (kept_next self.old.table.now self.old.certificate.now (item_of entry.now)
-            (kept_in self.old)) result (kept_in self.new) }
+        ensures taken { YieldsInMemory (kept_next self.old.judged self.old.table.now self.old.certificate.now
+            (item_of entry.now) (kept_in self.old)) result (kept_in self.new) }
         ensures ready { OnOk result (IsReady self.new) }
+        ensures judged { self.new.judged ≡ self.old.judged }
         ensures table { self.new.table ≡ self.old.table }
         ensures certificate { self.new.certificate ≡ self.old.certificate }
     {
@@ -60,6 +67,26 @@ impl<'r> Replaying<'_, 'r> {
             _ => Err(self.refuse(Reason::NoItem)),
         }
     }
+}
+
+/// Whether a certificate gives a run for a record, of both ends, or of the one that is judged: `check` and `check_end` in one.
+pub fn check_judged(
+    alloc: Global,
+    record: &Record,
+    table: &Table,
+    certificate: &Certificate,
+    judged: Option<End>,
+) -> Result<Report, CheckFault>
+    ensures lawful { (report : Reported) → result ≡ Ok report → (items : List Item) × AreItems «record».now.entries.items items
+        × SaysLawful judged items table.now report }
+    ensures exact { result ≢ Err (fault_at reasons.Memory 0)
+        → result ≡ map_ok (reported judged) (replayed_by judged table.now certificate.now «record».now.entries.items) }
+{
+    let mut replaying = Replaying::new(alloc, table, certificate, judged)?;
+    for entry in &record.entries {
+        replaying.take_entry(entry)?;
+    }
+    replaying.finish()
 }
 
 /// Whether a certificate gives a run of two ends for a record. On Ok the entries of the record are items, messages and
@@ -76,11 +103,29 @@ pub fn check(
     ensures lawful { (report : Reported) → result ≡ Ok report
         → (items : List Item) × AreItems «record».now.entries.items items × IsLawful items table.now report.moves }
     ensures exact { result ≢ Err (fault_at reasons.Memory 0)
-        → result ≡ map_ok reported (replayed table.now certificate.now «record».now.entries.items) }
+        → result ≡ map_ok (reported None) (replayed table.now certificate.now «record».now.entries.items) }
 {
-    let mut replaying = Replaying::new(alloc, table, certificate)?;
-    for entry in &record.entries {
-        replaying.take_entry(entry)?;
-    }
-    replaying.finish()
+    check_judged(alloc, record, table, certificate, None)
+}
+
+/// Whether a certificate gives a run for a record in which one end keeps the rules (Q.774 3.2 and 3.3), whatever its peer
+/// sends. On Ok the entries of the record are items, messages and quiet marks, and some run sends exactly these, in this
+/// order, in which that end keeps the rules. What a certificate says of its peer's halves, and of what became of the
+/// messages of the end itself, is not asked, but for the ranges of its numbers; a message of its peer that the end can't receive is taken as lost; `unheard` is
+/// how many of the peer's the run loses. Else the first reason why the certificate gives no such run, at an entry
+/// (`CheckFault`); or memory ran out, and nothing is said. Nothing is assumed of who made the certificate.
+pub fn check_end(
+    alloc: Global,
+    record: &Record,
+    table: &Table,
+    certificate: &Certificate,
+    end: End,
+) -> Result<Report, CheckFault>
+    ensures lawful { (report : Reported) → result ≡ Ok report
+        → (items : List Item) × AreItems «record».now.entries.items items
+        × IsLawfulUnheard «end» items table.now report.unheard }
+    ensures exact { result ≢ Err (fault_at reasons.Memory 0)
+        → result ≡ map_ok (reported (Some «end»)) (replayed_for «end» table.now certificate.now «record».now.entries.items) }
+{
+    check_judged(alloc, record, table, certificate, Some(end))
 }

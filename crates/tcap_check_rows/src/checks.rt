@@ -4,7 +4,7 @@ use std::alloc::Global;
 use std::fmt::Write;
 use std::test::Fail;
 use tcap_ber::Counted;
-use tcap_check::{Certificate, CheckFault, EndReport, Reason, Report, check, check_end};
+use tcap_check::{Certificate, CheckFault, Reason, Report, check, check_end};
 use tcap_end::Table;
 use tcap_msg_rows::{Row, each_row, octets_of, vector};
 use tcap_record::{End, Record, read_record};
@@ -130,7 +130,7 @@ fn text_of(alloc: Global, answer: Result<Report, CheckFault>) -> Result<String, 
 }
 
 /// The text of what a check of one end answers.
-fn end_text_of(alloc: Global, answer: Result<EndReport, CheckFault>) -> Result<String, Fail> {
+fn end_text_of(alloc: Global, answer: Result<Report, CheckFault>) -> Result<String, Fail> {
     let mut text = String::new(alloc);
     match answer {
         Ok(report) => write!(text, "{} {}", report.moves, report.unheard)?,
@@ -146,7 +146,7 @@ fn checked_end(
     table: Table,
     certificate: Certificate,
     end: End,
-) -> Result<EndReport, CheckFault> {
+) -> Result<Report, CheckFault> {
     let answer = check_end(alloc, &record, &table, &certificate, end);
     drop(record);
     drop(table);

@@ -1,5 +1,5 @@
 -- An entry joins the live dialogues that have one of its IDs: which these are, and what is kept of them with it.
-use Rattle.std.proofs.Common.{◌≡◌, ◌⊎◌, inl, inr, ℕ, Bool, true, false, cond, List, [], ◌∷◌, ◌++◌, Option, Some, None, is_none, refl, sym, ap, ◌∙◌}
+use Rattle.std.proofs.Common.{◌≡◌, ◌⊎◌, inl, inr, ℕ, Bool, true, false, cond, List, [], ◌∷◌, ◌++◌, Option, Some, None, is_none, is_some, refl, sym, ap, ◌∙◌}
 use Rattle.std.specs.Prelude.{◌==◌, ◌&&◌, ◌||◌, not, Contains, filter}
 use Rattle.std.specs.List.{flat_map, list_any}
 use Rattle.std.proofs.lemmas.Bool.{cases_Bool, eq-eqb, eqb-true, or_left, or_right}
@@ -18,7 +18,7 @@ use Rattle.tcap_dialogues.proofs.CutLists.{finds, kept_in, left_in}
 use Rattle.tcap_dialogues.proofs.HeldLaws.{one_name}
 use Rattle.tcap_dialogues.proofs.HeldLists.{AreSame, any_flat, any_none, both_so, or_none}
 use Rattle.tcap_dialogues.proofs.HeldOvers.{lower_none}
-use Rattle.tcap_dialogues.proofs.LiveLaws.{either}
+use Rattle.tcap_dialogues.proofs.LiveLaws.{either, some_higher}
 use Rattle.tcap_dialogues.proofs.OwnerLaws.{IsOf, Owns}
 
 -- What passes in many lists and one more.
@@ -122,7 +122,7 @@ module _ (live hits : List Course) (names : Course → ℕ) (earlier : List IdOf
   news id = not (list_any (λ d. is_among d.ids id) hits)
 
   -- It did where an earlier one had it and no live one has it.
-  pub again_is : have_one (filter news (ids_at end octets)) earlier ≡ (is_none known.dialogue && known.came)
+  pub again_is : have_one (filter news (ids_at end octets)) earlier ≡ (is_none known.dialogue && is_some known.last)
   again_is = by octets of.came of.owns in_hits
     where
       none : (b : Bool) → false ≡ (b && false)
@@ -140,9 +140,9 @@ module _ (live hits : List Course) (names : Course → ℕ) (earlier : List IdOf
       one id true = refl
       one id false = refl
 
-      by : (o : Option (List ℕ)) → known.came ≡ list_any (is_among earlier) (ids_at end o) → Owns live names (ids_at end o) known known.dialogue
+      by : (o : Option (List ℕ)) → is_some known.last ≡ list_any (is_among earlier) (ids_at end o) → Owns live names (ids_at end o) known known.dialogue
           → ((d : Course) → Contains live d → have_one (ids_at end o) d.ids ≡ true → Contains hits d)
-          → have_one (filter news (ids_at end o)) earlier ≡ (is_none known.dialogue && known.came)
+          → have_one (filter news (ids_at end o)) earlier ≡ (is_none known.dialogue && is_some known.last)
       by None came owns inside = none (is_none known.dialogue) ∙ ap (λ b. is_none known.dialogue && b) (sym came)
       by (Some x) came owns inside =
           let id : IdOf = record { end = end; octets = x } in
@@ -159,10 +159,10 @@ again_both h hits earlier a b first second =
 
 -- ---- what is kept of them with the entry
 
-pub entry_kept : (earlier : List IdOf) (n : ℕ) (h : Heading) (live : List Course) (again : Bool) (old new : Live)
-    → AreKept (hit_by h live) old → HasEntry n h again old new → have_one (ids_more h live) earlier ≡ again
+pub entry_kept : (earlier : List IdOf) (n : ℕ) (h : Heading) (live : List Course) (came : Option ℕ) (old new : Live)
+    → AreKept (hit_by h live) old → HasEntry n h came old new → have_one (ids_more h live) earlier ≡ is_some came
     → AreKept (with_entry earlier n h (hit_by h live) ∷ []) new
-entry_kept earlier n h live again old new kept more comes = record {
+entry_kept earlier n h live came old new kept more comes = record {
   numbers = λ i.
       more.numbers i ∙ ap (λ b. b || (n == i)) (kept.numbers i)
       ∙ ap (λ b. list_any (λ d. has_entry d i) hits || b) (sym (or_none (n == i)))
@@ -175,7 +175,9 @@ entry_kept earlier n h live again old new kept more comes = record {
       ∙ ap (λ b. list_any (λ d. list_any (is_side side) d.senders) hits || b) (sym (or_none (is_side side h.sender)))
       ∙ sym (any_part (is_side side) (λ d. d.senders) hits (h.sender ∷ [])) ∙ sym (or_none _);
   over = more.over ∙ ap (λ o. Rattle.tcap_dialogues.specs.Course.lower o (over_by n h)) kept.over ∙ sym (lower_none _);
-  again = more.again ∙ ap (λ b. b || again) kept.again ∙ ap (λ b. list_any (λ d. d.again) hits || b) (sym comes) ∙ sym (or_none _);
+  again =
+      ap is_some more.earlier_is ∙ some_higher old.earlier came ∙ ap (λ b. b || is_some came) kept.again
+      ∙ ap (λ b. list_any (λ d. d.again) hits || b) (sym comes) ∙ sym (or_none _);
 }
   where
     hits : List Course

@@ -1,12 +1,12 @@
 -- An entry comes to what is left of the live dialogues: what is kept then.
-use Rattle.std.proofs.Common.{◌≡◌, ◌⊎◌, inl, inr, ℕ, ◌+◌, ◌<◌, Bool, true, List, [], ◌∷◌, ◌++◌, Option, Some, None, is_none, refl, sym, ap, subst, ◌∙◌}
-use Rattle.std.specs.Prelude.{◌&&◌, ◌||◌, not, Contains}
+use Rattle.std.proofs.Common.{◌≡◌, ◌⊎◌, inl, inr, ℕ, ◌+◌, ◌<◌, Bool, true, List, [], ◌∷◌, ◌++◌, Option, Some, None, is_some, refl, sym, ap, subst, ◌∙◌}
+use Rattle.std.specs.Prelude.{not, Contains}
 use Rattle.std.specs.List.{list_any}
 use Rattle.std.proofs.lemmas.List.Elements.{Contains-append_cases}
 use Rattle.tcap_record.specs.Ends.{other}
 use Rattle.tcap_dialogues.specs.Course.{Course, Heading, has_entry, have_one, ids_in, own_ids, peer_ids}
 use Rattle.tcap_dialogues.specs.Cut.{IdOf, is_among}
-use Rattle.tcap_dialogues.specs.Held.{AreApart, IsCutOf, IsHeld, IsOne, is_named, known_at, known_of, others, those, with_one}
+use Rattle.tcap_dialogues.specs.Held.{AreApart, IsCutOf, IsHeld, IsOne, earlier_of, higher, is_named, known_at, known_of, others, those, with_one}
 use Rattle.tcap_dialogues.specs.Joining.{AreNoted, HasEntry, IsJoined, IsPut, TakesOne}
 use Rattle.tcap_dialogues.specs.declared.cut.Cut.{Cut}
 use Rattle.tcap_dialogues.specs.declared.known.Ids.{Ids}
@@ -19,6 +19,7 @@ use Rattle.tcap_dialogues.proofs.EntryLaws.{again_both, again_is, entry_kept, jo
 use Rattle.tcap_dialogues.proofs.JoinedLaws.{joined_same}
 use Rattle.tcap_dialogues.proofs.JoiningIds.{ids_then}
 use Rattle.tcap_dialogues.proofs.JoiningLaws.{lives_then, name_known, names_then, overs_then}
+use Rattle.tcap_dialogues.proofs.LiveLaws.{either, some_earlier, some_higher}
 use Rattle.tcap_dialogues.proofs.OwnerLaws.{IsOf, known_is}
 
 module _ (live : List Course) (names : Course → ℕ) (earlier : List IdOf) (h : Heading) (apart : AreApart live) (old : Cut)
@@ -75,9 +76,9 @@ module _ (live : List Course) (names : Course → ℕ) (earlier : List IdOf) (h 
 
     module _ (later : AreApart (with_one earlier old.count h live))
         (below : (d : Course) (i : ℕ) → Contains live d → has_entry d i ≡ true → i < old.count) (third put : Cut) (l new : Live)
-        (again : Bool) (ids : Ids) (joined : IsJoined second.count (ones ++ more) second third l)
-        (entry : HasEntry old.count h again l new)
-        (comes : again ≡ ((is_none own.dialogue && own.came) || (is_none peer.dialogue && peer.came)))
+        (came : Option ℕ) (ids : Ids) (joined : IsJoined second.count (ones ++ more) second third l)
+        (entry : HasEntry old.count h came l new)
+        (comes : came ≡ higher (earlier_of own) (earlier_of peer))
         (noted : AreNoted h new.name own peer third.ids ids) (puts : IsPut new (record third { ids = ids }) put) where
       all : IsJoined second.count (hit_by h live) second third l
       all =
@@ -91,7 +92,7 @@ module _ (live : List Course) (names : Course → ℕ) (earlier : List IdOf) (h 
           → Contains live d → have_one ids d.ids ≡ true → Contains (hit_by h live) d
       hit_of some wider d has is = left_in (λ e. have_one (ids_in h) e.ids) live d has (wider d is)
 
-      comes_again : have_one (Rattle.tcap_dialogues.proofs.CourseJoins.ids_more h live) earlier ≡ again
+      comes_again : have_one (Rattle.tcap_dialogues.proofs.CourseJoins.ids_more h live) earlier ≡ is_some came
       comes_again =
           again_both h (hit_by h live) earlier _ _
           (again_is live (hit_by h live) names earlier h.sender h.otid own own_of hit_live
@@ -100,7 +101,7 @@ module _ (live : List Course) (names : Course → ℕ) (earlier : List IdOf) (h 
           (again_is live (hit_by h live) names earlier (other h.sender) h.dtid peer peer_of hit_live
           (hit_of (peer_ids h) (λ d is. Rattle.std.proofs.lemmas.List.Folds.list_any-append (is_among d.ids) (own_ids h) (peer_ids h)
           ∙ Rattle.std.proofs.lemmas.Bool.or_right _ _ is)))
-          ∙ sym comes
+          ∙ sym (ap is_some comes ∙ some_higher (earlier_of own) (earlier_of peer) ∙ either _ _ _ _ (some_earlier own) (some_earlier peer))
 
       entry_named : (new.name ≡ old.count) ⊎ (list_any (λ d. has_entry d new.name) (hit_by h live) ≡ true)
       entry_named = by all.entry
@@ -127,11 +128,11 @@ module _ (live : List Course) (names : Course → ℕ) (earlier : List IdOf) (h 
           lives = lives_then live names earlier old.count h apart later below new.name entry_named second.live second.overs
               (others names peer.dialogue (others names own.dialogue live)) miss takes_more.lives takes_more.overs
               (record third { ids = ids }) put (ap (λ c. c.live) third_is) (ap (λ c. c.overs) third_is) new refl
-              (entry_kept earlier old.count h live again l new all.kept entry comes_again) puts;
+              (entry_kept earlier old.count h live came l new all.kept entry comes_again) puts;
           overs = overs_then live names earlier old.count h apart later below new.name entry_named second.live second.overs
               (others names peer.dialogue (others names own.dialogue live)) miss takes_more.lives takes_more.overs
               (record third { ids = ids }) put (ap (λ c. c.live) third_is) (ap (λ c. c.overs) third_is) new refl
-              (entry_kept earlier old.count h live again l new all.kept entry comes_again) puts;
+              (entry_kept earlier old.count h live came l new all.kept entry comes_again) puts;
           ids = λ id. subst
               (λ s. Rattle.tcap_dialogues.specs.Held.IsKnown (with_one earlier old.count h live)
               (names_then live names earlier old.count h apart later below new.name) (is_among earlier) id (known_at s id))

@@ -118,7 +118,7 @@ module _ (live : List Course) (names : Course → ℕ) (earlier : List IdOf) (n 
   of_new : (id : IdOf) (used begun : Bool) → is_among it.ids id ≡ true
       → used ≡ ((known_at old id).used || is_among (own_ids h) id)
       → begun ≡ ((known_at old id).begun || (is_begin h.kind && is_among (own_ids h) id))
-      → Then id (record { dialogue = Some k; used = used; begun = begun; came = (known_at old id).came })
+      → Then id (record { dialogue = Some k; used = used; begun = begun; last = (known_at old id).last })
   of_new id used begun has is_used is_begun = record {
     owned = (
       it,

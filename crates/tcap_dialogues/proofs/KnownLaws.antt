@@ -1,5 +1,5 @@
 -- What is known of transaction IDs, where it changes.
-use Rattle.std.proofs.Common.{◌≡◌, ℕ, Bool, true, false, cond, List, [], ◌∷◌, ◌++◌, Some, bytes_eq, refl, sym, ap, ◌∙◌}
+use Rattle.std.proofs.Common.{◌≡◌, ℕ, Bool, true, false, cond, List, [], ◌∷◌, ◌++◌, Some, None, bytes_eq, refl, sym, ap, ◌∙◌}
 use Rattle.std.specs.Prelude.{◌&&◌, ◌||◌}
 use Rattle.std.specs.BTreeMap as tree
 use Rattle.std.specs.BTreeMap.{BTreeMap, is_at}
@@ -16,9 +16,10 @@ use Rattle.tcap_record.specs.declared.entry.End.TheVariants as sides
 use Rattle.tcap_model.specs.World.{is_side}
 use Rattle.tcap_dialogues.specs.Cut.{IdOf, is_same}
 use Rattle.tcap_dialogues.specs.Gathered.{by_end, has_id}
-use Rattle.tcap_dialogues.specs.Held.{changed, known_at, known_or_nothing}
+use Rattle.tcap_dialogues.specs.Held.{changed, free_since, known_at, known_by, known_in}
 use Rattle.tcap_dialogues.specs.declared.known.Change.{Change}
 use Rattle.tcap_dialogues.specs.declared.known.Change.TheVariants as changes
+use Rattle.tcap_dialogues.specs.declared.known.EndIds.{EndIds}
 use Rattle.tcap_dialogues.specs.declared.known.Ids.{Ids}
 use Rattle.tcap_dialogues.specs.declared.known.Known.{Known}
 use Rattle.tcap_dialogues.proofs.CutIds.{same_id}
@@ -32,42 +33,42 @@ at_octets a b = (eq_by_cmp_equiv nat_list_cmp_total).symm a b ∙ is_eq-slice_cm
 abbrev pub Puts : {X : Type 0} → BTreeMap (List ℕ) X → BTreeMap (List ℕ) X → List ℕ → X → Type 0
 Puts old new key x = (q : List ℕ) → tree.get octets_cmp new q ≡ cond (is_at (octets_cmp key) q) (Some x) (tree.get octets_cmp old q)
 
--- So what is known of one ID did;
-found_put : (old new : BTreeMap (List ℕ) Known) (key : List ℕ) (known : Known) → Puts old new key known → (q : List ℕ)
-    → known_or_nothing (tree.get octets_cmp new q) ≡ cond (bytes_eq q key) known (known_or_nothing (tree.get octets_cmp old q))
-found_put old new key known puts q =
-    ap known_or_nothing (puts q) ∙ ap (λ b. known_or_nothing (cond b (Some known) (tree.get octets_cmp old q))) (at_octets key q)
+-- What is known of one ID of an end did.
+pub set_in : (old new : EndIds) (key : List ℕ) (known : Known) → Puts old.live new.live key known → new.done ≡ old.done
+    → (q : List ℕ) → known_in new q ≡ cond (bytes_eq q key) known (known_in old q)
+set_in old new key known puts same q =
+    ap (λ kept. known_by kept (tree.get octets_cmp new.done q)) (puts q)
+    ∙ ap (λ done. known_by (cond (is_at (octets_cmp key) q) (Some known) (tree.get octets_cmp old.live q)) (tree.get octets_cmp done q)) same
+    ∙ ap (λ b. known_by (cond b (Some known) (tree.get octets_cmp old.live q)) (tree.get octets_cmp old.done q)) (at_octets key q)
     ∙ by (bytes_eq q key)
   where
-    by : (b : Bool) → known_or_nothing (cond b (Some known) (tree.get octets_cmp old q)) ≡ cond b known (known_or_nothing (tree.get octets_cmp old q))
+    by : (b : Bool) → known_by (cond b (Some known) (tree.get octets_cmp old.live q)) (tree.get octets_cmp old.done q)
+        ≡ cond b known (known_in old q)
     by true = refl
     by false = refl
 
-pub put_in_a : (a b new : BTreeMap (List ℕ) Known) (key : List ℕ) (known : Known) → Puts a new key known → (id : IdOf)
-    → (let now : Ids = record { a = new; b = b } in let was : Ids = record { a = a; b = b } in known_at now id
-    ≡ cond (is_same id (record { end = sides.A; octets = key })) known (known_at was id))
-put_in_a a b new key known puts id = by id.end
+-- It became free.
+pub freed_in : (old new : EndIds) (key : List ℕ) (number : ℕ) → Puts old.done new.done key number
+    → ((q : List ℕ) → tree.get octets_cmp new.live q ≡ cond (is_at (octets_cmp key) q) None (tree.get octets_cmp old.live q))
+    → (q : List ℕ) → known_in new q ≡ cond (bytes_eq q key) (free_since number) (known_in old q)
+freed_in old new key number puts removed q =
+    ap (λ kept. known_by kept (tree.get octets_cmp new.done q)) (removed q)
+    ∙ ap (λ last. known_by (cond (is_at (octets_cmp key) q) None (tree.get octets_cmp old.live q)) last) (puts q)
+    ∙ ap (λ b. known_by (cond b None (tree.get octets_cmp old.live q)) (cond b (Some number) (tree.get octets_cmp old.done q)))
+    (at_octets key q)
+    ∙ by (bytes_eq q key)
   where
-    by : (end : Side) → known_or_nothing (tree.get octets_cmp (by_end end new b) id.octets)
-        ≡ cond (is_side end sides.A && bytes_eq id.octets key) known (known_or_nothing (tree.get octets_cmp (by_end end a b) id.octets))
-    by sides.A = found_put a new key known puts id.octets
-    by sides.B = refl
-
-pub put_in_b : (a b new : BTreeMap (List ℕ) Known) (key : List ℕ) (known : Known) → Puts b new key known → (id : IdOf)
-    → (let now : Ids = record { a = a; b = new } in let was : Ids = record { a = a; b = b } in known_at now id
-    ≡ cond (is_same id (record { end = sides.B; octets = key })) known (known_at was id))
-put_in_b a b new key known puts id = by id.end
-  where
-    by : (end : Side) → known_or_nothing (tree.get octets_cmp (by_end end a new) id.octets)
-        ≡ cond (is_side end sides.B && bytes_eq id.octets key) known (known_or_nothing (tree.get octets_cmp (by_end end a b) id.octets))
-    by sides.A = refl
-    by sides.B = found_put b new key known puts id.octets
+    by : (b : Bool)
+        → known_by (cond b None (tree.get octets_cmp old.live q)) (cond b (Some number) (tree.get octets_cmp old.done q))
+        ≡ cond b (free_since number) (known_in old q)
+    by true = refl
+    by false = refl
 
 -- ---- many changes
 
 -- A change changes nothing more where it came before.
 twice : (change : Change) (known : Known) → changed change (changed change known) ≡ changed change known
-twice changes.Free known = refl
+twice (changes.Free number) known = refl
 twice (changes.JoinTo name) known = refl
 
 -- whether an ID is one of these of an end

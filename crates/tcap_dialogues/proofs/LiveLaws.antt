@@ -1,5 +1,5 @@
 -- A live dialogue with more of what it has.
-use Rattle.std.proofs.Common.{◌≡◌, ℕ, Bool, true, false, cond, List, [], ◌++◌, Option, Some, bytes_eq, map, refl, sym, ap, ◌∙◌}
+use Rattle.std.proofs.Common.{◌≡◌, ℕ, Bool, true, false, cond, List, [], ◌++◌, Option, Some, None, is_none, is_some, bytes_eq, map, refl, sym, ap, ◌∙◌}
 use Rattle.std.specs.Prelude.{◌&&◌, ◌||◌}
 use Rattle.std.specs.BTreeMap.{is_at}
 use Rattle.std.specs.BTreeSet as set
@@ -18,8 +18,9 @@ use Rattle.tcap_model.specs.World.{is_side}
 use Rattle.tcap_dialogues.specs.Cut.{IdOf, is_among}
 use Rattle.tcap_dialogues.specs.Gathered.{by_end}
 use Rattle.tcap_dialogues.specs.Course.{Course, first_over, has_entry, lower}
-use Rattle.tcap_dialogues.specs.Held.{AreKept, has_sent}
+use Rattle.tcap_dialogues.specs.Held.{AreKept, earlier_of, has_sent, higher}
 use Rattle.tcap_dialogues.specs.Joining.{HasId, ids_at}
+use Rattle.tcap_dialogues.specs.declared.known.Known.{Known}
 use Rattle.tcap_dialogues.specs.declared.live.Live.{Live}
 use Rattle.tcap_dialogues.proofs.HeldLists.{or_none}
 use Rattle.tcap_dialogues.proofs.HeldOvers.{over_appended}
@@ -70,13 +71,27 @@ drained keys xs s t begins yields ends =
 pub either : (p q a b : Bool) → p ≡ a → q ≡ b → (p || q) ≡ (a || b)
 either p q a b first second = ap (λ x. x || q) first ∙ ap (λ x. a || x) second
 
+-- One of two numbers is there where the higher one is.
+pub some_higher : (a b : Option ℕ) → is_some (higher a b) ≡ (is_some a || is_some b)
+some_higher None b = refl
+some_higher (Some a) None = refl
+some_higher (Some a) (Some b) = refl
+
+-- An ID has the number of an earlier dialogue where one that is done had it and no live one has it.
+pub some_earlier : (known : Known) → is_some (earlier_of known) ≡ (is_none known.dialogue && is_some known.last)
+some_earlier known = by (is_none known.dialogue)
+  where
+    by : (b : Bool) → is_some (cond b known.last None) ≡ (b && is_some known.last)
+    by true = refl
+    by false = refl
+
 -- The IDs, the senders and all else of both.
-pub absorbed : (ds es : List Course) (l m : Live) (numbers : BTreeSet ℕ) (a b : BTreeSet (List ℕ)) (over : Option ℕ)
+pub absorbed : (ds es : List Course) (l m : Live) (numbers : BTreeSet ℕ) (a b : BTreeSet (List ℕ)) (over earlier : Option ℕ)
     → AreKept ds l → AreKept es m
     → ((n : ℕ) → set.contains nat_cmp numbers n ≡ (set.contains nat_cmp l.numbers n || set.contains nat_cmp m.numbers n))
     → ((id : List ℕ) → set.contains octets_cmp a id ≡ (set.contains octets_cmp l.a id || set.contains octets_cmp m.a id))
     → ((id : List ℕ) → set.contains octets_cmp b id ≡ (set.contains octets_cmp l.b id || set.contains octets_cmp m.b id))
-    → over ≡ lower l.over m.over
+    → over ≡ lower l.over m.over → earlier ≡ higher l.earlier m.earlier
     → AreKept (ds ++ es) (record {
       name = l.name;
       numbers = numbers;
@@ -85,9 +100,9 @@ pub absorbed : (ds es : List Course) (l m : Live) (numbers : BTreeSet ℕ) (a b 
       a_sent = l.a_sent || m.a_sent;
       b_sent = l.b_sent || m.b_sent;
       over = over;
-      again = l.again || m.again;
+      earlier = earlier;
     })
-absorbed ds es l m numbers a b over kept other numbers_are a_is b_is over_is = record {
+absorbed ds es l m numbers a b over earlier kept other numbers_are a_is b_is over_is earlier_is = record {
   numbers = λ n.
       numbers_are n ∙ either _ _ _ _ (kept.numbers n) (other.numbers n) ∙ sym (list_any-append (λ d. has_entry d n) ds es);
   ids = λ id.
@@ -96,7 +111,7 @@ absorbed ds es l m numbers a b over kept other numbers_are a_is b_is over_is = r
       senders_are side ∙ either _ _ _ _ (kept.senders side) (other.senders side)
       ∙ sym (list_any-append (λ d. list_any (is_side side) d.senders) ds es);
   over = over_is ∙ ap (λ o. lower o m.over) kept.over ∙ ap (lower (first_over ds)) other.over ∙ sym (over_appended ds es);
-  again = either _ _ _ _ kept.again other.again ∙ sym (list_any-append (λ d. d.again) ds es);
+  again = ap is_some earlier_is ∙ some_higher l.earlier m.earlier ∙ either _ _ _ _ kept.again other.again ∙ sym (list_any-append (λ d. d.again) ds es);
 }
   where
     ids_are : (id : IdOf) (end : Side) → set.contains octets_cmp (by_end end a b) id.octets

@@ -1,5 +1,5 @@
 -- The live dialogue that has an ID of a heading, of one end, if the heading carries one.
-use Rattle.std.proofs.Common.{◌≡◌, ℕ, Bool, true, false, List, [], ◌∷◌, Option, Some, None, refl, sym, subst, ◌∙◌}
+use Rattle.std.proofs.Common.{◌≡◌, ℕ, Bool, true, false, List, [], ◌∷◌, Option, Some, None, is_some, refl, sym, subst, ◌∙◌}
 use Rattle.std.specs.Prelude.{Contains}
 use Rattle.std.specs.List.{list_any}
 use Rattle.std.proofs.lemmas.Bool.{false_from_ne_true, true≢false}
@@ -38,7 +38,7 @@ Owns live names ids known (Some name) = (d : Course) × IsOwner live names ids n
 
 pub record IsOf (live : List Course) (names : Course → ℕ) (earlier : IdOf → Bool) (ids : List IdOf) (known : Known) : Type 0 where
   pub owns : Owns live names ids known known.dialogue
-  pub came : known.came ≡ list_any earlier ids
+  pub came : is_some known.last ≡ list_any earlier ids
 
 module _ (live : List Course) (names : Course → ℕ) (earlier : IdOf → Bool) (apart : AreApart live) where
   of_one : (id : IdOf) (known : Known) → IsKnown live names earlier id known → IsOf live names earlier (id ∷ []) known

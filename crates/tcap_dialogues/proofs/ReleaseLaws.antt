@@ -8,10 +8,9 @@ use Rattle.std.proofs.lemmas.List.Folds.{list_any-append}
 use Rattle.tcap_dialogues.specs.Course.{Course, has_entry}
 use Rattle.tcap_dialogues.specs.Cut.{IdOf, is_among, is_same}
 use Rattle.tcap_dialogues.specs.Gathered.{HandsOver, IsGathered, has_id}
-use Rattle.tcap_dialogues.specs.Held.{AreApart, AreKept, AreLives, AreTaken, IsHeld, IsKnown, IsOut, IsOwned, changed, is_named, known_at, others, those}
+use Rattle.tcap_dialogues.specs.Held.{AreApart, AreKept, AreLives, AreTaken, IsHeld, IsKnown, IsOut, IsOwned, free_since, is_named, known_at, others, those}
 use Rattle.tcap_dialogues.specs.declared.cut.Cut.{Cut}
 use Rattle.tcap_dialogues.specs.declared.gathered.Gathered.{Gathered}
-use Rattle.tcap_dialogues.specs.declared.known.Change.TheVariants as changes
 use Rattle.tcap_dialogues.specs.declared.known.Known.{Known}
 use Rattle.tcap_dialogues.specs.declared.live.Live.{Live}
 use Rattle.tcap_dialogues.proofs.CutLists.{finds, first_in, found, in_cases, kept_in, left_in, none_in}
@@ -48,9 +47,9 @@ module _ (live : List Course) (names : Course → ℕ) (number : Option ℕ) (ap
           true≢false (sym not_named ∙ ap (λ x. not (is_named names number x)) (sym same) ∙ ap not named)
 
   -- What is known of an ID where those are done.
-  pub freed : (old new : Known) (id : IdOf) → IsKnown live names (is_among earlier) id old
-      → new ≡ cond (list_any (λ d. is_among d.ids id) gone) (changed changes.Free old) old → IsKnown left names (is_among now) id new
-  freed old new id known is = subst (IsKnown left names (is_among now) id) (sym is) (by (list_any (λ d. is_among d.ids id) gone) refl)
+  pub freed : (since : ℕ) (old new : Known) (id : IdOf) → IsKnown live names (is_among earlier) id old
+      → new ≡ cond (list_any (λ d. is_among d.ids id) gone) (free_since since) old → IsKnown left names (is_among now) id new
+  freed since old new id known is = subst (IsKnown left names (is_among now) id) (sym is) (by (list_any (λ d. is_among d.ids id) gone) refl)
     where
       stays : (o : Option ℕ) (used begun : Bool) → list_any (λ d. is_among d.ids id) gone ≡ false → IsOwned live names id o used begun
           → IsOwned left names id o used begun
@@ -67,7 +66,7 @@ module _ (live : List Course) (names : Course → ℕ) (number : Option ℕ) (ap
         begun_is,
       )
 
-      by : (b : Bool) → list_any (λ d. is_among d.ids id) gone ≡ b → IsKnown left names (is_among now) id (cond b (changed changes.Free old) old)
+      by : (b : Bool) → list_any (λ d. is_among d.ids id) gone ≡ b → IsKnown left names (is_among now) id (cond b (free_since since) old)
       by true some = record {
         owned = (other_has_none id some, refl, refl);
         came = sym (now_is id ∙ or_right _ _ some);
@@ -101,19 +100,19 @@ module _ (live : List Course) (names : Course → ℕ) (number : Option ℕ) (ap
 
   module _ (old : Cut) (held : IsHeld live names (is_among earlier) old) where
     -- One is handed over,
-    pub one_released : (out new : Cut) (l : Live) (g : Gathered) (before : List Gathered) → IsOut number live names old out (Some l)
+    pub one_released : (since : ℕ) (out new : Cut) (l : Live) (g : Gathered) (before : List Gathered) → IsOut number live names old out (Some l)
         → new.live ≡ out.live → new.overs ≡ out.overs
-        → ((id : IdOf) → known_at new.ids id ≡ cond (has_id l.a l.b id) (changed changes.Free (known_at out.ids id)) (known_at out.ids id))
+        → ((id : IdOf) → known_at new.ids id ≡ cond (has_id l.a l.b id) (free_since since) (known_at out.ids id))
         → ((d : Course) → AreKept (d ∷ []) l → IsGathered d g)
         → IsHeld left names (is_among now) new × HandsOver gone before (before ++ g ∷ [])
-    one_released out new l g before is same_live same_overs ids stands =
+    one_released since out new l g before is same_live same_overs ids stands =
         let (d, has, only, kept) = taken_one old.live l held.lives is.out in (
           record {
             lives = subst (AreLives left names) (sym same_live) is.lives;
             overs = subst (Rattle.tcap_dialogues.specs.Held.AreOvers left names) (sym same_overs) is.overs;
-            ids = λ id. freed (known_at old.ids id) (known_at new.ids id) id (held.ids id)
-                (ids id ∙ ap (λ known. cond (has_id l.a l.b id) (changed changes.Free known) known) (ap (λ k. known_at k.ids id) is.rest)
-                ∙ ap (λ b. cond b (changed changes.Free (known_at old.ids id)) (known_at old.ids id)) (is.out.0.ids id));
+            ids = λ id. freed since (known_at old.ids id) (known_at new.ids id) id (held.ids id)
+                (ids id ∙ ap (λ known. cond (has_id l.a l.b id) (free_since since) known) (ap (λ k. known_at k.ids id) is.rest)
+                ∙ ap (λ b. cond b (free_since since) (known_at old.ids id)) (is.out.0.ids id));
           },
           (g ∷ [], refl, one_gathered gone d g has only (stands d kept)),
         )
@@ -125,9 +124,8 @@ module _ (live : List Course) (names : Course → ℕ) (number : Option ℕ) (ap
       record {
         lives = is.lives;
         overs = is.overs;
-        ids = λ id. freed (known_at old.ids id) (known_at out.ids id) id (held.ids id)
-            (ap (λ k. known_at k.ids id) is.rest
-            ∙ ap (λ b. cond b (changed changes.Free (known_at old.ids id)) (known_at old.ids id)) (sym (nobody id)));
+        ids = λ id. freed 0 (known_at old.ids id) (known_at out.ids id) id (held.ids id)
+            (ap (λ k. known_at k.ids id) is.rest ∙ ap (λ b. cond b (free_since 0) (known_at old.ids id)) (sym (nobody id)));
       },
       ([], sym (append-nil before), none_gathered gone is.out),
     )

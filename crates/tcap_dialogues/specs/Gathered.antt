@@ -1,5 +1,5 @@
 -- What is handed over of the dialogues of a stretch, once no entry of them is still to come.
-use Rattle.std.specs.Prelude.{◌≡◌, ℕ, true, Bool, List, ◌++◌, ◌==◌, Contains, Some, slice_get}
+use Rattle.std.specs.Prelude.{◌≡◌, ℕ, true, Bool, List, ◌++◌, ◌==◌, Contains, Some, is_some, slice_get}
 use Rattle.std.specs.BTreeSet as set
 use Rattle.std.specs.BTreeSet.{BTreeSet}
 use Rattle.std.specs.List.{list_any}
@@ -32,9 +32,9 @@ pub record IsGathered (d : Course) (g : Gathered) : Type 0 where
   pub ascending : IsStrictlySortedBy nat_cmp g.numbers.items
   -- has the same IDs,
   pub ids : (id : IdOf) → has_id g.a g.b id ≡ is_among d.ids id
-  -- and says when the dialogue is over and whether an ID came again.
+  -- says when the dialogue is over, and has the number of an earlier one where an ID came again.
   pub over : g.over ≡ d.over
-  pub again : g.again ≡ d.again
+  pub again : is_some g.earlier ≡ d.again
 
 -- These stand for those dialogues, one for each.
 pub record AreGathered (ds : List Course) (given : List Gathered) : Type 0 where

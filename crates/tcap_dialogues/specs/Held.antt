@@ -1,5 +1,5 @@
 -- What is kept of the live dialogues of a stretch as its entries come.
-use Rattle.std.specs.Prelude.{◌≡◌, ⊤, ℕ, ◌+◌, ◌≤◌, ◌⊎◌, Bool, true, false, List, [], ◌∷◌, ◌++◌, filter, length, ◌==◌, ◌&&◌, ◌||◌, not, Contains, Option, Some, None, is_some}
+use Rattle.std.specs.Prelude.{◌≡◌, ⊤, ℕ, ◌+◌, ◌≤◌, ◌⊎◌, Bool, true, false, List, [], ◌∷◌, ◌++◌, filter, length, ◌==◌, ◌&&◌, ◌||◌, not, Contains, Option, Some, None, is_none, is_some, cond, max}
 use Rattle.std.specs.BTreeMap as tree
 use Rattle.std.specs.BTreeMap.{BTreeMap}
 use Rattle.std.specs.BTreeSet as set
@@ -14,6 +14,7 @@ use Rattle.tcap_dialogues.specs.Gathered.{by_end, has_id}
 use Rattle.tcap_dialogues.specs.declared.cut.Cut.{Cut}
 use Rattle.tcap_dialogues.specs.declared.known.Change.{Change}
 use Rattle.tcap_dialogues.specs.declared.known.Change.TheVariants as changes
+use Rattle.tcap_dialogues.specs.declared.known.EndIds.{EndIds}
 use Rattle.tcap_dialogues.specs.declared.known.Ids.{Ids}
 use Rattle.tcap_dialogues.specs.declared.known.Known.{Known}
 use Rattle.tcap_dialogues.specs.declared.live.Live.{Live}
@@ -22,15 +23,23 @@ use Rattle.tcap_dialogues.specs.declared.reuse.Reuse.TheVariants as reuses
 
 -- ---- what is known of an ID
 
-abbrev pub nothing : Known
-nothing = record { dialogue = None; used = false; begun = false; came = false }
+-- by what is kept of it, where a live dialogue has it, and by the number of the last one that is done and had it
+abbrev pub known_by : Option Known → Option ℕ → Known
+known_by (Some known) last = known
+known_by None last = record { dialogue = None; used = false; begun = false; last = last }
 
-abbrev pub known_or_nothing : Option Known → Known
-known_or_nothing None = nothing
-known_or_nothing (Some known) = known
+abbrev pub nothing : Known
+nothing = known_by None None
+
+-- that it is free, since the dialogue of that number is done
+abbrev pub free_since : ℕ → Known
+free_since number = known_by None (Some number)
+
+abbrev pub known_in : EndIds → List ℕ → Known
+known_in ids octets = known_by (tree.get octets_cmp ids.live octets) (tree.get octets_cmp ids.done octets)
 
 abbrev pub known_at : Ids → IdOf → Known
-known_at ids id = known_or_nothing (tree.get octets_cmp (by_end id.end ids.a ids.b) id.octets)
+known_at ids id = known_in (by_end id.end ids.a ids.b) id.octets
 
 -- the same of the ID of an end, if there is one
 abbrev pub known_of : Ids → Side → Option (List ℕ) → Known
@@ -38,8 +47,18 @@ known_of ids end None = nothing
 known_of ids end (Some octets) = known_at ids (record { end = end; octets = octets })
 
 abbrev pub changed : Change → Known → Known
-changed changes.Free known = record { dialogue = None; used = false; begun = false; came = true }
+changed (changes.Free number) known = free_since number
 changed (changes.JoinTo name) known = record known { dialogue = Some name }
+
+-- the number of the last dialogue that had an ID, where no live one has it
+abbrev pub earlier_of : Known → Option ℕ
+earlier_of known = cond (is_none known.dialogue) known.last None
+
+-- the higher one of two numbers, where they are
+abbrev pub higher : Option ℕ → Option ℕ → Option ℕ
+higher None number = number
+higher number None = number
+higher (Some a) (Some b) = Some (max a b)
 
 -- ---- live dialogues by their names
 
@@ -63,7 +82,7 @@ pub record AreKept (ds : List Course) (l : Live) : Type 0 where
   pub ids : (id : IdOf) → has_id l.a l.b id ≡ list_any (λ d. is_among d.ids id) ds
   pub senders : (side : Side) → has_sent l side ≡ list_any (λ d. list_any (is_side side) d.senders) ds
   pub over : l.over ≡ first_over ds
-  pub again : l.again ≡ list_any (λ d. d.again) ds
+  pub again : is_some l.earlier ≡ list_any (λ d. d.again) ds
 
 -- Each has one of its name, which is the number of one of its entries; and there are no others.
 pub record AreLives (live : List Course) (name : Course → ℕ) (lives : BTreeMap ℕ Live) : Type 0 where
@@ -87,7 +106,7 @@ IsOwned live name id (Some number) used begun =
 
 pub record IsKnown (live : List Course) (name : Course → ℕ) (earlier : IdOf → Bool) (id : IdOf) (known : Known) : Type 0 where
   pub owned : IsOwned live name id known.dialogue known.used known.begun
-  pub came : known.came ≡ earlier id
+  pub came : is_some known.last ≡ earlier id
 
 -- All that is kept of live dialogues, and of the IDs of those that are done.
 pub record IsHeld (live : List Course) (name : Course → ℕ) (earlier : IdOf → Bool) (kept : Cut) : Type 0 where

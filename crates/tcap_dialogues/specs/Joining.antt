@@ -10,7 +10,7 @@ use Rattle.tcap_model.specs.World.{is_side}
 use Rattle.tcap_dialogues.specs.Course.{Course, Heading, has_entry, ids_in, is_begin, lower, over_by, own_ids, peer_ids}
 use Rattle.tcap_dialogues.specs.Cut.{IdOf, is_among}
 use Rattle.tcap_dialogues.specs.Gathered.{has_id}
-use Rattle.tcap_dialogues.specs.Held.{AreKept, AreLives, AreOvers, IsOne, changed, has_sent, known_at, others, those}
+use Rattle.tcap_dialogues.specs.Held.{AreKept, AreLives, AreOvers, IsOne, changed, has_sent, higher, known_at, others, those}
 use Rattle.tcap_dialogues.specs.declared.cut.Cut.{Cut}
 use Rattle.tcap_dialogues.specs.declared.known.Change.TheVariants as changes
 use Rattle.tcap_dialogues.specs.declared.known.Ids.{Ids}
@@ -31,17 +31,17 @@ pub record HasSender (sender : Side) (old new : Live) : Type 0 where
   pub senders : (side : Side) → has_sent new side ≡ has_sent old side || is_side side sender
   pub rest : new ≡ record old { a_sent = new.a_sent; b_sent = new.b_sent }
 
-pub record HasEntry (number : ℕ) (h : Heading) (comes_again : Bool) (old new : Live) : Type 0 where
+pub record HasEntry (number : ℕ) (h : Heading) (earlier : Option ℕ) (old new : Live) : Type 0 where
   pub name : new.name ≡ old.name
   pub numbers : (n : ℕ) → set.contains nat_cmp new.numbers n ≡ set.contains nat_cmp old.numbers n || (number == n)
   pub ids : (id : IdOf) → has_id new.a new.b id ≡ has_id old.a old.b id || is_among (ids_in h) id
   pub senders : (side : Side) → has_sent new side ≡ has_sent old side || is_side side h.sender
   pub over : new.over ≡ lower old.over (over_by number h)
-  pub again : new.again ≡ old.again || comes_again
+  pub earlier_is : new.earlier ≡ higher old.earlier earlier
 
 -- what is known of the IDs of an entry, which are those of that dialogue
 abbrev pub own_known : Heading → ℕ → Known → Known
-own_known h name own = record { dialogue = Some name; used = true; begun = own.begun || is_begin h.kind; came = own.came }
+own_known h name own = record { dialogue = Some name; used = true; begun = own.begun || is_begin h.kind; last = own.last }
 
 abbrev pub AreNoted : Heading → ℕ → Known → Known → Ids → Ids → Type 0
 AreNoted h name own peer old new =

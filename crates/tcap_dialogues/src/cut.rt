@@ -16,14 +16,16 @@ use crate::reuse::Reuse;
 use std::alloc::{AllocError, Global};
 use std::collections::BTreeMap;
 
-/// The dialogues of a stretch between quiet marks, as its entries come. What is kept is what is live and, of what is done, each
-/// ID that was used.
+/// The dialogues of a stretch between quiet marks, as its entries come. What is kept is what is live and, of what is done, the
+/// number of the last dialogue that had it for each ID that was used.
 #[derive(Debug, Drop)]
 pub struct Cut {
     pub(crate) alloc: Global,
     pub(crate) reuse: Reuse,
     /// How many entries came.
     pub(crate) count: u64,
+    /// How many dialogues are done.
+    pub(crate) done: u64,
     /// The live dialogues, by their names.
     pub(crate) live: BTreeMap<u64, Live>,
     /// The names of those that are over, by the number of the first entry with which they are.
@@ -40,6 +42,7 @@ impl Cut {
             alloc,
             reuse,
             count: 0,
+            done: 0,
             live: BTreeMap::new(alloc),
             overs: BTreeMap::new(alloc),
             ids: Ids::new(alloc),
@@ -69,7 +72,12 @@ impl Cut {
         let Some(live) = self.take_out(name) else {
             return Ok(());
         };
-        self.ids.change_both(&live.a, &live.b, Change::Free)?;
+        let Some(next) = self.done.checked_add(1) else {
+            return Err(AllocError);
+        };
+        self.ids
+            .change_both(&live.a, &live.b, Change::Free(self.done))?;
+        self.done = next;
         done.push(live.gathered(self.alloc)?)?;
         Ok(())
     }

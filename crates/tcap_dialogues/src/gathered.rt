@@ -14,6 +14,7 @@ pub struct Gathered {
     pub b: BTreeSet<TransactionId>,
     /// The number of its first entry with which it is over: an End, an Abort, or an entry that carries no ID.
     pub over: Option<u64>,
-    /// Whether an earlier dialogue of the stretch had one of its IDs.
-    pub again: bool,
+    /// The number of the last earlier dialogue of the stretch that had one of its IDs, where one had: counted from 0, in the order in
+    /// which they are handed over.
+    pub earlier: Option<u64>,
 }

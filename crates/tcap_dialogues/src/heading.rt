@@ -9,23 +9,9 @@ ghost use Rattle.tcap_dialogues.specs.Course.{heading_of};
 ghost use Rattle.tcap_dialogues.specs.HeadingReading.{begin_heading_at, continue_heading_at, heading_at, heading_in, heading_of_element, heading_read, last_heading_at};
 
 use tcap_ber::{Fault, Reason, Tlv, Window, required, required_any};
+use tcap_msg::tags::{ABORT, BEGIN, CONTINUE, DTID, END, OTID, UNIDIRECTIONAL};
 use tcap_msg::{Kind, MessageParts, TransactionIdView};
 use tcap_record::End;
-
-/// The tags of messages, and those of transaction IDs (Q.773 4.2.1).
-const UNIDIRECTIONAL: u8 = 0x61;
-
-const BEGIN: u8 = 0x62;
-
-const END: u8 = 0x64;
-
-const CONTINUE: u8 = 0x65;
-
-const ABORT: u8 = 0x67;
-
-const OTID: u8 = 0x48;
-
-const DTID: u8 = 0x49;
 
 /// What is read of an entry to find its dialogue, lent: who sent it, its kind and its transaction IDs (Q.773 4.2.1).
 #[derive(Clone, Copy, Debug)]

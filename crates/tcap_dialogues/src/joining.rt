@@ -11,7 +11,7 @@ ghost use Rattle.tcap_dialogues.specs.Joining.{AreNoted, IsJoined, IsPut, TakesO
 use crate::cut::Cut;
 use crate::heading::HeadingView;
 use crate::known::{Change, Ids, Known};
-use crate::live::Live;
+use crate::live::{Live, higher};
 use std::alloc::AllocError;
 use tcap_msg::TransactionIdView;
 use tcap_record::End;
@@ -126,7 +126,7 @@ impl Cut {
         let one = self.take_or_new(own.dialogue);
         let other = self.take_or_new(peer.dialogue);
         let mut live = self.joined(one, other)?;
-        live.add(self.count, heading, own.comes_again() | peer.comes_again())?;
+        live.add(self.count, heading, higher(own.earlier(), peer.earlier()))?;
         self.ids.note(heading, live.name, own, peer)?;
         self.put(live)?;
         self.count = next;

@@ -5,7 +5,7 @@ ghost use Rattle.tcap_msg.specs.Meaning.{id_of};
 ghost use Rattle.tcap_dialogues.specs.Course.{Course, lower, over_by};
 ghost use Rattle.tcap_dialogues.specs.Gathered.{IsGathered};
 ghost use Rattle.tcap_dialogues.specs.HeadingReading.{heading_read};
-ghost use Rattle.tcap_dialogues.specs.Held.{AreKept, has_sent};
+ghost use Rattle.tcap_dialogues.specs.Held.{AreKept, has_sent, higher};
 ghost use Rattle.tcap_dialogues.specs.Joining.{HasEntry, HasId, HasSender, ids_at};
 
 use crate::gathered::Gathered;
@@ -32,8 +32,8 @@ pub(crate) struct Live {
     pub(crate) b_sent: bool,
     /// The number of the first one with which it is over.
     pub(crate) over: Option<u64>,
-    /// Whether an earlier dialogue had one of its IDs.
-    pub(crate) again: bool,
+    /// The number of the last dialogue that is done and had one of its IDs.
+    pub(crate) earlier: Option<u64>,
 }
 
 /// The lower one of two numbers, where they are.
@@ -42,6 +42,17 @@ fn lower(one: Option<u64>, other: Option<u64>) -> Option<u64>
 {
     match (one, other) {
         (Some(one), Some(other)) => Some(if one < other { one } else { other }),
+        (None, number) => number,
+        (number, None) => number,
+    }
+}
+
+/// The higher one of two numbers, where they are.
+pub(crate) fn higher(one: Option<u64>, other: Option<u64>) -> Option<u64>
+    ensures { result ≡ higher one other }
+{
+    match (one, other) {
+        (Some(one), Some(other)) => Some(if one < other { other } else { one }),
         (None, number) => number,
         (number, None) => number,
     }
@@ -74,7 +85,7 @@ impl Live {
             a_sent: false,
             b_sent: false,
             over: None,
-            again: false,
+            earlier: None,
         }
     }
 
@@ -99,7 +110,7 @@ impl Live {
         self.a_sent |= other.a_sent;
         self.b_sent |= other.b_sent;
         self.over = lower(self.over, other.over);
-        self.again |= other.again;
+        self.earlier = higher(self.earlier, other.earlier);
         Ok(())
     }
 
@@ -127,19 +138,19 @@ impl Live {
         }
     }
 
-    /// An entry more of that number, and whether an ID of it came again.
+    /// An entry more of that number, and the number of the last dialogue that is done and had an ID of it which is one of no live one.
     pub(crate) fn add(
         &mut self,
         number: u64,
         heading: HeadingView,
-        again: bool,
+        earlier: Option<u64>,
     ) -> Result<(), AllocError>
-        ensures { OnOk result (HasEntry number (heading_read heading.entry) again self.old self.new) }
+        ensures { OnOk result (HasEntry number (heading_read heading.entry) earlier self.old self.new) }
     {
         self.numbers.insert(number)?;
         self.note_sender(heading.sender);
         self.over = lower(self.over, heading.is_over(number));
-        self.again |= again;
+        self.earlier = higher(self.earlier, earlier);
         self.add_id(heading.sender, heading.otid)?;
         self.add_id(heading.sender.other(), heading.dtid)
     }
@@ -154,7 +165,7 @@ impl Live {
             a: self.a,
             b: self.b,
             over: self.over,
-            again: self.again,
+            earlier: self.earlier,
         })
     }
 }

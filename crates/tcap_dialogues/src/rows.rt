@@ -8,18 +8,23 @@ use tcap_msg::{Kind, TransactionId};
 use tcap_record::End;
 
 /// How long IDs linger, or that they come once; entries, each with its sender, its kind, and the IDs from which and to which it is;
-/// and of each dialogue, as they are handed over, its numbers, and a mark where an ID of it came again.
-const ROWS: &str = "100;Ab1- Bcx1 Ae-x Ab1- Bcy1;0,1,2, 3,4,! 
+/// and of each dialogue, as they are handed over, its numbers, and behind a mark the number of the last earlier one that had an
+/// ID of it, where one had.
+const ROWS: &str = "100;Ab1- Bcx1 Ae-x Ab1- Bcy1;0,1,2, 3,4,!0 
 once;Ab1- Bcx1 Ae-x Ab1- Bcy1;0,1,2,3,4, 
 100;Ab1- Bcx1 Ab1-;0,1,2, 
-100;Ab1- Bcx1 Ae-x Ab1- Ae-x;0,1,2, 3,! 4,! 
+100;Ab1- Bcx1 Ae-x Ab1- Ae-x;0,1,2, 3,!0 4,!0 
 100;Ab1- Bcx1 Ae-x Bcx1;0,1,2,3, 
-100;Ab1- Bcx1 Ae-x Ab2- Bcx2;0,1,2, 3,4,! 
+100;Ab1- Bcx1 Ae-x Ab2- Bcx2;0,1,2, 3,4,!0 
 100;Ab1- Bcx1 Ae-x Ab2- Bcy2 Bcx2;0,1,2,3,4,5, 
-1;Ab1- Bcx1 Ae-x Ab2- Ae-x;0,1,2, 3, 4,! 
+1;Ab1- Bcx1 Ae-x Ab2- Ae-x;0,1,2, 3, 4,!0 
 2;Ab1- Bcx1 Ae-x Ab2- Ae-x;0,1,2,4, 3, 
 100;Be-1 Ab1-;0,1, 
-4;Ab1- Be-1 Ab2- Be-2 Bcx1 Ac2x Be-1;0,1,2,3,4,5, 6,! 
+100;Ab1- Be-1 Ab1- Be-1 Ab1-;0,1, 2,3,!0 4,!1 
+100;Ab1- Be-1 Ab2- Be-2 Ab1- Ab2- Bcx1 Bcx2;0,1, 2,3, 4,5,6,7,!1 
+100;Ab1- Be-1 Ab2- Be-2 Ab2- Ab1- Bcx1 Bcx2;2,3, 0,1, 4,5,6,7,!1 
+100;Ab1- Be-1 Ab1- Be-1 Ab2- Bcx2 Ab1- Bcx1;0,1, 2,3,!0 4,5,6,7,!1 
+4;Ab1- Be-1 Ab2- Be-2 Bcx1 Ac2x Be-1;0,1,2,3,4,5, 6,!0 
 100;Ab1- B?-- Bcx1;0,2, 1, 
 0;Ab1- B?-- Bcx1 Bu--;1, 0,2, 3, ";
 
@@ -67,7 +72,10 @@ fn tell(text: &mut String, dialogue: &Gathered) -> Result<(), Fail> {
     for number in &dialogue.numbers {
         write!(text, "{number},")?;
     }
-    text.push_str(if dialogue.again { "! " } else { " " })?;
+    if let Some(earlier) = dialogue.earlier {
+        write!(text, "!{earlier}")?;
+    }
+    text.push_str(" ")?;
     Ok(())
 }
 

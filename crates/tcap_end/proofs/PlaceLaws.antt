@@ -193,6 +193,38 @@ module _ {K : Type 0} (fits : K → Bool) (kinds : List K) (places : List (Optio
       ∙ first_more (is_wanted None) (λ place. fits_in fits (kind_in kinds place)) not_wanted None places at refl e
       (rw is fit)
 
+-- ---- one of a kind
+
+some_suc : (place : Option ℕ) → is_some (option_map suc place) ≡ is_some place
+some_suc None = refl
+some_suc (Some n) = refl
+
+-- Where one of a kind that fits is there, one that fits is.
+pub kind_there : {K : Type 0} (fits : K → Bool) (kinds : List K) (n : ℕ) (kind : K) (places : List (Option ℕ))
+    → slice_get kinds n ≡ Some kind → fits kind ≡ true → is_some (place_of (is_wanted (Some n)) places) ≡ true
+    → is_some (place_of (fits_in fits) (items_in kinds places)) ≡ true
+kind_there fits kinds n kind [] is fit there = there
+kind_there fits kinds n kind (None ∷ places) is fit there =
+    some_suc _ ∙ kind_there fits kinds n kind places is fit (sym (some_suc _) ∙ there)
+kind_there fits kinds n kind (Some other ∷ places) is fit there =
+    by (cases_eq other n) (kind_there fits kinds n kind places is fit)
+  where
+    later : (b : Bool) → is_some (place_of (fits_in fits) (items_in kinds places)) ≡ true
+        → is_some (cond b (Some 0) (option_map suc (place_of (fits_in fits) (items_in kinds places)))) ≡ true
+    later true rest = refl
+    later false rest = some_suc _ ∙ rest
+
+    by : (other ≡ n) ⊎ (other ≡ n → ⊥)
+        → (is_some (place_of (is_wanted (Some n)) places) ≡ true
+        → is_some (place_of (fits_in fits) (items_in kinds places)) ≡ true)
+        → is_some (cond (fits_in fits (slice_get kinds other)) (Some 0)
+        (option_map suc (place_of (fits_in fits) (items_in kinds places)))) ≡ true
+    by (inl same) rest = rw (same, is, fit) refl
+    by (inr apart) rest =
+        let not : (other == n) ≡ false = grind (arith, nat_tests) in
+        later (fits_in fits (slice_get kinds other))
+        (rest (sym (some_suc _) ∙ (rw not at there)))
+
 -- ---- items that are left
 
 -- whether one fits of those that stand in places

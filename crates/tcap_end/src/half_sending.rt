@@ -16,7 +16,7 @@ use crate::fault::EndFault;
 use crate::half::InvocationState;
 use crate::half_state::{Change, HalfState};
 use crate::outs::OwnInvocation;
-use crate::places::{first_answerable, first_linking, first_rejectable, first_rejectable_answer};
+use crate::places::{first_answerable, first_rejectable, first_rejectable_answer, links_one};
 use crate::table::Table;
 use std::alloc::{AllocError, Global};
 use tcap_parts::{CodeView, ComponentView, ProblemView};
@@ -30,7 +30,7 @@ impl HalfState {
             return true;
         };
         match self.inn.get(linked) {
-            Some(row) => first_linking(row, table, code).is_some(),
+            Some(row) => links_one(row, table, code),
             None => false,
         }
     }

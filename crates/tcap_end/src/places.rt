@@ -1,6 +1,6 @@
 //! Where the oldest item stands that fits, and items that join others.
 
-ghost use Rattle.std.specs.Prelude.{◌≡◌, ◌<◌, ◌++◌, ◌∷◌, [], IsSome, Some, None, OnErr, OnOk, option_map, slice_index_or, ℕ};
+ghost use Rattle.std.specs.Prelude.{◌≡◌, ◌<◌, ◌++◌, ◌∷◌, [], IsSome, Some, None, OnErr, OnOk, is_some, option_map, slice_index_or, true, ℕ};
 ghost use Rattle.std.specs.List.{slice_get};
 ghost use Rattle.tcap_parts.specs.Meaning.{code_of};
 ghost use Rattle.tcap_end.specs.Half.{with_newest};
@@ -170,8 +170,35 @@ pub(crate) fn first_rejectable_answer(
     found
 }
 
-/// Where the oldest invocation stands to which an operation may be linked.
-pub(crate) fn first_linking(row: &Row<Invocation>, table: &Table, code: CodeView) -> Option<usize>
+/// Whether there is an invocation of that kind, and an operation may be linked to it.
+fn links_to_kind(row: &Row<Invocation>, table: &Table, code: CodeView, kind: usize) -> bool
+    ensures { result ≡ true
+        → is_some (place_of (fits_in (λ item. links table.now item.code (code_of code.entry))) (row_of row.now)) ≡ true }
+{
+    match row.kinds().get(kind) {
+        Some(item) => row.oldest_of(kind).is_some() && table.links(item.code.view(), code),
+        None => false,
+    }
+}
+
+/// Whether there is an invocation to which an operation may be linked: one of the kind that was found last is looked for first.
+pub(crate) fn links_one(row: &Row<Invocation>, table: &Table, code: CodeView) -> bool
+    ensures { result
+        ≡ is_some (place_of (fits_in (λ item. links table.now item.code (code_of code.entry))) (row_of row.now)) }
+{
+    links_to_kind(row, table, code, row.linking().get())
+        || first_linking(row, table, code).is_some()
+}
+
+/// Keeps the number of a kind of which there is an item.
+fn keep_linking(row: &Row<Invocation>, kind: usize, oldest: Option<usize>) {
+    if oldest.is_some() {
+        row.linking().set(kind);
+    }
+}
+
+/// Where the oldest invocation stands to which an operation may be linked. The number of a kind that lists it is kept.
+fn first_linking(row: &Row<Invocation>, table: &Table, code: CodeView) -> Option<usize>
     ensures { result ≡ place_of (fits_in (λ item. links table.now item.code (code_of code.entry))) (row_of row.now) }
 {
     let mut found = None;
@@ -179,7 +206,9 @@ pub(crate) fn first_linking(row: &Row<Invocation>, table: &Table, code: CodeView
     for kind in 0..kinds.len() {
         let item = &kinds[kind];
         if table.links(item.code.view(), code) {
-            found = earlier(found, row.oldest_of(kind));
+            let oldest = row.oldest_of(kind);
+            keep_linking(row, kind, oldest);
+            found = earlier(found, oldest);
         }
     }
     found

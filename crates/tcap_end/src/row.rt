@@ -12,6 +12,7 @@ use crate::kind_numbers::SORTS;
 use crate::wanted::{is_wanted, oldest_before, oldest_behind, stood};
 use smallvec::SmallVec;
 use std::alloc::{AllocError, Global};
+use std::cell::Cell;
 use tcap_parts::CodeView;
 
 /// How many kinds are looked through one by one; where there are more they have numbers by their codes, and places of one
@@ -36,6 +37,8 @@ pub(crate) struct Row<K> {
     first: usize,
     /// Numbers of kinds and the places of each, where kinds are many.
     index: KindIndex,
+    /// The number of the last kind to which an operation was found to be linked. It is a hint for speed alone.
+    linking: Cell<usize>,
     ghost marked: { AreMarked places.items index },
     ghost numbered: { AreNumbered places.items (length kinds.items) },
     ghost for_each: { length kinds.items ≤ small_vec_len oldest },
@@ -169,6 +172,7 @@ impl<K> Row<K> {
             oldest: SmallVec::new(alloc),
             first: 0,
             index: KindIndex::new(),
+            linking: Cell::new(0),
         }
     }
 
@@ -204,6 +208,11 @@ impl<K> Row<K> {
             return Ok(());
         }
         self.index.expect(alloc, code, sort, number)
+    }
+
+    /// The number that is kept of the last kind to which an operation was found to be linked.
+    pub(crate) fn linking(&self) -> &Cell<usize> {
+        &self.linking
     }
 
     /// The place of the oldest item of a kind.

@@ -6,9 +6,11 @@ ghost use Rattle.tcap_ber.specs.Device.{one_more};
 use tcap_ber::Write;
 use tcap_judge::WriteFailed;
 
-/// What octets look like that were given as a record.
+/// What octets look like.
 #[derive(Clone, Copy, Debug, PartialEq, Eq)]
-enum Mistaken {
+enum Look {
+    /// A record.
+    Record,
     /// Lines of hexadecimal digits.
     Lines,
     /// TCAP of ANSI T1.114.
@@ -19,8 +21,33 @@ enum Mistaken {
     M3ua,
     /// A capture, a pcap or a pcapng.
     Capture,
-    /// A text of JSON.
+    /// An operation table.
+    Table,
+    /// A book of operation tables.
+    Book,
+    /// A certificate.
+    Certificate,
+    /// Another text of JSON.
     Json,
+}
+
+/// What a file is given as.
+#[derive(Clone, Copy, Debug, PartialEq, Eq)]
+pub enum Role {
+    /// A record whose entries are shown.
+    Shown,
+    /// A record that is judged.
+    Record,
+    /// Lines of hexadecimal digits.
+    Lines,
+    /// A trace: a record, or lines of hexadecimal digits.
+    Trace,
+    /// One operation table.
+    Table,
+    /// An operation table, or a book of them.
+    Book,
+    /// A certificate.
+    Certificate,
 }
 
 /// Whether this is a hexadecimal digit.
@@ -53,92 +80,230 @@ fn are_lines(octets: &[u8]) -> bool {
     rest.is_empty() && !octets.is_empty()
 }
 
-/// The first octets of what is to be a message: those behind quiet marks and the octet of an end, where they are there.
-fn message_in(octets: &[u8]) -> &[u8] {
+/// What is behind quiet marks.
+fn behind_marks(octets: &[u8]) -> &[u8] {
     let mut rest = octets;
     while let [b'Q', more @ ..] = rest {
         rest = more;
     }
-    match rest {
-        [b'A' | b'B', message @ ..] => message,
-        _ => rest,
+    rest
+}
+
+/// Whether octets begin as a message does (Q.773): the tag of one, a length, and the tag of what stands first in it, which is a
+/// transaction ID, the dialogue portion or the component portion.
+fn is_message(octets: &[u8]) -> bool {
+    let [0x61 | 0x62 | 0x64 | 0x65 | 0x67, length, rest @ ..] = octets else {
+        return false;
+    };
+    let more = match length {
+        0x81 => 1,
+        0x82 => 2,
+        0x83 => 3,
+        0x84 => 4,
+        _ => 0,
+    };
+    matches!(rest.get(more), Some(0x48 | 0x49 | 0x6B | 0x6C))
+}
+
+/// Whether octets begin as a record does: quiet marks, and behind them the octet of an end and a message.
+fn is_record(octets: &[u8]) -> bool {
+    match behind_marks(octets) {
+        [b'A' | b'B', message @ ..] => is_message(message),
+        _ => false,
     }
 }
 
-/// What octets look like that are no record.
-fn mistaken_for(octets: &[u8]) -> Option<Mistaken> {
-    if octets.is_empty() {
+/// The first octets of what is to be a message: those behind quiet marks and the octet of an end, where they are there.
+fn message_in(octets: &[u8]) -> &[u8] {
+    match behind_marks(octets) {
+        [b'A' | b'B', message @ ..] => message,
+        rest => rest,
+    }
+}
+
+/// What stands behind white space (RFC 8259 2).
+fn behind_space(octets: &[u8]) -> &[u8] {
+    let mut rest = octets;
+    while let [b' ' | b'\t' | b'\n' | b'\r', more @ ..] = rest {
+        rest = more;
+    }
+    rest
+}
+
+/// The first key of an object of JSON, no octets where it has none; `None` where the octets begin as no object does.
+fn first_key(octets: &[u8]) -> Option<&[u8]> {
+    let [b'{', behind @ ..] = behind_space(octets) else {
         return None;
-    }
-    if are_lines(octets) && !matches!(octets, [0x0A, 0x0D, 0x0D, 0x0A, ..]) {
-        return Some(Mistaken::Lines);
-    }
+    };
+    let [b'"', key @ ..] = behind_space(behind) else {
+        return Some(&[]);
+    };
+    let end = key.iter().position(|octet| *octet == b'"');
+    Some(&key[..end.unwrap_or(0).min(key.len())])
+}
+
+/// What a message of another protocol looks like.
+fn look_of_message(octets: &[u8]) -> Option<Look> {
     match octets {
+        // A package: Unidirectional, Query, Response, Conversation, Abort.
+        [0xE1..=0xE6 | 0xF6, ..] => Some(Look::Ansi),
+        // Version 1, a reserved octet, and the class of a message.
+        [0x01, 0x00, 0x00..=0x09, ..] => Some(Look::M3ua),
+        // UDT, XUDT and LUDT with a protocol class of connectionless service.
+        [0x09 | 0x11 | 0x13, 0x00 | 0x01 | 0x80 | 0x81, ..] => Some(Look::Sccp),
+        // Empty lines.
+        [b'\n', b'\n' | b'\r', ..] => None,
+        // UDTS, XUDTS and LUDTS with a return cause.
+        [0x0A | 0x12 | 0x14, 0x00..=0x0E, ..] => Some(Look::Sccp),
+        _ => None,
+    }
+}
+
+/// The keys of an operation table and of a certificate.
+static TABLE_KEYS: [&str; 2] = ["operations", "prearranged"];
+
+static CERTIFICATE_KEYS: [&str; 4] = ["close", "expire", "fates", "version"];
+
+/// Whether a key is one of these.
+fn is_one_of(names: &[&str], key: &[u8]) -> bool {
+    names.iter().any(|name| name.as_bytes() == key)
+}
+
+/// What an object of JSON looks like that has this key first.
+fn look_of_key(key: &[u8]) -> Look {
+    if is_one_of(&TABLE_KEYS, key) {
+        Look::Table
+    } else if is_one_of(&CERTIFICATE_KEYS, key) {
+        Look::Certificate
+    } else if is_one_of(&["tables"], key) {
+        Look::Book
+    } else {
+        Look::Json
+    }
+}
+
+/// What octets look like by which a file begins.
+fn look_of(octets: &[u8]) -> Option<Look> {
+    match octets {
+        [] => return None,
         // The magic numbers of a pcap, with times in micro- or nanoseconds, of either order of octets, and of a pcapng.
         [0xD4, 0xC3, 0xB2, 0xA1, ..]
         | [0xA1, 0xB2, 0xC3, 0xD4, ..]
         | [0x4D, 0x3C, 0xB2, 0xA1, ..]
         | [0xA1, 0xB2, 0x3C, 0x4D, ..]
-        | [0x0A, 0x0D, 0x0D, 0x0A, ..] => return Some(Mistaken::Capture),
-        [b'{', ..] => return Some(Mistaken::Json),
+        | [0x0A, 0x0D, 0x0D, 0x0A, ..] => return Some(Look::Capture),
         _ => {}
     }
-    match message_in(octets) {
-        // A package: Unidirectional, Query, Response, Conversation, Abort.
-        [0xE1..=0xE6 | 0xF6, ..] => Some(Mistaken::Ansi),
-        // Version 1, a reserved octet, and the class of a message.
-        [0x01, 0x00, 0x00..=0x09, ..] => Some(Mistaken::M3ua),
-        // UDT, XUDT and LUDT with a protocol class of connectionless service.
-        [0x09 | 0x11 | 0x13, 0x00 | 0x01 | 0x80 | 0x81, ..] => Some(Mistaken::Sccp),
-        // UDTS, XUDTS and LUDTS with a return cause.
-        [0x0A | 0x12 | 0x14, 0x00..=0x0E, ..] => Some(Mistaken::Sccp),
-        _ => None,
+    if are_lines(octets) {
+        return Some(Look::Lines);
+    }
+    if is_record(octets) {
+        return Some(Look::Record);
+    }
+    match first_key(octets) {
+        Some(key) => Some(look_of_key(key)),
+        None => look_of_message(message_in(octets)),
     }
 }
 
-/// The line that tells it.
-fn line_of(mistaken: Mistaken) -> &'static str {
-    match mistaken {
-        Mistaken::Lines => {
+/// Whether a file that looks like this may be what it is given as.
+fn is_right(role: Role, look: Look) -> bool {
+    match role {
+        Role::Shown | Role::Record => look == Look::Record,
+        Role::Lines => look == Look::Lines,
+        Role::Trace => matches!(look, Look::Record | Look::Lines),
+        Role::Table => matches!(look, Look::Table | Look::Json),
+        Role::Book => matches!(look, Look::Table | Look::Book | Look::Json),
+        Role::Certificate => matches!(look, Look::Certificate | Look::Json),
+    }
+}
+
+/// How the line begins that tells what a file looks like.
+const HINT: &str = "  hint: ";
+
+/// The line that tells it of a file that is given as something else.
+fn line_of(role: Role, look: Look) -> &'static str {
+    match look {
+        Look::Lines if role == Role::Shown => {
             "  hint: this looks like lines of hexadecimal digits, which `tcapjudge show --lines` reads\n"
         }
-        Mistaken::Ansi => {
+        Look::Lines => {
+            "  hint: this looks like lines of hexadecimal digits, of which `tcapjudge pack` makes a record\n"
+        }
+        Look::Record => "  hint: this looks like a record, which `tcapjudge show` prints\n",
+        Look::Ansi => {
             "  hint: this looks like TCAP of ANSI (T1.114), and a record holds that of ITU-T (Q.773)\n"
         }
-        Mistaken::Sccp => {
+        Look::Sccp => {
             "  hint: this looks like SCCP, and an entry of a record holds the TCAP message in it\n"
         }
-        Mistaken::M3ua => {
+        Look::M3ua => {
             "  hint: this looks like M3UA, and an entry of a record holds the TCAP message in it\n"
         }
-        Mistaken::Capture => {
+        Look::Capture => {
             "  hint: this looks like a capture, of which tools/lines_of_capture.py makes lines\n"
         }
-        Mistaken::Json =>
-            "  hint: this looks like JSON, as an operation table or a certificate is\n",
+        Look::Table =>
+            "  hint: this looks like an operation table, which `tcapjudge table` prints\n",
+        Look::Book => {
+            "  hint: this looks like a book of operation tables, which `tcapjudge test --table` takes\n"
+        }
+        Look::Certificate => {
+            "  hint: this looks like a certificate, which `tcapjudge check` takes behind the table\n"
+        }
+        Look::Json => "  hint: this looks like JSON, as an operation table or a certificate is\n",
+    }
+}
+
+/// What of that is told. Where a record or a trace is read, all objects of JSON are told alike.
+fn told_of(role: Role, look: Look) -> Look {
+    match (role, look) {
+        (Role::Shown | Role::Trace, Look::Table | Look::Book | Look::Certificate) => Look::Json,
+        _ => look,
+    }
+}
+
+/// The line that tells what a file looks like that begins with these octets, where that is not what it is given as.
+fn hint_line(role: Role, first: &[u8]) -> Option<&'static str> {
+    match look_of(first) {
+        Some(look) if !is_right(role, look) => Some(line_of(role, told_of(role, look))),
+        _ => None,
     }
 }
 
 /// What `first`, the first octets of what was given as a trace, look like, where they look neither like lines of digits nor like a record: a
 /// line for behind a line of fault.
 pub fn hint_of(first: &[u8]) -> Option<&'static str> {
-    match mistaken_for(first) {
-        Some(Mistaken::Lines) | None => None,
-        Some(mistaken) => Some(line_of(mistaken)),
-    }
+    hint_line(Role::Trace, first)
 }
 
-/// Writes what `first`, the first octets of what was given as a record, look like, where they look like lines of
-/// hexadecimal digits, a message of ANSI TCAP, SCCP or M3UA, a capture or JSON; else nothing. It is for behind a line of fault.
-/// `WriteFailed` where the writer failed in this call.
-pub fn write_hint<W: Write>(first: &[u8], writer: &mut W) -> Result<(), WriteFailed>
+/// Writes octets.
+fn write<W: Write>(octets: &[u8], writer: &mut W) -> Result<(), WriteFailed>
     ensures counts { OnOk result (W.failures writer.new ≡ W.failures writer.old) }
     ensures failed { OnErr result (W.failures writer.new ≡ one_more (W.failures writer.old)) }
 {
-    match mistaken_for(first) {
-        Some(mistaken) => writer
-            .write_all(line_of(mistaken).as_bytes())
-            .map_err(|_| WriteFailed),
-        None => Ok(()),
+    writer.write_all(octets).map_err(|_| WriteFailed)
+}
+
+/// Writes what a file looks like that begins with `first`, its first octets, where that is not what it is given as: a line with
+/// its path, where it has one; else nothing. It is for behind a line of fault. `WriteFailed` where the writer failed in this call.
+pub fn write_hint<W: Write>(
+    role: Role,
+    path: Option<&str>,
+    first: &[u8],
+    writer: &mut W,
+) -> Result<(), WriteFailed>
+    ensures counts { OnOk result (W.failures writer.new ≡ W.failures writer.old) }
+    ensures failed { OnErr result (W.failures writer.new ≡ one_more (W.failures writer.old)) }
+{
+    match (hint_line(role, first), path) {
+        (Some(line), Some(path)) => {
+            write(HINT.as_bytes(), writer)?;
+            write(path.as_bytes(), writer)?;
+            write(b": ", writer)?;
+            write(line.strip_prefix(HINT).unwrap_or(line).as_bytes(), writer)
+        }
+        (Some(line), None) => write(line.as_bytes(), writer),
+        (None, _) => Ok(()),
     }
 }

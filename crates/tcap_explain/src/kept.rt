@@ -64,6 +64,13 @@ impl<R> Kept<R> {
         }
     }
 
+    /// The reader that is kept of.
+    pub fn inner(&self) -> &R
+        ensures { result.now ≡ kept_inner self.now }
+    {
+        &self.reader
+    }
+
     /// What it told last.
     pub(crate) fn tail(&self) -> &Tail {
         &self.tail

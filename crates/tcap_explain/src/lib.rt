@@ -3,6 +3,7 @@
 #![tactic(auto)]
 
 mod around;
+mod code_hints;
 mod digits;
 mod hints;
 mod kept;
@@ -21,12 +22,12 @@ mod tables;
 mod told;
 mod why;
 
-pub use hints::{hint_of, write_hint};
+pub use hints::{Role, hint_of, write_hint};
 pub use kept::Kept;
 pub use lines::run_lines;
 pub use names::name_of;
 pub use noted::Noted;
-pub use rules::{Broken, LINE_LIMIT, broken_by, octets_of, push_broken_rule, write_rule};
+pub use rules::{Broken, LINE_LIMIT, broken_by, push_broken_rule, write_rule};
 pub use tables::run_table;
 pub use told::Told;
 pub use why::run_why;

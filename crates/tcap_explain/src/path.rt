@@ -1,6 +1,6 @@
 //! The path of parts to a place of a message.
 
-use crate::parts::{Holder, needed_at, part_at};
+use crate::parts::{Holder, Named, needed_at, part_at};
 use std::alloc::{AllocError, Global};
 use tcap_ber::{Window, next_tlv};
 
@@ -85,6 +85,32 @@ fn element_at(window: Window) -> Option<Element> {
     })
 }
 
+/// The element that the place lies in, by its name, and the level in it, where it holds one. `part` is what it is there.
+fn named_in<'a>(
+    part: Option<Named>,
+    element: Element<'a>,
+    place: u64,
+) -> Option<(&'static str, Option<Level<'a>>)> {
+    let named = part?;
+    let goes_in = named.inside != Holder::Nothing
+        && element.tag & 0x20 != 0
+        && place >= element.content.place;
+    let inner = Level {
+        holder: named.inside,
+        window: element.content,
+    };
+    Some((named.name, if goes_in { Some(inner) } else { None }))
+}
+
+/// The name of what is missing at the end of what a holder holds, behind so much of it; none elsewhere.
+fn missing_at(holder: Holder, next: u8, is_end: bool) -> Option<&'static str> {
+    if is_end {
+        needed_at(holder, next)
+    } else {
+        None
+    }
+}
+
 /// What of a level leads to a place: the element in which its octet lies; or, where an element is missing at the place,
 /// the one that ends there.
 fn find_in(level: Level, place: u64, is_missing: bool) -> Found {
@@ -98,42 +124,17 @@ fn find_in(level: Level, place: u64, is_missing: bool) -> Found {
         let behind = part.map_or(next, |named| named.next);
         if place < element.end || (is_missing && place == element.end) {
             let is_end = is_missing && place == element.end && element.behind.octets.is_empty();
-            let missing = if is_end {
-                needed_at(level.holder, behind)
-            } else {
-                None
-            };
-            let Some(named) = part else {
-                return Found {
-                    element: None,
-                    missing,
-                };
-            };
-            let goes_in = named.inside != Holder::Nothing
-                && element.tag & 0x20 != 0
-                && place >= element.content.place;
-            let inner = Level {
-                holder: named.inside,
-                window: element.content,
-            };
-            let inside = if goes_in { Some(inner) } else { None };
             return Found {
-                element: Some((named.name, inside)),
-                missing,
+                element: named_in(part, element, place),
+                missing: missing_at(level.holder, behind, is_end),
             };
         }
         next = behind;
         rest = element.behind;
     }
-    let is_end = is_missing && rest.octets.is_empty();
-    let missing = if is_end {
-        needed_at(level.holder, next)
-    } else {
-        None
-    };
     Found {
         element: None,
-        missing,
+        missing: missing_at(level.holder, next, is_missing && rest.octets.is_empty()),
     }
 }
 

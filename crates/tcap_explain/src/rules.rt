@@ -69,7 +69,7 @@ fn value_of(digit: u8) -> Option<u8> {
 
 /// The octets of hexadecimal digits, two for each; a lone one at the end is left out, and what is no digit counts as 0. `AllocError`
 /// where memory ran out.
-pub fn octets_of(alloc: Global, digits: &[u8]) -> Result<Vec<u8>, AllocError> {
+fn octets_of(alloc: Global, digits: &[u8]) -> Result<Vec<u8>, AllocError> {
     let mut octets = Vec::new(alloc);
     let mut rest = digits;
     while let [high, low, more @ ..] = rest {

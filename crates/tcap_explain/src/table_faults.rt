@@ -1,15 +1,31 @@
-//! What is wrong with an operation table, in words.
+//! What is wrong with an operation table, or with a book of them, in words.
 
 use serde_json::{Map, Value};
 use std::alloc::{AllocError, Global};
 use tcap_ber::ObjectIdView;
+use tcap_books::BookFault;
 use tcap_end::{TableFault, TableReason};
+use tcap_record::push_fault;
 
-/// The keys of a table.
-static TABLE_KEYS: [&str; 2] = ["operations", "prearranged"];
+/// The keys of a table, and behind them those that only a table of a book has.
+static TABLE_KEYS: [&str; 4] = ["operations", "prearranged", "name", "contexts"];
 
-/// The keys of a row.
-static ROW_KEYS: [&str; 4] = ["class", "code", "expires", "linked"];
+/// The keys of a row, and behind them that which only a row of a book has.
+static ROW_KEYS: [&str; 5] = ["class", "code", "expires", "linked", "name"];
+
+/// The keys that may stand in a table.
+fn table_keys(in_book: bool) -> &'static [&'static str] {
+    if in_book {
+        &TABLE_KEYS
+    } else {
+        &TABLE_KEYS[..2]
+    }
+}
+
+/// The keys that may stand in a row.
+fn row_keys(in_book: bool) -> &'static [&'static str] {
+    if in_book { &ROW_KEYS } else { &ROW_KEYS[..4] }
+}
 
 /// The greatest count of codes in a row's list of linked operations.
 const LINKED_LIMIT: usize = 1000;
@@ -30,7 +46,7 @@ fn other_key<'a>(keys: &[&str], members: &'a Map<String, Value>) -> Option<&'a s
 }
 
 /// Whether a text is the digits of a global code.
-fn is_global(alloc: Global, digits: &str) -> Result<bool, AllocError> {
+pub(crate) fn is_global(alloc: Global, digits: &str) -> Result<bool, AllocError> {
     match hex::decode(alloc, digits) {
         Ok(octets) => Ok(ObjectIdView::new(&octets).is_some()),
         Err(hex::FromHexError::OutOfMemory) => Err(AllocError),
@@ -97,31 +113,40 @@ fn values_trouble(alloc: Global, row: &Value) -> Result<&'static str, AllocError
     Ok("it has not the shape of a row")
 }
 
-/// Appends a key that may not stand there.
-fn push_other(text: &mut String, key: &str) -> Result<(), AllocError> {
-    text.push_str("no key \"")?;
-    text.push_str(key)?;
-    text.push_str("\" may stand there")
+/// Appends that a key may not stand there, which is written as a text of JSON.
+fn push_other(alloc: Global, text: &mut String, key: &str) -> Result<(), AllocError> {
+    let key = Value::String(String::from_str(alloc, key)?).to_string(alloc)?;
+    write!(text, "no key {key} may stand there")
 }
 
 /// Appends what is wrong with the shape of a row.
-fn push_row_shape(alloc: Global, text: &mut String, row: &Value) -> Result<(), AllocError> {
+fn push_row_shape(
+    alloc: Global,
+    text: &mut String,
+    row: &Value,
+    in_book: bool,
+) -> Result<(), AllocError> {
     let Some(members) = row.as_object() else {
         return text.push_str("the row is no object");
     };
-    if let Some(key) = other_key(&ROW_KEYS, members) {
-        return push_other(text, key);
+    if let Some(key) = other_key(row_keys(in_book), members) {
+        return push_other(alloc, text, key);
     }
     text.push_str(values_trouble(alloc, row)?)
 }
 
 /// Appends what is wrong with the shape of the whole.
-fn push_table_shape(text: &mut String, table: &Value) -> Result<(), AllocError> {
+fn push_table_shape(
+    alloc: Global,
+    text: &mut String,
+    table: &Value,
+    in_book: bool,
+) -> Result<(), AllocError> {
     let Some(members) = table.as_object() else {
         return text.push_str("the table is no object");
     };
-    if let Some(key) = other_key(&TABLE_KEYS, members) {
-        return push_other(text, key);
+    if let Some(key) = other_key(table_keys(in_book), members) {
+        return push_other(alloc, text, key);
     }
     match table.get("operations") {
         None => text.push_str("\"operations\" is missing"),
@@ -131,11 +156,11 @@ fn push_table_shape(text: &mut String, table: &Value) -> Result<(), AllocError> 
 }
 
 /// Whether the whole of a table has its shape, so that a fault of shape is a row's.
-fn is_whole(table: &Value) -> bool {
+fn is_whole(table: &Value, in_book: bool) -> bool {
     let Some(members) = table.as_object() else {
         return false;
     };
-    other_key(&TABLE_KEYS, members).is_none()
+    other_key(table_keys(in_book), members).is_none()
         && table
             .get("operations")
             .is_some_and(|rows| rows.as_array().is_some())
@@ -144,49 +169,94 @@ fn is_whole(table: &Value) -> bool {
             .is_none_or(|value| value.as_bool().is_some())
 }
 
-/// The row of that number.
-fn row_of(table: &Value, number: u64) -> Option<&Value> {
-    let rows = table.get("operations")?.as_array()?;
-    rows.get(usize::try_from(number).ok()?)
+/// The item of that number of a list.
+fn item_of(list: Option<&Value>, number: u64) -> Option<&Value> {
+    list?.as_array()?.get(usize::try_from(number).ok()?)
 }
 
-/// Appends the line that says what is wrong with a table of this text.
-pub(crate) fn push_table_why(
-    alloc: Global,
-    text: &mut String,
-    fault: TableFault,
-    octets: &[u8],
-) -> Result<(), AllocError> {
-    text.push_str("  why: ")?;
-    match Value::from_slice(alloc, octets) {
-        Ok(table) => push_of_value(alloc, text, fault, &table)?,
-        Err(error) if error.is_memory() => return Err(AllocError),
-        Err(_) => text.push_str("the text is no JSON")?,
+/// Appends the number of a table of a book, and of a row, where they are given.
+fn push_place(text: &mut String, table: Option<u64>, row: Option<u64>) -> Result<(), AllocError> {
+    match (table, row) {
+        (None, None) => Ok(()),
+        (None, Some(row)) => write!(text, "row {row}; "),
+        (Some(table), None) => write!(text, "table {table}: "),
+        (Some(table), Some(row)) => write!(text, "table {table}, row {row}: "),
     }
-    text.push_str("\n")
 }
 
-/// Appends what is wrong with a table that is this value.
-fn push_of_value(
+/// Appends what is wrong with a table that is this value, and has that number where it is one of a book.
+fn push_of_table(
     alloc: Global,
     text: &mut String,
     fault: TableFault,
+    number: Option<u64>,
     table: &Value,
 ) -> Result<(), AllocError> {
+    let in_book = number.is_some();
     if fault.reason == TableReason::TooManyRows {
+        push_place(text, number, None)?;
         return text.push_str("there are over 1,000 rows");
     }
-    if !is_whole(table) {
-        return push_table_shape(text, table);
+    if !is_whole(table, in_book) {
+        push_place(text, number, None)?;
+        return push_table_shape(alloc, text, table, in_book);
     }
-    let number = fault.place;
-    write!(text, "row {number}; ")?;
-    let Some(row) = row_of(table, number) else {
+    push_place(text, number, Some(fault.place))?;
+    let Some(row) = item_of(table.get("operations"), fault.place) else {
         return text.push_str("there is no such row");
     };
     match fault.reason {
         TableReason::BadClass => text.push_str("\"class\" is not 1, 2, 3 or 4"),
         TableReason::DoubleCode => text.push_str("an earlier row has this \"code\""),
-        _ => push_row_shape(alloc, text, row),
+        _ => push_row_shape(alloc, text, row, in_book),
     }
+}
+
+/// Appends what is wrong with a book, or with the one table, that is this value.
+fn push_of_book(
+    alloc: Global,
+    text: &mut String,
+    fault: BookFault,
+    book: &Value,
+) -> Result<(), AllocError> {
+    let tables = book.get("tables");
+    match fault {
+        BookFault::Table(_, fault) if tables.is_none() => {
+            push_of_table(alloc, text, fault, None, book)
+        }
+        BookFault::Table(number, of_table) => match item_of(tables, number) {
+            Some(table) => push_of_table(alloc, text, of_table, Some(number), table),
+            None => write!(text, "{fault}"),
+        },
+        _ => write!(text, "{fault}"),
+    }
+}
+
+/// The number of the reason of a fault, and its place: the number of a row in its table, else 0.
+fn line_of(fault: BookFault) -> (u8, u64) {
+    match fault {
+        BookFault::NotJson => (TableReason::NotJson.number(), 0),
+        BookFault::TooManyTables => (TableReason::TooManyRows.number(), 0),
+        BookFault::Table(_, fault) => (fault.reason.number(), fault.place),
+        BookFault::RowName(_, row) => (TableReason::TableShape.number(), row),
+        _ => (TableReason::TableShape.number(), 0),
+    }
+}
+
+/// Appends the line of a fault of a book, or of one table, and that which says what is wrong. `book` is the value that the text
+/// is, where it is JSON.
+pub(crate) fn push_book_fault(
+    alloc: Global,
+    text: &mut String,
+    fault: BookFault,
+    book: Option<&Value>,
+) -> Result<(), AllocError> {
+    let (number, place) = line_of(fault);
+    push_fault(text, number, place)?;
+    text.push_str("  why: ")?;
+    match book {
+        Some(book) => push_of_book(alloc, text, fault, book)?,
+        None => text.push_str("the text is no JSON")?,
+    }
+    text.push_str("\n")
 }

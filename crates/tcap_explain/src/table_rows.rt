@@ -1,10 +1,11 @@
-//! The rows of an operation table.
+//! The rows of operation tables.
 
 use crate::digits::push_hex;
 use serde_json::Value;
 use std::alloc::{AllocError, Global};
 use std::collections::BTreeMap;
 use tcap_ber::ObjectIdView;
+use tcap_books::{Book, NamedTable};
 use tcap_end::Table;
 use tcap_parts::CodeView;
 
@@ -72,6 +73,16 @@ fn order_of(alloc: Global, rows: &[Value]) -> Result<Order, AllocError> {
     Ok(order)
 }
 
+/// Appends the name of a table or a row, as a text of JSON, where it has one.
+fn push_name(alloc: Global, text: &mut String, named: &Value) -> Result<(), AllocError> {
+    if let Some(name) = named.get("name") {
+        let name = name.to_string(alloc)?;
+        text.push_str(" name=")?;
+        text.push_str(&name)?;
+    }
+    Ok(())
+}
+
 /// Appends the line of the row of an operation.
 fn push_row(
     alloc: Global,
@@ -92,6 +103,7 @@ fn push_row(
         if !table.expires(code) {
             text.push_str(" expires=false")?;
         }
+        push_name(alloc, text, row)?;
         text.push_str("\n")?;
     }
     Ok(())
@@ -118,22 +130,60 @@ fn push_ordered(
     Ok(())
 }
 
-/// Appends the lines of a table of this text: one for each row, in the order of the codes, and one more where
+/// Appends the lines of a table that is this value: one for each row, in the order of the codes, and one more where
 /// transactions may be closed by prearrangement.
-pub(crate) fn push_table(
+fn push_table(
     alloc: Global,
     text: &mut String,
     table: &Table,
-    octets: &[u8],
+    value: &Value,
 ) -> Result<(), AllocError> {
-    let Ok(value) = Value::from_slice(alloc, octets) else {
-        return Err(AllocError);
-    };
     if let Some(rows) = value.get("operations").and_then(Value::as_array) {
         push_ordered(alloc, text, table, rows)?;
     }
     if table.prearranged() {
         text.push_str("prearranged=true\n")?;
+    }
+    Ok(())
+}
+
+/// Appends the lines of the table of that number of a book: one with its number and its name, one for each context, and those of
+/// the table.
+fn push_named(
+    alloc: Global,
+    text: &mut String,
+    number: usize,
+    named: &NamedTable,
+    value: &Value,
+) -> Result<(), AllocError> {
+    write!(text, "table {number}")?;
+    push_name(alloc, text, value)?;
+    text.push_str("\n")?;
+    for context in named.contexts() {
+        text.push_str("context=")?;
+        push_hex(text, context.octets())?;
+        text.push_str("\n")?;
+    }
+    push_table(alloc, text, named.table(), value)
+}
+
+/// Appends the lines of a book that is this value: those of its tables in their order, or of the one table that it is.
+pub(crate) fn push_book(
+    alloc: Global,
+    text: &mut String,
+    book: &Book,
+    value: &Value,
+) -> Result<(), AllocError> {
+    let listed = value.get("tables").and_then(Value::as_array);
+    for (number, named) in book.tables().iter().enumerate() {
+        match listed {
+            None => push_table(alloc, text, named.table(), value)?,
+            Some(tables) => {
+                if let Some(table) = tables.get(number) {
+                    push_named(alloc, text, number, named, table)?;
+                }
+            }
+        }
     }
     Ok(())
 }

@@ -1,18 +1,19 @@
-//! An operation table, printed.
+//! An operation table, or a book of them, printed.
 
 ghost use Rattle.std.specs.Prelude.{◌≡◌, ℕ, List, Ok, Err, IfOk, OnOk, OnErr};
 ghost use Rattle.std.specs.Io.KnownBytes.{Consumes, IsAtEnd};
 ghost use Rattle.tcap_ber.specs.Device.{one_more};
-ghost use Rattle.tcap_end.specs.declared.table.TableFault.{TableFault};
-ghost use Rattle.tcap_end.specs.Table.{Table};
-ghost use Rattle.tcap_end.specs.TableText.{IsTableOf};
+ghost use Rattle.tcap_explain.specs.Tables.{IsTableText};
 ghost use Rattle.tcap_judge.specs.declared.status.Status.{Status};
 
-use crate::table_faults::push_table_why;
-use crate::table_rows::push_table;
+use crate::code_hints::push_code_hints;
+use crate::table_faults::push_book_fault;
+use crate::table_rows::push_book;
+use serde_json::Value;
 use std::alloc::{AllocError, Global};
 use tcap_ber::{Failed, Read, Write};
-use tcap_end::{Table, TableReason};
+use tcap_books::{Book, BookFault};
+use tcap_end::TableReason;
 use tcap_judge::{MEMORY_LINE, Status, WriteFailed};
 use tcap_record::{FeedReason, PIECE_LEN, push_fault};
 
@@ -57,19 +58,39 @@ fn read_text<R: Read>(alloc: Global, reader: &mut R) -> Result<Vec<u8>, TextFaul
     Err(TextFault::TooLong)
 }
 
-/// Appends the lines of the table that a text is, or those of its fault, and answers how the run ends.
-fn push_text(alloc: Global, text: &mut String, octets: &[u8]) -> Result<Status, AllocError>
-    ensures table { result ≡ Ok Status.Fine → (table : Table) × IsTableOf octets.now (Ok table) }
+/// The value that a text is; `None` where it is no JSON.
+fn value_of(alloc: Global, octets: &[u8]) -> Result<Option<Value>, AllocError> {
+    match Value::from_slice(alloc, octets) {
+        Ok(value) => Ok(Some(value)),
+        Err(error) if error.is_memory() => Err(AllocError),
+        Err(_) => Ok(None),
+    }
+}
+
+/// Appends the lines of a book, or those of its fault, and what is told beside them, and answers how the run ends.
+#[tactic(auto, using(crate::proofs::TableLaws::text_of_book))]
+fn push_text(
+    alloc: Global,
+    text: &mut String,
+    hints: &mut String,
+    octets: &[u8],
+) -> Result<Status, AllocError>
+    ensures table { result ≡ Ok Status.Fine → IsTableText octets.now }
 {
-    match Table::from_json(alloc, octets) {
-        Ok(table) => {
-            push_table(alloc, text, &table, octets)?;
+    let value = value_of(alloc, octets)?;
+    if let Some(value) = &value {
+        push_code_hints(alloc, hints, value)?;
+    }
+    match Book::from_json(alloc, octets) {
+        Ok(book) => {
+            if let Some(value) = &value {
+                push_book(alloc, text, &book, value)?;
+            }
             Ok(Status::Fine)
         }
-        Err(fault) if fault.reason == TableReason::Memory => Err(AllocError),
+        Err(BookFault::Memory) => Err(AllocError),
         Err(fault) => {
-            push_fault(text, fault.reason.number(), fault.place)?;
-            push_table_why(alloc, text, fault, octets)?;
+            push_book_fault(alloc, text, fault, value.as_ref())?;
             Ok(Status::Fault)
         }
     }
@@ -79,14 +100,14 @@ fn push_text(alloc: Global, text: &mut String, octets: &[u8]) -> Result<Status, 
 fn push_read(
     alloc: Global,
     text: &mut String,
+    hints: &mut String,
     read: Result<Vec<u8>, TextFault>,
 ) -> Result<Status, AllocError>
-    ensures table { result ≡ Ok Status.Fine
-        → IfOk read (λ octets. (table : Table) × IsTableOf octets.items (Ok table)) }
+    ensures table { result ≡ Ok Status.Fine → IfOk read (λ octets. IsTableText octets.items) }
     ensures read { OnErr read (result ≡ Ok Status.Fine → ⊥) }
 {
     match read {
-        Ok(octets) => push_text(alloc, text, &octets),
+        Ok(octets) => push_text(alloc, text, hints, &octets),
         Err(TextFault::Memory) => Err(AllocError),
         Err(TextFault::TooLong) => {
             push_fault(text, TableReason::NotJson.number(), 0)?;
@@ -101,27 +122,31 @@ fn push_read(
     }
 }
 
-/// Prints the rows of the operation table that `reader` tells, one line each in the order of the codes; or the line of its
-/// fault, as the other runs print it, and behind it what is wrong in words. The status says whether a line of fault was
-/// printed. Where memory runs out, only its line is printed. `WriteFailed` where the writer failed in this call.
-pub fn run_table<R: Read, W: Write>(
+/// Prints the rows of the operation table, or of the book of them, that `reader` tells, one line each in the order of the codes; or
+/// the line of its fault, as the other runs print it, and behind it what is wrong in words. `faults` is told of codes that may be
+/// meant as numbers; that it fails is not said. The status says whether a line of fault was printed. Where memory runs out, only
+/// its line is printed. `WriteFailed` where `writer` failed in this call.
+pub fn run_table<R: Read, W: Write, F: Write>(
     alloc: Global,
     reader: &mut R,
     writer: &mut W,
+    faults: &mut F,
 ) -> Result<Status, WriteFailed>
-    // Where the run is fine, the reader told, up to its end, the text of an operation table.
-    ensures table { result ≡ Ok Status.Fine → (told : List ℕ) × (table : Table)
+    // Where the run is fine, the reader told, up to its end, the text of an operation table or of a book.
+    ensures table { result ≡ Ok Status.Fine → (told : List ℕ)
         × Consumes (R.untold reader.old) (R.untold reader.new) told × IsAtEnd (R.untold reader.new)
-        × IsTableOf told (Ok table) }
+        × IsTableText told }
     ensures counts { OnOk result (W.failures writer.new ≡ W.failures writer.old) }
     ensures failed { OnErr result (W.failures writer.new ≡ one_more (W.failures writer.old)) }
 {
     let read = read_text(alloc, reader);
     let mut text = String::new(alloc);
-    let (line, status) = match push_read(alloc, &mut text, read) {
+    let mut hints = String::new(alloc);
+    let (line, status) = match push_read(alloc, &mut text, &mut hints, read) {
         Ok(status) => (text.as_bytes(), status),
         Err(AllocError) => (MEMORY_LINE.as_bytes(), Status::Fault),
     };
     writer.write_all(line).map_err(|_| WriteFailed)?;
+    let _ = faults.write_all(hints.as_bytes());
     Ok(status)
 }

@@ -1,5 +1,5 @@
 -- What is said of both ends, and what was written of it.
-use Rattle.std.proofs.Common.{◌≡◌, ◌&&◌, ℕ, Bool, true, false, List, [], ◌∷◌, ◌++◌, map, length, cond, refl, sym, ap, ap₂, subst, ◌∙◌, ◌⊎◌, inl, inr}
+use Rattle.std.proofs.Common.{◌≡◌, ◌&&◌, ℕ, Bool, true, false, List, [], ◌∷◌, cond, refl, sym, ap, ap₂, subst, ◌∙◌, ◌⊎◌, inl, inr}
 use Rattle.std.specs.Prelude.{◌||◌, IfOk, Option, Some, None, Result, Ok, Err}
 use Rattle.std.specs.Io.KnownBytes.{Appends}
 use Rattle.tcap_record.specs.declared.entry.End.{End as Side}
@@ -8,7 +8,7 @@ use Rattle.tcap_record.specs.declared.entry.Entry.{Entry}
 use Rattle.tcap_record.specs.declared.fault.FeedFault.{FeedFault}
 use Rattle.tcap_record.specs.Framed.{FramedFrom}
 use Rattle.tcap_end.specs.Table.{Table}
-use Rattle.tcap_model.specs.Entries.{AreItems, IsItem, item_of}
+use Rattle.tcap_model.specs.Entries.{AreItems, IsItem}
 use Rattle.tcap_model.specs.Run.{IsLawful, IsLawfulFor}
 use Rattle.tcap_model.specs.World.{Item, Sent}
 use Rattle.tcap_refute.specs.declared.kind.Refutation.{Refutation}
@@ -35,7 +35,8 @@ use Rattle.tcap_judge.proofs.LawfulLaws.{fine_fault, spells_items, table_fault, 
 -- an end that is said to be lawful may have sent its part
 pub found_by_shown : (side : Side) (table : Table) (entries : List Entry) (count : ℕ) (outcome : Outcome)
     → IsShown (Some side) table entries outcome → IsFound side table entries (finding_by count outcome)
-found_by_shown side table entries count (LawfulFor all unheard) shown = shown
+found_by_shown side table entries count (LawfulFor all unheard) (items, are, (events, w, runs, sent, keeps, left, lost)) =
+    (items, are, (events, (w, runs, sent), keeps))
 found_by_shown side table entries count (Lawful all) shown = tt
 found_by_shown side table entries count (NotShown fault) shown = tt
 found_by_shown side table entries count (Refuted r) shown = tt

@@ -1,6 +1,7 @@
 -- What was taken of a record, as its octets come, and its entries, which a checker took.
 use Rattle.std.proofs.Common.{◌≡◌, ℕ, ◌+◌, ◌≤◌, List, [], ◌∷◌, ◌++◌, length, take, drop, subst, arith, length-append, length-take-le}
 use Rattle.std.specs.Prelude.{None, Option, Result, Ok, Err}
+use Rattle.tcap_record.specs.declared.entry.End.{End as Side}
 use Rattle.tcap_record.specs.declared.entry.Entry.{Entry}
 use Rattle.tcap_record.specs.declared.fault.FeedFault.{FeedFault}
 use Rattle.tcap_record.specs.Held.{Held, Fed, dropped, grown}
@@ -20,8 +21,8 @@ pub leads_fed : (h : Held) (old : Result Checking CheckFault) (piece rest : List
     (checker : Result Checking CheckFault) → rest ≡ drop n piece
     → ((octets : List ℕ) (entries : List Entry) → Fed octets entries mid → Fed (octets ++ take m rest) entries new)
     → Leads h old (take n piece) mid checker → Leads h old (take (n + m) piece) new checker
-leads_fed h old piece rest n m mid new checker is step leads table c told entries so =
-    let was = leads table c told entries so in (
+leads_fed h old piece rest n m mid new checker is step leads judged table c told entries so =
+    let was = leads judged table c told entries so in (
       was.0,
       record {
         fed = subst (λ (x : List ℕ). Fed x was.0 new) (taken_on told piece rest n m is)
@@ -35,8 +36,8 @@ pub fed_short : (h : Held) (old : Result Checking CheckFault) (piece rest : List
     (checker : Result Checking CheckFault) → rest ≡ drop n piece
     → ((octets : List ℕ) (entries : List Entry) → Fed octets entries mid → Fed (octets ++ take m rest) entries new)
     → Leads h old (take n piece) mid checker → LeadsFed h old (take (n + m) piece) new
-fed_short h old piece rest n m mid new checker is step leads table c told entries so =
-    let was = leads table c told entries so in
+fed_short h old piece rest n m mid new checker is step leads judged table c told entries so =
+    let was = leads judged table c told entries so in
     let then = step (told ++ take n piece) was.0 was.1.fed in
     (was.0, subst (λ (x : List ℕ). Fed x was.0 new) (taken_on told piece rest n m is) then)
 
@@ -45,10 +46,10 @@ pub leads_whole : (h : Held) (old : Result Checking CheckFault) (piece rest : Li
     (checker : Result Checking CheckFault) → rest ≡ drop n piece → m ≡ length rest → n ≤ length piece
     → ((octets : List ℕ) (entries : List Entry) → Fed octets entries mid → Fed (octets ++ take m rest) entries new)
     → Leads h old (take n piece) mid checker → Leads h old piece new checker
-leads_whole h old piece rest n m mid new checker is all most step leads table c told entries so =
-    let was = leads_fed h old piece rest n m mid new checker is step leads table c told entries so in
+leads_whole h old piece rest n m mid new checker is all most step leads judged table c told entries so =
+    let was = leads_fed h old piece rest n m mid new checker is step leads judged table c told entries so in
     let whole = taken_all told piece rest n m is all most in
-    (was.0, subst (λ (x : List ℕ). TakenSoFar table c x was.0 new checker) whole was.1)
+    (was.0, subst (λ (x : List ℕ). TakenSoFar judged table c x was.0 new checker) whole was.1)
 
 -- how many octets were taken in all
 pub grown_place : (old new : Held) (rest : List ℕ) (m : ℕ) → m ≤ length rest → new ≡ grown old (take m rest) None
@@ -64,18 +65,18 @@ pub leads_taken : (h : Held) (old : Result Checking CheckFault) (octets : List �
     (checker next : Result Checking CheckFault) (entry : Entry)
     → ((fed : List ℕ) (entries : List Entry) → Fed fed entries mid → Fed fed (entries ++ entry ∷ []) new)
     → Takes checker entry next → Leads h old octets mid checker → Leads h old octets new next
-leads_taken h old octets mid new checker next entry step takes leads table c told entries so =
-    let was = leads table c told entries so in (
+leads_taken h old octets mid new checker next entry step takes leads judged table c told entries so =
+    let was = leads judged table c told entries so in (
       was.0 ++ entry ∷ [],
-      record { fed = step (told ++ octets) was.0 was.1.fed; stands = takes table c was.0 was.1.stands },
+      record { fed = step (told ++ octets) was.0 was.1.fed; stands = takes judged table c was.0 was.1.stands },
     )
 
 -- where the record ended
-pub ends_with : (table : Table) (c : Certificate) (entries : List Entry) (held : Held)
+pub ends_with : (judged : Option Side) (table : Table) (c : Certificate) (entries : List Entry) (held : Held)
     (checker : Result Checking CheckFault) (end : Result (Unit {0}) FeedFault) → held.count ≡ length entries
-    → StandsFor table c checker entries → EndsWith table c entries held checker end
-ends_with table c entries held checker (Ok end) count stands = (count, stands)
-ends_with table c entries held checker (Err fault) count stands = tt
+    → StandsFor judged table c checker entries → EndsWith judged table c entries held checker end
+ends_with judged table c entries held checker (Ok end) count stands = (count, stands)
+ends_with judged table c entries held checker (Err fault) count stands = tt
 
 pub ended_at_end : (untold : Option (List ℕ)) (end : Result (Unit {0}) FeedFault) → IsAtEnd untold
     → EndsOnlyAtEnd untold end

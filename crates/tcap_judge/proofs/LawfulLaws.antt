@@ -1,7 +1,7 @@
 -- Where a record is said to be lawful, it is.
 use Rattle.std.proofs.Common.{◌≡◌, ℕ, ◌+◌, ◌-◌, List, [], ◌∷◌, ◌++◌, length, refl, sym, ap, subst, ◌∙◌, inl, inr, append-nil}
 use Rattle.std.specs.Prelude.{IfOk, Option, Some, None, Result, Ok, Err}
-use Rattle.std.specs.Io.KnownBytes.{Appends, Consumes, IsAtEnd}
+use Rattle.std.specs.Io.KnownBytes.{Appends, Consumes}
 use Rattle.tcap_record.specs.declared.entry.Entry.{Entry}
 use Rattle.tcap_record.specs.declared.entry.Body.{Body}
 use Rattle.tcap_record.specs.declared.entry.End.{End as Side}
@@ -12,23 +12,25 @@ use Rattle.tcap_end.specs.Table.{Table}
 use Rattle.tcap_end.specs.TableText.{IsTableOf}
 use Rattle.tcap_check.specs.declared.fault.CheckFault.{CheckFault}
 use Rattle.tcap_model.specs.World.{Item, Sent}
-use Rattle.tcap_model.specs.Run.{Event, IsLawful}
+use Rattle.tcap_model.specs.Run.{Event}
 use Rattle.tcap_check.specs.Certificate.{Certificate}
 use Rattle.tcap_model.specs.Entries.{AreItems}
-use Rattle.tcap_check.specs.Replayed.{replayed}
+use Rattle.tcap_check.specs.Given.{SaysLawful}
+use Rattle.tcap_check.specs.declared.checker.Report.{Report}
 use Rattle.tcap_check.specs.Alone.{unheard_of}
+use Rattle.tcap_check.proofs.AloneRuns.{gives_for}
 use Rattle.tcap_check.proofs.GivenRuns.{gives}
 use Rattle.tcap_check.proofs.ReasonGaps.{as_many}
 use Rattle.tcap_judge.specs.declared.text_reading.TextFault.{TextFault}
 use Rattle.tcap_judge.specs.declared.text_reading.TextFault.TheVariants as faults
 use Rattle.tcap_judge.specs.declared.outcome.Outcome.{Outcome}
-use Rattle.tcap_judge.specs.declared.outcome.Outcome.TheVariants.{Lawful, LawfulFor, Faulty}
+use Rattle.tcap_judge.specs.declared.outcome.Outcome.TheVariants.{Faulty}
 use Rattle.tcap_judge.specs.declared.status.Status.{Status}
 use Rattle.tcap_judge.specs.declared.status.Status.TheVariants as statuses
 use Rattle.tcap_judge.specs.declared.status.WriteFailed.{WriteFailed}
 use Rattle.tcap_judge.specs.Outcome.{Says, SaysWith, outcome_line, outcome_status}
 use Rattle.tcap_judge.specs.Text.{ReadsText}
-use Rattle.tcap_judge.specs.Judged.{AreLawful, IsShown, MayBeSent, lawful_by, replayed_by}
+use Rattle.tcap_judge.specs.Judged.{AreLawfulUnheard, IsShown, MayBeSentUnheard, lawful_by, replayed_by, said_lawful}
 use Rattle.tcap_judge.specs.Checked.{Checks, Device, IsCertificateGiven, IsTableGiven, Judges, JudgesBy, JudgesRecord, JudgesWith, ReadsCertificate, ReadsRecord, ReadsTable, out_of_memory, record_says, replay_says, said_of_text, text_limit}
 use Rattle.tcap_judge.specs.LawfulRecord.{FindsLawfulBy, SpellsRecord, TellsAll}
 
@@ -56,11 +58,6 @@ spells_items place (entry ∷ entries) (Item.Quiet ∷ items) octets (others, in
     (others, mark.joined, spells_items (place + (length octets - length others)) entries items others more are.1)
 
 -- ---- what was said
-
--- how it is said that so many entries are lawful, and that so many of the peer's are unheard
-abbrev pub said_lawful : Option Side → ℕ → ℕ → Outcome
-said_lawful None count unheard = Lawful count
-said_lawful (Some side) count unheard = LawfulFor count unheard
 
 -- Where a run is fine that says this, it is said of so many entries.
 abbrev pub IsFineOf : Option Side → ℕ → Outcome → Type 0
@@ -121,27 +118,32 @@ certificate_fault d said reads = elim reads.is [
 -- ---- the record
 
 -- what a replay of both ends gives is a run
-pub shown_by_replay : (table : Table) (c : Certificate) (entries : List Entry) (outcome : Outcome)
-    → outcome ≡ replay_says None (length entries) (replayed table c entries) → IsShown None table entries outcome
-shown_by_replay table c entries outcome says = by (replayed table c entries) refl says
+pub shown_by_replay : (judged : Option Side) (table : Table) (c : Certificate) (entries : List Entry) (outcome : Outcome)
+    → outcome ≡ replay_says judged (length entries) (replayed_by judged table c entries) → IsShown judged table entries outcome
+shown_by_replay judged table c entries outcome says = by judged (replayed_by judged table c entries) refl says
   where
-    by : (replay : Result (List Event) CheckFault) → replayed table c entries ≡ replay
-        → outcome ≡ replay_says None (length entries) replay → IsShown None table entries outcome
-    by (Ok events) is said =
+    by : (judged : Option Side) (replay : Result (List Event) CheckFault) → replayed_by judged table c entries ≡ replay
+        → outcome ≡ replay_says judged (length entries) replay → IsShown judged table entries outcome
+    by None (Ok events) is said =
         let given = gives table c entries events is in
         subst (IsShown None table entries) (sym said)
         (given.items, given.are, (length events, (events, given.run, given.keeps, refl)))
-    by (Err fault) is said = subst (IsShown None table entries) (sym said) tt
+    by (Some side) (Ok events) is said =
+        let given = gives_for side table c entries events is in
+        subst (IsShown (Some side) table entries) (sym said)
+        (given.items, given.are, (events, given.run.0, given.run.1, given.run.2, given.keeps, given.left, refl))
+    by judged (Err fault) is said = subst (IsShown judged table entries) (sym said) tt
 
--- what two lawful ends may have sent is so, where both are judged
-pub shown_both : (judged : Option Side) (table : Table) (entries : List Entry) (moves : ℕ) → judged ≡ None
-    → (items : List Item) × AreItems entries items × IsLawful items table moves → AreLawful judged table entries
-shown_both None table entries moves is (items, are, lawful) = (items, are, (moves, lawful))
-shown_both (Some side) table entries moves is found = let bad : Some side ≡ None = is in cc
+-- what a report says is what is said of it
+pub shown_report : (judged : Option Side) (table : Table) (entries : List Entry) (count : ℕ) (report : Report)
+    → (items : List Item) × AreItems entries items × SaysLawful judged items table report
+    → IsShown judged table entries (said_lawful judged count report.unheard)
+shown_report None table entries count report (items, are, lawful) = (items, are, (report.moves, lawful))
+shown_report (Some side) table entries count report found = found
 
 -- what is said to be lawful is so
 pub shown_lawful : (judged : Option Side) (table : Table) (entries : List Entry) (outcome : Outcome) (count unheard : ℕ)
-    → outcome ≡ said_lawful judged count unheard → IsShown judged table entries outcome → AreLawful judged table entries
+    → outcome ≡ said_lawful judged count unheard → IsShown judged table entries outcome → AreLawfulUnheard judged table entries unheard
 shown_lawful None table entries outcome count unheard is shown = subst (IsShown None table entries) is shown
 shown_lawful (Some side) table entries outcome count unheard is shown = subst (IsShown (Some side) table entries) is shown
 
@@ -152,12 +154,12 @@ pub record IsFoundBy (judged : Option Side) (table : Table) (d : Device) (outcom
   pub unheard : ℕ
   pub tells : TellsAll d octets
   pub spells : SpellsRecord items octets
-  pub lawful : MayBeSent judged items table
+  pub lawful : MayBeSentUnheard judged items table unheard
   pub is : outcome ≡ said_lawful judged (length items) unheard
 
 -- entries that are all that was told, and are lawful
 pub found_of : (judged : Option Side) (table : Table) (d : Device) (outcome : Outcome) (unheard : ℕ) (entries : List Entry)
-    (end : Unit {0}) → ReadsRecord d entries (Ok end) → AreLawful judged table entries
+    (end : Unit {0}) → ReadsRecord d entries (Ok end) → AreLawfulUnheard judged table entries unheard
     → outcome ≡ said_lawful judged (length entries) unheard → IsFoundBy judged table d outcome
 found_of judged table d outcome unheard entries end reads (items, are, sent) is =
     let framed = subst (FramedFrom 0 entries reads.told) reads.is_read.ends reads.is_read.framed in

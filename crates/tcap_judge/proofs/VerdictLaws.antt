@@ -22,10 +22,10 @@ use Rattle.tcap_judge.specs.declared.status.Status.{Status}
 use Rattle.tcap_judge.specs.declared.status.Status.TheVariants as statuses
 use Rattle.tcap_judge.specs.declared.status.WriteFailed.{WriteFailed}
 use Rattle.tcap_judge.specs.Outcome.{SaysWith, outcome_line, outcome_status, refuted_line}
-use Rattle.tcap_judge.specs.Judged.{IsShown, lawful_by, replayed_by}
+use Rattle.tcap_judge.specs.Judged.{IsShown, lawful_by, replayed_by, said_lawful}
 use Rattle.tcap_judge.specs.Checked.{Device, ReadsRecord, ReadsTable, out_of_memory}
 use Rattle.tcap_judge.specs.Verdict.{FindsFault, FindsLawfulThen, GivesVerdict, GivesVerdictWith, IsAtFaultBy, IsCertificateLine, IsJudged, PrintsVerdict, certificate_line, named_by, proposed_by, record_verdict, verdict_by}
-use Rattle.tcap_judge.proofs.LawfulLaws.{IsFineOf, IsFoundBy, fine_fault, finds, found_said, lawful_is, no_fault, said_lawful, table_fault, table_text}
+use Rattle.tcap_judge.proofs.LawfulLaws.{IsFineOf, IsFoundBy, fine_fault, finds, found_said, lawful_is, no_fault, table_fault, table_text}
 
 -- ---- what was said, by how the run ended
 

@@ -1,27 +1,26 @@
 -- Who is judged: both ends of a record, or, where one is named, that end alone, whatever its peer sent.
-use Rattle.std.specs.Prelude.{ℕ, List, Option, Some, None, Result}
+use Rattle.std.specs.Prelude.{ℕ, List, Option, Some, None}
 use Rattle.tcap_record.specs.declared.entry.End.{End as Side}
 use Rattle.tcap_record.specs.declared.entry.Entry.{Entry}
 use Rattle.tcap_end.specs.Table.{Table}
-use Rattle.tcap_check.specs.declared.fault.CheckFault.{CheckFault}
 use Rattle.tcap_model.specs.World.{Item}
 use Rattle.tcap_model.specs.Run.{Event, IsLawful, IsLawfulFor}
-use Rattle.tcap_check.specs.Certificate.{Certificate}
 use Rattle.tcap_model.specs.Entries.{AreItems}
-use Rattle.tcap_check.specs.Replayed.{replayed}
-use Rattle.tcap_check.specs.Alone.{replayed_for, unheard_of}
+pub use Rattle.tcap_check.specs.Replayed.{replayed_by}
+use Rattle.tcap_check.specs.Alone.{unheard_of}
+use Rattle.tcap_check.specs.Unheard.{IsLawfulUnheard}
 use Rattle.tcap_judge.specs.declared.outcome.Outcome.{Outcome}
 use Rattle.tcap_judge.specs.declared.outcome.Outcome.TheVariants.{Lawful, LawfulFor}
-
--- what a certificate gives
-abbrev pub replayed_by : Option Side → Table → Certificate → List Entry → Result (List Event) CheckFault
-replayed_by None table c entries = replayed table c entries
-replayed_by (Some side) table c entries = replayed_for side table c entries
 
 -- what is said of so many entries of which it gives these events
 abbrev pub lawful_by : Option Side → ℕ → List Event → Outcome
 lawful_by None count events = Lawful count
 lawful_by (Some side) count events = LawfulFor count (unheard_of side events)
+
+-- how it is said that so many entries are lawful, and, of one end, that so many of the peer's are unheard
+abbrev pub said_lawful : Option Side → ℕ → ℕ → Outcome
+said_lawful None count unheard = Lawful count
+said_lawful (Some side) count unheard = LawfulFor count unheard
 
 -- Two lawful ends may have sent these items, in this order; or that end alone may have sent its part of them.
 abbrev pub MayBeSent : Option Side → List Item → Table → Type 0
@@ -32,8 +31,17 @@ MayBeSent (Some side) items table = IsLawfulFor side items table
 abbrev pub AreLawful : Option Side → Table → List Entry → Type 0
 AreLawful judged table entries = (items : List Item) × AreItems entries items × MayBeSent judged items table
 
--- Where what is said is that they are lawful, they are.
+-- The same by a run in which so many messages of the peer are lost to the end that alone is judged.
+abbrev pub MayBeSentUnheard : Option Side → List Item → Table → ℕ → Type 0
+MayBeSentUnheard None items table unheard = MayBeSent None items table
+MayBeSentUnheard (Some side) items table unheard = IsLawfulUnheard side items table unheard
+
+abbrev pub AreLawfulUnheard : Option Side → Table → List Entry → ℕ → Type 0
+AreLawfulUnheard judged table entries unheard =
+    (items : List Item) × AreItems entries items × MayBeSentUnheard judged items table unheard
+
+-- Where what is said is that they are lawful, they are, with so many unheard.
 abbrev pub IsShown : Option Side → Table → List Entry → Outcome → Type 0
 IsShown judged table entries (Lawful count) = AreLawful judged table entries
-IsShown judged table entries (LawfulFor count unheard) = AreLawful judged table entries
+IsShown judged table entries (LawfulFor count unheard) = AreLawfulUnheard judged table entries unheard
 IsShown judged table entries outcome = Unit {0}

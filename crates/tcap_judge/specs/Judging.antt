@@ -1,5 +1,6 @@
 -- How a certificate is replayed over a record as its octets come.
-use Rattle.std.specs.Prelude.{◌≡◌, ◌⊎◌, ℕ, List, [], ◌∷◌, ◌++◌, length, map, None, Result, Ok, Err}
+use Rattle.std.specs.Prelude.{◌≡◌, ◌⊎◌, ℕ, List, [], ◌∷◌, ◌++◌, length, map, Option, Result, Ok, Err}
+use Rattle.tcap_record.specs.declared.entry.End.{End as Side}
 use Rattle.tcap_record.specs.declared.entry.Entry.{Entry}
 use Rattle.tcap_record.specs.declared.fault.FeedFault.{FeedFault}
 use Rattle.tcap_record.specs.Held.{Held, Fed}
@@ -8,64 +9,65 @@ use Rattle.tcap_check.specs.declared.fault.CheckFault.{CheckFault}
 use Rattle.tcap_check.specs.Certificate.{Certificate}
 use Rattle.tcap_check.specs.Checking.{Checking, Took}
 use Rattle.tcap_model.specs.Entries.{item_of}
-use Rattle.tcap_check.specs.Replayed.{certificate_fits, replayed}
+use Rattle.tcap_check.specs.Replayed.{certificate_fits, replayed_by}
 use Rattle.tcap_judge.specs.declared.outcome.Outcome.{Outcome}
 use Rattle.tcap_judge.specs.Checked.{Device, ReadsRecord, out_of_memory, replay_says}
 
--- A checker took these entries; or the certificate's numbers are out of their ranges, and there is none.
-abbrev pub StandsFor : Table → Certificate → Result Checking CheckFault → List Entry → Type 0
-StandsFor table c (Ok checker) entries =
-    Took checker (map item_of entries) × (checker.table ≡ table) × (checker.certificate ≡ c)
-StandsFor table c (Err fault) entries = certificate_fits c ≡ Err fault
+-- A checker of whoever is judged took these entries; or the certificate's numbers are out of their ranges, and there is none.
+abbrev pub StandsFor : Option Side → Table → Certificate → Result Checking CheckFault → List Entry → Type 0
+StandsFor judged table c (Ok checker) entries =
+    Took checker (map item_of entries) × (checker.judged ≡ judged) × (checker.table ≡ table) × (checker.certificate ≡ c)
+StandsFor judged table c (Err fault) entries = certificate_fits c ≡ Err fault
 
 -- one entry more
 abbrev pub Takes : Result Checking CheckFault → Entry → Result Checking CheckFault → Type 0
 Takes old entry new =
-    (table : Table) (c : Certificate) (entries : List Entry) → StandsFor table c old entries
-    → StandsFor table c new (entries ++ entry ∷ [])
+    (judged : Option Side) (table : Table) (c : Certificate) (entries : List Entry) → StandsFor judged table c old entries
+    → StandsFor judged table c new (entries ++ entry ∷ [])
 
 -- The octets that were taken are these entries and what is held, and the checker took the entries.
-pub record TakenSoFar (table : Table) (c : Certificate) (told : List ℕ) (entries : List Entry) (held : Held)
+pub record TakenSoFar (judged : Option Side) (table : Table) (c : Certificate) (told : List ℕ) (entries : List Entry) (held : Held)
     (checker : Result Checking CheckFault) : Type 0 where
   pub fed : Fed told entries held
-  pub stands : StandsFor table c checker entries
+  pub stands : StandsFor judged table c checker entries
 
 -- Wherever it was so before some octets were taken, it is so behind them, of those entries and more.
 abbrev pub Leads : Held → Result Checking CheckFault → List ℕ → Held → Result Checking CheckFault → Type 0
 Leads old_held old octets held new =
-    (table : Table) (c : Certificate) (told : List ℕ) (entries : List Entry)
-    → TakenSoFar table c told entries old_held old
-    → (all : List Entry) × TakenSoFar table c (told ++ octets) all held new
+    (judged : Option Side) (table : Table) (c : Certificate) (told : List ℕ) (entries : List Entry)
+    → TakenSoFar judged table c told entries old_held old
+    → (all : List Entry) × TakenSoFar judged table c (told ++ octets) all held new
 
 -- The same of the octets alone.
 abbrev pub LeadsFed : Held → Result Checking CheckFault → List ℕ → Held → Type 0
 LeadsFed old_held old octets held =
-    (table : Table) (c : Certificate) (told : List ℕ) (entries : List Entry)
-    → TakenSoFar table c told entries old_held old
+    (judged : Option Side) (table : Table) (c : Certificate) (told : List ℕ) (entries : List Entry)
+    → TakenSoFar judged table c told entries old_held old
     → (all : List Entry) × Fed (told ++ octets) all held
 
 -- what the checker stands for, and how many entries were dropped, where the record ended
-abbrev pub EndsWith : Table → Certificate → List Entry → Held → Result Checking CheckFault
+abbrev pub EndsWith : Option Side → Table → Certificate → List Entry → Held → Result Checking CheckFault
     → Result (Unit {0}) FeedFault → Type 0
-EndsWith table c entries held checker (Ok end) = (held.count ≡ length entries) × StandsFor table c checker entries
-EndsWith table c entries held checker (Err fault) = Unit {0}
+EndsWith judged table c entries held checker (Ok end) = (held.count ≡ length entries) × StandsFor judged table c checker entries
+EndsWith judged table c entries held checker (Err fault) = Unit {0}
 
 -- What the reader told is these entries, which the checker took, and this end behind them.
-pub record ReadsAll (table : Table) (c : Certificate) (d : Device) (held : Held) (checker : Result Checking CheckFault)
-    (end : Result (Unit {0}) FeedFault) : Type 0 where
+pub record ReadsAll (judged : Option Side) (table : Table) (c : Certificate) (d : Device) (held : Held)
+    (checker : Result Checking CheckFault) (end : Result (Unit {0}) FeedFault) : Type 0 where
   pub entries : List Entry
   pub reads : ReadsRecord d entries end
-  pub stands : EndsWith table c entries held checker end
+  pub stands : EndsWith judged table c entries held checker end
 
 -- That is so wherever the checker took nothing before.
 abbrev pub LeadsToEnd : Result Checking CheckFault → Device → Held → Result Checking CheckFault
     → Result (Unit {0}) FeedFault → Type 0
 LeadsToEnd old d held checker end =
-    (table : Table) (c : Certificate) → StandsFor table c old [] → ReadsAll table c d held checker end
+    (judged : Option Side) (table : Table) (c : Certificate) → StandsFor judged table c old []
+    → ReadsAll judged table c d held checker end
 
 -- what is said of entries, which are all of a record
-abbrev pub Finishes : Result Checking CheckFault → ℕ → Outcome → Type 0
-Finishes checker count outcome =
-    (table : Table) (c : Certificate) (entries : List Entry) → StandsFor table c checker entries
+abbrev pub Finishes : Option Side → Result Checking CheckFault → ℕ → Outcome → Type 0
+Finishes judged checker count outcome =
+    (table : Table) (c : Certificate) (entries : List Entry) → StandsFor judged table c checker entries
     → count ≡ length entries
-    → (outcome ≡ out_of_memory) ⊎ (outcome ≡ replay_says None (length entries) (replayed table c entries))
+    → (outcome ≡ out_of_memory) ⊎ (outcome ≡ replay_says judged (length entries) (replayed_by judged table c entries))

@@ -8,7 +8,8 @@ use Rattle.tcap_record.specs.Framed.{octet_of, quiet_octet}
 use Rattle.tcap_end.specs.Table.{Table}
 use Rattle.tcap_end.specs.TableText.{IsTableOf}
 use Rattle.tcap_model.specs.World.{Item, Sent}
-use Rattle.tcap_model.specs.Run.{IsLawful, IsLawfulFor}
+use Rattle.tcap_model.specs.Run.{IsLawful}
+use Rattle.tcap_check.specs.Unheard.{IsLawfulUnheard}
 use Rattle.tcap_judge.specs.declared.outcome.Outcome.TheVariants.{Lawful, LawfulFor}
 use Rattle.tcap_judge.specs.Outcome.{outcome_line}
 use Rattle.tcap_judge.specs.Checked.{Device}
@@ -44,7 +45,7 @@ pub record FindsLawful (entries table : Device) (taken taken' : Option (List ℕ
   pub line : Appends taken taken' (outcome_line (Lawful (length items)))
 
 -- The same of one end alone: it may have sent its part of these items, whatever its peer sent; and the line says beside
--- the count of the items how many of the peer's are taken as unheard.
+-- the count of the items how many of the peer's messages are lost in that run, so that the end does not hear them.
 pub record FindsLawfulFor (side : Side) (entries table : Device) (taken taken' : Option (List ℕ)) : Type 0 where
   pub octets : List ℕ
   pub text : List ℕ
@@ -55,7 +56,7 @@ pub record FindsLawfulFor (side : Side) (entries table : Device) (taken taken' :
   pub tells_table : TellsAll table text
   pub is_table : IsTableOf text (Ok operations)
   pub spells : SpellsRecord items octets
-  pub lawful : IsLawfulFor side items operations
+  pub lawful : IsLawfulUnheard side items operations unheard
   pub line : Appends taken taken' (outcome_line (LawfulFor (length items) unheard))
 
 -- of both ends, or of that one alone

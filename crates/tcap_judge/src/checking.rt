@@ -11,16 +11,16 @@ ghost use Rattle.tcap_record.specs.Held.{IsFront, IsHeld, IsPart, IsWhole, nothi
 ghost use Rattle.tcap_record.specs.Viewed.{entry_read};
 ghost use Rattle.tcap_judge.specs.Checked.{Checks, Judges, JudgesRecord};
 ghost use Rattle.tcap_judge.specs.LawfulRecord.{FindsLawful, FindsLawfulFor};
+ghost use Rattle.tcap_judge.specs.Judged.{said_lawful};
 ghost use Rattle.tcap_judge.specs.Judging.{Finishes, Leads, LeadsFed, LeadsToEnd, StandsFor, Takes};
 ghost use Rattle.tcap_judge.specs.Outcome.{Says};
 
-use crate::end_checking::judge_end;
 use crate::given::{read_certificate, read_table};
 use crate::outcome::{OUT_OF_MEMORY, Outcome, write_outcome};
 use crate::status::{Status, WriteFailed};
 use std::alloc::{AllocError, Global};
 use tcap_ber::{Failed, Read, Write};
-use tcap_check::{Certificate, CheckFault, Checker, Reason};
+use tcap_check::{Certificate, CheckFault, Checker, Reason, Report};
 use tcap_end::Table;
 use tcap_record::{End, EntryView, FeedFault, FeedReason, Frames, PIECE_LEN};
 
@@ -113,13 +113,23 @@ fn take_all<R: Read>(
     }
 }
 
+/// What a run shows of so many entries.
+pub(crate) fn lawful_of(judged: Option<End>, count: usize, report: Report) -> Outcome
+    ensures { result ≡ said_lawful judged count report.unheard }
+{
+    match judged {
+        None => Outcome::Lawful(count),
+        Some(_) => Outcome::LawfulFor(count, report.unheard),
+    }
+}
+
 /// What is said of so many entries, which are all of a record.
-fn finish(checker: Result<Checker, CheckFault>, count: usize) -> Outcome
-    ensures { Finishes checker.entry count result }
+fn finish(judged: Option<End>, checker: Result<Checker, CheckFault>, count: usize) -> Outcome
+    ensures { Finishes judged checker.entry count result }
 {
     match checker {
         Ok(checker) => match checker.finish() {
-            Ok(_) => Outcome::Lawful(count),
+            Ok(report) => lawful_of(judged, count, report),
             Err(fault) if matches!(fault.reason, Reason::Memory) => OUT_OF_MEMORY,
             Err(fault) => Outcome::NotShown(fault),
         },
@@ -132,10 +142,11 @@ fn start<'a>(
     alloc: Global,
     table: &'a Table,
     certificate: &'a Certificate,
+    judged: Option<End>,
 ) -> Option<Result<Checker<'a>, CheckFault>>
-    ensures { IfSome result (λ checker. StandsFor table.entry.now certificate.entry.now checker []) }
+    ensures { IfSome result (λ checker. StandsFor judged table.entry.now certificate.entry.now checker []) }
 {
-    match Checker::new(alloc, table, certificate) {
+    match Checker::judging(alloc, table, certificate, judged) {
         Err(fault) if matches!(fault.reason, Reason::Memory) => None,
         made => Some(made),
     }
@@ -147,8 +158,9 @@ fn judge_record<R: Read>(
     reader: &mut R,
     table: &Table,
     certificate: &Certificate,
+    judged: Option<End>,
 ) -> Outcome
-    ensures { JudgesRecord None table.now certificate.now (record {
+    ensures { JudgesRecord judged table.now certificate.now (record {
       before = R.untold reader.old;
       after = R.untold reader.new;
       failed_before = R.failures reader.old;
@@ -156,11 +168,11 @@ fn judge_record<R: Read>(
     }) result }
 {
     let mut frames = Frames::new(alloc);
-    let Some(mut checker) = start(alloc, table, certificate) else {
+    let Some(mut checker) = start(alloc, table, certificate, judged) else {
         return OUT_OF_MEMORY;
     };
     match take_all(&mut frames, &mut checker, reader) {
-        Ok(()) => finish(checker, frames.dropped()),
+        Ok(()) => finish(judged, checker, frames.dropped()),
         Err(fault) => Outcome::Faulty(fault.reason.number(), fault.place),
     }
 }
@@ -202,10 +214,7 @@ pub fn check_outcome<R: Read, T: Read, C: Read>(
         Ok(certificate) => certificate,
         Err(outcome) => return outcome,
     };
-    match judged {
-        None => judge_record(alloc, entries, &table, &certificate),
-        Some(end) => judge_end(alloc, entries, &table, &certificate, end),
-    }
+    judge_record(alloc, entries, &table, &certificate, judged)
 }
 
 /// Replays the certificate that `certificate` tells over the record that `entries` tells, by the operation table that
@@ -261,8 +270,7 @@ pub fn run_check<R: Read, T: Read, C: Read, W: Write>(
 }
 
 /// The same for one end alone: whether it may have sent its part of the record, whatever its peer sent, with how many of the
-/// peer's messages are taken as unheard; or why the certificate does not show it. Here the record is read whole before it is
-/// judged.
+/// peer's messages are taken as unheard; or why the certificate does not show it.
 pub fn run_check_end<R: Read, T: Read, C: Read, W: Write>(
     alloc: Global,
     entries: &mut R,

@@ -4,7 +4,6 @@
 mod blaming;
 mod checking;
 mod each_end;
-mod end_checking;
 mod fault_lines;
 mod finding;
 mod given;

@@ -1,17 +1,20 @@
 //! The verdict on a record that is there: on both ends, or on one alone.
 
-ghost use Rattle.std.specs.Prelude.{◌≡◌, ◌≢◌, [], ◌≤◌, length, Some, Err, IfOk};
+ghost use Rattle.std.specs.Prelude.{◌≡◌, ◌≢◌, [], ◌≤◌, length, map, is_some, Some, Err, IfOk};
 ghost use Rattle.std.specs.String.{string_bytes};
 ghost use Rattle.tcap_check.specs.Checking.{map_ok};
 ghost use Rattle.tcap_check.specs.Replayed.{fault_at};
 ghost use Rattle.tcap_model.specs.declared.reason.Reason.TheVariants as reasons;
+ghost use Rattle.tcap_model.specs.Entries.{item_of};
+ghost use Rattle.tcap_refute.specs.Kind.{refuted};
 ghost use Rattle.tcap_judge.specs.Judged.{IsShown, lawful_by, replayed_by};
 ghost use Rattle.tcap_judge.specs.Verdict.{IsVerdict, IsVerdictBySearch, line_asked, line_of_certificate, named_by, proposed_by};
 
+use crate::checking::lawful_of;
 use crate::laws;
 use crate::outcome::Outcome;
 use std::alloc::{AllocError, Global};
-use tcap_check::{Certificate, CheckFault, Reason, check, check_end};
+use tcap_check::{Certificate, CheckFault, Reason, check_judged};
 use tcap_end::Table;
 use tcap_faults::blame;
 use tcap_record::{End, Record};
@@ -84,17 +87,8 @@ pub fn replay(
         (replayed_by judged table.now certificate.now read.now.entries.items) }
     ensures shown { IfOk result (λ outcome. IsShown judged table.now read.now.entries.items outcome) }
 {
-    let count = read.entries.len();
-    match judged {
-        None => {
-            check(alloc, read, table, certificate)?;
-            Ok(Outcome::Lawful(count))
-        }
-        Some(end) => {
-            let report = check_end(alloc, read, table, certificate, end)?;
-            Ok(Outcome::LawfulFor(count, report.unheard))
-        }
-    }
+    let report = check_judged(alloc, read, table, certificate, judged)?;
+    Ok(lawful_of(judged, read.entries.len(), report))
 }
 
 /// The certificate on a line of its own.
@@ -145,6 +139,16 @@ pub(crate) fn judge_by_search(
     }
 }
 
+/// Whether no two ends exchange these entries. Then an end is mostly blamed, so that is asked before a certificate is searched for.
+fn is_refuted(alloc: Global, read: &Record, table: &Table) -> Result<bool, AllocError>
+    ensures { IfOk result (λ so. so ≡ is_some (refuted table.now (map item_of read.now.entries.items))) }
+{
+    match refute(alloc, read, table) {
+        Ok(found) => Ok(found.is_some()),
+        Err(_) => Err(AllocError),
+    }
+}
+
 /// What is said of one end alone. Where the certificate that is proposed gives a run, nothing is blamed on the end, so it is
 /// asked what is blamed only where it gives none.
 fn judge_end(
@@ -183,7 +187,9 @@ pub fn judge_record(
         (string_bytes said.behind)) }
 {
     if let Some(end) = judged {
-        return judge_end(alloc, read, table, end, with_certificate);
+        if !is_refuted(alloc, read, table)? {
+            return judge_end(alloc, read, table, end, with_certificate);
+        }
     }
     match named(alloc, read, table, judged)? {
         Some(refutation) => Ok(Said::alone(alloc, Outcome::Refuted(refutation))),

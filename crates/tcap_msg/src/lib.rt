@@ -7,7 +7,7 @@ pub mod laws;
 mod lending;
 mod message;
 mod parts;
-mod tags;
+pub mod tags;
 mod transaction_id;
 mod views;
 

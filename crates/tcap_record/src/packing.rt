@@ -42,9 +42,9 @@ pub enum PackFault {
     Write,
 }
 
-/// What a line stands for.
+/// What a line of hex digits stands for.
 #[derive(Debug, Drop)]
-enum Line {
+pub enum Line {
     /// Nothing: it is skipped.
     Skipped,
     /// A quiet mark.
@@ -81,9 +81,9 @@ impl Line {
     }
 }
 
-/// Why a line stands for nothing that could be written.
+/// Why a line was not read.
 #[derive(Clone, Copy, Debug, PartialEq, Eq)]
-enum LineFault {
+pub enum LineFault {
     /// It is no line of a record.
     Bad,
     /// Memory ran out.
@@ -121,8 +121,9 @@ fn read_element(alloc: Global, digits: &[u8]) -> Result<Vec<u8>, LineFault>
     Ok(octets)
 }
 
-/// What a line of this content stands for.
-fn read_line(alloc: Global, content: &[u8]) -> Result<Line, LineFault>
+/// What a line of this content, which has no end, stands for: as [`pack`] reads it. `Bad` where that is no such line, `Memory` where memory
+/// ran out.
+pub fn read_line(alloc: Global, content: &[u8]) -> Result<Line, LineFault>
     ensures stands { MatchResult result (λ line. StandsFor content.now (line_of line))
         (λ fault. fault ≡ LineFault.Bad → IsNoLine content.now) }
 {

@@ -1,13 +1,14 @@
 //! A dialogue that is judged.
 
+ghost use Rattle.std.specs.Prelude.{◌≤◌, IfOk, length};
+
 use crate::fault::Stop;
 use crate::words::context_in;
 use std::alloc::{AllocError, Global};
-use tcap_ber::Counted;
 use tcap_books::{Book, NamedTable};
 use tcap_dialogues::{Gathered, HeadingView, read_heading};
 use tcap_msg::{Kind as Form, MessageParts};
-use tcap_record::{Body, End, Entry, Record, read_record};
+use tcap_record::{Body, End, Entry, Feeder, Record};
 use tcap_traces::{Circumstances, Ends, Verdict, judge_dialogue};
 
 /// The most entries of a dialogue that are judged.
@@ -48,10 +49,12 @@ pub(crate) struct Case {
     pub(crate) before: u64,
     /// How it came to be judged.
     pub(crate) behind: Behind,
-    /// The earlier dialogue of the stretch that had one of its IDs.
+    /// The number of the last earlier dialogue of the stretch that had one of its IDs, among those of its trace.
     pub(crate) earlier: Option<u64>,
     /// The number of the first entry in the stretch of which nothing can be read.
     pub(crate) unread: Option<u64>,
+    /// The number of the first entry in the stretch behind the line that says that dialogues may have been under way.
+    pub(crate) under_way: Option<u64>,
 }
 
 /// What is read of an entry to find its dialogue.
@@ -125,6 +128,19 @@ impl Case {
             Some(held) => heading_of(&held.octets).kind == Some(Form::Begin),
             None => false,
         }
+    }
+
+    /// Whether its Begin may stand before its trace: dialogues may have been under way before its first entry, and that is a message to
+    /// an ID that was never sent.
+    fn may_be_under_way(&self, record: &Record) -> bool {
+        let (Some(from), Some(first)) = (self.under_way, self.gathered.numbers.first()) else {
+            return false;
+        };
+        let is_to_one = match first_message(record) {
+            Some(message) => message.dtid().is_some(),
+            None => false,
+        };
+        from <= *first && self.earlier.is_none() && is_to_one
     }
 
     /// Whether an entry that can't be read may have been one of it.
@@ -288,6 +304,27 @@ fn choose<'a>(alloc: Global, book: &'a Book, record: &Record) -> Result<Chosen<'
     })
 }
 
+/// The record of octets that were read as entries, of no more than are judged: but for want of memory it has no fault.
+fn record_of(alloc: Global, octets: &[u8]) -> Result<Record, AllocError>
+    ensures few { IfOk result (λ made. length made.entries.items ≤ 100000) }
+{
+    let mut feeder = Feeder::new(alloc);
+    if feeder.feed(octets).is_err() {
+        return Err(AllocError);
+    }
+    let mut entries = Vec::new(alloc);
+    for _ in 0..MOST {
+        match feeder.take() {
+            Some(entry) => entries.push(entry)?,
+            None => break,
+        }
+    }
+    if entries.len() > MOST {
+        return Err(AllocError);
+    }
+    Ok(Record { entries })
+}
+
 /// Judges a dialogue.
 pub(crate) fn judge<'a>(
     alloc: Global,
@@ -296,14 +333,12 @@ pub(crate) fn judge<'a>(
     rules: Rules,
 ) -> Result<Judged<'a>, Stop> {
     let octets = case.octets(alloc)?;
-    // What was read as entries is a record: but for want of memory it has no fault.
-    let Ok(mut record) = read_record(alloc, &mut Counted::new(octets.as_slice())) else {
-        return Err(Stop::Memory);
-    };
+    let mut record = record_of(alloc, &octets)?;
     let chosen = choose(alloc, book, &record)?;
     let circumstances = Circumstances {
         // Where it begins without a Begin, no ID came again: an earlier dialogue goes on, of which more was under way.
-        again: case.gathered.again && !(rules.settled && case.begins()),
+        again: case.earlier.is_some() && !(rules.settled && case.begins()),
+        under_way: case.may_be_under_way(&record),
         unsure: chosen.unsure,
         unread_from: case.unread_from(),
         cut: case.is_cut(),

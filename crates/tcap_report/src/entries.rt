@@ -2,8 +2,10 @@
 
 use crate::fault::{FormFault, Halt};
 use std::alloc::{AllocError, Global};
+use std::mem;
 use tcap_ber::{Outer, outer};
-use tcap_explain::{LINE_LIMIT, broken_by, hint_of, name_of, octets_of, push_broken_rule};
+use tcap_explain::{LINE_LIMIT, broken_by, hint_of, name_of, push_broken_rule};
+use tcap_record::{End, Line, LineFault, read_line};
 
 /// What a trace is, by its first octets.
 #[derive(Clone, Copy, Debug, PartialEq, Eq)]
@@ -20,6 +22,8 @@ pub(crate) enum Piece {
     Entry(Vec<u8>, u64, Vec<u8>),
     /// A quiet mark, with its line, where it has one.
     Mark(u64),
+    /// A comment that says that dialogues may have been under way.
+    UnderWay,
 }
 
 /// A trace that is read.
@@ -41,6 +45,9 @@ pub(crate) struct Entries {
     // The first octets.
     first: Vec<u8>,
 }
+
+/// The comment that says that dialogues may have been under way.
+const UNDER_WAY: &[u8] = b"dialogues may have been under way";
 
 /// So many of the first octets are kept.
 const FIRST: usize = 64;
@@ -74,21 +81,44 @@ fn line_in(octets: &[u8], ended: bool) -> Option<(&[u8], usize)> {
     }
 }
 
-/// The entry of a line that breaks no rule: the octet of its end, and those of its digits.
-fn entry_of(alloc: Global, end: u8, digits: &[u8]) -> Result<Vec<u8>, AllocError> {
-    let mut octets = Vec::new(alloc);
-    octets.push(end)?;
-    octets.extend_from_slice(&octets_of(alloc, digits)?)?;
+/// The entry of an element that an end sent.
+fn entry_of(alloc: Global, end: End, element: &[u8]) -> Result<Vec<u8>, AllocError> {
+    let mut octets = Vec::with_capacity(alloc, element.len().saturating_add(1))?;
+    octets.push(match end {
+        End::A => b'A',
+        End::B => b'B',
+    })?;
+    octets.extend_from_slice(element)?;
     Ok(octets)
 }
 
-/// The text of a comment, without its sign and the blanks behind it.
+/// The text of a comment, without its sign and the blank behind it; of no comment, nothing.
 fn comment_of(line: &[u8]) -> &[u8] {
     match line {
         [b'#', b' ', text @ ..] => text,
         [b'#', text @ ..] => text,
-        _ => line,
+        _ => &[],
     }
+}
+
+/// Whether a line is the comment that says that dialogues may have been under way.
+fn is_under_way(line: &[u8]) -> bool {
+    match line {
+        [b'#', text @ ..] => text.trim_ascii() == UNDER_WAY,
+        _ => false,
+    }
+}
+
+/// The fault of the line of that number, which is none.
+fn fault_of(alloc: Global, number: u64, line: &[u8]) -> Result<Halt, AllocError> {
+    let mut text = String::new(alloc);
+    if let Some(broken) = broken_by(alloc, line)? {
+        push_broken_rule(&mut text, broken)?;
+    }
+    Ok(Halt::Form(FormFault {
+        line: Some(number),
+        text,
+    }))
 }
 
 impl Entries {
@@ -157,28 +187,22 @@ impl Entries {
             ) else {
                 return self.too_long();
             };
-            if let Some(broken) = broken_by(self.alloc, line)? {
-                let mut text = String::new(self.alloc);
-                push_broken_rule(&mut text, broken)?;
-                return Err(self.fault(Some(self.lines.saturating_add(1)), text));
-            }
-            let found = match line {
-                [end @ (b'A' | b'B'), b' ', digits @ ..] => {
-                    Some(Piece::Entry(
-                        entry_of(self.alloc, *end, digits)?,
-                        self.lines.saturating_add(1),
-                        self.comment.clone()?,
-                    ))
-                }
-                [b'Q', ..] => Some(Piece::Mark(self.lines.saturating_add(1))),
-                _ => None,
-            };
+            let number = self.lines.saturating_add(1);
             let mut comment = Vec::new(self.alloc);
-            if let [b'#', ..] = line {
-                comment.extend_from_slice(comment_of(line))?;
-            }
-            self.comment = comment;
-            self.lines = self.lines.saturating_add(1);
+            comment.extend_from_slice(comment_of(line))?;
+            let above = mem::replace(&mut self.comment, comment);
+            let found = match read_line(self.alloc, line) {
+                Ok(Line::Sent(end, element)) => {
+                    let octets = entry_of(self.alloc, end, &element)?;
+                    Some(Piece::Entry(octets, number, above))
+                }
+                Ok(Line::Mark) => Some(Piece::Mark(number)),
+                Ok(Line::Skipped) if is_under_way(line) => Some(Piece::UnderWay),
+                Ok(Line::Skipped) => None,
+                Err(LineFault::Bad) => return Err(fault_of(self.alloc, number, line)?),
+                Err(LineFault::Memory) => return Err(Halt::from(AllocError)),
+            };
+            self.lines = number;
             self.pass(count);
             if found.is_some() {
                 return Ok(found);
@@ -192,11 +216,8 @@ impl Entries {
         if self.rest().len() <= LINE_LIMIT {
             return Ok(None);
         }
-        let mut text = String::new(self.alloc);
-        if let Some(broken) = broken_by(self.alloc, self.rest())? {
-            push_broken_rule(&mut text, broken)?;
-        }
-        Err(self.fault(Some(self.lines.saturating_add(1)), text))
+        let number = self.lines.saturating_add(1);
+        Err(fault_of(self.alloc, number, self.rest())?)
     }
 
     /// That of a record.
@@ -237,10 +258,6 @@ impl Entries {
         let mut text = String::new(self.alloc);
         text.push_str(what)?;
         write!(text, ", at octet {place}")?;
-        Ok(self.fault(None, text))
-    }
-
-    fn fault(&self, line: Option<u64>, text: String) -> Halt {
-        Halt::Form(FormFault { line, text })
+        Ok(Halt::Form(FormFault { line: None, text }))
     }
 }

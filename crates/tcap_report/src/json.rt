@@ -1,40 +1,21 @@
 //! What is said, as lines of JSON (NDJSON): one object for each dialogue, then one for its trace.
 
 use crate::case::{Behind, Case, Judged, sent_by};
-use crate::sum::Counts;
-use crate::text::{is_asked, push_behind, push_doubt, push_reason, push_undecided};
+use crate::fields::{push_some, push_sums, push_verdicts};
+use crate::grounds::Grounds;
+use crate::messages::push_messages;
+use crate::order::is_asked;
+use crate::reason::push_reason;
+use crate::sum::Sum;
+use crate::telling::Told;
+use crate::text::{push_behind, push_doubt, push_undecided};
 use crate::words::{comment_of, ids_of, letter, line_of};
 use std::alloc::{AllocError, Global};
-use tcap_evidence::{find_evidence, push_what};
+use tcap_evidence::{Evidence, push_what};
+use tcap_page::{push_flag, push_named, push_numbers, push_octets, push_text};
 use tcap_record::{End, push_hex};
 use tcap_refute::Refutation;
 use tcap_traces::{Said, Verdict};
-
-/// Appends a text of JSON.
-pub(crate) fn push_text(json: &mut String, text: &str) -> Result<(), AllocError> {
-    json.push_str("\"")?;
-    for c in text.chars() {
-        match c {
-            '"' => json.push_str("\\\"")?,
-            '\\' => json.push_str("\\\\")?,
-            '\n' => json.push_str("\\n")?,
-            c if (c as u32) < 0x20 || c as u32 == 0x7F => {
-                let code = c as u32;
-                write!(json, "\\u{code:04x}")?;
-            }
-            c => json.push(c)?,
-        }
-    }
-    json.push_str("\"")
-}
-
-/// Appends a name and a text behind it.
-fn push_named(json: &mut String, name: &str, text: &str) -> Result<(), AllocError> {
-    json.push_str(",\"")?;
-    json.push_str(name)?;
-    json.push_str("\":")?;
-    push_text(json, text)
-}
 
 /// Appends the IDs of an end.
 fn push_ids(json: &mut String, case: &Case, end: End) -> Result<(), AllocError> {
@@ -86,6 +67,7 @@ fn push_blamed(
     judged: &Judged,
     end: End,
     at: Refutation,
+    evidence: &Option<Evidence>,
 ) -> Result<(), AllocError> {
     let (entry, line, kind) = (at.entry, line_of(case, at.entry), at.kind.number());
     write!(json, ",\"entry\":{entry},\"line\":{line},")?;
@@ -95,44 +77,20 @@ fn push_blamed(
         push_named(json, "comment", &comment)?;
     }
     let mut text = String::new(alloc);
-    push_reason(alloc, &mut text, judged, end, at)?;
+    push_reason(alloc, &mut text, case, judged, end, at)?;
     push_named(json, "text", &text)?;
-    push_evidence(alloc, json, judged, end, at)
-}
-
-/// Appends a number with its name, where there is one.
-fn push_some(json: &mut String, name: &str, number: Option<i64>) -> Result<(), AllocError> {
-    match number {
-        Some(number) => write!(json, "\"{name}\":{number},"),
-        None => Ok(()),
-    }
-}
-
-/// Appends numbers as a list.
-fn push_numbers(json: &mut String, numbers: &[u64]) -> Result<(), AllocError> {
-    json.push_str("[")?;
-    let mut first = true;
-    for number in numbers {
-        json.push_str(if first { "" } else { "," })?;
-        write!(json, "{number}")?;
-        first = false;
-    }
-    json.push_str("]")
+    push_evidence(alloc, json, end, evidence)
 }
 
 /// Appends what a blame rests on: the component at fault, the invoke ID that is counted, and what entries show.
 fn push_evidence(
     alloc: Global,
     json: &mut String,
-    judged: &Judged,
     end: End,
-    at: Refutation,
+    evidence: &Option<Evidence>,
 ) -> Result<(), AllocError> {
-    let Some(table) = judged.table else {
+    let Some(found) = evidence else {
         return Ok(());
-    };
-    let Ok(found) = find_evidence(alloc, &judged.record, table.table(), end, at, true) else {
-        return Err(AllocError);
     };
     json.push_str(",\"evidence\":{")?;
     push_some(json, "component", number_of(found.about.component))?;
@@ -176,6 +134,7 @@ fn push_end(
     judged: &Judged,
     end: End,
     said: Said,
+    evidence: &Option<Evidence>,
 ) -> Result<(), AllocError> {
     json.push_str("{\"verdict\":\"")?;
     json.push_str(said.verdict().word())?;
@@ -185,9 +144,9 @@ fn push_end(
             let sent = sent_by(&judged.record, end);
             write!(json, ",\"unheard\":{unheard},\"sent\":{sent}")?;
         }
-        Said::Fail(at) => push_blamed(alloc, json, case, judged, end, at)?,
+        Said::Fail(at) => push_blamed(alloc, json, case, judged, end, at, evidence)?,
         Said::Doubtful(at, doubt) => {
-            push_blamed(alloc, json, case, judged, end, at)?;
+            push_blamed(alloc, json, case, judged, end, at, evidence)?;
             let mut text = String::new(alloc);
             push_doubt(&mut text, case, doubt)?;
             push_named(json, "doubt", &text)?;
@@ -201,19 +160,10 @@ fn push_end(
     json.push_str("}")
 }
 
-/// Appends whether it is so.
-fn push_flag(json: &mut String, name: &str, so: bool) -> Result<(), AllocError> {
-    json.push_str(",\"")?;
-    json.push_str(name)?;
-    json.push_str(if so { "\":true" } else { "\":false" })
-}
-
 /// Appends the context and the table, where there are such.
 fn push_table(json: &mut String, judged: &Judged) -> Result<(), AllocError> {
     if let Some(context) = &judged.context {
-        json.push_str(",\"context\":\"")?;
-        push_hex(json, context)?;
-        json.push_str("\"")?;
+        push_octets(json, "context", context)?;
     }
     if let Some(name) = judged.table_name() {
         push_named(json, "table", name)?;
@@ -221,7 +171,33 @@ fn push_table(json: &mut String, judged: &Judged) -> Result<(), AllocError> {
     Ok(())
 }
 
-/// Appends the object of a dialogue.
+/// Appends what is said of the ends that are asked, or that no table is there.
+fn push_ends(
+    alloc: Global,
+    json: &mut String,
+    case: &Case,
+    judged: &Judged,
+    of: Option<End>,
+    grounds: &Grounds,
+) -> Result<(), AllocError> {
+    let Some(ends) = judged.ends else {
+        let mut text = String::new(alloc);
+        push_behind(alloc, &mut text, case, judged, of)?;
+        return push_named(json, "text", &text);
+    };
+    for end in [End::A, End::B] {
+        if is_asked(of, end) {
+            json.push_str(",\"")?;
+            json.push_str(letter(end))?;
+            json.push_str("\":")?;
+            let evidence = grounds.at(end);
+            push_end(alloc, json, case, judged, end, ends.of(end), evidence)?;
+        }
+    }
+    Ok(())
+}
+
+/// Appends the object of a dialogue, with its messages where it does not pass.
 pub(crate) fn push_case(
     alloc: Global,
     json: &mut String,
@@ -243,69 +219,35 @@ pub(crate) fn push_case(
     json.push_str("}")?;
     push_table(json, judged)?;
     push_flag(json, "open", case.is_open())?;
-    push_flag(json, "again", case.gathered.again)?;
+    push_flag(json, "again", case.earlier.is_some())?;
     push_flag(json, "marked", case.is_marked())?;
-    match judged.ends {
-        Some(ends) => {
-            for end in [End::A, End::B] {
-                if is_asked(of, end) {
-                    json.push_str(",\"")?;
-                    json.push_str(letter(end))?;
-                    json.push_str("\":")?;
-                    push_end(alloc, json, case, judged, end, ends.of(end))?;
-                }
-            }
-        }
-        None => {
-            let mut text = String::new(alloc);
-            push_behind(alloc, &mut text, case, judged, of)?;
-            push_named(json, "text", &text)?;
-        }
+    let grounds = Grounds::of(alloc, judged, of)?;
+    push_ends(alloc, json, case, judged, of, &grounds)?;
+    if judged.verdict != Verdict::Pass {
+        push_messages(alloc, json, case, judged, &grounds)?;
     }
     json.push_str("}\n")
 }
 
-/// Appends the object of a trace, but for its end.
-pub(crate) fn push_trace(
-    json: &mut String,
-    trace: &str,
-    verdict: Verdict,
-    messages: u64,
-    dialogues: &Counts,
-    unheard: u64,
-) -> Result<(), AllocError> {
+/// Appends the object of a trace.
+pub(crate) fn push_trace(json: &mut String, told: Told) -> Result<(), AllocError> {
     json.push_str("{\"trace\":")?;
-    push_text(json, trace)?;
-    push_named(json, "verdict", verdict.word())?;
-    let Counts {
-        pass,
-        inconc,
-        fail,
-        error,
-        ..
-    } = *dialogues;
-    write!(
-        json,
-        ",\"messages\":{messages},\"dialogues\":{{\"pass\":{pass},"
-    )?;
-    write!(
-        json,
-        "\"inconc\":{inconc},\"fail\":{fail},\"error\":{error}}},"
-    )?;
-    write!(json, "\"unheard\":{unheard}")
-}
-
-/// Appends what is wrong with a trace, where something is, and its line, and ends the object.
-pub(crate) fn push_fault(
-    json: &mut String,
-    why: &str,
-    line: Option<u64>,
-) -> Result<(), AllocError> {
-    if !why.is_empty() {
-        push_named(json, "text", why)?;
+    push_text(json, told.name)?;
+    push_named(json, "verdict", told.verdict.word())?;
+    push_sums(json, told.messages, &told.dialogues, told.unheard)?;
+    if !told.why.is_empty() {
+        push_named(json, "text", told.why)?;
     }
-    if let Some(line) = line {
+    if let Some(line) = told.line {
         write!(json, ",\"line\":{line}")?;
     }
     json.push_str("}\n")
+}
+
+/// Appends the object of all traces, and how many dialogues that do not pass are not told.
+pub(crate) fn push_total(json: &mut String, sum: &Sum, left_out: u64) -> Result<(), AllocError> {
+    json.push_str("{\"total\":{\"traces\":")?;
+    push_verdicts(json, &sum.traces)?;
+    push_sums(json, sum.messages, &sum.dialogues, sum.unheard)?;
+    writeln!(json, "}},\"left_out\":{left_out}}}")
 }

@@ -1,12 +1,20 @@
 //! What is said, as JUnit XML: a testsuite for each trace.
 
 use crate::case::{Case, Judged};
+use crate::headline::push_headline;
 use crate::sum::Counts;
-use crate::text::push_case as push_case_text;
 use crate::words::push_ids;
 use std::alloc::{AllocError, Global};
 use tcap_record::End;
 use tcap_traces::Verdict;
+
+/// How many testcases there are, and how many of them fail or have an error.
+#[derive(Clone, Copy, Debug)]
+struct Tally {
+    tests: u64,
+    failures: u64,
+    errors: u64,
+}
 
 /// The testsuites of the traces so far.
 #[derive(Debug, Drop)]
@@ -16,9 +24,9 @@ pub struct Junit {
     suites: String,
     // The testcases of the one that is under way.
     cases: String,
-    tests: u64,
-    failures: u64,
-    errors: u64,
+    // Of the one that is under way, and of those that are whole.
+    tally: Tally,
+    sum: Tally,
 }
 
 /// Appends text as XML has it. What XML has no sign for is told by U+FFFD.
@@ -39,10 +47,47 @@ fn push_xml(xml: &mut String, text: &str) -> Result<(), AllocError> {
     Ok(())
 }
 
-/// How many testcases a suite has, and how many of them fail or have an error.
-fn push_counts(xml: &mut String, tests: u64, failures: u64, errors: u64) -> Result<(), AllocError> {
-    write!(xml, " tests=\"{tests}\" failures=\"{failures}\" ")?;
-    write!(xml, "errors=\"{errors}\"")
+impl Tally {
+    /// None.
+    fn new() -> Tally {
+        Tally {
+            tests: 0,
+            failures: 0,
+            errors: 0,
+        }
+    }
+
+    /// So many more that pass.
+    fn add_passing(&mut self, count: u64) {
+        self.tests = self.tests.saturating_add(count);
+    }
+
+    /// One more, which fails or has an error.
+    fn add(&mut self, verdict: Verdict) {
+        self.tests = self.tests.saturating_add(1);
+        match verdict {
+            Verdict::Fail => self.failures = self.failures.saturating_add(1),
+            _ => self.errors = self.errors.saturating_add(1),
+        }
+    }
+
+    /// Those of others more.
+    fn add_all(&mut self, others: Tally) {
+        self.tests = self.tests.saturating_add(others.tests);
+        self.failures = self.failures.saturating_add(others.failures);
+        self.errors = self.errors.saturating_add(others.errors);
+    }
+
+    /// Appends the attributes that say so.
+    fn push(self, xml: &mut String) -> Result<(), AllocError> {
+        let Tally {
+            tests,
+            failures,
+            errors,
+        } = self;
+        write!(xml, " tests=\"{tests}\" failures=\"{failures}\" ")?;
+        write!(xml, "errors=\"{errors}\"")
+    }
 }
 
 impl Junit {
@@ -52,9 +97,8 @@ impl Junit {
             alloc,
             suites: String::new(alloc),
             cases: String::new(alloc),
-            tests: 0,
-            failures: 0,
-            errors: 0,
+            tally: Tally::new(),
+            sum: Tally::new(),
         }
     }
 
@@ -64,17 +108,14 @@ impl Junit {
         trace: &str,
         name: &str,
         verdict: Verdict,
+        message: &str,
         text: &str,
     ) -> Result<(), AllocError> {
         let tag = match verdict {
             Verdict::Fail => "failure",
             _ => "error",
         };
-        self.tests = self.tests.saturating_add(1);
-        match verdict {
-            Verdict::Fail => self.failures = self.failures.saturating_add(1),
-            _ => self.errors = self.errors.saturating_add(1),
-        }
+        self.tally.add(verdict);
         let xml = &mut self.cases;
         xml.push_str("    <testcase classname=\"")?;
         push_xml(xml, trace)?;
@@ -85,7 +126,7 @@ impl Junit {
         xml.push_str(" type=\"")?;
         xml.push_str(verdict.word())?;
         xml.push_str("\" message=\"")?;
-        push_xml(xml, text.lines().next().unwrap_or(""))?;
+        push_xml(xml, message)?;
         xml.push_str("\">")?;
         push_xml(xml, text)?;
         xml.push_str("</")?;
@@ -93,13 +134,14 @@ impl Junit {
         xml.push_str(">\n    </testcase>\n")
     }
 
-    /// A dialogue that does not pass.
+    /// A dialogue that does not pass, with what is said of it as text.
     pub(crate) fn add_case(
         &mut self,
         trace: &str,
         case: &Case,
         judged: &Judged,
         of: Option<End>,
+        text: &str,
     ) -> Result<(), AllocError> {
         let number = case.number;
         let mut name = String::new(self.alloc);
@@ -107,25 +149,26 @@ impl Junit {
         for end in [End::A, End::B] {
             push_ids(&mut name, case, end)?;
         }
-        let mut text = String::new(self.alloc);
-        push_case_text(self.alloc, &mut text, trace, case, judged, of)?;
-        self.push_case(trace, &name, judged.verdict, &text)
+        let mut message = String::new(self.alloc);
+        push_headline(self.alloc, &mut message, case, judged, of)?;
+        self.push_case(trace, &name, judged.verdict, &message, text)
     }
 
     /// A fault of a trace's form.
     pub(crate) fn add_fault(&mut self, trace: &str, text: &str) -> Result<(), AllocError> {
-        self.push_case(trace, "trace", Verdict::Error, text)
+        let message = text.lines().next().unwrap_or("");
+        self.push_case(trace, "trace", Verdict::Error, message, text)
     }
 
     /// The trace ends, of which so many dialogues pass.
     pub(crate) fn end_trace(&mut self, trace: &str, dialogues: &Counts) -> Result<(), AllocError> {
         let pass = dialogues.pass;
-        let tests = self.tests.saturating_add(if pass > 0 { 1 } else { 0 });
+        self.tally.add_passing(if pass > 0 { 1 } else { 0 });
         let xml = &mut self.suites;
         xml.push_str("  <testsuite name=\"")?;
         push_xml(xml, trace)?;
         xml.push_str("\"")?;
-        push_counts(xml, tests, self.failures, self.errors)?;
+        self.tally.push(xml)?;
         xml.push_str(">\n")?;
         xml.push_str(&self.cases)?;
         if pass > 0 {
@@ -135,14 +178,17 @@ impl Junit {
         }
         xml.push_str("  </testsuite>\n")?;
         self.cases = String::new(self.alloc);
-        (self.tests, self.failures, self.errors) = (0, 0, 0);
+        self.sum.add_all(self.tally);
+        self.tally = Tally::new();
         Ok(())
     }
 
     /// The whole text.
     pub fn text(&self) -> Result<String, AllocError> {
         let mut xml = String::new(self.alloc);
-        xml.push_str("<?xml version=\"1.0\" encoding=\"UTF-8\"?>\n<testsuites>\n")?;
+        xml.push_str("<?xml version=\"1.0\" encoding=\"UTF-8\"?>\n<testsuites")?;
+        self.sum.push(&mut xml)?;
+        xml.push_str(">\n")?;
         xml.push_str(&self.suites)?;
         xml.push_str("</testsuites>\n")?;
         Ok(xml)

@@ -1,21 +1,33 @@
-//! What `tcapjudge test` reads and says: traces, their dialogues and the verdicts on them, as text, JSON and JUnit XML.
+//! What `tcapjudge test` reads and says: traces, their dialogues and the verdicts on them, as text, JSON, JUnit XML and a page.
 #![tactic(auto)]
 
 mod case;
-mod earlier;
 mod entries;
 mod fault;
+mod fields;
+mod grounds;
+mod headline;
 mod json;
 mod junit;
+mod listed;
+mod messages;
+mod no_message;
+mod order;
+mod page;
+mod reason;
 mod sum;
+mod telling;
 #[cfg(test)]
 mod tests;
 mod text;
 mod trace;
 mod waiting;
+mod which;
 mod words;
 
 pub use fault::Stop;
 pub use junit::Junit;
+pub use page::Page;
 pub use sum::Sum;
-pub use trace::{Asked, Sinks, Watch, run_trace, tell_unread};
+pub use telling::Sinks;
+pub use trace::{Asked, Watch, run_trace, tell_unread};

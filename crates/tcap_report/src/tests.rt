@@ -1,8 +1,10 @@
 //! One trace, judged with ample memory.
 
 use crate::junit::Junit;
+use crate::page::Page;
 use crate::sum::Sum;
-use crate::trace::{Asked, Sinks, Watch, run_trace};
+use crate::telling::Sinks;
+use crate::trace::{Asked, Watch, run_trace};
 use tcap_ber::Counted;
 use tcap_books::Book;
 use tcap_dialogues::Reuse;
@@ -34,10 +36,15 @@ fn a_lawful_trace_passes(rt: HostRuntime) {
     let mut text = Counted::new(Vec::new(alloc));
     let mut json = Counted::new(Vec::new(alloc));
     let mut junit = Junit::new(alloc);
+    let mut html = Counted::new(Vec::new(alloc));
     let mut nobody = Nobody;
+    let Ok(page) = Page::begin(&mut html) else {
+        panic!(rt; "no page");
+    };
     let mut sinks = Sinks {
         text: &mut text,
         json: Some(&mut json),
+        page: Some(page),
         junit: Some(&mut junit),
         sum: &mut sum,
         watch: &mut nobody,

@@ -1,22 +1,24 @@
 //! What is said of a dialogue that does not pass, as text.
 
 use crate::case::{Case, Judged};
+use crate::listed::{is_near, last_listed};
+use crate::no_message::push_no_message;
+use crate::order::{in_order, is_asked, later_end};
+use crate::reason::push_reason;
 use crate::waiting::push_waiting;
 use crate::words::{comment_of, doubt_words, ids_of, letter, line_of, push_ids, undecided_words};
 use std::alloc::{AllocError, Global};
 use tcap_books::NamedTable;
-use tcap_evidence::push_why;
-use tcap_explain::name_of;
 use tcap_msg::MessageParts;
-use tcap_parts::{CodeView, ComponentView};
+use tcap_page::push_component;
 use tcap_record::{Body, End, Entry, push_head, push_hex};
 use tcap_refute::Refutation;
 use tcap_traces::{Doubt, Said, Verdict};
 
-/// So many entries are listed of the beginning of a dialogue, and up to what is at fault.
+/// So many entries are listed of the beginning of a dialogue, and before the last one at fault.
 const FIRST: usize = 8;
 
-const LAST: usize = 16;
+const BEFORE: usize = 16;
 
 /// Appends the IDs of the ends that have some.
 fn push_all_ids(text: &mut String, case: &Case) -> Result<(), AllocError> {
@@ -75,6 +77,15 @@ fn push_place(alloc: Global, text: &mut String, case: &Case, entry: u64) -> Resu
     Ok(())
 }
 
+/// Appends that the other end is blamed for an earlier entry, where that is so.
+fn push_later(text: &mut String, end: End, later: bool) -> Result<(), AllocError> {
+    if !later {
+        return Ok(());
+    }
+    text.push_str("; it comes later, and may follow from that of ")?;
+    text.push_str(letter(end.other()))
+}
+
 /// Appends the line of an end that is blamed.
 fn push_blamed(
     alloc: Global,
@@ -83,6 +94,7 @@ fn push_blamed(
     end: End,
     verdict: Verdict,
     at: Refutation,
+    later: bool,
 ) -> Result<(), AllocError> {
     let entry = at.entry;
     let kind = at.kind.number();
@@ -92,21 +104,9 @@ fn push_blamed(
     text.push_str(verdict.word())?;
     write!(text, " at entry {entry} of the dialogue")?;
     push_place(alloc, text, case, entry)?;
-    writeln!(text, ", F{kind}")
-}
-
-/// Appends what the blame rests on.
-pub(crate) fn push_reason(
-    alloc: Global,
-    text: &mut String,
-    judged: &Judged,
-    end: End,
-    at: Refutation,
-) -> Result<(), AllocError> {
-    match judged.table {
-        Some(table) => push_why(alloc, text, &judged.record, table.table(), end, at, true),
-        None => Ok(()),
-    }
+    write!(text, ", F{kind}")?;
+    push_later(text, end, later)?;
+    text.push_str("\n")
 }
 
 /// Appends what makes a blame inconclusive.
@@ -154,19 +154,20 @@ fn push_end(
     judged: &Judged,
     end: End,
     said: Said,
+    later: bool,
 ) -> Result<(), AllocError> {
     match said {
         Said::Pass(_) => Ok(()),
         Said::Fail(at) => {
-            push_blamed(alloc, text, case, end, said.verdict(), at)?;
-            push_reason(alloc, text, judged, end, at)
+            push_blamed(alloc, text, case, end, said.verdict(), at, later)?;
+            push_reason(alloc, text, case, judged, end, at)
         }
         Said::Doubtful(at, doubt) => {
-            push_blamed(alloc, text, case, end, said.verdict(), at)?;
+            push_blamed(alloc, text, case, end, said.verdict(), at, later)?;
             text.push_str("  that is inconclusive: ")?;
             push_doubt(text, case, doubt)?;
             text.push_str("\n")?;
-            push_reason(alloc, text, judged, end, at)
+            push_reason(alloc, text, case, judged, end, at)
         }
         _ => {
             text.push_str("  ")?;
@@ -174,51 +175,6 @@ fn push_end(
             text.push_str(": inconc: ")?;
             push_undecided(alloc, text, case, judged, end, said)
         }
-    }
-}
-
-/// Appends an operation, by its name where the table has one.
-fn push_operation(
-    text: &mut String,
-    table: Option<&NamedTable>,
-    code: CodeView,
-) -> Result<(), AllocError> {
-    let name = match table {
-        Some(table) => table.name_of(code),
-        None => None,
-    };
-    if let Some(name) = name {
-        text.push_str(name)?;
-        text.push_str(" ")?;
-    }
-    match code {
-        CodeView::Local(number) => write!(text, "{number}"),
-        CodeView::Global(octets) => push_hex(text, octets.octets),
-    }
-}
-
-/// Appends a component in a few words.
-fn push_component(
-    text: &mut String,
-    table: Option<&NamedTable>,
-    component: ComponentView,
-) -> Result<(), AllocError> {
-    match component {
-        ComponentView::Invoke { id, code, .. } => {
-            write!(text, ", Invoke {id} ")?;
-            push_operation(text, table, code)
-        }
-        ComponentView::ReturnResult { last, id, .. } => {
-            text.push_str(if last {
-                ", ReturnResultLast"
-            } else {
-                ", ReturnResultNotLast"
-            })?;
-            write!(text, " {id}")
-        }
-        ComponentView::ReturnError { id, .. } => write!(text, ", ReturnError {id}"),
-        ComponentView::Reject { id: Some(id), .. } => write!(text, ", Reject {id}"),
-        ComponentView::Reject { id: None, .. } => text.push_str(", Reject"),
     }
 }
 
@@ -233,15 +189,14 @@ fn push_body(
         Body::Good(message) => {
             push_head(text, message)?;
             for component in message.components() {
+                text.push_str(", ")?;
                 push_component(text, table, component)?;
             }
             Ok(())
         }
         Body::Bad(fault) => {
             text.push_str("no message: ")?;
-            text.push_str(name_of(fault.reason))?;
-            let place = fault.place.saturating_sub(place);
-            write!(text, ", at octet {place} of it")
+            push_no_message(text, place, *fault)
         }
         Body::Quiet => text.push_str("quiet mark"),
     }
@@ -267,27 +222,6 @@ fn push_entry(
     text.push_str("\n")
 }
 
-/// The number of the entry by which an end is at fault.
-fn blamed_by(said: Said) -> Option<u64> {
-    match said {
-        Said::Fail(at) | Said::Doubtful(at, _) => Some(at.entry),
-        _ => None,
-    }
-}
-
-/// The number of the last entry that is listed: the last one at fault, or the last of all.
-fn last_listed(judged: &Judged) -> usize {
-    let last = judged.record.entries.len().saturating_sub(1);
-    let Some(ends) = judged.ends else {
-        return last;
-    };
-    match (blamed_by(ends.a), blamed_by(ends.b)) {
-        (Some(a), Some(b)) => last.min(u64::max(a, b) as usize),
-        (Some(number), None) | (None, Some(number)) => last.min(number as usize),
-        (None, None) => last,
-    }
-}
-
 /// Appends the entries of a dialogue, of a long one the first and those up to the last one at fault.
 fn push_entries(
     alloc: Global,
@@ -296,10 +230,9 @@ fn push_entries(
     judged: &Judged,
 ) -> Result<(), AllocError> {
     let last = last_listed(judged);
-    let from = last.saturating_sub(LAST);
     text.push_str("  the entries of the dialogue:\n")?;
     for (number, entry) in judged.record.entries.iter().enumerate() {
-        if number < FIRST || (from <= number && number <= last) {
+        if is_near(number, FIRST, BEFORE, last) {
             push_entry(alloc, text, case, judged, number, entry)?;
         } else if number == FIRST || number == usize::saturating_add(last, 1) {
             text.push_str("    ..\n")?;
@@ -308,21 +241,20 @@ fn push_entries(
     Ok(())
 }
 
-/// Appends that no table is there for a dialogue.
-fn push_no_table(text: &mut String, judged: &Judged) -> Result<(), AllocError> {
+/// That no table is there for a dialogue, in words.
+pub(crate) fn no_table_words(judged: &Judged) -> &'static str {
     if judged.context.is_some() {
-        text.push_str("  no table is for this application context name\n")
+        "no table is for this application context name"
     } else {
-        text.push_str("  no table is for a dialogue without an application context name\n")
+        "no table is for a dialogue without an application context name"
     }
 }
 
-/// Whether an end is asked.
-pub(crate) fn is_asked(of: Option<End>, end: End) -> bool {
-    match of {
-        Some(asked) => asked == end,
-        None => true,
-    }
+/// Appends that no table is there for a dialogue.
+fn push_no_table(text: &mut String, judged: &Judged) -> Result<(), AllocError> {
+    text.push_str("  ")?;
+    text.push_str(no_table_words(judged))?;
+    text.push_str("\n")
 }
 
 /// Appends all that is said of a dialogue that does not pass.
@@ -339,7 +271,8 @@ pub(crate) fn push_case(
     push_entries(alloc, text, case, judged)
 }
 
-/// Appends what stands behind the line of a dialogue: what is said of each end that is asked.
+/// Appends what stands behind the line of a dialogue: what is said of each end that is asked. Where both are blamed the lower entry
+/// stands first.
 pub(crate) fn push_behind(
     alloc: Global,
     text: &mut String,
@@ -350,9 +283,18 @@ pub(crate) fn push_behind(
     let Some(ends) = judged.ends else {
         return push_no_table(text, judged);
     };
-    for end in [End::A, End::B] {
+    let later = later_end(ends, of);
+    for end in in_order(ends, of) {
         if is_asked(of, end) {
-            push_end(alloc, text, case, judged, end, ends.of(end))?;
+            push_end(
+                alloc,
+                text,
+                case,
+                judged,
+                end,
+                ends.of(end),
+                later == Some(end),
+            )?;
         }
     }
     Ok(())

@@ -1,12 +1,11 @@
 //! A trace, judged dialogue by dialogue as it is read.
 
 use crate::case::{Behind, Case, Held, Judged, Rules, heading_of, judge, sent_by};
-use crate::earlier::Earlier;
 use crate::entries::{Entries, Piece};
 use crate::fault::{FormFault, Halt, Stop};
-use crate::junit::Junit;
+use crate::order::is_asked;
 use crate::sum::{Counts, Sum, push_counts};
-use crate::{json, text};
+use crate::telling::{Sinks, Told, write_text};
 use std::alloc::{AllocError, Global};
 use std::collections::BTreeMap;
 use std::mem;
@@ -39,21 +38,6 @@ pub trait Watch {
     fn look(&mut self, sum: &Sum);
 }
 
-/// Where it is said.
-#[derive(Debug, Drop)]
-pub struct Sinks<'a, W, J, P> {
-    /// As text.
-    pub text: &'a mut W,
-    /// As lines of JSON.
-    pub json: Option<&'a mut J>,
-    /// As JUnit XML.
-    pub junit: Option<&'a mut Junit>,
-    /// The sum of all traces.
-    pub sum: &'a mut Sum,
-    /// Who looks on.
-    pub watch: &'a mut P,
-}
-
 /// A trace as it is read.
 #[derive(Drop)]
 struct Trace<'a> {
@@ -66,8 +50,10 @@ struct Trace<'a> {
     count: u64,
     before: u64,
     unread: Option<u64>,
-    // Which dialogues of the stretch had which IDs, of those that are judged.
-    earlier: Earlier,
+    // The number in the stretch of the first entry behind the line that says that dialogues may have been under way.
+    under_way: Option<u64>,
+    // How many dialogues stand before the stretch.
+    dialogues_before: u64,
     messages: u64,
     // Those of which a kind can be read.
     readable: u64,
@@ -87,7 +73,7 @@ fn is_silent(judged: &Judged, end: End, said: Said) -> bool {
 /// Whether one that is asked did, or did so.
 fn is_unheard(judged: &Judged, of: Option<End>) -> bool {
     match judged.ends {
-        Some(ends) => [End::A, End::B].iter().any(|end| text::is_asked(of, *end)
+        Some(ends) => [End::A, End::B].iter().any(|end| is_asked(of, *end)
             && is_silent(judged, *end, ends.of(*end))),
         None => false,
     }
@@ -104,7 +90,8 @@ impl<'a> Trace<'a> {
             count: 0,
             before: 0,
             unread: None,
-            earlier: Earlier::new(alloc),
+            under_way: None,
+            dialogues_before: 0,
             messages: 0,
             readable: 0,
             dialogues: Counts::new(),
@@ -165,7 +152,8 @@ impl<'a> Trace<'a> {
         self.before = self.before.saturating_add(self.count).saturating_add(1);
         self.count = 0;
         self.unread = None;
-        self.earlier = Earlier::new(self.alloc);
+        self.under_way = None;
+        self.dialogues_before = self.dialogues.all();
         Ok(())
     }
 
@@ -189,10 +177,10 @@ impl<'a> Trace<'a> {
     ) -> Result<(), Stop> {
         let entries = self.taken(&gathered)?;
         let number = self.dialogues.all();
-        let earlier = self.earlier.of(&gathered);
-        if behind == Behind::More {
-            self.earlier.note(&gathered, number)?;
-        }
+        let earlier = match gathered.earlier {
+            Some(earlier) => Some(self.dialogues_before.saturating_add(earlier)),
+            None => None,
+        };
         let case = Case {
             number,
             entries,
@@ -201,6 +189,7 @@ impl<'a> Trace<'a> {
             behind,
             earlier,
             unread: self.unread,
+            under_way: self.under_way,
         };
         let rules = Rules {
             of: self.asked.of,
@@ -212,31 +201,7 @@ impl<'a> Trace<'a> {
         if judged.verdict == Verdict::Pass && case.has_ids() && is_unheard(&judged, self.asked.of) {
             self.unheard = self.unheard.saturating_add(1);
         }
-        self.tell(&case, &judged, sinks)
-    }
-
-    /// Says what is said of a dialogue.
-    fn tell<W: Write, J: Write, P: Watch>(
-        &self,
-        case: &Case,
-        judged: &Judged,
-        sinks: &mut Sinks<W, J, P>,
-    ) -> Result<(), Stop> {
-        let (name, of) = (self.asked.name, self.asked.of);
-        if let Some(writer) = &mut sinks.json {
-            let mut line = String::new(self.alloc);
-            json::push_case(self.alloc, &mut line, name, case, judged, of)?;
-            write_text(*writer, &line)?;
-        }
-        if judged.verdict == Verdict::Pass {
-            return Ok(());
-        }
-        if let Some(junit) = &mut sinks.junit {
-            junit.add_case(name, case, judged, of)?;
-        }
-        let mut lines = String::new(self.alloc);
-        text::push_case(self.alloc, &mut lines, name, case, judged, of)?;
-        write_text(sinks.text, &lines)
+        sinks.tell_case(self.alloc, self.asked.name, &case, &judged, self.asked.of)
     }
 
     /// Reads the pieces that are held.
@@ -250,6 +215,9 @@ impl<'a> Trace<'a> {
                 Some(Piece::Entry(octets, line, comment)) => self.enter(
                     octets, line, comment, sinks,
                 )?,
+                Some(Piece::UnderWay) => {
+                    self.under_way = Some(self.under_way.unwrap_or(self.count));
+                }
                 Some(Piece::Mark(line)) => {
                     let number = self.before.saturating_add(self.count);
                     self.end_stretch(Behind::Mark { line, number }, sinks)?;
@@ -314,45 +282,19 @@ impl<'a> Trace<'a> {
         self.push_line(&mut line, verdict, &why)?;
         line.push_str(hint.unwrap_or(""))?;
         write_text(sinks.text, &line)?;
-        self.tell_end(verdict, &fault, &why, sinks)?;
+        let told = Told {
+            name: self.asked.name,
+            verdict,
+            messages: self.messages,
+            dialogues: self.dialogues,
+            unheard: self.unheard,
+            why: &why,
+            line: line_in(&fault),
+        };
+        sinks.tell_trace(self.alloc, told)?;
         *sinks.sum = self.so_far(sinks.sum);
         sinks.sum.traces.add(verdict);
         Ok(verdict)
-    }
-
-    /// Says the same as JSON and as JUnit XML.
-    fn tell_end<W: Write, J: Write, P: Watch>(
-        &self,
-        verdict: Verdict,
-        fault: &Option<FormFault>,
-        why: &str,
-        sinks: &mut Sinks<W, J, P>,
-    ) -> Result<(), Stop> {
-        let name = self.asked.name;
-        if let Some(writer) = &mut sinks.json {
-            let mut line = String::new(self.alloc);
-            let number = match fault {
-                Some(fault) => fault.line,
-                None => None,
-            };
-            json::push_trace(
-                &mut line,
-                name,
-                verdict,
-                self.messages,
-                &self.dialogues,
-                self.unheard,
-            )?;
-            json::push_fault(&mut line, why, number)?;
-            write_text(*writer, &line)?;
-        }
-        if let Some(junit) = &mut sinks.junit {
-            if !why.is_empty() {
-                junit.add_fault(name, why)?;
-            }
-            junit.end_trace(name, &self.dialogues)?;
-        }
-        Ok(())
     }
 
     /// Appends the line of the trace.
@@ -366,6 +308,14 @@ impl<'a> Trace<'a> {
         }
         text.push_str("; ")?;
         push_counts(text, self.messages, &self.dialogues, self.unheard)
+    }
+}
+
+/// The line with the fault, where one has it.
+fn line_in(fault: &Option<FormFault>) -> Option<u64> {
+    match fault {
+        Some(fault) => fault.line,
+        None => None,
     }
 }
 
@@ -394,11 +344,6 @@ fn push_fault(
         None if messages == 0 => text.push_str("there is no message in it"),
         None => Ok(()),
     }
-}
-
-/// Writes a text.
-fn write_text<W: Write>(writer: &mut W, text: &str) -> Result<(), Stop> {
-    writer.write_all(text.as_bytes()).map_err(|_| Stop::Write)
 }
 
 /// Judges each dialogue of the trace that `reader` tells, says of each one that does not pass why, and answers the verdict on the

@@ -31,9 +31,14 @@ pub(crate) fn context_in(alloc: Global, message: &Message) -> Result<Option<Vec<
     Ok(Some(octets))
 }
 
+/// That a dialogue may have begun before its trace, in words.
+const UNDER_WAY: &str =
+    "its first message goes to an ID that was never sent in the trace: dialogues may have been under way when it began";
+
 /// What makes a blame inconclusive, in words.
 pub(crate) fn doubt_words(doubt: Doubt) -> &'static str {
     match doubt {
+        Doubt::UnderWay => UNDER_WAY,
         Doubt::AtMark => "the trace's quiet mark is the bench's word, and it may stand too early",
         Doubt::LackingOperation => "the table lacks the operation",
         Doubt::MaybeOver =>
@@ -55,6 +60,7 @@ pub(crate) fn undecided_words(said: Said) -> &'static str {
             "is no message that is judged, and is its own or stands before others of its own",
         Said::TooLong =>
             "the dialogue has more than 100,000 entries, and of those nothing is blamed",
+        Said::UnderWay => UNDER_WAY,
         Said::UnsureTable =>
             "by this table it may have sent its part, and it is not sure that this is the table of the dialogue",
         Said::Open => "the dialogue is open at the end of its trace",

@@ -36,18 +36,12 @@ use Rattle.tcap_runs.specs.Gaps.{closing_played, delivery_by, delivery_from, del
 use Rattle.tcap_runs.proofs.ItemLaws.{as_read, entry_at, kept_for, named_given}
 use Rattle.tcap_runs.proofs.PlayedGaps.{Stand, all_kept, all_stand, back, first_stands, more_stand, none_due, receives, skipped}
 use Rattle.tcap_runs.proofs.HeardGaps.{keeps_sent}
+use Rattle.tcap_check.proofs.DescribedGaps.{ok_some, ok_then}
 
 -- ---- steps one after the other
 
-pub ok_then : {A B F : Type 0} (step : Result A F) (rest : A → Result B F) (x : A) (y : B) → step ≡ Ok x → rest x ≡ Ok y
-    → (step >>= rest) ≡ Ok y
-ok_then {A} {B} {F} step rest x y one more = ap (λ (r : Result A F). r >>= rest) one ∙ more
-
 pub ok_is : {A F : Type 0} (x y : A) → x ≡ y → (let r : Result A F = Ok x in r) ≡ Ok y
 ok_is {A} {F} x y same = ap (λ (z : A). let r : Result A F = Ok z in r) same
-
-pub or_ok : {A F : Type 0} (o : Option A) (reason : F) (x : A) → o ≡ Some x → ok_or o reason ≡ Ok x
-or_ok {A} o reason x is = ap (λ (p : Option A). ok_or p reason) is
 
 -- both hold
 pub both_parts : (a b : Bool) → (a && b) ≡ true → (a ≡ true) × (b ≡ true)
@@ -112,9 +106,9 @@ module _ (table : Table) (c : Certificate) (since : ℕ) (sent : List Item) (non
       ap (λ (l : List Item). closing_event l x) same
       ∙ closing_named sent since x named.0 none (not-true (nat_lt x.entry since) reaches.0) last.0 (ap (λ (l : List Item). half_named l x) (sym same) ∙ named.1) in
       ok_then (ok_or (closing_event r.world.sent x) (fault_at FateRange x.entry)) _ event next
-      (or_ok (closing_event r.world.sent x) (fault_at FateRange x.entry) event found)
+      (ok_some (closing_event r.world.sent x) (fault_at FateRange x.entry) event found)
       (ok_then (happens table c event reason x.entry r) _ one.0 next
-      (or_ok (stepped table event r) (fault_at reason x.entry) one.0 named.2)
+      (ok_some (stepped table event r) (fault_at reason x.entry) one.0 named.2)
       (closings_given more one.0 next (keeps_sent table event r one.0 (λ items e. e) named.2 ∙ same) last.1 reaches.1 one.2))
 
   -- the entries, of which these are the first
@@ -137,9 +131,9 @@ module _ (table : Table) (c : Certificate) (since : ℕ) (sent : List Item) (non
       (λ item at. ap (λ (o : Option (Result Item Reason)). is_from x.side o) (sym (entry_at all sent rest x.entry item whole at)) ∙ first.1)
       (ap (λ (l : List Item). invocation_named l x) (sym same) ∙ named.1) in
       ok_then (ok_or (expiry_event r.world.sent x) (fault_at FateRange x.entry)) _ event next
-      (or_ok (expiry_event r.world.sent x) (fault_at FateRange x.entry) event found)
+      (ok_some (expiry_event r.world.sent x) (fault_at FateRange x.entry) event found)
       (ok_then (happens table c event reason x.entry r) _ one.0 next
-      (or_ok (stepped table event r) (fault_at reason x.entry) one.0 named.2)
+      (ok_some (stepped table event r) (fault_at reason x.entry) one.0 named.2)
       (expiries_given all rest whole more one.0 next (keeps_sent table event r one.0 (λ items e. e) named.2 ∙ same) last.1 reaches.1 one.2))
 
 -- ---- deliveries
@@ -169,7 +163,7 @@ module _ (table : Table) (c : Certificate) (gap : ℕ) where
           ap (λ (o : Option Side). delivery_by table c None n r o)
           (ap (λ (o : Option Item). then_so o sender_in) (first_stands r.world.sent (Sent side message ∷ items) n at)) in
           let step : happens table c (Receives (other side) n) BadReply n r ≡ Ok one.0 =
-          or_ok (stepped table (Receives (other side) n) (lost_from_front c (other (other side)) r)) (fault_at BadReply n) one.0
+          ok_some (stepped table (Receives (other side) n) (lost_from_front c (other (other side)) r)) (fault_at BadReply n) one.0
           (ap (λ (s : Side). stepped table (Receives (other side) n) (lost_from_front c s r)) (back side) ∙ (sym from ∙ one.1)) in
           let sent = (gap_event table c (Receives (other side) n) BadReply n r one.0 (receives (other side) n) step).sent in
           ok_then (happens table c (Receives (other side) n) BadReply n r) (deliveries_replayed table c gap (n + 1) fates items)

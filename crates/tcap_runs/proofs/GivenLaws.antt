@@ -2,9 +2,7 @@
 use Rattle.std.proofs.Common.{◌≡◌, ℕ, ◌+◌, ◌==◌, Bool, true, false, List, [], ◌∷◌, ◌++◌, drop, map, length, Option, Some, None, Result, Ok, Err, refl, sym, subst, ap, ap₂, ◌∙◌, append-nil}
 use Rattle.std.specs.Prelude.{◌&&◌, ◌||◌, is_none, is_ok, not, ok_or, option_map, slice_get}
 use Rattle.std.specs.Result.{result_ok}
-use Rattle.std.proofs.lemmas.Bool.{eq-eqb}
 use Rattle.std.proofs.lemmas.List.{length-append}
-use Rattle.std.proofs.lemmas.Slice.Eq.{bytes_eq-Decides}
 use Rattle.tcap_msg.specs.declared.message.AbortReason.TheVariants.{Cause, Dialogue as ByDialogue}
 use Rattle.tcap_msg.specs.declared.message.Message.{Message}
 use Rattle.tcap_msg.specs.declared.message.Message.TheVariants.{Unidirectional, Begin, Continue, End as EndMessage, Abort}
@@ -45,9 +43,13 @@ use Rattle.tcap_runs.specs.Sending.{answer_played, may_answer, reply_played}
 use Rattle.tcap_runs.specs.Playing.{quiet_played}
 use Rattle.tcap_runs.specs.Running.{entry_played, mark_by, mark_played, message_played, next_gap, run_played, sent_by, tied_to_entry}
 use Rattle.tcap_runs.proofs.PlayedGaps.{all_kept}
-use Rattle.tcap_runs.proofs.PlayedLaws.{joined_sent, same_sent}
+use Rattle.tcap_check.proofs.WorldLaws.{sent_with_channel}
+use Rattle.tcap_check.proofs.WorldLaws.{sent_joined}
 use Rattle.tcap_runs.proofs.ItemLaws.{as_read, none_behind, none_with, read_one_more}
-use Rattle.tcap_runs.proofs.GivenGaps.{both_parts, gap_given, ok_is, ok_then, or_ok}
+use Rattle.tcap_runs.proofs.GivenGaps.{both_parts, gap_given, ok_is}
+use Rattle.tcap_check.proofs.DescribedGaps.{ok_some}
+use Rattle.tcap_check.proofs.DescribedGaps.{ok_then}
+use Rattle.tcap_check.proofs.KeptMessages.{itself}
 
 -- ---- parts
 
@@ -100,9 +102,6 @@ answers e (Unidirectional dialogue components) abort is = cc
 answers e (EndMessage dtid dialogue components) abort is = cc
 answers e (Abort dtid reason) abort is = cc
 
-itself : (cause : ℕ) (id : List ℕ) → aborts cause id (provider_abort id cause) ≡ true
-itself cause id = rw (eq-eqb cause cause refl, (bytes_eq-Decides id id).1 refl) refl
-
 -- A reply that may be given is what the certificate gives.
 reply_given : (table : Table) (c : Certificate) (side : Side) (abort : Message) (number : ℕ) (r next : Replay)
     → answer_played c side abort number r ≡ Some next → reply_replayed table c side abort number r ≡ Ok next
@@ -141,14 +140,14 @@ reply_given table c side abort number r next is = by (channel_from (other side) 
         ap (λ (x : List Item). length x) ((losing_replays table c (other side) r).sent ∙ append-nil r.world.sent) in
         let sent : next.world.sent ≡ before.world.sent ++ Sent side abort ∷ [] =
         ap (λ (x : Replay). x.world.sent) (sym last)
-        ∙ (joined_sent side abort left ∙ ap (λ (x : List Item). x ++ Sent side abort ∷ []) (same_sent (other side) more before.world)) in
+        ∙ (sent_joined side abort left ∙ ap (λ (x : List Item). x ++ Sent side abort ∷ []) (sent_with_channel (other side) more before.world)) in
         let there : slice_get next.world.sent (next_entry r) ≡ Some (Sent side abort) =
         ap₂ (λ (x : List Item) (n : ℕ). slice_get x n) sent (sym number_is) ∙ get_new before.world.sent (Sent side abort) in
         let is_it : is_abort abort (slice_get next.world.sent (next_entry r)) ≡ true =
         ap (λ (o : Option Item). is_abort abort o) there
         ∙ (ap (λ (a : Message). is_abort a (Some (Sent side a))) it.same ∙ itself it.cause it.id) in
         ok_then (happens table c event BadReply (next_entry r) r) _ next next
-        (or_ok (stepped table event before) (fault_at BadReply (next_entry r)) next taken)
+        (ok_some (stepped table event before) (fault_at BadReply (next_entry r)) next taken)
         (needs_then (is_abort abort (slice_get next.world.sent (next_entry r))) (fault_at BadReply (next_entry r)) (Ok next) next is_it refl)
       where
         answered : List OnItsWay → Option World
@@ -212,7 +211,7 @@ module _ (table : Table) (c : Certificate) (all : List Entry) (rest : List (Resu
       needs_then (is_gap (next_entry r + 1) fate) (fault_at FateRange (next_entry r)) _ next so
       (ok_then (gap_replayed table c r) _ behind.0 next gap
       (needs_then (is_nothing (taken_by (next_entry r) 0 c.fates)) (fault_at NotQuiet (next_entry r)) _ next tied
-      (or_ok (stepped table Event.Quiet (lost_from_both c behind.0)) (fault_at NotQuiet (next_entry r)) next no_ties.1)))
+      (ok_some (stepped table Event.Quiet (lost_from_both c behind.0)) (fault_at NotQuiet (next_entry r)) next no_ties.1)))
 
 -- ---- the order of fates
 
@@ -349,7 +348,7 @@ module _ (table : Table) (c : Certificate) (all : List Entry) where
       let sent : one.0.world.sent ≡ r.world.sent ++ item ∷ [] =
       how.sent.replays.sent ∙ ap (λ (s : List Item). s ++ item ∷ []) (how.gap.sent ∙ append-nil r.world.sent) in
       ok_then (ok_or (slice_get c.fates (next_entry r)) (fault_at FateCount (next_entry r))) _ fate next
-      (or_ok (slice_get c.fates (next_entry r)) (fault_at FateCount (next_entry r)) fate order.1)
+      (ok_some (slice_get c.fates (next_entry r)) (fault_at FateCount (next_entry r)) fate order.1)
       (ok_then (item_replayed table c fate item r) (entries_replayed table c entries) one.0 next step
       (entries_given entries one.0 next (subst (λ (s : List Item). IsOrdered c all s entries) (sym sent) it.behind)
       (ap (λ (o : Option Replay). then_so o (next_gap table c None)) one.2 ∙ run.2)))

@@ -17,8 +17,8 @@ use Rattle.tcap_check.specs.declared.certificate.Fate.TheVariants.{Gap, Lost, By
 use Rattle.tcap_model.specs.declared.reason.Reason.TheVariants.{BadReply}
 use Rattle.tcap_check.specs.Certificate.{Certificate}
 use Rattle.tcap_check.specs.Progress.{due_in}
-use Rattle.tcap_check.specs.Replayed.{Replay, closings_replayed, expiries_replayed, fault_at, lost_from_front, next_entry, stepped}
-use Rattle.tcap_check.specs.Alone.{deliveries_heard, gap_heard, heard, or_else}
+use Rattle.tcap_check.specs.Replayed.{Replay, closings_replayed, expiries_replayed, fault_at, heard, lost_from_front, next_entry, or_else, stepped}
+use Rattle.tcap_check.specs.Alone.{deliveries_heard, gap_heard}
 use Rattle.tcap_check.proofs.ReplayLaws.{closings_replay, expiries_replay}
 use Rattle.tcap_check.proofs.ReplaySteps.{losing_replays}
 use Rattle.tcap_check.proofs.AloneSteps.{stepped_adds}

@@ -17,14 +17,13 @@ use Rattle.tcap_check.specs.declared.certificate.Fate.{Fate}
 use Rattle.tcap_check.specs.declared.fault.CheckFault.{CheckFault}
 use Rattle.tcap_model.specs.declared.reason.Reason.{Reason}
 use Rattle.tcap_model.specs.declared.reason.Reason.TheVariants.{BadReply, FateCount, FateRange, NotQuiet, OutOfOrder}
-use Rattle.tcap_check.specs.declared.end_checker.EndReport.{EndReport}
-use Rattle.tcap_check.specs.Checking.{map_ok}
-use Rattle.tcap_check.specs.EndChecking.{end_reported}
+use Rattle.tcap_check.specs.declared.checker.Report.{Report}
+use Rattle.tcap_check.specs.Checking.{map_ok, reported}
 use Rattle.tcap_check.specs.Certificate.{Certificate}
 use Rattle.tcap_model.specs.Entries.{item_of}
 use Rattle.tcap_check.specs.Follows.{sending_by, taken_by}
-use Rattle.tcap_check.specs.Replayed.{Replay, certificate_fits, fault_at, is_gap, is_nothing, is_overtaking, lost_from_front, message_by, next_entry, nothing_replayed, stepped, with_step}
-use Rattle.tcap_check.specs.Alone.{all_lost_from, closed_at_mark, entries_heard, entry_heard, gap_heard, is_sent_by, item_heard, mark_replayed, own_replayed, replayed_for, tied_to_next, told_replayed}
+use Rattle.tcap_check.specs.Replayed.{Replay, all_lost_from, certificate_fits, closed_at_mark, fault_at, is_gap, is_nothing, is_overtaking, is_sent_by, lost_from_front, message_by, next_entry, nothing_replayed, stepped, told_replayed, with_step}
+use Rattle.tcap_check.specs.Alone.{entries_heard, entry_heard, gap_heard, item_heard, mark_replayed, own_replayed, replayed_for, tied_to_next}
 use Rattle.tcap_model.proofs.RunLaws.{some_is}
 use Rattle.tcap_check.proofs.AloneReplays.{gap_leads}
 use Rattle.tcap_runs.specs.Gaps.{plays}
@@ -51,16 +50,14 @@ own_plays : (table : Table) (c : Certificate) (side : Side) (message : Message) 
     (sent_by table c side message (cause_in message) (tied_to_entry c (Some side) behind) behind)) ≡ Some next
 own_plays table c side message r next is =
     let gap = then_ok (gap_heard table c side r) _ next is in
-    let event = sending_by c (next_entry r) (Sent side message) (tied_to_next side c r) in
+    let event = sending_by c (next_entry gap.0) (Sent side message) (tied_to_next side c gap.0) in
     let sent = then_ok (message_by table c side message event gap.0) (λ x. Ok (all_lost_from side x)) next gap.2 in
     ap (λ (o : Option Replay). then_so o (λ (behind : Replay). option_map (all_lost_from side)
     (sent_by table c side message (cause_in message) (tied_to_entry c (Some side) behind) behind)))
     (gap_hears table c side r gap.0 gap.1)
-    ∙ (ap (λ (t : List ℕ). option_map (all_lost_from side) (sent_by table c side message (cause_in message) t gap.0))
-    (tied_behind table c side r gap.0 gap.1)
     ∙ (ap (λ (o : Option Replay). option_map (all_lost_from side) o)
-    (by_sending table c side gap.0 sent.0 (next_entry r) message (tied_to_next side c r) sent.1)
-    ∙ ap (λ (x : Replay). let o : Option Replay = Some x in o) (ok_same {F = CheckFault} (all_lost_from side sent.0) next sent.2)))
+    (by_sending table c side gap.0 sent.0 (next_entry gap.0) message (tied_to_next side c gap.0) sent.1)
+    ∙ ap (λ (x : Replay). let o : Option Replay = Some x in o) (ok_same {F = CheckFault} (all_lost_from side sent.0) next sent.2))
 
 -- one of its peer
 told_plays : (table : Table) (c : Certificate) (fate : Fate) (side : Side) (message : Message) (r next : Replay)
@@ -149,9 +146,9 @@ run_plays table c side entries events is =
     (ok_same {F = CheckFault} (lost_from_front c (other side) r.0).events events r.2)
 
 -- where what is reported is that of a run, the certificate gives it
-pub run_is : (table : Table) (c : Certificate) (side : Side) (entries : List Entry) (report : EndReport) (events : List Event)
-    → map_ok (end_reported side) (replayed_for side table c entries) ≡ Ok report
+pub run_is : (table : Table) (c : Certificate) (side : Side) (entries : List Entry) (report : Report) (events : List Event)
+    → map_ok (reported (Some side)) (replayed_for side table c entries) ≡ Ok report
     → run_played table c (Some side) (map item_of entries) ≡ Some events → replayed_for side table c entries ≡ Ok events
 run_is table c side entries report events counted played =
-    given_is (end_reported side) (replayed_for side table c entries) report events counted
+    given_is (reported (Some side)) (replayed_for side table c entries) report events counted
     (λ given at. some_is (sym (run_plays table c side entries given at) ∙ played))

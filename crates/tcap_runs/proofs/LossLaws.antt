@@ -8,16 +8,12 @@ use Rattle.tcap_check.specs.declared.certificate.Fate.{Fate}
 use Rattle.tcap_check.specs.declared.certificate.Fate.TheVariants.{Gap, Lost, By}
 use Rattle.tcap_model.specs.World.{OnItsWay, World, channel_from, with_channel}
 use Rattle.tcap_model.specs.Run.{Event, Loses, numbers_of}
-use Rattle.tcap_check.specs.Alone.{all_lost_from}
 use Rattle.tcap_check.specs.Certificate.{Certificate}
-use Rattle.tcap_check.specs.Replayed.{Replay, if_lost, losing, lost_from_front, lost_front}
+use Rattle.tcap_check.specs.Replayed.{Replay, all_lost_from, if_lost, losing, lost_from_front, lost_front}
 use Rattle.tcap_runs.specs.Playing.{first_lost, first_number, is_lost_fate}
+use Rattle.tcap_check.proofs.WorldLaws.{with_same}
 
 -- ---- channels
-
-same_channel : (side : Side) (w : World) → with_channel side (channel_from side w) w ≡ w
-same_channel sides.A w = refl
-same_channel sides.B w = refl
 
 left_in : (side : Side) (messages : List OnItsWay) (w : World) → channel_from side (with_channel side messages w) ≡ messages
 left_in sides.A messages w = refl
@@ -44,7 +40,7 @@ none_in fates (m ∷ more) is = by (slice_get fates m.number) refl
 
 losing_none : (side : Side) (r : Replay) → losing side [] r ≡ r
 losing_none side r = ap₂ (λ (events : List Event) (world : World). let r : Replay = record { events = events; world = world } in r)
-    (append-nil r.events) (same_channel side r.world)
+    (append-nil r.events) (with_same side r.world)
 
 pub none_lost : (c : Certificate) (side : Side) (r : Replay) → first_lost c.fates (channel_from side r.world) ≡ None
     → lost_from_front c side r ≡ r

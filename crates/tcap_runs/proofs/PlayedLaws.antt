@@ -8,7 +8,6 @@ use Rattle.tcap_msg.specs.declared.message.Message.{Message}
 use Rattle.tcap_msg.specs.declared.message.Message.TheVariants.{Unidirectional, Begin, Continue, End as EndMessage, Abort}
 use Rattle.tcap_msg.specs.Parts.{cause_in}
 use Rattle.tcap_record.specs.declared.entry.End.{End as Side}
-use Rattle.tcap_record.specs.declared.entry.End.TheVariants as sides
 use Rattle.tcap_record.specs.declared.entry.Entry.{Entry}
 use Rattle.tcap_end.specs.Table.{Table}
 use Rattle.tcap_end.specs.Step.{◌>>◌}
@@ -35,16 +34,9 @@ use Rattle.tcap_runs.specs.Sending.{answer_played, may_answer, reply_played}
 use Rattle.tcap_runs.specs.Playing.{quiet_played}
 use Rattle.tcap_runs.specs.Running.{entry_played, mark_by, mark_played, message_played, next_gap, run_played, sent_by, tied_to_entry}
 use Rattle.tcap_runs.proofs.PlayedGaps.{all_kept, gap_plays}
+use Rattle.tcap_check.proofs.WorldLaws.{sent_joined, sent_with_channel}
 
 -- ---- messages
-
-pub joined_sent : (side : Side) (m : Message) (w : World) → (joined side m w).sent ≡ w.sent ++ Sent side m ∷ []
-joined_sent sides.A m w = refl
-joined_sent sides.B m w = refl
-
-pub same_sent : (side : Side) (messages : List OnItsWay) (w : World) → (with_channel side messages w).sent ≡ w.sent
-same_sent sides.A messages w = refl
-same_sent sides.B messages w = refl
 
 both_true : (a b : Bool) → a ≡ true → b ≡ true → (a && b) ≡ true
 both_true a b p q = rw (p, q) refl
@@ -67,7 +59,7 @@ reply_plays table c side abort number r next is =
     let sent : step.0.world.sent ≡ before.world.sent ++ Sent side it.abort ∷ [] =
     ap (λ (x : Replay). x.world.sent) (sym found.2)
     ∙ (ap (λ (v : World). v.sent) it.next_is
-    ∙ (joined_sent side it.abort left ∙ ap (λ (x : List Item). x ++ Sent side it.abort ∷ []) (same_sent (other side) it.more before.world))) in
+    ∙ (sent_joined side it.abort left ∙ ap (λ (x : List Item). x ++ Sent side it.abort ∷ []) (sent_with_channel (other side) it.more before.world))) in
     let there : slice_get step.0.world.sent (next_entry r) ≡ Some (Sent side it.abort) =
     ap₂ (λ (x : List Item) (n : ℕ). slice_get x n) sent (sym number_is) ∙ get_new before.world.sent (Sent side it.abort) in
     let same : it.abort ≡ abort = abort_of abort it.abort side (ap (is_abort abort) (sym there) ∙ so.0) in
@@ -182,7 +174,7 @@ given_is f (Ok given) report events counted same =
 
 -- where the count of the steps is that of a run, the certificate gives it
 pub run_is : (table : Table) (c : Certificate) (entries : List Entry) (report : Report) (events : List Event)
-    → map_ok reported (replayed table c entries) ≡ Ok report
+    → map_ok (reported None) (replayed table c entries) ≡ Ok report
     → run_played table c None (map item_of entries) ≡ Some events → replayed table c entries ≡ Ok events
-run_is table c entries report events counted played = given_is reported (replayed table c entries) report events counted
+run_is table c entries report events counted played = given_is (reported None) (replayed table c entries) report events counted
     (λ given at. some_is (sym (run_plays table c entries given at) ∙ played))

@@ -12,8 +12,7 @@ use Rattle.tcap_check.specs.declared.certificate.Fate.TheVariants.{Lost}
 use Rattle.tcap_record.specs.Ends.{other}
 use Rattle.tcap_model.specs.World.{OnItsWay, World, channel_from}
 use Rattle.tcap_model.specs.Run.{Event, Closes, Loses, Receives, after_quiet}
-use Rattle.tcap_check.specs.Alone.{or_else}
-use Rattle.tcap_check.specs.Replayed.{Replay, losing, stepped, with_step}
+use Rattle.tcap_check.specs.Replayed.{Replay, losing, or_else, stepped, with_step}
 use Rattle.tcap_runs.specs.declared.playing.Playing.{Playing}
 
 -- ---- what is kept

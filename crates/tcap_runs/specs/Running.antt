@@ -14,8 +14,7 @@ use Rattle.tcap_model.specs.Run.{Event, then_so, where_so}
 use Rattle.tcap_check.specs.Certificate.{Certificate}
 use Rattle.tcap_check.specs.Follows.{invoking_half, taken_by}
 use Rattle.tcap_check.specs.Progress.{due_in}
-use Rattle.tcap_check.specs.Replayed.{Replay, implied_over, is_nothing, lost_from_both, lost_from_front, next_entry, nothing_replayed, send_replayed}
-use Rattle.tcap_check.specs.Alone.{all_lost_from, is_sent_by}
+use Rattle.tcap_check.specs.Replayed.{Replay, all_lost_from, implied_over, is_nothing, is_sent_by, lost_from_both, lost_from_front, next_entry, nothing_replayed, send_replayed}
 use Rattle.tcap_runs.specs.Playing.{close_played, quiet_played}
 use Rattle.tcap_runs.specs.Gaps.{gap_played, plays}
 use Rattle.tcap_runs.specs.Sending.{answer_played, tell_played}

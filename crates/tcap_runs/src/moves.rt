@@ -3,8 +3,7 @@
 ghost use Rattle.std.specs.Prelude.{◌≡◌, [], ◌∷◌, IfOk, OnOk, Some, is_ok};
 ghost use Rattle.tcap_model.specs.Run.{Closes, Expires, Receives};
 ghost use Rattle.tcap_record.specs.Ends.{other};
-ghost use Rattle.tcap_check.specs.Alone.{all_lost_from};
-ghost use Rattle.tcap_check.specs.Replayed.{losing, lost_from_both, lost_from_front, or_same, stepped};
+ghost use Rattle.tcap_check.specs.Replayed.{all_lost_from, losing, lost_from_both, lost_from_front, or_same, stepped};
 ghost use Rattle.tcap_end.specs.Hidden.{expire, open_halves};
 ghost use Rattle.tcap_runs.specs.Gaps.{plays};
 ghost use Rattle.tcap_runs.specs.Playing.{Hears, IsReceived, Takes, close_played, end_moved, end_of, quiet_played, received_or_lost, replay_of};

@@ -3,11 +3,35 @@
 use crate::traffic::TABLE;
 use std::alloc::Global;
 use tcap_ber::Counted;
+use tcap_books::Book;
+use tcap_dialogues::Reuse;
+use tcap_end::Table;
 use tcap_judge::{
-    Status, WriteFailed, run_blame, run_check, run_judge, run_judge_end, run_pack, run_show,
+    Status, WriteFailed, blame_record, blame_status, run_blame, run_check, run_judge,
+    run_judge_end, run_pack, run_show,
 };
-use tcap_record::End;
+use tcap_record::{End, read_record};
+use tcap_report::{Asked as AskedOfTrace, Sinks, Stop, Sum, Watch, run_trace};
+use tcap_traces::Verdict;
 use tcap_verdict::{Asked, run_explain};
+
+/// Nobody looks on.
+#[derive(Drop)]
+struct Nobody;
+
+impl Watch for Nobody {
+    fn look(&mut self, _sum: &Sum) {}
+}
+
+/// The status that stands for a verdict on a trace.
+fn status_of(verdict: Verdict) -> Status {
+    match verdict {
+        Verdict::Pass => Status::Fine,
+        Verdict::Fail => Status::Refuted,
+        Verdict::Inconclusive => Status::NotShown,
+        Verdict::Error => Status::Fault,
+    }
+}
 
 /// What the calls answered so far.
 #[derive(Clone, Copy, Debug)]
@@ -19,6 +43,45 @@ pub(crate) struct Answers {
     pub(crate) faulty: u64,
     /// A digest of all that was printed, by FNV-1a, 64 bits.
     pub(crate) digest: u64,
+}
+
+/// How it ends that somebody is blamed in a record of at most 100,000 entries.
+fn blame_of(alloc: Global, octets: &[u8], table: &Table) -> Option<Status> {
+    let read = read_record(alloc, &mut Counted::new(octets)).ok()?;
+    if read.entries.len() > 100_000 {
+        return None;
+    }
+    let blame = blame_record(alloc, &read, table).ok()?;
+    Some(blame_status(blame.ends, blame.outcome))
+}
+
+/// What is asked of a trace: of both ends, by that book.
+fn asked_by(book: &Book) -> AskedOfTrace<'_> {
+    AskedOfTrace {
+        name: "trace",
+        of: None,
+        reuse: Reuse::Again(10_000),
+        settled: false,
+        complete: false,
+        book,
+    }
+}
+
+/// The verdict on a trace of lines, and what is said of it.
+fn said_of(alloc: Global, lines: &[u8], asked: AskedOfTrace) -> Result<(Verdict, Vec<u8>), Stop> {
+    let (mut text, mut watch, mut sum) = (Counted::new(Vec::new(alloc)), Nobody, Sum::new());
+    let mut nowhere: Option<Counted<Vec<u8>>> = None;
+    let json = nowhere.as_mut();
+    let mut sinks = Sinks {
+        text: &mut text,
+        json,
+        page: None,
+        junit: None,
+        sum: &mut sum,
+        watch: &mut watch,
+    };
+    let verdict = run_trace(alloc, &mut Counted::new(lines), asked, &mut sinks)?;
+    Ok((verdict, text.into_inner()))
 }
 
 impl Answers {
@@ -88,6 +151,23 @@ impl Answers {
         let mut table = Counted::new(TABLE.as_bytes());
         let ended = run_blame(alloc, &mut Counted::new(octets), &mut table, &mut writer);
         self.note(ended, &writer.into_inner());
+    }
+
+    /// Says who is at fault, as a program does that calls the library for many small records: nothing is printed.
+    pub(crate) fn blame_small(&mut self, alloc: Global, octets: &[u8], table: &Table) {
+        let ended = match blame_of(alloc, octets, table) {
+            Some(status) => Ok(status),
+            None => Err(WriteFailed),
+        };
+        self.note(ended, b"");
+    }
+
+    /// Judges each dialogue of a trace of lines.
+    pub(crate) fn test(&mut self, alloc: Global, lines: &[u8], book: &Book) {
+        match said_of(alloc, lines, asked_by(book)) {
+            Ok((verdict, text)) => self.note(Ok(status_of(verdict)), &text),
+            Err(_) => self.note(Err(WriteFailed), b""),
+        }
     }
 
     /// Says the verdict, and why.

@@ -2,11 +2,14 @@
 
 use crate::awkward::{all_under_way, crossing, expiring, one_invoke_id, unheard};
 use crate::calls::Answers;
+use crate::dialogues::dialogues_of;
 use crate::dice::Dice;
 use crate::faults::Faults;
 use crate::record::Made;
-use crate::traffic::make_traffic;
+use crate::traffic::{TABLE, make_traffic};
 use std::alloc::{AllocError, Global};
+use tcap_books::Book;
+use tcap_end::Table;
 use tcap_record::End;
 
 /// A job that a user waits for.
@@ -26,10 +29,14 @@ pub(crate) enum Job {
     Awkward,
     /// It is asked who is at fault, and why, in records in which one message in some hundreds is.
     Faulted,
+    /// A load test's trace of many small dialogues is judged, dialogue by dialogue.
+    Traces,
+    /// It is asked who is at fault in each of these dialogues, as a record of its own.
+    Small,
 }
 
 /// All of them.
-pub(crate) const JOBS: [Job; 7] = [
+pub(crate) const JOBS: [Job; 9] = [
     Job::Load,
     Job::Blame,
     Job::Explain,
@@ -37,6 +44,8 @@ pub(crate) const JOBS: [Job; 7] = [
     Job::Archive,
     Job::Awkward,
     Job::Faulted,
+    Job::Traces,
+    Job::Small,
 ];
 
 impl Job {
@@ -50,6 +59,8 @@ impl Job {
             Job::Archive => "archive",
             Job::Awkward => "awkward",
             Job::Faulted => "faulted",
+            Job::Traces => "traces",
+            Job::Small => "small",
         }
     }
 
@@ -63,6 +74,8 @@ impl Job {
             Job::Archive => 150_000,
             Job::Awkward => 240_000,
             Job::Faulted => 100_000,
+            Job::Traces => 60_000,
+            Job::Small => 60_000,
         }
     }
 }
@@ -164,6 +177,30 @@ fn faulted(
     Ok(())
 }
 
+/// Judges the dialogues of a trace of lines.
+fn traces(alloc: Global, answers: &mut Answers, seed: u32, entries: u32) -> Result<(), AllocError> {
+    let lines = load(alloc, seed, entries)?.lines(alloc)?;
+    match Book::from_json(alloc, TABLE.as_bytes()) {
+        Ok(book) => answers.test(alloc, &lines, &book),
+        Err(_) => return Err(AllocError),
+    }
+    Ok(())
+}
+
+/// Says of each dialogue of such a trace, as a record of its own, who is at fault.
+fn small(alloc: Global, answers: &mut Answers, seed: u32, entries: u32) -> Result<(), AllocError> {
+    let records = dialogues_of(alloc, &load(alloc, seed, entries)?)?;
+    match Table::from_json(alloc, TABLE.as_bytes()) {
+        Ok(table) => {
+            for record in &records {
+                answers.blame_small(alloc, record, &table);
+            }
+        }
+        Err(_) => return Err(AllocError),
+    }
+    Ok(())
+}
+
 /// What the calls of a job answer, over records of that seed and of about so many entries in all.
 pub(crate) fn answers_of(
     alloc: Global,
@@ -180,6 +217,8 @@ pub(crate) fn answers_of(
         Job::Archive => archive(alloc, &mut answers, seed, entries)?,
         Job::Awkward => awkward(alloc, &mut answers, seed, entries)?,
         Job::Faulted => faulted(alloc, &mut answers, seed, entries)?,
+        Job::Traces => traces(alloc, &mut answers, seed, entries)?,
+        Job::Small => small(alloc, &mut answers, seed, entries)?,
     }
     Ok(answers)
 }

@@ -5,6 +5,7 @@
 
 mod awkward;
 mod calls;
+mod dialogues;
 mod dice;
 mod faults;
 mod jobs;

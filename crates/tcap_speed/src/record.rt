@@ -69,14 +69,23 @@ impl Made {
         }
     }
 
-    /// The lines of hexadecimal digits of which the record is made.
-    pub(crate) fn lines(&self, alloc: Global) -> Result<Vec<u8>, AllocError> {
-        let mut lines = Vec::new(alloc);
+    /// Its entries.
+    pub(crate) fn entries(&self, alloc: Global) -> Result<Vec<&[u8]>, AllocError> {
+        let mut entries = Vec::new(alloc);
         let mut rest = self.octets.as_slice();
         for len in &self.lens {
             let (entry, behind) = rest.split_at((*len).min(rest.len()));
-            push_line(&mut lines, entry)?;
+            entries.push(entry)?;
             rest = behind;
+        }
+        Ok(entries)
+    }
+
+    /// The lines of hexadecimal digits of which the record is made.
+    pub(crate) fn lines(&self, alloc: Global) -> Result<Vec<u8>, AllocError> {
+        let mut lines = Vec::new(alloc);
+        for entry in &self.entries(alloc)? {
+            push_line(&mut lines, entry)?;
         }
         Ok(lines)
     }

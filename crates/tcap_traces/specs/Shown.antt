@@ -21,13 +21,14 @@ MayHaveSent side table entries = AreLawful (Some side) table entries
     × (list_any (is_of side) (drop number entries) ≡ false))
 
 -- The entry that is named is at fault, of this end, whatever its peer sent and whatever follows. Where it passes, or would, if the
--- dialogue were whole and over and the table its own, it may have sent its part.
+-- dialogue were whole from its Begin on, and over, and the table its own, it may have sent its part.
 abbrev pub IsSo : Side → Table → List Entry → Said → Type 0
 IsSo side table entries (saids.Pass unheard) = MayHaveSent side table entries
 IsSo side table entries (saids.Fail r) = IsAtFaultOf table side entries r
 IsSo side table entries (saids.Doubtful r doubt) = IsAtFaultOf table side entries r
 IsSo side table entries saids.Undecided = Unit {0}
 IsSo side table entries (saids.Behind number) = AreLawful (Some side) table (take number entries)
+IsSo side table entries saids.UnderWay = MayHaveSent side table entries
 IsSo side table entries saids.TooLong = MayHaveSent side table entries
 IsSo side table entries saids.UnsureTable = MayHaveSent side table entries
 IsSo side table entries saids.Open = MayHaveSent side table entries

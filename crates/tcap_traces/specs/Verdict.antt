@@ -142,17 +142,19 @@ abbrev pub is_from : Option ℕ → ℕ → Bool
 is_from None number = false
 is_from (Some first) number = nat_le first number
 
--- The first that is so of what makes a blame inconclusive: it is of a quiet mark; of an operation that the table lacks; of an ID
--- whose transaction may be over; of what the table says, where it is not sure which is the dialogue's; of a dialogue in which an ID came again; or it stands behind an entry that may have been one of
--- this dialogue.
+-- The first that is so of what makes a blame inconclusive: the dialogue may have been under way before its trace, so that nothing
+-- else would make it sure; it is of a quiet mark; of an operation that the table lacks; of an ID whose transaction may be over; of
+-- what the table says, where it is not sure which is the dialogue's; of a dialogue in which an ID came again; or it stands behind an
+-- entry that may have been one of this dialogue.
 abbrev pub doubt_of : Table → Circumstances → Side → List Entry → Refutation → Option Doubt
 doubt_of table c side entries r =
-    cond (is_of_mark r.kind) (Some doubts.AtMark)
+    cond c.under_way (Some doubts.UnderWay)
+    (cond (is_of_mark r.kind) (Some doubts.AtMark)
     (cond (rests_on_lack table side entries r) (Some doubts.LackingOperation)
     (cond (may_be_over table side entries r) (Some doubts.MaybeOver)
     (cond (c.unsure && rests_on_table r.kind) (Some doubts.UnsureTable)
     (cond c.again (Some doubts.CameAgain)
-    (cond (is_from c.unread_from r.entry) (Some doubts.Unread) None)))))
+    (cond (is_from c.unread_from r.entry) (Some doubts.Unread) None))))))
 
 -- ---- what is said of an end
 
@@ -162,7 +164,9 @@ is_of side entry = is_entry_of side entry.side
 
 -- that it passes, but for what the bench asks beside
 abbrev pub passes : Circumstances → ℕ → Said
-passes c unheard = cond c.cut saids.TooLong (cond c.unsure saids.UnsureTable (cond c.open saids.Open (saids.Pass unheard)))
+passes c unheard =
+    cond c.under_way saids.UnderWay
+    (cond c.cut saids.TooLong (cond c.unsure saids.UnsureTable (cond c.open saids.Open (saids.Pass unheard))))
 
 -- that it fails, or what makes that doubtful
 abbrev pub fails : Refutation → Option Doubt → Said

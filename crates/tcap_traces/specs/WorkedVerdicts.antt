@@ -57,7 +57,7 @@ of_another = (refl, refl)
 
 -- that no ID came again, that each entry could be read, and so on
 abbrev alone : Circumstances
-alone = record { again = false; unsure = false; unread_from = None; cut = false; «open» = false }
+alone = record { again = false; under_way = false; unsure = false; unread_from = None; cut = false; «open» = false }
 
 abbrev doubt : Table → Circumstances → Side → List Item → ℕ → Kind → Option Doubt
 doubt given c side items entry kind = doubt_of given c side (map entry_of items) (record { entry = entry; kind = kind })
@@ -87,6 +87,14 @@ unread number = record alone { unread_from = Some number }
 abbrev to_nothing : Circumstances → Option Doubt
 to_nothing c = doubt table c sides.B (begins ∷ Sent sides.B (end_to 9 None) ∷ []) 1 kinds.UnknownTransaction
 
+-- That the dialogue may have been under way counts before all others.
+pub under_way : (to_nothing (record alone { under_way = true }) ≡ Some doubts.UnderWay)
+    × (to_nothing (record (unread 1) { under_way = true; again = true }) ≡ Some doubts.UnderWay)
+    × (doubt table (record alone { under_way = true }) sides.B (begins ∷ answers ∷ Item.Quiet ∷ []) 2 kinds.OpenAtMark
+    ≡ Some doubts.UnderWay)
+    × (doubt table (record alone { under_way = true }) sides.A (invoked 49) 0 kinds.WrongOperation ≡ Some doubts.UnderWay)
+under_way = (refl, refl, refl, refl)
+
 pub of_a_dialogue : (to_nothing (record alone { again = true }) ≡ Some doubts.CameAgain)
     × (to_nothing (unread 1) ≡ Some doubts.Unread) × (to_nothing (unread 2) ≡ None) × (to_nothing alone ≡ None)
 of_a_dialogue = (refl, refl, refl, refl)
@@ -95,7 +103,8 @@ of_a_dialogue = (refl, refl, refl, refl)
 
 pub cut_or_open : (passes alone 3 ≡ saids.Pass 3) × (passes (record alone { «open» = true }) 3 ≡ saids.Open)
     × (passes (record alone { cut = true; «open» = true }) 3 ≡ saids.TooLong)
-cut_or_open = (refl, refl, refl)
+    × (passes (record alone { under_way = true; cut = true; unsure = true; «open» = true }) 3 ≡ saids.UnderWay)
+cut_or_open = (refl, refl, refl, refl)
 
 pub the_worse_one : (worse Pass Pass ≡ Pass) × (worse Pass Inconclusive ≡ Inconclusive) × (worse Fail Inconclusive ≡ Fail)
     × (worse Fail Error ≡ Error)

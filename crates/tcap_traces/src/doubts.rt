@@ -301,6 +301,9 @@ pub(crate) fn doubt_of(
 ) -> Result<Option<Doubt>, AllocError>
     ensures { IfOk result (λ doubt. doubt ≡ doubt_of table.now circumstances end read.now.entries.items at) }
 {
+    if circumstances.under_way {
+        return Ok(Some(Doubt::UnderWay));
+    }
     if at.kind == Kind::OpenAtMark {
         return Ok(Some(Doubt::AtMark));
     }

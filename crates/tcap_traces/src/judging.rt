@@ -55,7 +55,9 @@ impl Ends {
 fn passes(circumstances: Circumstances, unheard: u64) -> Said
     ensures { result ≡ passes circumstances unheard }
 {
-    if circumstances.cut {
+    if circumstances.under_way {
+        Said::UnderWay
+    } else if circumstances.cut {
         Said::TooLong
     } else if circumstances.unsure {
         Said::UnsureTable

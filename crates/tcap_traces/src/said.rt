@@ -9,6 +9,8 @@ use tcap_refute::Refutation;
 /// What a blame rests on beside the end that is blamed, so that it is inconclusive.
 #[derive(Clone, Copy, Debug, PartialEq, Eq)]
 pub enum Doubt {
+    /// The dialogue may have been under way before its trace, which then lacks its Begin.
+    UnderWay,
     /// It is of a quiet mark: that all was quiet the bench said.
     AtMark,
     /// It is of an operation that the table lacks, which is invoked or answered.
@@ -36,6 +38,8 @@ pub enum Said {
     Undecided,
     /// It may have sent its part before that entry, which is no message and stands before others of its own or is one.
     Behind(u64),
+    /// It may have sent its part of the entries, and the dialogue may have been under way before its trace, which then lacks its Begin.
+    UnderWay,
     /// The dialogue has more entries than are judged, and those that are judged may have been sent.
     TooLong,
     /// It may have sent its part by one table, and it is not sure which table is the dialogue's.
@@ -49,6 +53,8 @@ pub enum Said {
 pub struct Circumstances {
     /// An ID of it came again, and something of its earlier use may have been under way.
     pub again: bool,
+    /// It may have been under way before its trace: its first message goes to an ID that was never sent.
+    pub under_way: bool,
     /// It is judged by one table, and it is not sure that this is its own.
     pub unsure: bool,
     /// The number of the first of its entries from which on one that could not be read may have been one of this dialogue.

@@ -45,6 +45,7 @@ const BEHIND: &[u8] = b"\x41\x62\x03\x48\x01\x01\x42\x64\x00\x41\x62\x03\x48\x01
 /// Nothing beside the entries.
 const ALONE: Circumstances = Circumstances {
     again: false,
+    under_way: false,
     unsure: false,
     unread_from: None,
     cut: false,
@@ -90,6 +91,12 @@ fn passes(rt: HostRuntime) -> Result<(), Fail> {
     };
     let found = said(alloc, LAWFUL, TABLE, open);
     assert!(rt; says(found, Said::Open, Said::Open));
+    let under_way = Circumstances {
+        under_way: true,
+        ..open
+    };
+    let found = said(alloc, LAWFUL, TABLE, under_way);
+    assert!(rt; says(found, Said::UnderWay, Said::UnderWay));
     Ok(())
 }
 
@@ -119,6 +126,18 @@ fn fails(rt: HostRuntime) -> Result<(), Fail> {
     };
     let found = said(alloc, TO_NINE, TABLE, unread);
     assert!(rt; says(found, Said::Pass(0), Said::Doubtful(fault, Doubt::Unread)));
+    let under_way = Circumstances {
+        under_way: true,
+        ..again
+    };
+    let found = said(alloc, TO_NINE, TABLE, under_way);
+    assert!(rt;
+        says(
+            found,
+            Said::UnderWay,
+            Said::Doubtful(fault, Doubt::UnderWay)
+        )
+    );
     let behind = Circumstances {
         unread_from: Some(2),
         ..ALONE

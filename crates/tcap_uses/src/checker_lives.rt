@@ -1,13 +1,11 @@
-ghost use Rattle.std.specs.Prelude.{◌≡◌, ◌≢◌, ◌∷◌, [], Ok, Err, IfOk};
+ghost use Rattle.std.specs.Prelude.{◌≡◌, ◌≢◌, ◌∷◌, [], Ok, Err, IfOk, None, Some};
 ghost use Rattle.tcap_model.specs.declared.reason.Reason.TheVariants as reasons;
 ghost use Rattle.tcap_model.specs.World.{Item};
-ghost use Rattle.tcap_check.specs.Alone.{heard_by};
-ghost use Rattle.tcap_check.specs.Checking.{map_ok, reported, run_of};
-ghost use Rattle.tcap_check.specs.EndChecking.{end_reported};
-ghost use Rattle.tcap_check.specs.Replayed.{fault_at};
+ghost use Rattle.tcap_check.specs.Checking.{map_ok, reported};
+ghost use Rattle.tcap_check.specs.Replayed.{fault_at, run_by};
 
 use std::alloc::Global;
-use tcap_check::{Certificate, CheckFault, Checker, EndChecker, EndReport, Report};
+use tcap_check::{Certificate, CheckFault, Checker, Report};
 use tcap_end::Table;
 use tcap_record::End;
 
@@ -43,7 +41,7 @@ pub fn end_waits_behind_mark(
 ) -> Result<(usize, Certificate), CheckFault>
     ensures { IfOk result (λ answer. answer.1 ≡ certificate) }
 {
-    match EndChecker::new(alloc, table, &certificate, end) {
+    match Checker::judging(alloc, table, &certificate, Some(end)) {
         Ok(mut checker) => {
             let marked = checker.mark();
             let waiting = checker.pending();
@@ -61,7 +59,7 @@ pub fn end_waits_behind_mark(
 /// before what it is made over.
 pub fn given_of_mark(alloc: Global, given: (Table, Certificate)) -> Result<Report, CheckFault>
     ensures { result ≢ Err (fault_at reasons.Memory 0)
-        → result ≡ map_ok reported (run_of given.0 given.1 (Ok Item.Quiet ∷ [])) }
+        → result ≡ map_ok (reported None) (run_by None given.0 given.1 (Ok Item.Quiet ∷ [])) }
 {
     let mut checker;
     let (table, certificate) = given;
@@ -78,13 +76,13 @@ pub fn heard_of_mark(
     alloc: Global,
     given: (Table, Certificate),
     end: End,
-) -> Result<EndReport, CheckFault>
+) -> Result<Report, CheckFault>
     ensures { result ≢ Err (fault_at reasons.Memory 0)
-        → result ≡ map_ok (end_reported «end») (heard_by «end» given.0 given.1 (Ok Item.Quiet ∷ [])) }
+        → result ≡ map_ok (reported (Some «end»)) (run_by (Some «end») given.0 given.1 (Ok Item.Quiet ∷ [])) }
 {
     let mut checker;
     let (table, certificate) = given;
-    checker = match EndChecker::new(alloc, &table, &certificate, end) {
+    checker = match Checker::judging(alloc, &table, &certificate, Some(end)) {
         Ok(checker) => checker,
         Err(fault) => return Err(fault),
     };

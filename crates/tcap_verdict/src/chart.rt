@@ -1,360 +1,264 @@
-//! A run as a message sequence chart, a picture in SVG: what two ends send each other, from the top to the bottom.
+//! The chart of a run: a page of HTML, the frame with one object of JSON for the run.
 
-use crate::chart_arrows::Shown;
-use crate::chart_rows::{Row, Rows, rows_of};
-use crate::chart_shapes::{
-    Anchor, BAND, BLACK, GREY, Point, Stroke, WHITE, WIDTH, begin_rectangle, begin_text, end_text,
-    inside, push_line, push_number, push_rectangle, push_text, push_word,
-};
-use crate::chart_texts::{Chart, Place};
-use crate::step_lines::letter;
+use crate::step_lines::{is_entry, letter, push_half, push_owner, push_reason};
 use std::alloc::{AllocError, Global};
-use tcap_record::{End, Record};
-use tcap_runs::Step;
+use tcap_check::Certificate;
+use tcap_end::{HalfName, Table};
+use tcap_judge::{Outcome, push_outcome};
+use tcap_page::{FRAME_HEAD, FRAME_TAIL, push_entry, push_named};
+use tcap_record::{Body, End, Entry, Record};
+use tcap_runs::{Step, run_until};
 
-/// So many rows are shown at most.
-const ROWS_LIMIT: usize = 2_000;
+/// So many rows are told at most.
+const MOST: usize = 2_000;
 
-/// A line of the title has at most so many characters.
-const TITLE_LEN: u64 = 100;
-
-/// Where the head of the chart begins, and how high it is.
-const MARGIN: u64 = 24;
-
-const HEADS: u64 = 34;
-
-/// The rows that are shown, by their numbers: from the first one to the one before `end`.
-#[derive(Clone, Copy, Debug)]
-struct Window {
-    first: usize,
-    end: usize,
+/// What a chart is of: a record, the end that is judged alone, where it is one, and what is said: an outcome, and the lines behind
+/// that of it.
+#[derive(Clone, Copy)]
+pub(crate) struct Chart<'a> {
+    pub(crate) read: &'a Record,
+    pub(crate) judged: Option<End>,
+    pub(crate) outcome: Outcome,
+    pub(crate) behind: &'a str,
 }
 
-/// The rows that are shown of so many: all, or those around the marked one, or the first ones.
-fn window_of(count: usize, marked: Option<usize>) -> Window {
-    if count <= ROWS_LIMIT {
-        return Window {
-            first: 0,
-            end: count,
-        };
-    }
-    let middle = marked.unwrap_or(0);
-    let first = middle
-        .saturating_sub(ROWS_LIMIT / 2)
-        .min(count - ROWS_LIMIT);
-    Window {
-        first,
-        end: first.saturating_add(ROWS_LIMIT),
-    }
+/// A row of a chart.
+#[derive(Clone, Copy)]
+enum Row<'a> {
+    /// A step, before which so many entries were sent.
+    Step(usize, &'a Step),
+    /// The entry of that number, which stands behind the last step.
+    Stands(usize),
 }
 
-/// Appends a character of a text of SVG.
-fn push_escaped(text: &mut String, letter: char) -> Result<(), AllocError> {
-    match letter {
-        '&' => text.push_str("&amp;"),
-        '<' => text.push_str("&lt;"),
-        '>' => text.push_str("&gt;"),
-        '\0'..='\x1f' => text.push_str(" "),
-        '\u{fffe}' | '\u{ffff}' => text.push_str("?"),
-        _ => {
-            text.push(letter)?;
-            Ok(())
-        }
+/// The number of the entry that a row is, where it is one.
+fn entry_in(row: Row) -> Option<usize> {
+    match row {
+        Row::Step(number, step) if is_entry(step) => Some(number),
+        Row::Step(_, _) => None,
+        Row::Stands(number) => Some(number),
     }
 }
 
-/// Begins a line of the title.
-fn begin_title(text: &mut String, y: u64) -> Result<(), AllocError> {
-    begin_text(text, Point { x: 20, y }, Anchor::Start, BLACK)?;
-    text.push_str(" font-size=\"14\" font-weight=\"bold\">")
-}
-
-/// Appends the title, in lines, and answers where what is below it begins.
-fn push_title(text: &mut String, title: &str) -> Result<u64, AllocError> {
-    let mut y = MARGIN;
-    let mut len: u64 = 0;
-    begin_title(text, y)?;
-    for letter in title.chars() {
-        if letter == '\n' || len >= TITLE_LEN {
-            end_text(text)?;
-            y = y.saturating_add(18);
-            len = 0;
-            begin_title(text, y)?;
-        }
-        push_escaped(text, letter)?;
-        len = len.saturating_add(1);
-    }
-    end_text(text)?;
-    Ok(y.saturating_add(10))
-}
-
-/// Appends the head of the line of an end.
-fn push_head(text: &mut String, end: End, top: u64) -> Result<(), AllocError> {
-    let x = inside(end, 0);
-    let from = Point {
-        x: x.saturating_sub(30),
-        y: top,
-    };
-    begin_rectangle(text, from, 60, 22)?;
-    text.push_str(" stroke=\"black\"/>\n")?;
-    let y = top.saturating_add(16);
-    begin_text(text, Point { x, y }, Anchor::Middle, BLACK)?;
-    text.push_str(" font-weight=\"bold\">")?;
-    text.push_str(letter(end))?;
-    end_text(text)
-}
-
-/// The first and the last entry of these rows, where there are some.
-fn entries_of(rows: &Rows, window: Window) -> Option<(usize, usize)> {
-    let mut found = None;
-    for number in window.first..window.end {
-        if let Some(Row::Entry(entry)) = rows.rows.get(number) {
-            found = match found {
-                Some((first, _)) => Some((first, *entry)),
-                None => Some((*entry, *entry)),
-            };
-        }
-    }
-    found
-}
-
-/// Appends what is left out, where something is, and answers where what is below it begins.
-fn push_left_out(
-    text: &mut String,
-    top: u64,
-    rows: &Rows,
-    window: Window,
-) -> Result<u64, AllocError> {
-    let count = rows.rows.len();
-    if count <= ROWS_LIMIT {
-        return Ok(top);
-    }
-    let (first, end) = (window.first.saturating_add(1), window.end);
-    let y = top.saturating_add(10);
-    begin_text(text, Point { x: 20, y }, Anchor::Start, BLACK)?;
-    text.push_str(">rows ")?;
-    write!(text, "{first} to {end} of {count}")?;
-    if let Some((from, to)) = entries_of(rows, window) {
-        text.push_str(", entries ")?;
-        write!(text, "{from} to {to}")?;
-    }
-    text.push_str("; the others are left out")?;
-    end_text(text)?;
-    Ok(top.saturating_add(18))
-}
-
-/// Appends the beginning of a picture of that height.
-fn push_front(text: &mut String, height: u64) -> Result<(), AllocError> {
-    text.push_str("<svg xmlns=\"http://www.w3.org/2000/svg\"")?;
-    push_number(text, "width", WIDTH)?;
-    push_number(text, "height", height)?;
-    text.push_str(" viewBox=\"0 0 ")?;
-    write!(text, "{WIDTH} {height}")?;
-    text.push_str("\" font-family=\"monospace\" font-size=\"12\">\n")?;
-    push_rectangle(text, Point { x: 0, y: 0 }, WIDTH, height, WHITE)?;
-    text.push_str("<defs><marker id=\"head\" viewBox=\"0 0 10 8\" refX=\"10\" refY=\"4\" ")?;
-    text.push_str("markerWidth=\"10\" markerHeight=\"8\" markerUnits=\"userSpaceOnUse\" ")?;
-    text.push_str("orient=\"auto\"><path d=\"M0 0L10 4L0 8z\" fill=\"black\"/></marker></defs>\n")
-}
-
-/// Begins a group of shapes that have that attribute, where they have none of their own.
-fn begin_group(text: &mut String, name: &str, word: &str) -> Result<(), AllocError> {
-    text.push_str("<g")?;
-    push_word(text, name, word)?;
-    text.push_str(">\n")
-}
-
-/// Appends the band of colour behind a row.
-fn push_band(text: &mut String, place: &Place) -> Result<(), AllocError> {
-    let from = Point { x: 0, y: place.top };
-    let height = place.bottom.saturating_sub(place.top);
-    push_rectangle(text, from, WIDTH, height, BAND)
-}
-
-/// Appends the line of an end, dashed where the other is judged alone.
-fn push_end(
-    text: &mut String,
-    end: End,
-    top: u64,
-    bottom: u64,
-    judged: Option<End>,
-) -> Result<(), AllocError> {
-    let x = inside(end, 0);
-    let stroke = if judged == Some(end.other()) {
-        Stroke::Dashed
-    } else {
-        Stroke::Plain
-    };
-    push_line(text, Point { x, y: top }, Point { x, y: bottom }, stroke)
-}
-
-/// Appends the texts of a row; where it is marked they stand on the colour of its band.
-fn push_texts(
-    chart: Chart,
-    text: &mut String,
-    top: u64,
-    row: Row,
-    is_marked: bool,
-) -> Result<Place, AllocError> {
-    if !is_marked {
-        return chart.push_row_texts(text, top, row);
-    }
-    begin_group(text, "fill", BAND)?;
-    let place = chart.push_row_texts(text, top, row)?;
-    text.push_str("</g>\n")?;
-    Ok(place)
-}
-
-/// Appends the texts of the rows that are shown, and answers where each row stands.
-fn push_rows(
-    chart: Chart,
-    text: &mut String,
-    top: u64,
-    window: Window,
-    marked: Option<usize>,
-) -> Result<Vec<Place>, AllocError> {
-    let mut places = Vec::new(chart.alloc);
-    let mut next = top;
-    for number in window.first..window.end {
-        if let Some(row) = chart.rows.rows.get(number) {
-            let place = push_texts(chart, text, next, *row, marked == Some(number))?;
-            next = place.bottom;
-            places.push(place)?;
-        }
-    }
-    Ok(places)
-}
-
-/// Appends the arrows of a row, broader ones where it is marked.
-fn push_row_arrows(
-    chart: Chart,
-    text: &mut String,
-    shown: Shown,
-    place: &Place,
-    row: Row,
-    is_marked: bool,
-) -> Result<(), AllocError> {
-    if !is_marked {
-        return chart.push_row_arrows(text, shown, place, row);
-    }
-    begin_group(text, "stroke-width", "2")?;
-    chart.push_row_arrows(text, shown, place, row)?;
-    text.push_str("</g>\n")
-}
-
-/// Appends the arrows of the rows that are shown.
-fn push_all_arrows(
-    chart: Chart,
-    text: &mut String,
-    shown: Shown,
-    marked: Option<usize>,
-) -> Result<(), AllocError> {
-    for (index, place) in shown.places.iter().enumerate() {
-        let number = shown.first.saturating_add(index);
-        if let Some(row) = chart.rows.rows.get(number) {
-            push_row_arrows(chart, text, shown, place, *row, marked == Some(number))?;
-        }
-    }
-    Ok(())
-}
-
-/// Where the last row ends.
-fn bottom_of(places: &[Place], top: u64) -> u64 {
-    match places.last() {
-        Some(place) => place.bottom,
-        None => top,
-    }
-}
-
-/// Appends what the signs of a chart mean, in a line or two.
-fn push_legend(text: &mut String, y: u64, judged: Option<End>) -> Result<u64, AllocError> {
-    push_text(
-        text,
-        Point { x: 20, y },
-        Anchor::Start,
-        GREY,
-        "bold: the number of an entry; grey: of the message that comes; slanted: it was delayed",
-    )?;
-    let Some(end) = judged else {
-        return Ok(y);
-    };
-    let y = y.saturating_add(16);
-    begin_text(text, Point { x: 20, y }, Anchor::Start, GREY)?;
-    text.push_str(">")?;
-    text.push_str(letter(end))?;
-    text.push_str(" is judged alone: nothing is asked of what ")?;
-    text.push_str(letter(end.other()))?;
-    text.push_str(" sends, nor of what it hears")?;
-    end_text(text)?;
-    Ok(y)
-}
-
-/// Appends the chart of the rows that are shown: `texts` are those of its head, which ends at `top`.
-fn push_shown(
-    chart: Chart,
-    text: &mut String,
-    texts: String,
-    top: u64,
-    window: Window,
-    marked: Option<usize>,
-) -> Result<(), AllocError> {
-    let mut texts = texts;
-    push_head(&mut texts, End::A, top)?;
-    push_head(&mut texts, End::B, top)?;
-    let first = top.saturating_add(HEADS);
-    let places = push_rows(chart, &mut texts, first, window, marked)?;
-    let bottom = bottom_of(&places, first).saturating_add(12);
-    let last = push_legend(&mut texts, bottom.saturating_add(20), chart.rows.judged)?;
-    push_front(text, last.saturating_add(14))?;
-    if let Some(place) = marked.and_then(|row| places.get(row.checked_sub(window.first)?)) {
-        push_band(text, place)?;
-    }
-    begin_group(text, "stroke", BLACK)?;
-    let under = top.saturating_add(22);
-    push_end(text, End::A, under, bottom, chart.rows.judged)?;
-    push_end(text, End::B, under, bottom, chart.rows.judged)?;
-    let shown = Shown {
-        first: window.first,
-        places: &places,
-    };
-    push_all_arrows(chart, text, shown, marked)?;
-    text.push_str("</g>\n")?;
-    begin_group(text, "fill", WHITE)?;
-    text.push_str(texts.as_str())?;
-    text.push_str("</g>\n</svg>\n")
-}
-
-/// Appends a run as a message sequence chart, an SVG file of its own: the entries of `record` as arrows from one end to the
-/// other, A at the left and B at the right, by these steps, which are a run of the first of them or of all; those behind the
-/// last step are dotted. Messages that are lost or can't be received end at a cross; what happens unseen is a note at the
-/// line of its end; a quiet mark is a line across. Where the run is that of one end alone, `judged` is that end, and all that
-/// it sends is shown as sent, whatever becomes of it. `marked` is the number of the entry that is marked by a band of colour;
-/// one that the record has not marks what stands behind the last. `title` stands above, each of its lines on one of its own.
-/// Where there are over 2,000 rows, those around the marked entry are shown, or the first ones, and it is said which.
-/// `AllocError` where memory ran out: what `text` holds then is not said.
-pub(crate) fn push_chart(
+/// The rows of a run of these steps: each step, and each entry behind the last.
+fn rows_of<'a>(
     alloc: Global,
-    text: &mut String,
-    record: &Record,
-    steps: &[Step],
-    judged: Option<End>,
-    marked: Option<u64>,
-    title: &str,
+    read: &Record,
+    steps: &'a [Step],
+) -> Result<Vec<Row<'a>>, AllocError> {
+    let mut rows = Vec::new(alloc);
+    let mut number: usize = 0;
+    for step in steps {
+        rows.push(Row::Step(number, step))?;
+        if is_entry(step) {
+            number = number.saturating_add(1);
+        }
+    }
+    for number in number..read.entries.len() {
+        rows.push(Row::Stands(number))?;
+    }
+    Ok(rows)
+}
+
+/// The entry where an outcome falls, where it falls at one.
+fn marked(outcome: Outcome) -> Option<u64> {
+    match outcome {
+        Outcome::Refuted(refutation) => Some(refutation.entry),
+        Outcome::NotShown(fault) | Outcome::Undecided(fault) => Some(fault.entry),
+        _ => None,
+    }
+}
+
+/// The place of the row of the marked entry; where no row is that, the last or, where none is marked, the first.
+fn place_of(rows: &[Row], marked: Option<u64>) -> usize {
+    let Some(marked) = marked else {
+        return 0;
+    };
+    let mut place: usize = 0;
+    for row in rows {
+        if entry_in(*row) == Some(marked as usize) {
+            return place;
+        }
+        place = place.saturating_add(1);
+    }
+    place
+}
+
+/// How many rows are left out before those that are told: all are told, or as many before the marked one as behind it.
+fn left_before(count: usize, place: usize) -> usize {
+    place
+        .saturating_sub(MOST / 2)
+        .min(count.saturating_sub(MOST))
+}
+
+/// Appends the object of an entry.
+fn push_told(
+    alloc: Global,
+    json: &mut String,
+    number: usize,
+    entry: &Entry,
 ) -> Result<(), AllocError> {
-    let mut rows = rows_of(alloc, record, steps, judged)?;
-    let marked = match marked {
-        Some(number) => Some(rows.row_of(number)?),
-        None => None,
+    let mut fault = String::new(alloc);
+    if let Body::Bad(found) = &entry.body {
+        let (reason, place) = (found.reason.number(), found.place);
+        write!(fault, "FAULT {reason} {place}")?;
+    }
+    push_entry(alloc, json, number, entry, &fault, None)?;
+    json.push_str("}")
+}
+
+/// Appends the entries of these rows.
+fn push_entries(
+    alloc: Global,
+    json: &mut String,
+    read: &Record,
+    rows: &[Row],
+) -> Result<(), AllocError> {
+    json.push_str(",\"entries\":[")?;
+    let mut first = true;
+    for row in rows {
+        if let Some(number) = entry_in(*row) {
+            if let Some(entry) = read.entries.get(number) {
+                json.push_str(if first { "" } else { "," })?;
+                push_told(alloc, json, number, entry)?;
+                first = false;
+            }
+        }
+    }
+    json.push_str("]")
+}
+
+/// Appends the beginning of a row.
+fn push_word(json: &mut String, word: &str, end: Option<End>) -> Result<(), AllocError> {
+    json.push_str("{\"step\":\"")?;
+    json.push_str(word)?;
+    json.push_str("\"")?;
+    match end {
+        Some(end) => push_named(json, "end", letter(end)),
+        None => Ok(()),
+    }
+}
+
+/// Appends what an end does with an entry.
+fn push_deed(json: &mut String, word: &str, end: End, number: u64) -> Result<(), AllocError> {
+    push_word(json, word, Some(end))?;
+    write!(json, ",\"entry\":{number}")
+}
+
+/// Appends what happens unseen at an end: of a half, or of an invocation of it.
+fn push_unseen(
+    alloc: Global,
+    json: &mut String,
+    end: End,
+    name: &HalfName,
+    id: Option<i8>,
+) -> Result<(), AllocError> {
+    let mut half = String::new(alloc);
+    let Some(id) = id else {
+        push_word(json, "closes", Some(end))?;
+        push_half(&mut half, name)?;
+        return push_named(json, "half", &half);
     };
-    let window = window_of(rows.rows.len(), marked);
-    let mut texts = String::new(alloc);
-    let below = push_title(&mut texts, title)?;
-    let top = push_left_out(&mut texts, below, &rows, window)?;
-    let chart = Chart {
-        alloc,
-        record,
-        steps,
-        rows: &rows,
-    };
-    push_shown(chart, text, texts, top, window, marked)
+    push_word(json, "expires", Some(end))?;
+    push_owner(&mut half, name)?;
+    push_named(json, "half", &half)?;
+    write!(json, ",\"invoke\":{id}")
+}
+
+/// Appends a step, before which so many entries were sent, but for its end.
+fn push_step(
+    alloc: Global,
+    json: &mut String,
+    number: usize,
+    step: &Step,
+) -> Result<(), AllocError> {
+    match step {
+        Step::Sends(end, _) => push_deed(json, "sends", *end, number as u64),
+        Step::Tells(end, _) => push_deed(json, "tells", *end, number as u64),
+        Step::Receives(end, received) => push_deed(json, "receives", *end, *received),
+        Step::Replies(end, answered) => {
+            push_deed(json, "replies", *end, number as u64)?;
+            write!(json, ",\"answers\":{answered}")
+        }
+        Step::Loses(sender, lost) => push_deed(json, "loses", *sender, *lost),
+        Step::Discards(sender, lost, reason) => {
+            push_deed(json, "discards", sender.other(), *lost)?;
+            let mut words = String::new(alloc);
+            push_reason(&mut words, *reason)?;
+            push_named(json, "reason", &words)
+        }
+        Step::Expires(end, name, id) => push_unseen(alloc, json, *end, name, Some(*id)),
+        Step::Closes(end, name) => push_unseen(alloc, json, *end, name, None),
+        Step::Quiet => {
+            push_word(json, "quiet", None)?;
+            write!(json, ",\"entry\":{number}")
+        }
+    }
+}
+
+/// Appends rows.
+fn push_rows(alloc: Global, json: &mut String, rows: &[Row]) -> Result<(), AllocError> {
+    json.push_str(",\"steps\":[")?;
+    let mut first = true;
+    for row in rows {
+        json.push_str(if first { "" } else { "," })?;
+        match row {
+            Row::Step(number, step) => push_step(alloc, json, *number, step)?,
+            Row::Stands(number) => {
+                push_word(json, "stands", None)?;
+                write!(json, ",\"entry\":{number}")?;
+            }
+        }
+        json.push_str("}")?;
+        first = false;
+    }
+    json.push_str("]")
+}
+
+impl Chart<'_> {
+    /// Appends the line of the outcome, whose it is, where it falls, and what stands behind it, where that is no run.
+    fn push_head(self, alloc: Global, json: &mut String) -> Result<(), AllocError> {
+        let mut title = String::new(alloc);
+        push_outcome(&mut title, self.outcome)?;
+        let count = self.read.entries.len();
+        write!(json, "{{\"run\":{{\"count\":{count}")?;
+        push_named(json, "title", title.trim_end())?;
+        if let Some(end) = self.judged {
+            push_named(json, "of", letter(end))?;
+        }
+        let Some(marked) = marked(self.outcome) else {
+            return Ok(());
+        };
+        write!(json, ",\"marked\":{marked}")?;
+        push_named(json, "text", self.behind)
+    }
+
+    /// The page of a run of these steps. Where it has over 2,000 rows, which are its steps and the entries behind the last, those about
+    /// the entry where the outcome falls are told, or the first, and it is said how many are left out before and behind them.
+    pub(crate) fn of_steps(self, alloc: Global, steps: &[Step]) -> Result<String, AllocError> {
+        let rows = rows_of(alloc, self.read, steps)?;
+        let before = left_before(rows.len(), place_of(&rows, marked(self.outcome)));
+        let end = before.saturating_add(MOST).min(rows.len());
+        let told = rows.get(before..end).unwrap_or(&[]);
+        let mut page = String::new(alloc);
+        page.push_str(FRAME_HEAD)?;
+        self.push_head(alloc, &mut page)?;
+        push_entries(alloc, &mut page, self.read, told)?;
+        push_rows(alloc, &mut page, told)?;
+        let behind = rows.len().saturating_sub(end);
+        writeln!(page, ",\"left_out\":[{before},{behind}]}}}}")?;
+        page.push_str(FRAME_TAIL)?;
+        Ok(page)
+    }
+
+    /// The same of the run of a certificate, as far as it gives it.
+    pub(crate) fn of_certificate(
+        self,
+        alloc: Global,
+        table: &Table,
+        certificate: &Certificate,
+    ) -> Result<String, AllocError> {
+        let run = run_until(alloc, self.read, table, certificate, self.judged)?;
+        self.of_steps(alloc, &run.steps)
+    }
 }

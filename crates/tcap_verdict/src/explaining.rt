@@ -9,7 +9,7 @@ ghost use Rattle.tcap_check.specs.Replayed.{fault_at};
 ghost use Rattle.tcap_model.specs.declared.reason.Reason.TheVariants as reasons;
 ghost use Rattle.tcap_judge.specs.declared.outcome.Outcome.TheVariants.{Refuted};
 ghost use Rattle.tcap_judge.specs.Checked.{out_of_memory, replay_says};
-ghost use Rattle.tcap_judge.specs.Judged.{AreLawful, IsShown, lawful_by, replayed_by};
+ghost use Rattle.tcap_judge.specs.Judged.{IsShown, lawful_by, replayed_by};
 ghost use Rattle.tcap_judge.specs.Verdict.{named_by, proposed_by, verdict_of};
 ghost use Rattle.tcap_runs.specs.Steps.{events_of};
 ghost use Rattle.tcap_verdict.specs.Faults.{IsFaultBehind};
@@ -17,7 +17,7 @@ ghost use Rattle.tcap_verdict.specs.StepLines.{run_lines};
 ghost use Rattle.tcap_verdict.specs.Refuted.{refuted_lines};
 ghost use Rattle.tcap_verdict.specs.Why.{EndsWithEnds, Explains, ExplainsBy, GivesWhy, GivesWhyBy, IsExplained, IsExplainedBy, IsWhy};
 
-use crate::charts::{chart_of, chart_of_steps};
+use crate::chart::Chart;
 use crate::faults::fault_text;
 use crate::refuted::refuted_text;
 use crate::step_lines::{is_lost_from, push_steps};
@@ -40,7 +40,7 @@ struct Why {
     outcome: Outcome,
     // The lines behind that of the outcome.
     behind: String,
-    // The run as a chart; empty where none is asked for, or there is no record.
+    // The run as a page; empty where none is asked for, or there is no record.
     chart: String,
 }
 
@@ -94,7 +94,8 @@ fn steps_of(
 ) -> Result<Vec<Step>, CheckFault>
     ensures exact { result ≢ Err (fault_at reasons.Memory 0) → map_ok (λ steps. events_of steps.items) result
         ≡ replayed_by judged table.now certificate.now read.now.entries.items }
-    ensures lawful { IfOk result (λ steps. AreLawful judged table.now read.now.entries.items) }
+    ensures lawful { IfOk result (λ steps. IsShown judged table.now read.now.entries.items
+        (lawful_by judged (length read.now.entries.items) (events_of steps.items))) }
 {
     match judged {
         None => run_of(alloc, read, table, certificate),
@@ -140,7 +141,13 @@ fn explain_run(
     let mut behind = String::new(alloc);
     push_steps(&mut behind, asked.judged, steps)?;
     let chart = if asked.with_chart {
-        chart_of_steps(alloc, read, steps, asked.judged, outcome)?
+        Chart {
+            read,
+            judged: asked.judged,
+            outcome,
+            behind: &behind,
+        }
+        .of_steps(alloc, steps)?
     } else {
         String::new(alloc)
     };
@@ -167,7 +174,13 @@ fn explain_stop(
 {
     let behind = stop_text(alloc, read, table, certificate, asked.judged, fault)?;
     let chart = if asked.with_chart {
-        chart_of(alloc, read, table, certificate, asked.judged, outcome)?
+        Chart {
+            read,
+            judged: asked.judged,
+            outcome,
+            behind: &behind,
+        }
+        .of_certificate(alloc, table, certificate)?
     } else {
         String::new(alloc)
     };
@@ -194,7 +207,13 @@ fn explain_refuted(
     let behind = refuted_text(alloc, read, table, asked.judged, refutation)?;
     let chart = if asked.with_chart {
         let certificate = propose(alloc, read, asked.judged)?;
-        chart_of(alloc, read, table, &certificate, asked.judged, outcome)?
+        Chart {
+            read,
+            judged: asked.judged,
+            outcome,
+            behind: &behind,
+        }
+        .of_certificate(alloc, table, &certificate)?
     } else {
         String::new(alloc)
     };
@@ -382,7 +401,7 @@ fn explain_all<R: Read, T: Read, C: Read>(
 /// of both, and writes the line of `judge`, and behind it why: of a record that is lawful, the run that shows it, step by step
 /// (Q.774 3.2 and 3.3); where an entry is at fault, what it does and on which entries that rests; else where the run stops, and
 /// what the end knows there. Behind REFUTED and UNDECIDED stands, where both ends are judged, what `blame` says of each, and
-/// why. The status is that of `judge`. `chart` becomes the chart of the run, an SVG, where one is asked for and the record, the
+/// why. The status is that of `judge`. `chart` becomes the chart of the run, a page of HTML, where one is asked for and the record, the
 /// table and the certificate have no fault, and else empty. All memory is taken before the first octet is written; where it runs
 /// out, `FAULT 99 0` is the only line. `WriteFailed` where the writer failed.
 pub fn run_explain<R: Read, T: Read, W: Write>(

@@ -3,12 +3,6 @@
 #![tactic(auto)]
 
 mod chart;
-mod chart_arrows;
-mod chart_labels;
-mod chart_rows;
-mod chart_shapes;
-mod chart_texts;
-mod charts;
 mod explaining;
 mod faults;
 mod half_states;

@@ -75,7 +75,7 @@ fn push_labelled(text: &mut String, label: &str, id: &[u8]) -> Result<(), AllocE
 }
 
 /// Appends the name of a half, as it stands behind an invocation.
-fn push_owner(text: &mut String, name: &HalfName) -> Result<(), AllocError>
+pub(crate) fn push_owner(text: &mut String, name: &HalfName) -> Result<(), AllocError>
     ensures { OnOk result (string_bytes text.new ≡ string_bytes text.old ++ owner_text name.now) }
 {
     match name {
@@ -85,7 +85,7 @@ fn push_owner(text: &mut String, name: &HalfName) -> Result<(), AllocError>
 }
 
 /// Appends the name of a half.
-fn push_half(text: &mut String, name: &HalfName) -> Result<(), AllocError>
+pub(crate) fn push_half(text: &mut String, name: &HalfName) -> Result<(), AllocError>
     ensures { OnOk result (string_bytes text.new ≡ string_bytes text.old ++ half_text name.now) }
 {
     match name {
@@ -121,7 +121,7 @@ fn push_sent(
 }
 
 /// Appends why an end can't receive a message.
-fn push_reason(text: &mut String, reason: EndFault) -> Result<(), AllocError>
+pub(crate) fn push_reason(text: &mut String, reason: EndFault) -> Result<(), AllocError>
     ensures { OnOk result (string_bytes text.new ≡ string_bytes text.old ++ discard_text reason) }
 {
     match reason {
@@ -237,7 +237,7 @@ fn push_step(
 }
 
 /// Whether a step is an entry.
-fn is_entry(step: &Step) -> bool
+pub(crate) fn is_entry(step: &Step) -> bool
     ensures { result ≡ is_entry step.now }
 {
     matches!(

@@ -1,19 +1,20 @@
 -- What the command line makes of the words of `show` with its flags, and of `table`, after the program's name.
-use Rattle.std.proofs.Common.{◌≡◌, ◌&&◌, Bool, true, false, [], ◌∷◌, Option, Some, ap, refl, codes}
+use Rattle.std.proofs.Common.{◌≡◌, ◌&&◌, Bool, true, false, [], ◌∷◌, Option, Some, None, ap, refl, codes}
 use Rattle.clap.proofs.OnLiterals.{clap_on_literals}
-use Rattle.clap.specs.Faults.{fault_of}
 use Rattle.clap.specs.Simple.{Shape}
 use Rattle.clap.specs.Takes.{takes, turn_passes, walk_passes}
 use Rattle.clap.specs.Walk.{Held, Text, Walk, finished, first_of, nothing_held, walk_from, walked}
-use Rattle.clap.specs.declared.error.kind.ErrorKind.TheVariants as kind
-use Rattle.tcap_words.specs.CommandLine.{show_shape, tool}
+use Rattle.tcap_words.specs.CommandLine.{show_shape, tool, with_path}
 use Rattle.tcap_words.specs.Words.{begins_with_hyphen, named_with, named_with_flags, shown_path}
 use Rattle.tcap_words.proofs.EndCases.{behind}
 use Rattle.tcap_words.proofs.Paths.{level, level_passed, moved, moved_at, passes_on, turned_at, walk_at}
-use Rattle.tcap_words.proofs.Needed.{sub_built, table_built}
+use Rattle.tcap_words.proofs.Needed.{sub_built}
 
 abbrev show_built : Shape
 show_built = sub_built show_shape
+
+abbrev table_built : Shape
+table_built = sub_built (with_path (codes "table") (codes "TABLE"))
 
 -- what is held behind a flag
 abbrev behind_flag : Text → Held → Held
@@ -102,7 +103,11 @@ module _ (path : Text) (plain : begins_with_hyphen path ≡ false) where
       table_at : Walk → Option (Text × Option Text)
       table_at w = Some (codes "table", first_of (codes "TABLE") (finished table_built.rules w.held))
 
-pub table_alone_missing : (program : Text)
-    → fault_of tool (program ∷ codes "table" ∷ []) ≡ kind.MissingRequiredArgument ∷ []
+pub table_alone_taken : (program : Text) → takes tool (program ∷ codes "table" ∷ []) ≡ true
 unfolding tool clap_on_literals
-table_alone_missing program = refl
+table_alone_taken program = refl
+
+pub table_alone_named : (program : Text)
+    → named_with (codes "TABLE") (program ∷ codes "table" ∷ []) ≡ Some (codes "table", None)
+unfolding tool clap_on_literals
+table_alone_named program = refl

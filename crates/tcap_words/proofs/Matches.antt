@@ -168,17 +168,6 @@ blame_there m words name f same clear is_name is_rows is_blame =
       ap is_some (first_value-rows f (codes "TABLE")) ∙ there.1,
     )
 
-pub table_there : (m : ArgMatches) (words : List Text) (name : Text) (f : Found)
-    → subcommand_rows_of m ≡ subcommand_of tool words
-    → fault_of tool words ≡ []
-    → Some name ≡ subcommand_name_of m
-    → Some (rows_of f) ≡ option_map (λ p. p.1) (subcommand_rows_of m) → name ≡ codes "table"
-    → is_some (first_value f (codes "TABLE")) ≡ true
-table_there m words name f same clear is_name is_rows is_table =
-    ap is_some (first_value-rows f (codes "TABLE"))
-    ∙ (needed_there words (codes "table", rows_of f) clear
-    (entered_at m words name (codes "table") f same is_name is_rows is_table)).4 refl
-
 pub test_there : (m : ArgMatches) (words : List Text) (name : Text) (f : Found)
     → subcommand_rows_of m ≡ subcommand_of tool words
     → fault_of tool words ≡ []
@@ -189,7 +178,7 @@ pub test_there : (m : ArgMatches) (words : List Text) (name : Text) (f : Found)
     × IfSome (first_value f (codes "linger")) (λ word. is_number word ≡ true)
 test_there m words name f same clear is_name is_rows is_test =
     let there = (needed_there words (codes "test", rows_of f) clear
-    (entered_at m words name (codes "test") f same is_name is_rows is_test)).5 refl in (
+    (entered_at m words name (codes "test") f same is_name is_rows is_test)).4 refl in (
       fits_read f (codes "of") is_letter there.0,
       fits_read f (codes "ids") is_ids_word there.1,
       fits_read f (codes "linger") is_number there.2,
@@ -217,20 +206,6 @@ show_asked_of m words name f r b d same is_name is_rows is_show is_path is_b is_
 
     shown : Option Text → Bool → Bool → Option (Text × (Option Text × Bool × Bool))
     shown o x y = Some (codes "show", (o, x, y))
-
-pub table_asked_of : (m : ArgMatches) (words : List Text) (name : Text) (f : Found) (x : Text)
-    → subcommand_rows_of m ≡ subcommand_of tool words
-    → Some name ≡ subcommand_name_of m
-    → Some (rows_of f) ≡ option_map (λ p. p.1) (subcommand_rows_of m) → name ≡ codes "table"
-    → Some x ≡ first_value f (codes "TABLE")
-    → named_with (codes "TABLE") words ≡ Some (codes "table", Some x)
-table_asked_of m words name f x same is_name is_rows is_table is_x =
-    ap (option_map (λ p. (p.0, first_of (codes "TABLE") p.1)))
-    (entered_at m words name (codes "table") f same is_name is_rows is_table)
-    ∙ ap (λ (o : Option Text). one o) (sym (is_x ∙ first_value-rows f (codes "TABLE")))
-  where
-    one : Option Text → Option (Text × Option Text)
-    one o = Some (codes "table", o)
 
 pub check_asked_of : (m : ArgMatches) (words : List Text) (name : Text) (f : Found) (x y z : Text)
     → subcommand_rows_of m ≡ subcommand_of tool words
@@ -314,7 +289,7 @@ pub test_asked_of : (m : ArgMatches) (words : List Text) (name : Text) (f : Foun
     → (named_with_traces words ≡ Some (codes "test", x)) × (x.traces ≢ [])
 test_asked_of m words name f x same clear is_name is_rows is_test is =
     let entered = entered_at m words name (codes "test") f same is_name is_rows is_test in
-    let there = (needed_there words (codes "test", rows_of f) clear entered).5 refl in (
+    let there = (needed_there words (codes "test", rows_of f) clear entered).4 refl in (
       ap (option_map (λ p. (p.0, tested p.1))) entered ∙ ap (λ (y : Tested). asks y) (sym is),
       λ none. some_values (codes "TRACE") (rows_of f) there.3 (sym (ap (λ (y : Tested). y.traces) is) ∙ none),
     )

@@ -11,7 +11,7 @@ use Rattle.clap.specs.Takes.{is_given}
 use Rattle.clap.specs.Walk.{Row, Rule, Text, first_of, nothing_held, rows_after, settled, walk, walk_from}
 use Rattle.clap.specs.declared.builder.value_parser.ValueParser.{ValueParser}
 use Rattle.clap.specs.declared.error.kind.ErrorKind.TheVariants as kind
-use Rattle.tcap_words.specs.CommandLine.{blame_shape, check_shape, choice_parser, end_rule, explain_shape, file_rule, flag_rule, ids_rule, judge_shape, left_out_rule, letters, linger_rule, needed_rule, number_parser, show_shape, table_shape, tables_rule, test_shape, tool, traces_rule, with_path}
+use Rattle.tcap_words.specs.CommandLine.{blame_shape, check_shape, choice_parser, end_rule, explain_shape, file_rule, flag_rule, ids_rule, judge_shape, left_out_rule, letters, linger_rule, needed_rule, number_parser, show_shape, tables_rule, test_shape, tool, traces_rule, with_path}
 use Rattle.tcap_words.specs.Words.{is_ids_word, is_letter, is_number}
 use Rattle.tcap_words.proofs.Help.{or_empty}
 use Rattle.tcap_words.proofs.Letters.{may_have, may_have_all, may_have_any, test_of}
@@ -34,9 +34,6 @@ explain_built = sub_built explain_shape
 
 abbrev pub blame_built : Shape
 blame_built = sub_built blame_shape
-
-abbrev pub table_built : Shape
-table_built = sub_built table_shape
 
 abbrev pub test_built : Shape
 test_built = sub_built test_shape
@@ -102,13 +99,6 @@ two_given rows false y is_x is_y e =
     let bad : kind.MissingRequiredArgument ∷ [] ≡ [] = rw is_x at e in cc
 two_given rows true false is_x is_y e =
     let bad : kind.MissingRequiredArgument ∷ [] ≡ [] = rw (is_x, is_y) at e in cc
-
-one_given : (rows : List Row) (x : Bool) → is_given (codes "TABLE") rows ≡ x → check_fault table_built rows false ≡ []
-    → x ≡ true
-unfolding tool
-one_given rows true is_x e = refl
-one_given rows false is_x e =
-    let bad : kind.MissingRequiredArgument ∷ [] ≡ [] = rw is_x at e in cc
 
 trace_given : (rows : List Row) (x : Bool) → is_given (codes "TRACE") rows ≡ x → check_fault test_built rows false ≡ []
     → x ≡ true
@@ -217,13 +207,6 @@ blame_good = (
   ),
 )
 
-table_good : AllGood table_built.rules
-unfolding tool
-table_good = (
-  (path_fits (codes "TABLE") refl, inl refl),
-  ((help_fits, inr (inl refl)), tt),
-)
-
 test_good : AllGood test_built.rules
 unfolding tool
 test_good = (
@@ -243,8 +226,11 @@ test_good = (
               (
                 (other_fits (filled (file_rule (codes "junit"))) refl, inl refl),
                 (
-                  (other_fits (filled (flag_rule (codes "progress"))) refl, inr (inr refl)),
-                  ((help_fits, inr (inl refl)), tt),
+                  (other_fits (filled (file_rule (codes "html"))) refl, inl refl),
+                  (
+                    (other_fits (filled (flag_rule (codes "progress"))) refl, inr (inr refl)),
+                    ((help_fits, inr (inl refl)), tt),
+                  ),
                 ),
               ),
             ),
@@ -307,13 +293,6 @@ blame_paths words e =
     let given = two_given rows _ _ refl refl level.1 in
     (first_there (codes "RECORD") rows level.0 given.0, first_there (codes "TABLE") rows level.0 given.1)
 
-table_path : (words : List Text) → level_fault table_built [] nothing_held words false [] ≡ []
-    → is_some (first_of (codes "TABLE") (rows_after table_built.rules [] words)) ≡ true
-table_path words e =
-    let rows = rows_after table_built.rules [] words in
-    let level = level_valued table_built table_good words e in
-    first_there (codes "TABLE") rows level.0 (one_given rows _ refl level.1)
-
 test_asked : (words : List Text) → level_fault test_built [] nothing_held words false [] ≡ []
     → HasAsked (rows_after test_built.rules [] words)
 test_asked words e =
@@ -337,19 +316,16 @@ HasNeeded found = (found.0 ≡ codes "check" → HasPaths found.1 × HasLetter f
     × (found.0 ≡ codes "judge" → HasTwoPaths found.1 × HasLetter found.1)
     × (found.0 ≡ codes "explain" → HasTwoPaths found.1 × HasLetter found.1)
     × (found.0 ≡ codes "blame" → HasTwoPaths found.1)
-    × (found.0 ≡ codes "table" → is_some (first_of (codes "TABLE") found.1) ≡ true)
     × (found.0 ≡ codes "test" → HasAsked found.1)
 
 -- another subcommand needs nothing
 needs_nothing : (found : Text × List Row) → (found.0 ≡ codes "check" → ⊥) → (found.0 ≡ codes "judge" → ⊥)
-    → (found.0 ≡ codes "explain" → ⊥) → (found.0 ≡ codes "blame" → ⊥) → (found.0 ≡ codes "table" → ⊥)
-    → (found.0 ≡ codes "test" → ⊥) → HasNeeded found
-needs_nothing found not_check not_judge not_explain not_blame not_table not_test = (
+    → (found.0 ≡ codes "explain" → ⊥) → (found.0 ≡ codes "blame" → ⊥) → (found.0 ≡ codes "test" → ⊥) → HasNeeded found
+needs_nothing found not_check not_judge not_explain not_blame not_test = (
   λ e. absurd (not_check e),
   λ e. absurd (not_judge e),
   λ e. absurd (not_explain e),
   λ e. absurd (not_blame e),
-  λ e. absurd (not_table e),
   λ e. absurd (not_test e),
 )
 
@@ -387,7 +363,6 @@ needed_there words found e is =
         (apart (codes "show") (codes "judge") refl refl)
         (apart (codes "show") (codes "explain") refl refl)
         (apart (codes "show") (codes "blame") refl refl)
-        (apart (codes "show") (codes "table") refl refl)
         (apart (codes "show") (codes "test") refl refl))
     at p false true check judge explain blame table test help
         is_show is_pack is_check is_judge is_explain is_blame is_table is_test is_help e is =
@@ -399,7 +374,6 @@ needed_there words found e is =
         (apart (codes "pack") (codes "judge") refl refl)
         (apart (codes "pack") (codes "explain") refl refl)
         (apart (codes "pack") (codes "blame") refl refl)
-        (apart (codes "pack") (codes "table") refl refl)
         (apart (codes "pack") (codes "test") refl refl))
     at p false false true judge explain blame table test help
         is_show is_pack is_check is_judge is_explain is_blame is_table is_test is_help e is =
@@ -411,7 +385,6 @@ needed_there words found e is =
           λ e. absurd (apart (codes "check") (codes "judge") refl refl e),
           λ e. absurd (apart (codes "check") (codes "explain") refl refl e),
           λ e. absurd (apart (codes "check") (codes "blame") refl refl e),
-          λ e. absurd (apart (codes "check") (codes "table") refl refl e),
           λ e. absurd (apart (codes "check") (codes "test") refl refl e),
         )
     at p false false false true explain blame table test help
@@ -424,7 +397,6 @@ needed_there words found e is =
           λ e. judge_paths p.1 clear,
           λ e. absurd (apart (codes "judge") (codes "explain") refl refl e),
           λ e. absurd (apart (codes "judge") (codes "blame") refl refl e),
-          λ e. absurd (apart (codes "judge") (codes "table") refl refl e),
           λ e. absurd (apart (codes "judge") (codes "test") refl refl e),
         )
     at p false false false false true blame table test help
@@ -437,7 +409,6 @@ needed_there words found e is =
           λ e. absurd (apart (codes "explain") (codes "judge") refl refl e),
           λ e. explain_paths p.1 clear,
           λ e. absurd (apart (codes "explain") (codes "blame") refl refl e),
-          λ e. absurd (apart (codes "explain") (codes "table") refl refl e),
           λ e. absurd (apart (codes "explain") (codes "test") refl refl e),
         )
     at p false false false false false true table test help
@@ -450,22 +421,19 @@ needed_there words found e is =
           λ e. absurd (apart (codes "blame") (codes "judge") refl refl e),
           λ e. absurd (apart (codes "blame") (codes "explain") refl refl e),
           λ e. blame_paths p.1 clear,
-          λ e. absurd (apart (codes "blame") (codes "table") refl refl e),
           λ e. absurd (apart (codes "blame") (codes "test") refl refl e),
         )
     at p false false false false false false true test help
         is_show is_pack is_check is_judge is_explain is_blame is_table is_test is_help e is =
-        let it : Some (rows_at table_built p.1) ≡ Some found = rw (is_show, is_pack, is_check, is_judge, is_explain, is_blame, is_table) at is in
-        let clear : level_fault table_built [] nothing_held p.1 false [] ≡ [] =
-        rw (is_show, is_pack, is_check, is_judge, is_explain, is_blame, is_table) at e in
-        subst HasNeeded (same_some _ _ it) (
-          λ e. absurd (apart (codes "table") (codes "check") refl refl e),
-          λ e. absurd (apart (codes "table") (codes "judge") refl refl e),
-          λ e. absurd (apart (codes "table") (codes "explain") refl refl e),
-          λ e. absurd (apart (codes "table") (codes "blame") refl refl e),
-          λ e. table_path p.1 clear,
-          λ e. absurd (apart (codes "table") (codes "test") refl refl e),
-        )
+        let rows = rows_at (sub_built (with_path (codes "table") (codes "TABLE"))) p.1 in
+        let it : Some rows ≡ Some found =
+        rw (is_show, is_pack, is_check, is_judge, is_explain, is_blame, is_table) at is in
+        subst HasNeeded (same_some rows found it)
+        (needs_nothing rows (apart (codes "table") (codes "check") refl refl)
+        (apart (codes "table") (codes "judge") refl refl)
+        (apart (codes "table") (codes "explain") refl refl)
+        (apart (codes "table") (codes "blame") refl refl)
+        (apart (codes "table") (codes "test") refl refl))
     at p false false false false false false false true help
         is_show is_pack is_check is_judge is_explain is_blame is_table is_test is_help e is =
         let it : Some (rows_at test_built p.1) ≡ Some found =
@@ -477,7 +445,6 @@ needed_there words found e is =
           λ e. absurd (apart (codes "test") (codes "judge") refl refl e),
           λ e. absurd (apart (codes "test") (codes "explain") refl refl e),
           λ e. absurd (apart (codes "test") (codes "blame") refl refl e),
-          λ e. absurd (apart (codes "test") (codes "table") refl refl e),
           λ e. test_asked p.1 clear,
         )
     at p false false false false false false false false true
@@ -490,7 +457,6 @@ needed_there words found e is =
         (apart (codes "help") (codes "judge") refl refl)
         (apart (codes "help") (codes "explain") refl refl)
         (apart (codes "help") (codes "blame") refl refl)
-        (apart (codes "help") (codes "table") refl refl)
         (apart (codes "help") (codes "test") refl refl))
     at p false false false false false false false false false
         is_show is_pack is_check is_judge is_explain is_blame is_table is_test is_help e is =

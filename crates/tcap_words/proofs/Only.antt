@@ -333,31 +333,31 @@ explain_only words x y z side file (Blame a b) is at asks =
 explain_only words x y z side file (Test t) is at asks =
     apart (codes "explain") (codes "test") refl refl (one_word explained_paths words _ _ (Test t) is asks)
 
-pub table_only : (words : List Text) (x : Text) (r : Request)
-    → named_with (codes "TABLE") words ≡ Some (codes "table", Some x) → Asks words r → IsTable x r
-table_only words x (Table t) is asks = some_same _ _ (some_same _ _ (ap value_in (sym asks ∙ is)))
-table_only words x (Show path why lines) is asks =
+pub table_only : (words : List Text) (text : Option Text) (r : Request)
+    → named_with (codes "TABLE") words ≡ Some (codes "table", text) → Asks words r → IsTable text r
+table_only words text (Table t) is asks = some_same _ _ (ap value_in (sym asks ∙ is))
+table_only words text (Show path why lines) is asks =
     apart (codes "table") (codes "show") refl refl
     (one_word (first_of (codes "TABLE")) words _ _ (Show path why lines) is asks)
-table_only words x (Pack path) is asks =
+table_only words text (Pack path) is asks =
     apart (codes "table") (codes "pack") refl refl (one_word (first_of (codes "TABLE")) words _ _ (Pack path) is asks)
-table_only words x (Check a b c) is asks =
+table_only words text (Check a b c) is asks =
     apart (codes "table") (codes "check") refl refl (one_word (first_of (codes "TABLE")) words _ _ (Check a b c) is asks)
-table_only words x (CheckEnd side a b c) is asks =
+table_only words text (CheckEnd side a b c) is asks =
     apart (codes "table") (codes "check") refl refl
     (one_word (first_of (codes "TABLE")) words _ _ (CheckEnd side a b c) is asks)
-table_only words x (Judge a b set) is asks =
+table_only words text (Judge a b set) is asks =
     apart (codes "table") (codes "judge") refl refl
     (one_word (first_of (codes "TABLE")) words _ _ (Judge a b set) is asks)
-table_only words x (JudgeEnd side a b set) is asks =
+table_only words text (JudgeEnd side a b set) is asks =
     apart (codes "table") (codes "judge") refl refl
     (one_word (first_of (codes "TABLE")) words _ _ (JudgeEnd side a b set) is asks)
-table_only words x (Explain a b z side file) is asks =
+table_only words text (Explain a b z side file) is asks =
     apart (codes "table") (codes "explain") refl refl
     (one_word (first_of (codes "TABLE")) words _ _ (Explain a b z side file) is asks)
-table_only words x (Blame a b) is asks =
+table_only words text (Blame a b) is asks =
     apart (codes "table") (codes "blame") refl refl (one_word (first_of (codes "TABLE")) words _ _ (Blame a b) is asks)
-table_only words x (Test t) is asks =
+table_only words text (Test t) is asks =
     apart (codes "table") (codes "test") refl refl (one_word (first_of (codes "TABLE")) words _ _ (Test t) is asks)
 
 pub test_only : (words : List Text) (x : Tested) (r : Request) → named_with_traces words ≡ Some (codes "test", x)

@@ -71,9 +71,10 @@ module _ (words known : List Text) (r : Result Request WordsFault) (is : words �
       asked (IsExplain x y z side file)
       (λ a. explain_only words x y z side file a (ap named_with_chart is ∙ named) (ap end_value is ∙ at))
 
-  pub table_asked : (x : Text) → named_with (codes "TABLE") known ≡ Some (codes "table", Some x)
-      → MatchResult r (IsTable x) IsMemory
-  table_asked x named = asked (IsTable x) (λ a. table_only words x a (ap (named_with (codes "TABLE")) is ∙ named))
+  pub table_asked : (text : Option Text) → named_with (codes "TABLE") known ≡ Some (codes "table", text)
+      → MatchResult r (IsTable text) IsMemory
+  table_asked text named =
+      asked (IsTable text) (λ a. table_only words text a (ap (named_with (codes "TABLE")) is ∙ named))
 
   pub test_asked : (x : Tested) → named_with_traces known ≡ Some (codes "test", x) → MatchResult r (IsTest x) IsMemory
   test_asked x named = asked (IsTest x) (λ a. test_only words x a (ap named_with_traces is ∙ named))

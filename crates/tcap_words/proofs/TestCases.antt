@@ -68,9 +68,10 @@ ids_plain Again = refl
 ids_plain Settled = refl
 ids_plain Once = refl
 
-module _ (side : Side) (t u : Text) (ids : Ids) (n f g x y : Text) (plain_t : begins_with_hyphen t ≡ false)
+module _ (side : Side) (t u : Text) (ids : Ids) (n f g h x y : Text) (plain_t : begins_with_hyphen t ≡ false)
     (plain_u : begins_with_hyphen u ≡ false) (plain_n : begins_with_hyphen n ≡ false) (number : is_number n ≡ true)
     (plain_f : begins_with_hyphen f ≡ false) (plain_g : begins_with_hyphen g ≡ false)
+    (plain_h : begins_with_hyphen h ≡ false)
     (plain_x : begins_with_hyphen x ≡ false) (plain_y : begins_with_hyphen y ≡ false) where
   -- the rows behind each option, in turn
   abbrev side_rows : List Row
@@ -97,8 +98,11 @@ module _ (side : Side) (t u : Text) (ids : Ids) (n f g x y : Text) (plain_t : be
   abbrev junit_rows : List Row
   junit_rows = json_rows ++ row_with (codes "junit") (g ∷ []) ∷ []
 
+  abbrev html_rows : List Row
+  html_rows = junit_rows ++ row_with (codes "html") (h ∷ []) ∷ []
+
   abbrev all_rows : List Row
-  all_rows = junit_rows ++ row_with (codes "progress") (codes "true" ∷ []) ∷ []
+  all_rows = html_rows ++ row_with (codes "progress") (codes "true" ∷ []) ∷ []
 
   -- where the walk ends
   abbrev end_walk : Walk
@@ -112,8 +116,11 @@ module _ (side : Side) (t u : Text) (ids : Ids) (n f g x y : Text) (plain_t : be
   abbrev progress_words : List Text
   progress_words = codes "--progress" ∷ trace_words
 
+  abbrev html_words : List Text
+  html_words = codes "--html" ∷ h ∷ progress_words
+
   abbrev junit_words : List Text
-  junit_words = codes "--junit" ∷ g ∷ progress_words
+  junit_words = codes "--junit" ∷ g ∷ html_words
 
   abbrev json_words : List Text
   json_words = codes "--json" ∷ f ∷ junit_words
@@ -151,10 +158,12 @@ module _ (side : Side) (t u : Text) (ids : Ids) (n f g x y : Text) (plain_t : be
       refl refl plain_n refl
       (option_goes (has_value complete_rows (codes "linger") n) linger_rows (codes "--json") (codes "json") f junit_words
       end_walk refl (ap (λ b. (b && true) && true) number) plain_f refl
-      (option_goes (has_value linger_rows (codes "json") f) json_rows (codes "--junit") (codes "junit") g progress_words
+      (option_goes (has_value linger_rows (codes "json") f) json_rows (codes "--junit") (codes "junit") g html_words
       end_walk refl refl plain_g refl
-      (goes_on (has_value json_rows (codes "junit") g) (no_more all_rows) end_walk (codes "--progress") trace_words
-      refl refl traces_go)))
+      (option_goes (has_value json_rows (codes "junit") g) junit_rows (codes "--html") (codes "html") h progress_words
+      end_walk refl refl plain_h refl
+      (goes_on (has_value junit_rows (codes "html") h) (no_more all_rows) end_walk (codes "--progress") trace_words
+      refl refl traces_go))))
 
   -- `--table` behind `--of`, and `--complete` behind `--ids`
   side_turned : (side : Side) → turn_passes test_built [] (has_value [] (codes "of") (letter side)) (codes "--table") ≡ true
@@ -197,6 +206,7 @@ module _ (side : Side) (t u : Text) (ids : Ids) (n f g x y : Text) (plain_t : be
     linger = number_of n;
     json = Some f;
     junit = Some g;
+    html = Some h;
     progress = true;
   }
 

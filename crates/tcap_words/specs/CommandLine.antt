@@ -91,10 +91,6 @@ show_shape = record (new_shape (codes "show")) {
   rules = left_out_rule (codes "RECORD") ∷ flag_rule (codes "why") ∷ flag_rule (codes "lines") ∷ [];
 }
 
--- the subcommand of one path
-abbrev pub table_shape : Shape
-table_shape = record (new_shape (codes "table")) { rules = needed_rule (codes "TABLE") ∷ [] }
-
 -- the words of `--ids`
 abbrev pub ids_word : Ids → Text
 ids_word Again = codes "again"
@@ -127,11 +123,11 @@ linger_rule = record (new_rule (codes "linger")) {
 abbrev pub traces_rule : Rule
 traces_rule = record (new_rule (codes "TRACE")) { action = Some Append; required = true }
 
--- the subcommand of one path or more, an end, tables, what becomes of IDs, a number, two files and two flags
+-- the subcommand of one path or more, an end, tables, what becomes of IDs, a number, three files and two flags
 abbrev pub test_shape : Shape
 test_shape = record (new_shape (codes "test")) {
   rules = traces_rule ∷ end_rule (codes "of") ∷ tables_rule ∷ ids_rule ∷ flag_rule (codes "complete") ∷ linger_rule
-      ∷ file_rule (codes "json") ∷ file_rule (codes "junit") ∷ flag_rule (codes "progress") ∷ [];
+      ∷ file_rule (codes "json") ∷ file_rule (codes "junit") ∷ file_rule (codes "html") ∷ flag_rule (codes "progress") ∷ [];
 }
 
 -- the program with its subcommands
@@ -142,7 +138,7 @@ tool = with_subcommand (with_subcommand (with_subcommand (with_subcommand (with_
     judge_shape)
     explain_shape)
     blame_shape)
-    table_shape)
+    (with_path (codes "table") (codes "TABLE")))
     test_shape
 
 -- ---- the same command line, wherever the values of its options stand

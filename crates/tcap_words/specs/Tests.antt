@@ -59,6 +59,7 @@ pub record Tested : Type 0 where
   -- the paths of the files that verdicts go to
   pub json : Option Text
   pub junit : Option Text
+  pub html : Option Text
   pub progress : Bool
   -- the paths of the traces
   pub traces : List Text
@@ -73,6 +74,7 @@ tested rows = record {
   linger = linger_value (first_of (codes "linger") rows);
   json = first_of (codes "json") rows;
   junit = first_of (codes "junit") rows;
+  html = first_of (codes "html") rows;
   progress = is_set (first_of (codes "progress") rows);
   traces = values_of (codes "TRACE") rows;
 }
@@ -87,6 +89,7 @@ requested t = record {
   linger = t.linger;
   json = path_text t.json;
   junit = path_text t.junit;
+  html = path_text t.html;
   progress = t.progress;
   traces = texts t.traces.items;
 }
@@ -101,6 +104,7 @@ only_traces paths = record {
   linger = 10000;
   json = None;
   junit = None;
+  html = None;
   progress = false;
   traces = paths;
 }

@@ -97,7 +97,7 @@ Asks words (Explain taken table cert side chart) =
     (named_with_chart words ≡ Some (codes "explain", (Some taken.now, Some table.now, path_text cert, path_text chart)))
     × (end_value words ≡ option_map letter side)
 Asks words (Blame taken table) = named_with_two words ≡ Some (codes "blame", (Some taken.now, Some table.now))
-Asks words (Table table) = named_with (codes "TABLE") words ≡ Some (codes "table", Some table.now)
+Asks words (Table table) = named_with (codes "TABLE") words ≡ Some (codes "table", path_text table)
 Asks words (Test test) =
     (named_with_traces words ≡ Some (codes "test", requested test)) × ((requested test).traces ≢ [])
 
@@ -153,10 +153,10 @@ abbrev pub IsBlame : Text → Text → Request → Type 0
 IsBlame x y (Blame taken table) = (taken.now ≡ x) × (table.now ≡ y)
 IsBlame x y _ = ⊥
 
--- to print the rows of the table that this path names
-abbrev pub IsTable : Text → Request → Type 0
-IsTable x (Table path) = path.now ≡ x
-IsTable x _ = ⊥
+-- to print the rows of what this path names
+abbrev pub IsTable : Option Text → Request → Type 0
+IsTable text (Table path) = path_text path ≡ text
+IsTable text _ = ⊥
 
 -- to judge the dialogues of traces, where that is asked of them
 abbrev pub IsTest : Tested → Request → Type 0

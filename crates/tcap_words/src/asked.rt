@@ -30,6 +30,8 @@ pub struct Test<'a> {
     pub json: Option<&'a str>,
     /// The path of the file that the verdicts go to as JUnit's XML, where it is asked for.
     pub junit: Option<&'a str>,
+    /// The path of the file that a page goes to, of the dialogues that do not pass, where it is asked for.
+    pub html: Option<&'a str>,
     /// Whether it is said how far the judging is.
     pub progress: bool,
     /// The paths of the traces, in order; `-` is the standard input.
@@ -64,8 +66,9 @@ pub enum Request<'a> {
     },
     /// Say which end is at fault: the paths of the record and of the operation table.
     Blame(&'a str, &'a str),
-    /// Print the rows of the operation table in the file of this path.
-    Table(&'a str),
+    /// Print the rows of the operation table or of the book of tables in the file of this path, or of the book that the
+    /// program carries.
+    Table(Option<&'a str>),
     /// Judge each dialogue of traces.
     Test(Test<'a>),
 }

@@ -6,7 +6,7 @@ ghost use Rattle.clap.specs.Words.{app_of, rule_of, shape_of};
 ghost use Rattle.clap.specs.declared.builder.command.Command.TheViews.{out-Command};
 ghost use Rattle.tcap_words.specs.CommandLine.{blame_shape, check_shape, choice_rule, end_rule, explain_shape, file_rule};
 ghost use Rattle.tcap_words.specs.CommandLine.{flag_rule, ids_rule, judge_shape, left_out_rule, linger_rule, needed_rule, show_shape};
-ghost use Rattle.tcap_words.specs.CommandLine.{table_shape, tables_rule, test_shape, traces_rule, with_path};
+ghost use Rattle.tcap_words.specs.CommandLine.{tables_rule, test_shape, traces_rule, with_path};
 ghost use Rattle.tcap_words.specs.CommandLine.{placeless, placeless_rule, placeless_shape, tool};
 
 use clap::{Arg, ArgAction, Command, value_parser};
@@ -198,11 +198,11 @@ fn explain_command<'a>(alloc: Global) -> Result<Command<'a>, AllocError>
     let chart = file_arg(
         alloc,
         "chart",
-        "Writes a chart of the run, an SVG, to that file",
+        "Writes a chart of the run, a page of HTML, to that file",
     );
     Command::new(alloc, "explain")
         .about("Says in words why a record is lawful, refuted or undecided")
-        .after_help("Example: tcapjudge explain record table.json --chart run.svg")
+        .after_help("Example: tcapjudge explain record table.json --chart run.html")
         .arg(record)?
         .arg(table)?
         .arg(cert)?
@@ -264,11 +264,16 @@ fn pack_command<'a>(alloc: Global) -> Result<Command<'a>, AllocError>
 
 /// The subcommand `table`.
 fn table_command<'a>(alloc: Global) -> Result<Command<'a>, AllocError>
-    ensures { IfOk result (λ c. (shape_of c ≡ table_shape) × ((out-Command c).has_globals ≡ false)) }
+    ensures { IfOk result (λ c. (shape_of c ≡ with_path (codes "table") (codes "TABLE"))
+        × ((out-Command c).has_globals ≡ false)) }
 {
-    let table = needed_arg(alloc, "TABLE", "The file of the operation table");
+    let table = left_out_arg(
+        alloc,
+        "TABLE",
+        "The file of an operation table, or of a book of them; the book that the program carries where it is left out",
+    );
     Command::new(alloc, "table")
-        .about("Prints the rows of an operation table")
+        .about("Prints the rows of an operation table, or of a book of them")
         .after_help("Example: tcapjudge table table.json")
         .arg(table)
 }
@@ -292,6 +297,11 @@ fn test_command<'a>(alloc: Global) -> Result<Command<'a>, AllocError>
         "junit",
         "Writes the verdicts to that file, as JUnit's XML",
     );
+    let html = file_arg(
+        alloc,
+        "html",
+        "Writes a page to that file, to look at the dialogues that do not pass",
+    );
     let progress = flag_arg(alloc, "progress", "Says how far it is");
     Command::new(alloc, "test")
         .about("Judges each dialogue of traces")
@@ -304,6 +314,7 @@ fn test_command<'a>(alloc: Global) -> Result<Command<'a>, AllocError>
         .arg(linger_arg(alloc))?
         .arg(json)?
         .arg(junit)?
+        .arg(html)?
         .arg(progress)
 }
 

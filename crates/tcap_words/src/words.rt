@@ -222,6 +222,7 @@ fn test_request<'a>(alloc: Global, found: &ArgMatches<'a>) -> Result<Test<'a>, A
         linger: linger_given(found),
         json: found.get_str("json"),
         junit: found.get_str("junit"),
+        html: found.get_str("html"),
         progress: is_set(found, "progress"),
         traces,
     })
@@ -320,10 +321,7 @@ fn parsed_request<'a>(alloc: Global, words: &'a [&'a str]) -> Result<Request<'a>
             let table = needed(found, "TABLE");
             Ok(Request::Blame(record, table))
         }
-        "table" => {
-            let table = needed(found, "TABLE");
-            Ok(Request::Table(table))
-        }
+        "table" => Ok(Request::Table(found.get_str("TABLE"))),
         "test" => Ok(Request::Test(test_request(alloc, found)?)),
         _ => unreachable!(),
     }
@@ -435,19 +433,19 @@ pub fn request<'a>(alloc: Global, words: &'a [&'a str]) -> Result<Request<'a>, W
         → begins_with_hyphen x ≡ false → IsErrAnd result (IsFaultOf (MissingRequiredArgument ∷ [])) }
     ensures table_path { (program path : Text)
         → texts words.entry.now ≡ program ∷ codes "table" ∷ path ∷ []
-        → begins_with_hyphen path ≡ false → MatchResult result (IsTable path) IsMemory }
+        → begins_with_hyphen path ≡ false → MatchResult result (IsTable (Some path)) IsMemory }
     ensures table_alone { (program : Text) → texts words.entry.now ≡ program ∷ codes "table" ∷ []
-        → IsErrAnd result (IsFaultOf (MissingRequiredArgument ∷ [])) }
+        → MatchResult result (IsTable None) IsMemory }
     ensures test_traces { (program x : Text) (rest : List Text)
         → texts words.entry.now ≡ program ∷ codes "test" ∷ x ∷ rest → are_plain (x ∷ rest) ≡ true
         → MatchResult result (IsTest (only_traces (x ∷ rest))) IsMemory }
     ensures test_input { (program : Text) → texts words.entry.now ≡ program ∷ codes "test" ∷ codes "-" ∷ []
         → MatchResult result (IsTest (only_traces (codes "-" ∷ []))) IsMemory }
-    ensures test_all { (program t u n f g x y : Text) (side : Side) (ids : Ids)
+    ensures test_all { (program t u n f g h x y : Text) (side : Side) (ids : Ids)
         → texts words.entry.now ≡ program ∷ codes "test" ∷ codes "--of" ∷ letter side ∷ codes "--table" ∷ t
         ∷ codes "--table" ∷ u ∷ codes "--ids" ∷ ids_word ids ∷ codes "--complete" ∷ codes "--linger" ∷ n
-        ∷ codes "--json" ∷ f ∷ codes "--junit" ∷ g ∷ codes "--progress" ∷ x ∷ y ∷ []
-        → are_plain (t ∷ u ∷ n ∷ f ∷ g ∷ x ∷ y ∷ []) ≡ true → is_number n ≡ true
+        ∷ codes "--json" ∷ f ∷ codes "--junit" ∷ g ∷ codes "--html" ∷ h ∷ codes "--progress" ∷ x ∷ y ∷ []
+        → are_plain (t ∷ u ∷ n ∷ f ∷ g ∷ h ∷ x ∷ y ∷ []) ≡ true → is_number n ≡ true
         → MatchResult result (IsTest (record (only_traces (x ∷ y ∷ [])) {
           side = Some (letter side);
           tables = t ∷ u ∷ [];
@@ -456,6 +454,7 @@ pub fn request<'a>(alloc: Global, words: &'a [&'a str]) -> Result<Request<'a>, W
           linger = number_of n;
           json = Some f;
           junit = Some g;
+          html = Some h;
           progress = true;
         })) IsMemory }
     ensures test_of_wrong { (program word x : Text)

@@ -1,15 +1,17 @@
 //! The word `explain`: a verdict, why it is so, and a chart of the run.
 
-use crate::opening::open;
+use crate::opening::{is_fault, noted, open, status_of, tell, unopened};
 use std::{fs, io};
-use tcap_ber::{Counted, Read, Unopened};
+use tcap_ber::{Counted, Read};
+use tcap_explain::{Noted, Role};
 use tcap_judge::{Status, WriteFailed};
 use tcap_verdict::{Asked, run_explain, run_explain_check};
 
-/// The paths that are named beside that of the table.
+/// The paths that are named.
 #[derive(Clone, Copy)]
 pub(crate) struct Paths<'a> {
     pub(crate) entries: &'a str,
+    pub(crate) table: &'a str,
     pub(crate) cert: Option<&'a str>,
     pub(crate) chart: Option<&'a str>,
 }
@@ -22,89 +24,113 @@ fn finish(
     chart: &str,
     ended: Result<Status, WriteFailed>,
 ) -> u8 {
-    let Ok(status) = ended else {
+    if ended.is_err() {
         return Status::Fault.number();
-    };
+    }
     match path {
         Some(path) if !chart.is_empty() => match fs::write(rt, path, chart) {
-            Ok(()) => status.number(),
+            Ok(()) => status_of(ended),
             Err(_) => {
                 let _ = eprintln!(rt; "error: the chart can't be written to {path}");
                 Status::Fault.number()
             }
         },
-        _ => status.number(),
+        _ => status_of(ended),
     }
 }
 
-/// Explains what the readers tell; the certificate is opened last.
+/// Explains what the readers tell, where no certificate is named.
 fn explained<R: Read, T: Read>(
     rt: &HostRuntime,
-    entries: &mut R,
-    table: &mut T,
+    entries: &mut Noted<R>,
+    table: &mut Noted<T>,
     paths: Paths,
     asked: Asked,
 ) -> u8 {
     let alloc = rt.alloc();
     let mut chart = String::new(alloc);
     let mut writer = Counted::new(io::writer(rt));
-    let ended = match paths.cert {
-        None => run_explain(alloc, entries, table, asked, &mut chart, &mut writer),
-        Some(path) => match open(rt, path) {
-            Ok(file) => {
-                let mut cert = Counted::new(file);
-                run_explain_check(
-                    alloc,
-                    entries,
-                    table,
-                    &mut cert,
-                    asked,
-                    &mut chart,
-                    &mut writer,
-                )
-            }
-            Err(_) => {
-                let mut cert = Unopened::new();
-                run_explain_check(
-                    alloc,
-                    entries,
-                    table,
-                    &mut cert,
-                    asked,
-                    &mut chart,
-                    &mut writer,
-                )
-            }
-        },
-    };
+    let ended = run_explain(alloc, entries, table, asked, &mut chart, &mut writer);
+    if is_fault(&ended) {
+        tell(rt, Role::Record, paths.entries, entries);
+        tell(rt, Role::Table, paths.table, table);
+    }
     finish(rt, paths.chart, &chart, ended)
 }
 
+/// The same by the certificate of that path, which `cert` tells.
+fn explained_check<R: Read, T: Read, C: Read>(
+    rt: &HostRuntime,
+    entries: &mut Noted<R>,
+    table: &mut Noted<T>,
+    cert: (&str, &mut Noted<C>),
+    paths: Paths,
+    asked: Asked,
+) -> u8 {
+    let alloc = rt.alloc();
+    let (path, cert) = cert;
+    let mut chart = String::new(alloc);
+    let mut writer = Counted::new(io::writer(rt));
+    let ended = run_explain_check(alloc, entries, table, cert, asked, &mut chart, &mut writer);
+    if is_fault(&ended) {
+        tell(rt, Role::Record, paths.entries, entries);
+        tell(rt, Role::Table, paths.table, table);
+        tell(rt, Role::Certificate, path, cert);
+    }
+    finish(rt, paths.chart, &chart, ended)
+}
+
+/// Explains what the readers tell; the certificate is opened last.
+fn explained_over<R: Read, T: Read>(
+    rt: &HostRuntime,
+    entries: &mut Noted<R>,
+    table: &mut Noted<T>,
+    paths: Paths,
+    asked: Asked,
+) -> u8 {
+    let Some(path) = paths.cert else {
+        return explained(rt, entries, table, paths, asked);
+    };
+    match open(rt, path) {
+        Ok(file) => explained_check(
+            rt,
+            entries,
+            table,
+            (path, &mut noted(rt, file)),
+            paths,
+            asked,
+        ),
+        Err(_) => explained_check(rt, entries, table, (path, &mut unopened(rt)), paths, asked),
+    }
+}
+
 /// The same, by the operation table that `table` tells.
-fn explained_by<T: Read>(rt: &HostRuntime, table: &mut T, paths: Paths, asked: Asked) -> u8 {
+fn explained_by<T: Read>(rt: &HostRuntime, table: &mut Noted<T>, paths: Paths, asked: Asked) -> u8 {
     match open(rt, paths.entries) {
-        Ok(file) => explained(rt, &mut Counted::new(file), table, paths, asked),
-        Err(_) => explained(rt, &mut Unopened::new(), table, paths, asked),
+        Ok(file) => explained_over(rt, &mut noted(rt, file), table, paths, asked),
+        Err(_) => explained_over(rt, &mut unopened(rt), table, paths, asked),
     }
 }
 
 /// Whether the path of the chart is that of one of the files that are read.
-fn is_overwritten(table: &str, paths: Paths) -> bool {
+fn is_overwritten(paths: Paths) -> bool {
     match paths.chart {
-        Some(chart) => { chart == table || chart == paths.entries || paths.cert == Some(chart) }
+        Some(chart) => {
+            chart == paths.table || chart == paths.entries || paths.cert == Some(chart)
+        }
         None => false,
     }
 }
 
 /// Explains the record of those paths, by the operation table of that path. Nothing is done where the chart would take the
 /// place of one of the files.
-pub(crate) fn explain(rt: &HostRuntime, table: &str, paths: Paths, asked: Asked) -> u8 {
-    if is_overwritten(table, paths) {
+pub(crate) fn explain(rt: &HostRuntime, paths: Paths, asked: Asked) -> u8 {
+    if is_overwritten(paths) {
         let _ = eprintln!(rt; "error: the chart would be written over a file that is read");
         return Status::Fault.number();
     }
-    match open(rt, table) {
-        Ok(file) => explained_by(rt, &mut Counted::new(file), paths, asked),
-        Err(_) => explained_by(rt, &mut Unopened::new(), paths, asked),
+    match open(rt, paths.table) {
+        Ok(file) => explained_by(rt, &mut noted(rt, file), paths, asked),
+        Err(_) => explained_by(rt, &mut unopened(rt), paths, asked),
     }
 }

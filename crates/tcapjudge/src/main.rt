@@ -3,10 +3,13 @@
 #![tactic(auto)]
 
 mod explaining;
+mod judging;
 mod opening;
 mod testing;
+mod writing;
 
 use crate::explaining::{Paths, explain};
+use crate::judging::{Question, check, judge};
 use crate::opening::open;
 use crate::testing::test;
 use std::alloc::Global;
@@ -14,12 +17,11 @@ use std::io::BufWriter;
 use std::process::ExitCode;
 use std::{env, io};
 use tcap_ber::{Counted, Read, Unopened, Write};
-use tcap_explain::{Kept, Noted, Told, run_lines, run_table, run_why, write_hint, write_rule};
-use tcap_judge::{
-    MEMORY_LINE, Status, WriteFailed, run_blame, run_check, run_check_end, run_judge,
-    run_judge_end, run_pack, run_show,
+use tcap_books::CARRIED_BOOK;
+use tcap_explain::{
+    Kept, Noted, Role, Told, run_lines, run_table, run_why, write_hint, write_rule,
 };
-use tcap_record::End;
+use tcap_judge::{MEMORY_LINE, Status, WriteFailed, run_pack, run_show};
 use tcap_verdict::Asked;
 use tcap_words::{Request, WordsFault, request};
 
@@ -37,19 +39,8 @@ enum Task {
     Pack,
     /// They are such lines, of which the record's entries are printed; and whether it is said why one is refused.
     Lines(bool),
-    /// They are an operation table, of which the rows are printed.
+    /// They are an operation table, or a book of them, of which the rows are printed.
     Table,
-}
-
-/// What is asked of a record and an operation table.
-#[derive(Clone, Copy)]
-enum Question {
-    /// The verdict on the record; and the certificate that shows it to be lawful, where that is asked for.
-    Verdict(bool),
-    /// The same of the messages of one end alone.
-    OfEnd(End, bool),
-    /// The verdict, and which end is at fault.
-    Blame,
 }
 
 /// Asks what the words behind the program's name ask for, and does it.
@@ -98,7 +89,7 @@ fn answer(rt: &HostRuntime, request: Request) -> io::Result<u8> {
             Ok(judge(rt, entries, table, question))
         }
         Request::Blame(entries, table) => Ok(judge(rt, entries, table, Question::Blame)),
-        Request::Table(path) => over_path(rt, Task::Table, Some(path)),
+        Request::Table(path) => show_table(rt, path),
         Request::Test(asked) => Ok(test(rt, &asked)),
         Request::Explain {
             entries,
@@ -109,6 +100,7 @@ fn answer(rt: &HostRuntime, request: Request) -> io::Result<u8> {
         } => {
             let paths = Paths {
                 entries,
+                table,
                 cert,
                 chart,
             };
@@ -116,19 +108,27 @@ fn answer(rt: &HostRuntime, request: Request) -> io::Result<u8> {
                 judged: end,
                 with_chart: chart.is_some(),
             };
-            Ok(explain(rt, table, paths, asked))
+            Ok(explain(rt, paths, asked))
         }
     }
 }
 
 /// Does the task over the file of that path, or the standard input.
 fn over_path(rt: &HostRuntime, task: Task, path: Option<&str>) -> io::Result<u8> {
-    let Some(path) = path else {
-        return over(rt, task, Counted::new(rt.reader()));
+    let Some(opened) = path else {
+        return over(rt, task, path, Counted::new(rt.reader()));
     };
-    match open(rt, path) {
-        Ok(file) => over(rt, task, Counted::new(file)),
-        Err(_) => over(rt, task, Unopened::new()),
+    match open(rt, opened) {
+        Ok(file) => over(rt, task, path, Counted::new(file)),
+        Err(_) => over(rt, task, path, Unopened::new()),
+    }
+}
+
+/// Prints the rows of what that path names, or of the book that the program carries.
+fn show_table(rt: &HostRuntime, path: Option<&str>) -> io::Result<u8> {
+    match path {
+        Some(_) => over_path(rt, Task::Table, path),
+        None => over(rt, Task::Table, None, Counted::new(CARRIED_BOOK.as_bytes())),
     }
 }
 
@@ -141,14 +141,20 @@ fn no_memory(rt: &HostRuntime, task: Task) -> io::Result<u8> {
     Ok(Status::Fault.number())
 }
 
-/// Does the task with what `reader` tells.
-fn over<R: Read + Drop>(rt: &HostRuntime, task: Task, reader: R) -> io::Result<u8> {
+/// Does the task with what `reader` tells, the file of that path or the standard input.
+fn over<R: Read + Drop>(
+    rt: &HostRuntime,
+    task: Task,
+    path: Option<&str>,
+    reader: R,
+) -> io::Result<u8> {
     let Ok(buffer) = BufWriter::new(rt.alloc(), io::writer(rt)) else {
         return no_memory(rt, task);
     };
     let mut writer = Counted::new(buffer);
     let faults = Counted::new(rt.stderr());
-    let ended = done(rt.alloc(), task, reader, &mut writer, faults);
+    let noted = Noted::new(rt.alloc(), reader);
+    let ended = done(rt.alloc(), task, path, noted, &mut writer, faults);
     // Where standard error takes nothing, what was packed goes out all the same.
     let is_written = writer.failures() == 0 && writer.flush().is_ok();
     let status = match ended {
@@ -160,57 +166,48 @@ fn over<R: Read + Drop>(rt: &HostRuntime, task: Task, reader: R) -> io::Result<u
     Ok(status.number())
 }
 
-/// Does the task with what `reader` tells, and says what else is known of a fault.
+/// Does the task with what `reader` tells, and says behind a fault what else is known: which rule a line of digits breaks, and what
+/// the octets look like where they are not what they are given as.
 fn done<R: Read + Drop, W: Write, F: Write + Drop>(
     alloc: Global,
     task: Task,
-    reader: R,
+    path: Option<&str>,
+    reader: Noted<R>,
     writer: &mut W,
     faults: F,
 ) -> Result<Status, WriteFailed> {
+    let (mut reader, mut faults) = (reader, faults);
     match task {
         Task::Show => {
-            let mut faults = faults;
-            show(alloc, reader, writer, &mut faults)
+            let status = run_show(alloc, &mut reader, writer)?;
+            hint(status, Role::Shown, path, &reader, &mut faults)
         }
-        Task::Why => show_why(alloc, reader, writer),
-        Task::Pack => make_record(alloc, reader, writer, faults),
+        Task::Why => {
+            let status = run_why(alloc, &mut reader, writer)?;
+            hint(status, Role::Shown, None, &reader, writer)
+        }
+        Task::Pack => make_record(alloc, path, reader, writer, faults),
         Task::Lines(why) => {
-            let mut reader = reader;
-            run_lines(alloc, &mut reader, why, writer)
+            let status = run_lines(alloc, &mut reader, why, writer)?;
+            hint(status, Role::Lines, path, &reader, &mut faults)
         }
         Task::Table => {
-            let mut reader = reader;
-            run_table(alloc, &mut reader, writer)
+            let status = run_table(alloc, &mut reader, writer, &mut faults)?;
+            hint(status, Role::Book, path, &reader, &mut faults)
         }
     }
 }
 
-/// Prints the entries of a record; behind a fault `faults` is told what the octets look like.
-fn show<R: Read + Drop, W: Write, F: Write>(
-    alloc: Global,
-    reader: R,
-    writer: &mut W,
+/// Behind a fault `faults` is told what the file of that path, or the standard input, looks like, where it is not what it is given as.
+fn hint<R, F: Write>(
+    status: Status,
+    role: Role,
+    path: Option<&str>,
+    reader: &Noted<R>,
     faults: &mut F,
 ) -> Result<Status, WriteFailed> {
-    let mut noted = Noted::new(alloc, reader);
-    let status = run_show(alloc, &mut noted, writer)?;
     if status == Status::Fault {
-        write_hint(noted.first(), faults)?;
-    }
-    Ok(status)
-}
-
-/// Prints the entries of a record, why one is refused, and behind a fault what the octets look like.
-fn show_why<R: Read + Drop, W: Write>(
-    alloc: Global,
-    reader: R,
-    writer: &mut W,
-) -> Result<Status, WriteFailed> {
-    let mut noted = Noted::new(alloc, reader);
-    let status = run_why(alloc, &mut noted, writer)?;
-    if status == Status::Fault {
-        write_hint(noted.first(), writer)?;
+        write_hint(role, path, reader.first(), faults)?;
     }
     Ok(status)
 }
@@ -218,7 +215,8 @@ fn show_why<R: Read + Drop, W: Write>(
 /// Makes a record of lines; behind the fault of a line `faults` is told which rule it breaks.
 fn make_record<R: Read + Drop, W: Write, F: Write + Drop>(
     alloc: Global,
-    reader: R,
+    path: Option<&str>,
+    reader: Noted<R>,
     writer: &mut W,
     faults: F,
 ) -> Result<Status, WriteFailed> {
@@ -228,108 +226,7 @@ fn make_record<R: Read + Drop, W: Write, F: Write + Drop>(
     if status == Status::Fault {
         write_rule(alloc, &kept, &mut told)?;
     }
-    Ok(status)
-}
-
-/// Replays the certificate of that path over the record of that path, for one end where it is given. The files are
-/// opened in the order in which they are read: the table, the certificate, the record.
-fn check(rt: &HostRuntime, entries: &str, table: &str, cert: &str, side: Option<End>) -> u8 {
-    match open(rt, table) {
-        Ok(file) => check_by(rt, entries, &mut Counted::new(file), cert, side),
-        Err(_) => check_by(rt, entries, &mut Unopened::new(), cert, side),
-    }
-}
-
-/// The same, by the operation table that `table` tells.
-fn check_by<T: Read>(
-    rt: &HostRuntime,
-    entries: &str,
-    table: &mut T,
-    cert: &str,
-    side: Option<End>,
-) -> u8 {
-    match open(rt, cert) {
-        Ok(file) => check_over(rt, entries, table, &mut Counted::new(file), side),
-        Err(_) => check_over(rt, entries, table, &mut Unopened::new(), side),
-    }
-}
-
-/// The same, with the certificate that `certificate` tells.
-fn check_over<T: Read, C: Read>(
-    rt: &HostRuntime,
-    entries: &str,
-    table: &mut T,
-    certificate: &mut C,
-    side: Option<End>,
-) -> u8 {
-    match open(rt, entries) {
-        Ok(file) => checked(rt, &mut Counted::new(file), table, certificate, side),
-        Err(_) => checked(rt, &mut Unopened::new(), table, certificate, side),
-    }
-}
-
-/// The same, where the readers are all there. The line goes out at once.
-fn checked<R: Read, T: Read, C: Read>(
-    rt: &HostRuntime,
-    entries: &mut R,
-    table: &mut T,
-    certificate: &mut C,
-    side: Option<End>,
-) -> u8 {
-    let mut writer = Counted::new(io::writer(rt));
-    let ended = match side {
-        None => run_check(rt.alloc(), entries, table, certificate, &mut writer),
-        Some(end) => run_check_end(rt.alloc(), entries, table, certificate, end, &mut writer),
-    };
-    match ended {
-        Ok(status) => status.number(),
-        Err(_) => Status::Fault.number(),
-    }
-}
-
-/// Answers what is asked of the record of that path, by the operation table of that path. The table is opened first, since
-/// it is read first.
-fn judge(rt: &HostRuntime, entries: &str, table: &str, question: Question) -> u8 {
-    match open(rt, table) {
-        Ok(file) => judge_by(rt, entries, &mut Counted::new(file), question),
-        Err(_) => judge_by(rt, entries, &mut Unopened::new(), question),
-    }
-}
-
-/// The same, by the operation table that `table` tells.
-fn judge_by<T: Read>(rt: &HostRuntime, entries: &str, table: &mut T, question: Question) -> u8 {
-    match open(rt, entries) {
-        Ok(file) => judged(rt, &mut Counted::new(file), table, question),
-        Err(_) => judged(rt, &mut Unopened::new(), table, question),
-    }
-}
-
-/// The same, where both readers are there. What is printed goes out at once.
-fn judged<R: Read, T: Read>(
-    rt: &HostRuntime,
-    entries: &mut R,
-    table: &mut T,
-    question: Question,
-) -> u8 {
-    let mut writer = Counted::new(io::writer(rt));
-    let ended = match question {
-        Question::Verdict(with_certificate) => {
-            run_judge(rt.alloc(), entries, table, with_certificate, &mut writer)
-        }
-        Question::OfEnd(end, with_certificate) => run_judge_end(
-            rt.alloc(),
-            entries,
-            table,
-            end,
-            with_certificate,
-            &mut writer,
-        ),
-        Question::Blame => run_blame(rt.alloc(), entries, table, &mut writer),
-    };
-    match ended {
-        Ok(status) => status.number(),
-        Err(_) => Status::Fault.number(),
-    }
+    hint(status, Role::Lines, path, kept.inner(), &mut told)
 }
 
 fn main(rt: HostRuntime) -> ExitCode {

@@ -1,7 +1,13 @@
-//! Files that are read.
+//! Files that are read, and what is said of those that were given by mistake.
 
 use std::fs::File;
 use std::{fs, io};
+use tcap_ber::{Counted, Read, Unopened};
+use tcap_explain::{Noted, Role, write_hint};
+use tcap_judge::{Status, WriteFailed};
+
+/// So many octets of a file are looked at.
+const LOOKED_AT: usize = 512;
 
 /// Whether that path is a directory's.
 pub(crate) fn is_folder(rt: &HostRuntime, path: &str) -> bool {
@@ -24,5 +30,52 @@ pub(crate) fn open(rt: &HostRuntime, path: &str) -> io::Result<File> {
             let _ = eprintln!(rt; "error: {path}: {error}");
             Err(error)
         }
+    }
+}
+
+/// A reader of that file, whose first octets are noted.
+pub(crate) fn noted(rt: &HostRuntime, file: File) -> Noted<Counted<File>> {
+    Noted::new(rt.alloc(), Counted::new(file))
+}
+
+/// A reader of a file that could not be opened.
+pub(crate) fn unopened(rt: &HostRuntime) -> Noted<Unopened> {
+    Noted::new(rt.alloc(), Unopened::new())
+}
+
+/// Whether that path is that of a plain file, of which reading waits for nobody.
+fn is_plain(rt: &HostRuntime, path: &str) -> bool {
+    match fs::metadata(rt, path) {
+        Ok(found) => found.is_file(),
+        Err(_) => false,
+    }
+}
+
+/// Behind a line of fault, says on standard error what the file of that path looks like, where it is not what it is given as. Of a
+/// plain file of which nothing was read the first octets are read for it.
+pub(crate) fn tell<R: Read>(rt: &HostRuntime, role: Role, path: &str, reader: &mut Noted<R>) {
+    if reader.first().is_empty() && is_plain(rt, path) {
+        let mut piece = [0; LOOKED_AT];
+        let _ = reader.read(&mut piece);
+    }
+    tell_text(rt, role, path, reader.first());
+}
+
+/// The same of a file that begins with these octets.
+pub(crate) fn tell_text(rt: &HostRuntime, role: Role, path: &str, octets: &[u8]) {
+    let mut faults = Counted::new(rt.stderr());
+    let _ = write_hint(role, Some(path), octets, &mut faults);
+}
+
+/// Whether a run ended with a line of fault.
+pub(crate) fn is_fault(ended: &Result<Status, WriteFailed>) -> bool {
+    matches!(ended, Ok(Status::Fault))
+}
+
+/// The exit status of a run.
+pub(crate) fn status_of(ended: Result<Status, WriteFailed>) -> u8 {
+    match ended {
+        Ok(status) => status.number(),
+        Err(_) => Status::Fault.number(),
     }
 }

@@ -1,15 +1,14 @@
 //! The word `test`: each dialogue of traces is judged.
 
-use crate::opening::is_folder;
-use std::alloc::{AllocError, Global};
-use std::fs::File;
-use std::io::BufWriter;
+use crate::opening::{is_folder, tell_text};
+use crate::writing::Output;
 use std::time::Instant;
 use std::{fs, io};
 use tcap_ber::{Counted, Read, Write};
-use tcap_books::{Book, CARRIED_BOOK};
+use tcap_books::{AMBIGUOUS, Book, CARRIED_BOOK};
 use tcap_dialogues::Reuse;
-use tcap_report::{Asked, Junit, Sinks, Stop, Sum, Watch, run_trace, tell_unread};
+use tcap_explain::Role;
+use tcap_report::{Asked, Junit, Page, Sinks, Stop, Sum, Watch, run_trace, tell_unread};
 use tcap_traces::Verdict;
 use tcap_words::{Ids, Test};
 
@@ -93,6 +92,7 @@ fn read_book(rt: &HostRuntime, name: &str, text: &[u8]) -> Option<Book> {
         Ok(book) => Some(book),
         Err(fault) => {
             let _ = eprintln!(rt; "error: {name}: {fault}");
+            tell_text(rt, Role::Book, name, text);
             None
         }
     }
@@ -124,19 +124,25 @@ fn is_read(rt: &HostRuntime, test: &Test, path: &str) -> bool {
     false
 }
 
-/// Whether a file that is written is one of those that are read, or both are one.
+/// Whether a file that is written is one of those that are read, or two of them are one.
 fn is_overwritten(rt: &HostRuntime, test: &Test) -> bool {
-    for path in [test.json, test.junit] {
-        if let Some(path) = path {
-            if is_read(rt, test, path) {
-                return true;
+    let written = [test.json, test.junit, test.html];
+    for (number, path) in written.iter().enumerate() {
+        let Some(path) = path else {
+            continue;
+        };
+        if is_read(rt, test, *path) {
+            return true;
+        }
+        for other in written[..number].iter() {
+            if let Some(other) = other {
+                if is_same(rt, *other, *path) {
+                    return true;
+                }
             }
         }
     }
-    match (test.json, test.junit) {
-        (Some(json), Some(junit)) => is_same(rt, json, junit),
-        _ => false,
-    }
+    false
 }
 
 /// Judges the trace of that path.
@@ -192,53 +198,6 @@ fn test_all<W: Write, J: Write, P: Watch>(
     Ok(sinks.sum.worst())
 }
 
-/// Judges all traces, and says nothing as JSON.
-fn test_without_json(rt: &HostRuntime, test: &Test, book: &Book) -> Result<Verdict, Stop> {
-    let mut junit = Junit::new(rt.alloc());
-    let mut sum = Sum::new();
-    let mut text = Counted::new(io::writer(rt));
-    let mut watch = Progress::new(rt, test);
-    let mut sinks: Sinks<_, Counted<Vec<u8>>, _> = Sinks {
-        text: &mut text,
-        json: None,
-        junit: Some(&mut junit),
-        sum: &mut sum,
-        watch: &mut watch,
-    };
-    let verdict = test_all(rt, test, book, &mut sinks)?;
-    write_junit(rt, test, &junit)?;
-    Ok(verdict)
-}
-
-/// Judges all traces, and says it as JSON to that file.
-fn test_with_json(
-    rt: &HostRuntime,
-    test: &Test,
-    book: &Book,
-    buffer: BufWriter<File>,
-) -> Result<Verdict, Stop> {
-    let mut json = Counted::new(buffer);
-    let mut junit = Junit::new(rt.alloc());
-    let mut sum = Sum::new();
-    let mut text = Counted::new(io::writer(rt));
-    let mut watch = Progress::new(rt, test);
-    let mut sinks = Sinks {
-        text: &mut text,
-        json: Some(&mut json),
-        junit: Some(&mut junit),
-        sum: &mut sum,
-        watch: &mut watch,
-    };
-    let verdict = test_all(rt, test, book, &mut sinks)?;
-    write_junit(rt, test, &junit)?;
-    if json.flush().is_err() {
-        let path = test.json.unwrap_or("-");
-        let _ = eprintln!(rt; "error: {path} can't be written");
-        return Err(Stop::Write);
-    }
-    Ok(verdict)
-}
-
 /// Writes the file of JUnit XML, where it is asked for.
 fn write_junit(rt: &HostRuntime, test: &Test, junit: &Junit) -> Result<(), Stop> {
     let Some(path) = test.junit else {
@@ -254,21 +213,60 @@ fn write_junit(rt: &HostRuntime, test: &Test, junit: &Junit) -> Result<(), Stop>
     }
 }
 
-/// Judges all traces, with what goes to the files of JSON and JUnit XML.
-fn tested(rt: &HostRuntime, test: &Test, book: &Book) -> Result<Verdict, Stop> {
-    let Some(path) = test.json else {
-        return test_without_json(rt, test, book);
-    };
-    match fs::create(rt, path) {
-        Ok(file) => match BufWriter::new(rt.alloc(), file) {
-            Ok(buffer) => test_with_json(rt, test, book, buffer),
-            Err(_) => Err(Stop::Memory),
-        },
-        Err(error) => {
-            let _ = eprintln!(rt; "error: {path}: {error}");
-            Err(Stop::Write)
-        }
+/// Judges all traces, and says it to what is lent.
+fn test_over<W: Write, P: Watch>(
+    rt: &HostRuntime,
+    test: &Test,
+    book: &Book,
+    sinks: &mut Sinks<W, Output, P>,
+) -> Result<Verdict, Stop> {
+    let verdict = test_all(rt, test, book, sinks)?;
+    if let Some(page) = &mut sinks.page {
+        page.end(rt.alloc(), sinks.sum)?;
     }
+    Ok(verdict)
+}
+
+/// Begins the page, where it is asked for.
+fn begun<'a>(html: Option<&'a mut Output>) -> Result<Option<Page<'a, Output>>, Stop> {
+    match html {
+        Some(output) => Ok(Some(Page::begin(output)?)),
+        None => Ok(None),
+    }
+}
+
+/// Judges all traces. The files that it goes to are there before the first one is read.
+fn tested(rt: &HostRuntime, test: &Test, book: &Book) -> Result<Verdict, Stop> {
+    let mut json = Output::create(rt, test.json)?;
+    let mut html = Output::create(rt, test.html)?;
+    let mut junit = Junit::new(rt.alloc());
+    let mut sum = Sum::new();
+    let mut text = Counted::new(io::writer(rt));
+    let mut watch = Progress::new(rt, test);
+    let page = match begun(html.as_mut()) {
+        Ok(page) => page,
+        Err(stop) => {
+            let _ = Output::finish(rt, html);
+            return Err(stop);
+        }
+    };
+    let lent = json.as_mut();
+    let mut sinks = Sinks {
+        text: &mut text,
+        json: lent,
+        page,
+        junit: Some(&mut junit),
+        sum: &mut sum,
+        watch: &mut watch,
+    };
+    let ended = test_over(rt, test, book, &mut sinks);
+    let json_ended = Output::finish(rt, json);
+    let html_ended = Output::finish(rt, html);
+    let verdict = ended?;
+    write_junit(rt, test, &junit)?;
+    json_ended?;
+    html_ended?;
+    Ok(verdict)
 }
 
 /// The exit status where the words are wrong.
@@ -280,8 +278,8 @@ pub(crate) fn test(rt: &HostRuntime, test: &Test) -> u8 {
         let _ = eprintln!(rt; "error: the standard input can be read once");
         return WRONG_WORDS;
     }
-    if test.json == Some("-") || test.junit == Some("-") {
-        let _ = eprintln!(rt; "error: --json and --junit take the path of a file");
+    if [test.json, test.junit, test.html].contains(&Some("-")) {
+        let _ = eprintln!(rt; "error: --json, --junit and --html take the path of a file");
         return WRONG_WORDS;
     }
     if is_overwritten(rt, test) {
@@ -293,16 +291,8 @@ pub(crate) fn test(rt: &HostRuntime, test: &Test) -> u8 {
     let Some(book) = book_of(rt, &test.tables) else {
         return Verdict::Error.status();
     };
-    if book
-        .tables()
-        .iter()
-        .filter(|table| table.contexts().is_empty())
-        .count()
-        > 1
-    {
-        let _ = eprintln!(rt;
-            "error: more than one table is without contexts, so which is for which dialogue is not told"
-        );
+    if book.is_ambiguous() {
+        let _ = eprintln!(rt; "error: {AMBIGUOUS}");
         return Verdict::Error.status();
     }
     match tested(rt, test, &book) {

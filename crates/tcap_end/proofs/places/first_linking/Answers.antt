@@ -24,7 +24,7 @@ loop-kind-preserved c =
       found = elim c.if-links.branch [
         | then-links w ↦
             asked_yes (λ item. links c.args.table.now item.code (code_of c.args.code)) kinds c.args.row.now.places.items n c.index-kinds-kind.result is c.loop-kind.found
-            c.loop-kind.invariant.found w.oldest_of.result _ (rw (c.view.ensures, ap (λ (item : Invocation). item.code) c.item.view_is) at (sym c.links.ensures ∙ w.if-links.true)) w.oldest_of.ensures
+            c.loop-kind.invariant.found w.oldest_of-oldest.result _ (rw (c.view.ensures, ap (λ (item : Invocation). item.code) c.item.view_is) at (sym c.links.ensures ∙ w.if-links.true)) w.oldest_of-oldest.ensures
             (w.found-is ∙ w.earlier-found.ensures)
         | else-links w ↦
             asked_no (λ item. links c.args.table.now item.code (code_of c.args.code)) kinds c.args.row.now.places.items n c.index-kinds-kind.result is c.loop-kind.found

@@ -7,7 +7,7 @@ pub returns-in-Ok : goal.returns-in-Ok
 returns-in-Ok g c =
     let table = c.args.table.now in
     let certificate = c.args.certificate.now in
-    let all = c.in-Ok.ensures table certificate c.in-Some.ensures in
+    let all = c.in-Ok.ensures c.args.judged table certificate c.in-Some.ensures in
     elim (c.finish.ensures table certificate all.entries all.stands.1 (c.dropped.ensures.count ∙ all.stands.0)) [
       | inl memory ↦ inl memory
       | inr said ↦ inr (record {
@@ -15,14 +15,14 @@ returns-in-Ok g c =
         end = Ok c.in-Ok.field-0;
         reads = all.reads;
         says = said;
-        shown = shown_by_replay table certificate all.entries c.finish.result said;
+        shown = shown_by_replay c.args.judged table certificate all.entries c.finish.result said;
       })
     ]
 
 pub returns : goal.returns
 returns g c =
     let fault = c.in-Err.fault in
-    let all = c.in-Err.ensures c.args.table.now c.args.certificate.now c.in-Some.ensures in
+    let all = c.in-Err.ensures c.args.judged c.args.table.now c.args.certificate.now c.in-Some.ensures in
     inr (record {
       entries = all.entries;
       end = Err fault;

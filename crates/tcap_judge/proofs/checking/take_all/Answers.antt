@@ -1,4 +1,4 @@
-use Rattle.std.proofs.Common.{◌≡◌, ℕ, List, ◌++◌, take, refl, ap, subst, ◌∙◌, arith, append-nil}
+use Rattle.std.proofs.Common.{◌≡◌, ℕ, List, [], ◌++◌, take, refl, rules, ap, subst, ◌∙◌, arith, append-nil}
 use Rattle.std.proofs.KnownBytes.{Consumes-trans}
 use Rattle.std.proofs.lemmas.Result.{err_from_is_err_and}
 use Rattle.std.specs.Io.KnownBytes.{Consumes}
@@ -8,13 +8,13 @@ use Rattle.tcap_judge.proofs.JudgeLaws.{ended_at_end, ended_fails, ends_with}
 use Rattle.tcap_judge.proofs.checking.take_all.Goals as goal
 
 pub returns-in-Ok-eq0 : goal.returns-in-Ok-eq0
-returns-in-Ok-eq0 g c = λ table cert stands.
+returns-in-Ok-eq0 g c = λ judged table cert stands.
     let was = c.loop-frames.invariant in
     let frames = c.loop-frames.frames in
     let end = c.finish.result in
     let at_first = g.R.Read.untold c.args.reader.now in
     let at_last = g.R.Read.untold c.read.new.self in
-    let have = was.taken table cert stands in
+    let have = was.taken judged table cert stands in
     let more : List ℕ = take c.in-Ok-eq0.field-0 c.read.new.buffer in
     let all : was.told ++ more ≡ was.told =
     ap (λ (n : ℕ). was.told ++ take n c.read.new.buffer) c.in-Ok-eq0.field-0-test ∙ append-nil was.told in
@@ -30,7 +30,7 @@ returns-in-Ok-eq0 g c = λ table cert stands.
         ended = ended_at_end at_last end (c.in-Ok-eq0.ensures.end c.in-Ok-eq0.field-0-test (omega arith));
         failed = ended_fails end frames _ _ c.finish.ensures was.sound (c.in-Ok-eq0.ensures.counts ∙ was.none_failed);
       };
-      stands = ends_with table cert have.0 frames c.loop-frames.checker end have.1.fed.count_is have.1.stands;
+      stands = ends_with judged table cert have.0 frames c.loop-frames.checker end have.1.fed.count_is have.1.stands;
     }
 
 pub loop-frames-preserved : goal.loop-frames-preserved
@@ -41,9 +41,9 @@ loop-frames-preserved g c =
       told = was.told ++ told;
       consumed = Consumes-trans (g.R.Read.untold c.args.reader.now) (g.R.Read.untold c.loop-frames.reader)
           (g.R.Read.untold c.read.new.self) was.told told was.consumed c.in-Ok.ensures.tells;
-      taken = λ table cert stands.
-          let have = was.taken table cert stands in
-          c.in_ok-take_piece.ensures.leads table cert was.told have.0 have.1;
+      taken = λ judged table cert stands.
+          let have = was.taken judged table cert stands in
+          c.in_ok-take_piece.ensures.leads judged table cert was.told have.0 have.1;
       held = c.in_ok-take_piece.ensures.held was.held;
       sound = c.in_ok-take_piece.ensures.sound.0;
       is_part = c.in_ok-take_piece.ensures.sound.1;
@@ -60,9 +60,9 @@ returns-in_err-take_piece g c =
     let why = c.in_err-take_piece.ensures.why f refl in
     let held = c.in_err-take_piece.ensures.held was.held in
     let fed = c.in_err-take_piece.ensures.fed in
-    rw (p.1, p.2) (λ table cert stands.
-    let have = was.taken table cert stands in
-    let there = fed.2 table cert was.told have.0 have.1 in
+    rw (p.1, p.2) (λ judged table cert stands.
+    let have = was.taken judged table cert stands in
+    let there = fed.2 judged table cert was.told have.0 have.1 in
     record {
       entries = there.0;
       reads = record {
@@ -75,3 +75,14 @@ returns-in_err-take_piece g c =
       };
       stands = tt;
     })
+
+pub loop-frames-init : goal.loop-frames-init
+loop-frames-init g c = record {
+  told = [];
+  consumed = search rules;
+  taken = λ judged table cert stands. ([], record { fed = search rules; stands = stands });
+  held = search rules;
+  sound = search rules;
+  is_part = search rules;
+  none_failed = search rules;
+}

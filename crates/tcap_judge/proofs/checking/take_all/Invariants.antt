@@ -1,6 +1,7 @@
 -- what the reader told was taken, the checker took its entries, and nothing is wrong with it
-use Rattle.std.proofs.Common.{◌≡◌, ℕ, ◌+◌, ◌-◌, ◌^◌, None, List, [], length}
+use Rattle.std.proofs.Common.{◌≡◌, ℕ, ◌+◌, ◌-◌, ◌^◌, Option, None, List, [], length}
 use Rattle.std.specs.Io.KnownBytes.{Consumes}
+use Rattle.tcap_record.specs.declared.entry.End.{End as Side}
 use Rattle.tcap_record.specs.declared.entry.Entry.{Entry}
 use Rattle.tcap_record.specs.Held.{IsHeld, IsPart}
 use Rattle.tcap_end.specs.Table.{Table}
@@ -12,8 +13,8 @@ abbrev pub invariant-loop-frames : goal.invariant-loop-frames
 invariant-loop-frames g l = record {
   told : List ℕ;
   consumed : Consumes (g.R.Read.untold l.fn.reader) (g.R.Read.untold l.reader) told;
-  taken : (table : Table) (c : Certificate) → StandsFor table c l.initial.checker []
-      → (entries : List Entry) × TakenSoFar table c told entries l.frames l.checker;
+  taken : (judged : Option Side) (table : Table) (c : Certificate) → StandsFor judged table c l.initial.checker []
+      → (entries : List Entry) × TakenSoFar judged table c told entries l.frames l.checker;
   held : IsHeld l.frames;
   sound : l.frames.fault ≡ None;
   is_part : IsPart l.frames.octets;

@@ -2,7 +2,7 @@ use Rattle.std.proofs.Common.{◌≡◌, ◌∙◌, ap, ap₂, true, codes}
 use Rattle.std.proofs.lemmas.Result.{IfOk-weaker}
 use Rattle.clap.specs.Words.{App, Shape, app_of, shape_of, with_subcommand}
 use Rattle.clap.specs.Simple.{app_of_fields}
-use Rattle.tcap_words.specs.CommandLine.{bare_tool, blame_shape, check_shape, explain_shape, judge_shape, placeless, placeless_shape, show_shape, table_shape, tool, with_path}
+use Rattle.tcap_words.specs.CommandLine.{bare_tool, blame_shape, check_shape, explain_shape, judge_shape, placeless, placeless_shape, show_shape, tool, with_path}
 use Rattle.tcap_words.proofs.command_line.command.Goals as goal
 
 -- the tool with these four subcommands
@@ -13,7 +13,7 @@ with_four check judge explain test = with_subcommand (with_subcommand (with_subc
     judge)
     explain)
     blame_shape)
-    table_shape)
+    (with_path (codes "table") (codes "TABLE")))
     test
 
 pub returns : goal.returns

@@ -14,6 +14,6 @@ returns c =
     ap (λ (f : Command-F Command). f.has_globals) c.after_help.ensures
     ∙ ap (λ (f : Command-F Command). f.has_globals) c.about.ensures ∙ c.new.ensures.local in
     IfOk-weaker c.arg.result _ _ (λ r h. (
-      ap (λ (a : App). a.top) (h.shape c.needed_arg-table.ensures.local ∙ ap₂ with_rule about_is c.needed_arg-table.ensures.rule),
-      h.globals ∙ ap₂ (λ a b. a || b) about_local c.needed_arg-table.ensures.local,
+      ap (λ (a : App). a.top) (h.shape c.left_out_arg-table.ensures.local ∙ ap₂ with_rule about_is c.left_out_arg-table.ensures.rule),
+      h.globals ∙ ap₂ (λ a b. a || b) about_local c.left_out_arg-table.ensures.local,
     )) c.arg.ensures

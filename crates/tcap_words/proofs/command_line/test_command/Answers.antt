@@ -11,7 +11,7 @@ use Rattle.tcap_words.proofs.command_line.test_command.Goals as goal
 abbrev with_choices : Rule → Rule → Shape
 with_choices side ids = record (new_shape (codes "test")) {
   rules = traces_rule ∷ side ∷ tables_rule ∷ ids ∷ flag_rule (codes "complete") ∷ linger_rule
-      ∷ file_rule (codes "json") ∷ file_rule (codes "junit") ∷ flag_rule (codes "progress") ∷ [];
+      ∷ file_rule (codes "json") ∷ file_rule (codes "junit") ∷ file_rule (codes "html") ∷ flag_rule (codes "progress") ∷ [];
 }
 
 pub returns : goal.returns
@@ -53,9 +53,13 @@ returns c =
     ∙ ap₂ with_rule with_json c.file_arg-junit.ensures.rule in
     let junit_local = c.in_ok-arg-8.ensures.globals
     ∙ ap₂ (λ a b. a || b) json_local c.file_arg-junit.ensures.local in
-    IfOk-weaker c.arg-9.result _ _ (λ r h. (
+    let with_html = c.in_ok-arg-9.ensures.shape c.file_arg-html.ensures.local
+    ∙ ap₂ with_rule with_junit c.file_arg-html.ensures.rule in
+    let html_local = c.in_ok-arg-9.ensures.globals
+    ∙ ap₂ (λ a b. a || b) junit_local c.file_arg-html.ensures.local in
+    IfOk-weaker c.arg-10.result _ _ (λ r h. (
       ap (λ (a : App). placeless_shape a.top) (h.shape c.flag_arg-progress.ensures.local
-          ∙ ap₂ with_rule with_junit c.flag_arg-progress.ensures.rule)
+          ∙ ap₂ with_rule with_html c.flag_arg-progress.ensures.rule)
           ∙ ap₂ with_choices c.of_arg.ensures.rule c.ids_arg.ensures.rule,
-      h.globals ∙ ap₂ (λ a b. a || b) junit_local c.flag_arg-progress.ensures.local,
-    )) c.arg-9.ensures
+      h.globals ∙ ap₂ (λ a b. a || b) html_local c.flag_arg-progress.ensures.local,
+    )) c.arg-10.ensures

@@ -8,7 +8,7 @@ use Rattle.clap.specs.Simple.{HasMatchesOf, subcommand_of, subcommand_rows_of}
 use Rattle.clap.specs.declared.builder.command.Command.{Command}
 use Rattle.clap.specs.declared.parser.matches.ArgMatches.{ArgMatches}
 use Rattle.tcap_words.specs.CommandLine.{placeless, tool}
-use Rattle.tcap_words.proofs.Matches.{asked_of, blame_asked_of, blame_there, check_asked_of, check_made, check_there, end_named, explain_asked_of, explain_there, has_name, judge_asked_of, judge_made, judge_there, no_name, other_name, show_asked_of, table_asked_of, table_there, test_asked_of, test_there}
+use Rattle.tcap_words.proofs.Matches.{asked_of, blame_asked_of, blame_there, check_asked_of, check_made, check_there, end_named, explain_asked_of, explain_there, has_name, judge_asked_of, judge_made, judge_there, no_name, other_name, show_asked_of, test_asked_of, test_there}
 use Rattle.tcap_words.proofs.PlacelessCommands.{fault_of_same, simple_and_free_same, simple_same, subcommand_same, takes_same}
 use Rattle.tcap_words.proofs.Tool.{IsKnown, as_fault, became_memory, tool_simple, tool_is_simple}
 use Rattle.tcap_words.proofs.words.parsed_request.Goals as goal
@@ -268,22 +268,13 @@ pub returns-in-table-clause-faults : goal.returns-in-table-clause-faults
 returns-in-table-clause-faults c =
     clear c.in_ok-command.command (texts c.args.words.now) c.in_ok-command.ensures c.in_ok-matches.ensures.kinds
 
-pub needed-table-requires-in-table : goal.needed-table-requires-in-table
-needed-table-requires-in-table c =
-    let words = texts c.args.words.now in
-    let m = c.in_ok-matches.matches in
-    table_there m words c.in-Some.name.now (found_of c.in-Some.found.now)
-    (rows c.in_ok-command.command words m c.in_ok-command.ensures c.in_ok-matches.ensures.matches)
-    (clear c.in_ok-command.command words c.in_ok-command.ensures c.in_ok-matches.ensures.kinds)
-    c.in-Some.ensures.name c.in-Some.ensures.rows c.in-table.is
-
 pub returns-in-table-clause-asks : goal.returns-in-table-clause-asks
 returns-in-table-clause-asks c =
     let words = texts c.args.words.now in
     let m = c.in_ok-matches.matches in
-    table_asked_of m words c.in-Some.name.now (found_of c.in-Some.found.now) c.needed-table-in-table.result.now
+    asked_of m words (codes "TABLE") c.in-Some.name.now (codes "table") (found_of c.in-Some.found.now) c.get_str-in-table.result
     (rows c.in_ok-command.command words m c.in_ok-command.ensures c.in_ok-matches.ensures.matches)
-    c.in-Some.ensures.name c.in-Some.ensures.rows c.in-table.is c.needed-table-in-table.ensures
+    c.in-Some.ensures.name c.in-Some.ensures.rows c.in-table.is c.get_str-in-table.ensures
 
 pub test_request-requires-clause-letters : goal.test_request-requires-clause-letters
 test_request-requires-clause-letters c =

@@ -5,7 +5,7 @@ use Rattle.tcap_words.proofs.Requests.{blame_asked, check_asked, check_end_asked
 use Rattle.tcap_words.proofs.Cases.{check_alone_missing, check_named, check_no_end, check_one_missing, check_taken, check_two_missing, long_version, pack_named, pack_path_named, pack_path_taken, pack_taken, show_named, show_path_named, show_path_taken, show_taken}
 use Rattle.tcap_words.proofs.BlameCases.{blame_alone_missing, blame_named, blame_one_missing, blame_taken}
 use Rattle.tcap_words.proofs.ExplainCases.{explain_alone_missing, explain_cert_named, explain_cert_no_end, explain_cert_taken, explain_chart_named, explain_chart_no_end, explain_chart_taken, explain_end_named, explain_end_refused, explain_end_taken, explain_end_value, explain_named, explain_no_end, explain_one_missing, explain_taken}
-use Rattle.tcap_words.proofs.FlagCases.{show_lines_named, show_lines_taken, show_why_lines_named, show_why_lines_taken, show_why_named, show_why_taken, table_alone_missing, table_named, table_taken}
+use Rattle.tcap_words.proofs.FlagCases.{show_lines_named, show_lines_taken, show_why_lines_named, show_why_lines_taken, show_why_named, show_why_taken, table_alone_named, table_alone_taken, table_named, table_taken}
 use Rattle.tcap_words.proofs.JudgeCases.{judge_alone_missing, judge_cert_named, judge_cert_no_end, judge_cert_taken, judge_named, judge_no_end, judge_one_missing, judge_taken}
 use Rattle.tcap_words.proofs.EndCases.{check_end_named, check_end_refused, check_end_taken, check_end_value}
 use Rattle.tcap_words.proofs.JudgeEndCases.{judge_end_cert_named, judge_end_cert_taken, judge_end_cert_value, judge_end_named, judge_end_refused, judge_end_taken, judge_end_value}
@@ -186,12 +186,12 @@ returns-clause-blame_one c program x is plain_x =
 pub returns-clause-table_path : goal.returns-clause-table_path
 returns-clause-table_path c program path is plain =
     table_asked (texts c.args.words.now) _ c.parsed_request.result is (table_taken path plain program)
-    c.parsed_request.ensures.asks c.parsed_request.ensures.taken path (table_named path plain program)
+    c.parsed_request.ensures.asks c.parsed_request.ensures.taken (Some path) (table_named path plain program)
 
 pub returns-clause-table_alone : goal.returns-clause-table_alone
 returns-clause-table_alone c program is =
-    refused_by (texts c.args.words.now) _ MissingRequiredArgument c.parsed_request.result is (table_alone_missing program)
-    c.parsed_request.ensures.faults
+    table_asked (texts c.args.words.now) _ c.parsed_request.result is (table_alone_taken program)
+    c.parsed_request.ensures.asks c.parsed_request.ensures.taken None (table_alone_named program)
 
 pub returns-clause-version : goal.returns-clause-version
 returns-clause-version c program is =
@@ -209,19 +209,20 @@ returns-clause-test_input c program is =
     c.parsed_request.ensures.asks c.parsed_request.ensures.taken (only_traces (codes "-" ∷ [])) (input_named program)
 
 pub returns-clause-test_all : goal.returns-clause-test_all
-returns-clause-test_all c program t u n f g x y side ids is plain number =
-    let p = plain_parts t (u ∷ n ∷ f ∷ g ∷ x ∷ y ∷ []) plain in
-    let q = plain_parts u (n ∷ f ∷ g ∷ x ∷ y ∷ []) p.1 in
-    let r = plain_parts n (f ∷ g ∷ x ∷ y ∷ []) q.1 in
-    let s = plain_parts f (g ∷ x ∷ y ∷ []) r.1 in
-    let v = plain_parts g (x ∷ y ∷ []) s.1 in
-    let w = plain_parts x (y ∷ []) v.1 in
+returns-clause-test_all c program t u n f g h x y side ids is plain number =
+    let p = plain_parts t (u ∷ n ∷ f ∷ g ∷ h ∷ x ∷ y ∷ []) plain in
+    let q = plain_parts u (n ∷ f ∷ g ∷ h ∷ x ∷ y ∷ []) p.1 in
+    let r = plain_parts n (f ∷ g ∷ h ∷ x ∷ y ∷ []) q.1 in
+    let s = plain_parts f (g ∷ h ∷ x ∷ y ∷ []) r.1 in
+    let v = plain_parts g (h ∷ x ∷ y ∷ []) s.1 in
+    let o = plain_parts h (x ∷ y ∷ []) v.1 in
+    let w = plain_parts x (y ∷ []) o.1 in
     let z = plain_parts y [] w.1 in
     test_asked (texts c.args.words.now) _ c.parsed_request.result is
-    (all_taken side t u ids n f g x y p.0 q.0 r.0 number s.0 v.0 w.0 z.0 program)
+    (all_taken side t u ids n f g h x y p.0 q.0 r.0 number s.0 v.0 o.0 w.0 z.0 program)
     c.parsed_request.ensures.asks c.parsed_request.ensures.taken
-    (all_asked side t u ids n f g x y p.0 q.0 r.0 number s.0 v.0 w.0 z.0)
-    (all_named side t u ids n f g x y p.0 q.0 r.0 number s.0 v.0 w.0 z.0 program)
+    (all_asked side t u ids n f g h x y p.0 q.0 r.0 number s.0 v.0 o.0 w.0 z.0)
+    (all_named side t u ids n f g h x y p.0 q.0 r.0 number s.0 v.0 o.0 w.0 z.0 program)
 
 pub returns-clause-test_of_wrong : goal.returns-clause-test_of_wrong
 returns-clause-test_of_wrong c program word x is plain plain_x other =

@@ -1,9 +1,13 @@
-use Rattle.std.proofs.Common.{Option, None, Result, Err, sym, ap, ◌∙◌}
+use Rattle.std.proofs.Common.{Option, None, Result, Err, refl, sym, ap, ◌∙◌}
 use Rattle.tcap_check.specs.declared.fault.CheckFault.{CheckFault}
-use Rattle.tcap_check.specs.Checking.{Checking, so_far_of}
+use Rattle.tcap_check.specs.Checking.{Checking, answer_of, so_far_of}
 use Rattle.tcap_check.specs.Ready.{kept_in}
 use Rattle.tcap_check.proofs.CheckerLaws.{stays, took_ok, took_err, turned}
+use Rattle.tcap_check.proofs.RefusalLaws.{refuses_for_good}
 use Rattle.tcap_check.proofs.checker.Checker.mark.Goals as goal
+
+abbrev refusal : CheckFault → Result (Unit {0}) CheckFault
+refusal fault = Err fault
 
 pub returns-in-Some-clause-took : goal.returns-in-Some-clause-took
 returns-in-Some-clause-took c = λ entries took other.
@@ -14,14 +18,27 @@ returns-in-Some-clause-took c = λ entries took other.
 pub returns-in-Err-clause-took : goal.returns-in-Err-clause-took
 returns-in-Err-clause-took c = λ entries took other.
     let r = c.self.inside.replaying in
-    rw (c.take_mark-answer.ensures.table, c.take_mark-answer.ensures.certificate)
-    (took_err r.table.now r.certificate.now (kept_in r) (kept_in r) _ c.in-Err.fault
+    rw (c.take_mark-answer.ensures.judged, c.take_mark-answer.ensures.table, c.take_mark-answer.ensures.certificate)
+    (took_err r.judged r.table.now r.certificate.now (kept_in r) (kept_in r) _ c.in-Err.fault
     (c.in-Err.ensures.taken (λ is. other (ap (λ (f : CheckFault). let x : Result (Unit {0}) CheckFault = Err f in x) is))) entries
-    (turned c.args.self.now r.table.now r.certificate.now c.self.inside.fault None (kept_in r) (sym c.self.view_is) c.in_default.is entries took))
+    (turned c.args.self.now r.judged r.table.now r.certificate.now c.self.inside.fault None (kept_in r) (sym c.self.view_is) c.in_default.is entries took))
 
 pub returns-in_default-answer-clause-took : goal.returns-in_default-answer-clause-took
 returns-in_default-answer-clause-took c = λ entries took other.
     let r = c.self.inside.replaying in
-    rw (c.in_default.is, c.take_mark-answer.ensures.table, c.take_mark-answer.ensures.certificate)
-    (took_ok r.table.now r.certificate.now (kept_in r) (kept_in c.take_mark-answer.new.self) _ c.in_default-answer.ensures.taken entries
-    (turned c.args.self.now r.table.now r.certificate.now c.self.inside.fault None (kept_in r) (sym c.self.view_is) c.in_default.is entries took))
+    rw (c.in_default.is, c.take_mark-answer.ensures.judged, c.take_mark-answer.ensures.table, c.take_mark-answer.ensures.certificate)
+    (took_ok r.judged r.table.now r.certificate.now (kept_in r) (kept_in c.take_mark-answer.new.self) _ c.in_default-answer.ensures.taken entries
+    (turned c.args.self.now r.judged r.table.now r.certificate.now c.self.inside.fault None (kept_in r) (sym c.self.view_is) c.in_default.is entries took))
+
+pub returns-in-Some-clause-refuses : goal.returns-in-Some-clause-refuses
+returns-in-Some-clause-refuses c =
+    refuses_for_good c.args.self.now c.args.self.now _ (refusal c.in-Some.fault) (returns-in-Some-clause-took c)
+    (sym (ap answer_of (ap (λ (x : Checking). x.so_far) (sym c.self.view_is)
+    ∙ ap (λ (o : Option CheckFault). so_far_of o (kept_in c.self.inside.replaying)) c.in-Some.is))) refl refl refl
+
+pub returns-in-Err-clause-refuses : goal.returns-in-Err-clause-refuses
+returns-in-Err-clause-refuses c =
+    refuses_for_good c.args.self.now _ _ (refusal c.in-Err.fault) (returns-in-Err-clause-took c) refl
+    (c.take_mark-answer.ensures.judged ∙ ap (λ (x : Checking). x.judged) c.self.view_is)
+    (ap (λ x. x.now) c.take_mark-answer.ensures.table ∙ ap (λ (x : Checking). x.table) c.self.view_is)
+    (ap (λ x. x.now) c.take_mark-answer.ensures.certificate ∙ ap (λ (x : Checking). x.certificate) c.self.view_is)

@@ -1,9 +1,13 @@
-use Rattle.std.proofs.Common.{Option, None, sym, ap, ◌∙◌}
+use Rattle.std.proofs.Common.{Option, None, Result, Err, refl, sym, ap, ◌∙◌}
 use Rattle.tcap_check.specs.declared.fault.CheckFault.{CheckFault}
-use Rattle.tcap_check.specs.Checking.{Checking, so_far_of}
+use Rattle.tcap_check.specs.Checking.{Checking, answer_of, so_far_of}
 use Rattle.tcap_check.specs.Ready.{kept_in}
 use Rattle.tcap_check.proofs.CheckerLaws.{stays, took_err, turned}
+use Rattle.tcap_check.proofs.RefusalLaws.{refuses_for_good}
 use Rattle.tcap_check.proofs.checker.Checker.no_item.Goals as goal
+
+abbrev refusal : CheckFault → Result (Unit {0}) CheckFault
+refusal fault = Err fault
 
 pub returns-in-Some-clause-took : goal.returns-in-Some-clause-took
 returns-in-Some-clause-took c =
@@ -13,5 +17,16 @@ returns-in-Some-clause-took c =
 pub returns-clause-took : goal.returns-clause-took
 returns-clause-took c =
     let r = c.self.inside.replaying in
-    λ entries took. took_err r.table.now r.certificate.now (kept_in r) (kept_in r) _ c.refuse-fault.result c.refuse-fault.ensures entries
-    (turned c.args.self.now r.table.now r.certificate.now c.self.inside.fault None (kept_in r) (sym c.self.view_is) c.in_default.is entries took)
+    λ entries took. took_err r.judged r.table.now r.certificate.now (kept_in r) (kept_in r) _ c.refuse-fault.result c.refuse-fault.ensures entries
+    (turned c.args.self.now r.judged r.table.now r.certificate.now c.self.inside.fault None (kept_in r) (sym c.self.view_is) c.in_default.is entries took)
+
+pub returns-in-Some-clause-refuses : goal.returns-in-Some-clause-refuses
+returns-in-Some-clause-refuses c =
+    refuses_for_good c.args.self.now c.args.self.now _ (refusal c.in-Some.fault) (λ entries took other. returns-in-Some-clause-took c entries took)
+    (sym (ap answer_of (ap (λ (x : Checking). x.so_far) (sym c.self.view_is)
+    ∙ ap (λ (o : Option CheckFault). so_far_of o (kept_in c.self.inside.replaying)) c.in-Some.is))) refl refl refl
+
+pub returns-clause-refuses : goal.returns-clause-refuses
+returns-clause-refuses c =
+    refuses_for_good c.args.self.now _ _ (refusal c.refuse-fault.result) (λ entries took other. returns-clause-took c entries took) refl
+    (ap (λ (x : Checking). x.judged) c.self.view_is) (ap (λ (x : Checking). x.table) c.self.view_is) (ap (λ (x : Checking). x.certificate) c.self.view_is)

@@ -1,10 +1,13 @@
-use Rattle.std.proofs.Common.{sym}
+use Rattle.std.proofs.Common.{Option, ap, sym, ◌∙◌}
+use Rattle.tcap_record.specs.declared.entry.End.{End as Side}
 use Rattle.tcap_check.specs.Ready.{kept_in}
-use Rattle.tcap_check.proofs.CheckerLaws.{waits_so}
+use Rattle.tcap_check.proofs.CheckerLaws.{checking, waits_so}
 use Rattle.tcap_check.proofs.checker.Checker.pending.Goals as goal
 
-pub returns : goal.returns
-returns c = λ entries took so.
+pub returns-in-None-clause-ahead : goal.returns-in-None-clause-ahead
+returns-in-None-clause-ahead c = λ entries took so both.
     let r = c.self.inside.replaying in
-    rw (c.len.ensures.value, c.len-2.ensures.value)
-    (waits_so c.args.self.now r.table.now r.certificate.now c.self.inside.fault (kept_in r) (sym c.self.view_is) entries took so)
+    rw (c.len.ensures.value, c.len-in-None.ensures.value)
+    (waits_so c.args.self.now r.table.now r.certificate.now c.self.inside.fault (kept_in r)
+    (sym c.self.view_is ∙ ap (λ (judged : Option Side). checking judged r.table.now r.certificate.now c.self.inside.fault (kept_in r)) c.in-None.is)
+    entries took so)

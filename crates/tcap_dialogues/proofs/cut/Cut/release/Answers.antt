@@ -13,6 +13,7 @@ returns c = λ live names earlier apart held.
     let out = c.in-Some.ensures live names apart held.lives held.overs in
     let now = c.take_out.new.self in
     let done =
-    one_released live names c.args.name apart earlier c.args.self.now held now (record now { ids = c.change_both.new.self }) c.in-Some.live
+    one_released live names c.args.name apart earlier c.args.self.now held now.done now (record now { ids = c.change_both.new.self; done = c.in-Some-checked_add.next })
+    c.in-Some.live
     c.in_ok-gathered.field-0 c.args.done.now.items out refl refl c.in_ok-change_both.ensures (λ d. c.in_ok-gathered.ensures d) in
     (done.0, rw c.in_ok-push.ensures.items done.1, ap (λ k. k.reuse) out.rest, ap (λ k. k.count) out.rest)

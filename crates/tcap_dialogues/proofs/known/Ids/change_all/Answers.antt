@@ -8,8 +8,7 @@ pub loop-id-preserved : goal.loop-id-preserved
 loop-id-preserved c =
     rw (map_push (λ id. id.now) c.loop-id.yielded c.in-Some.id)
     (change_more c.args.end (map (λ id. id.now) c.loop-id.yielded) c.in-Some.id.now c.args.change c.args.self.now c.loop-id.self
-    c.set.new.self c.loop-id.invariant
-    (rw (c.view-in-loop-id.ensures, c.changed.ensures, c.get-known.ensures, c.view.ensures) at c.in_ok-set.ensures))
+    c.change.new.self c.loop-id.invariant (rw c.view.ensures at c.in_ok-change.ensures))
 
 pub returns : goal.returns
 returns c =

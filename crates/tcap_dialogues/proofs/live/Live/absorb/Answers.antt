@@ -10,7 +10,7 @@ returns c = λ ds es kept other.
     let numbers = drained c.args.other.numbers.keys one.1 one.0 one.4.1.0 one.2.0 one.4.1.1 one.4.1.2.0 in
     let a = drained c.args.other.a.keys two.1 two.0 two.4.1.0 two.2.0 two.4.1.1 two.4.1.2.0 in
     let b = drained c.args.other.b.keys three.1 three.0 three.4.1.0 three.2.0 three.4.1.1 three.4.1.2.0 in (
-      absorbed ds es c.args.self.now c.args.other c.extend.new.self c.extend-2.new.self c.extend-3.new.self c.lower-self.result
-          kept other (rw numbers at one.3.0) (rw a at two.3.0) (rw b at three.3.0) c.lower-self.ensures,
+      absorbed ds es c.args.self.now c.args.other c.extend.new.self c.extend-2.new.self c.extend-3.new.self c.lower-self.result c.higher-self.result
+          kept other (rw numbers at one.3.0) (rw a at two.3.0) (rw b at three.3.0) c.lower-self.ensures c.higher-self.ensures,
       refl,
     )

@@ -18,7 +18,7 @@ returns-in-Some-get c =
     let fits : SFits w8 c.in-Some.linked = search rules in
     let linking : Invocation → Bool = λ item. links c.args.table.now item.code (code_of c.args.code) in
     rw c.in-Some.is
-    (c.is_some.ensures ∙ ap is_some c.first_linking.ensures
+    (c.links_one.ensures
     ∙ ap (λ row. is_some (place_of (fits_in linking) row)) (sym (rw (to_z-of_z w8 c.in-Some.linked fits) at c.in-Some-get.ensures))
     ∙ sym (one_in c.in-Some.linked linking (rows_of c.args.self.now.inn) (whole_rows c.args.self.now.inn)))
 

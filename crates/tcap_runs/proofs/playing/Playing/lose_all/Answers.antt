@@ -1,7 +1,6 @@
 use Rattle.std.proofs.Common.{◌+◌, ap, sym, refl, ◌∙◌, arith, length, List}
 use Rattle.tcap_model.specs.World.{OnItsWay, channel_from}
-use Rattle.tcap_check.specs.Alone.{all_lost_from}
-use Rattle.tcap_check.specs.Replayed.{Replay}
+use Rattle.tcap_check.specs.Replayed.{Replay, all_lost_from}
 use Rattle.tcap_runs.specs.Playing.{first_number, replay_of}
 use Rattle.tcap_runs.proofs.LossLaws.{none_left_of_all, none_of_all, one_left_of_all, one_of_all}
 use Rattle.tcap_runs.proofs.playing.Playing.lose_all.Goals as goal

@@ -1,6 +1,6 @@
 -- All that is lost now, and what was lost of it before, is all; so many messages less are on their way.
 use Rattle.std.proofs.Common.{◌≡◌, ◌+◌, length}
-use Rattle.tcap_check.specs.Alone.{all_lost_from}
+use Rattle.tcap_check.specs.Replayed.{all_lost_from}
 use Rattle.tcap_runs.specs.Playing.{channel_at, replay_of}
 use Rattle.tcap_runs.proofs.playing.Playing.lose_all.Given as goal
 

@@ -1,0 +1,54 @@
+-- What is asked of a trace by numbers, and what a call gives of it.
+use Rattle.std.specs.Prelude.{◌≡◌, ℕ, ◌<◌, List, ◌++◌, length, take, drop, true, false, Bool, nat_eq, cond, Option, Some, None, Ok, option_and_then}
+use Rattle.tcap_record.specs.declared.entry.End.{End as Side}
+use Rattle.tcap_dialogues.specs.declared.reuse.Reuse.{Reuse}
+use Rattle.tcap_dialogues.specs.declared.reuse.Reuse.TheVariants.{Again, Once}
+use Rattle.tcap_books.specs.Book.{NamedTable, is_ambiguous}
+use Rattle.tcap_books.specs.BookText.{IsBookOf}
+use Rattle.tcap_traces.specs.declared.verdict.Verdict.{Verdict}
+use Rattle.tcap_traces.specs.Verdict.{status_of}
+use Rattle.tcap_c.specs.InMemory.{judged_by}
+use Rattle.tcap_c.specs.declared.asked.Asked.{Asked}
+use Rattle.tcap_c.specs.declared.asked.Rules.{Rules}
+
+-- ---- numbers
+
+-- how IDs may come again, and whether nothing was under way then
+abbrev pub reuse_of : ℕ → ℕ → Option (Reuse × Bool)
+reuse_of number linger = cond (nat_eq number 0) (Some (Again linger, false))
+    (cond (nat_eq number 1) (Some (Again linger, true))
+    (cond (nat_eq number 2) (Some (Once, false)) None))
+
+abbrev pub flag_of : ℕ → Option Bool
+flag_of number = cond (nat_eq number 0) (Some false) (cond (nat_eq number 1) (Some true) None)
+
+-- what the numbers mean; nothing where one of them is unknown
+abbrev pub rules_of : Asked → Option Rules
+rules_of asked =
+    option_and_then (λ (of : Option Side).
+    option_and_then (λ (again : Reuse × Bool).
+    option_and_then (λ (complete : Bool).
+    Some (record { of = of; reuse = again.0; settled = again.1; complete = complete }))
+    (flag_of asked.complete)) (reuse_of asked.ids asked.linger)) (judged_by asked.of)
+
+-- ---- what a call gives
+
+-- octets that are laid over the front of a room, as many as it has room for; behind them it stays as it is
+abbrev pub laid : List ℕ → List ℕ → List ℕ
+laid octets room = take (length room) octets ++ drop (length octets) room
+
+-- Some octets were laid over the room, all of them are counted, and the status is that of a verdict.
+pub record Tells (old new : List ℕ) (len status : ℕ) : Type 0 where
+  pub octets : List ℕ
+  pub verdict : Verdict
+  pub laid_is : new ≡ laid octets old
+  pub len_is : len ≡ length octets
+  pub status_is : status ≡ status_of verdict
+
+-- a call with a number that is unknown: nothing is written
+abbrev pub TellsNothing : List ℕ → List ℕ → ℕ → ℕ → Type 0
+TellsNothing old new len status = (new ≡ old) × (len ≡ 0) × (status ≡ 4)
+
+-- the text is a book, and it is told which of its tables is for a dialogue without a context
+abbrev pub IsClearBook : List ℕ → Type 0
+IsClearBook text = (tables : List NamedTable) × IsBookOf text (Ok tables) × (is_ambiguous tables ≡ false)

@@ -1,0 +1,18 @@
+//! The room of a caller.
+
+ghost use Rattle.std.specs.Prelude.{◌≡◌, length};
+ghost use Rattle.tcap_c.specs.Traces.{laid};
+
+/// Lays octets over the front of `room`, as many as it has room for, and puts into `len` how many they all are.
+pub(crate) fn lay(octets: &[u8], room: &mut [u8], len: &mut usize)
+    ensures room { room.new ≡ laid octets.now room.old }
+    ensures len { len.new ≡ length octets.now }
+{
+    *len = octets.len();
+    if octets.len() <= room.len() {
+        room[..octets.len()].copy_from_slice(octets);
+    } else {
+        let count = room.len();
+        room.copy_from_slice(&octets[..count]);
+    }
+}

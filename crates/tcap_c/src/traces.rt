@@ -1,0 +1,160 @@
+//! What is said of a trace that is in memory.
+
+ghost use Rattle.std.specs.Prelude.{◌≡◌, ◌≢◌, ◌<◌, length, Some, None, IfOk, IsErr, MatchResult};
+ghost use Rattle.tcap_traces.specs.declared.verdict.Verdict.TheVariants as Verdict;
+ghost use Rattle.tcap_traces.specs.Verdict.{status_of};
+ghost use Rattle.tcap_ber.specs.Device.{CountsFailure, Takes};
+ghost use Rattle.tcap_c.specs.Traces.{IsClearBook, Tells};
+
+use crate::asked::Rules;
+use crate::octets::Octets;
+use crate::room::lay;
+use std::alloc::{AllocError, Global};
+use tcap_ber::{Counted, Failed, Write};
+use tcap_books::{AMBIGUOUS, Book, BookFault, CARRIED_BOOK};
+use tcap_report::{Asked, Sinks, Stop, Sum, Watch, run_trace, tell_unread};
+use tcap_traces::Verdict;
+
+/// The name of the trace, in each line.
+const NAME: &str = "trace";
+
+/// The one line where memory ran out.
+const NO_MEMORY: &str =
+    "{\"trace\":\"trace\",\"verdict\":\"error\",\"messages\":0,\"dialogues\":{\"pass\":0,\"inconc\":0,\"fail\":0,\"error\":0},\"unheard\":0,\"text\":\"out of memory\"}\n";
+
+/// The text of a table without operations.
+const NO_OPERATIONS: &[u8] = b"{\"operations\":[]}";
+
+/// The lines, as they are written.
+type Lines = Counted<Vec<u8>>;
+
+/// Nobody, who keeps nothing of what is said, and does not look on.
+#[derive(Drop)]
+struct Nobody;
+
+impl Write for Nobody {
+    ghost taken = { λ _. None };
+
+    ghost failures = { λ _. 0 };
+
+    fn write_all(&mut self, _octets: &[u8]) -> Result<(), Failed> {
+        Ok(())
+    }
+}
+
+impl Watch for Nobody {
+    fn look(&mut self, _sum: &Sum) {}
+}
+
+/// The book of a text, where no text is that which the library carries; or what is wrong with it, in words.
+fn book_of(alloc: Global, text: &[u8]) -> Result<Result<Book, String>, AllocError>
+    ensures { IfOk result (λ found. IfOk found (λ _. 0 < length text.now → IsClearBook text.now)) }
+{
+    let text = if text.is_empty() {
+        CARRIED_BOOK.as_bytes()
+    } else {
+        text
+    };
+    let mut why = String::new(alloc);
+    match Book::from_json(alloc, text) {
+        Ok(book) if !book.is_ambiguous() => return Ok(Ok(book)),
+        Ok(_) => {
+            why.push_str("the book: ")?;
+            why.push_str(AMBIGUOUS)?;
+        }
+        Err(BookFault::Memory) => return Err(AllocError),
+        Err(fault) => write!(why, "the book: {fault}")?,
+    }
+    Ok(Err(why))
+}
+
+/// Writes the lines of a trace, or of why it is not judged, and answers the verdict on it.
+fn write_lines(
+    alloc: Global,
+    trace: Result<&[u8], &str>,
+    asked: Asked,
+    lines: &mut Lines,
+) -> Result<Verdict, Stop>
+    ensures { IsErr trace.entry → IfOk result (λ verdict. verdict ≡ Verdict.Error) }
+{
+    let (mut text, mut watch, mut sum) = (Nobody, Nobody, Sum::new());
+    let mut sinks = Sinks {
+        text: &mut text,
+        json: Some(lines),
+        page: None,
+        junit: None,
+        sum: &mut sum,
+        watch: &mut watch,
+    };
+    match trace {
+        Ok(octets) => run_trace(alloc, &mut Octets::new(octets), asked, &mut sinks),
+        Err(why) => {
+            tell_unread(alloc, asked, why, &mut sinks)?;
+            Ok(Verdict::Error)
+        }
+    }
+}
+
+/// What is asked of a trace, by these rules and that book.
+fn asked_by(rules: Rules, book: &Book) -> Asked<'_>
+    ensures of { result.of ≡ rules.of }
+    ensures reuse { result.reuse ≡ rules.reuse }
+    ensures settled { result.settled ≡ rules.settled }
+    ensures complete { result.complete ≡ rules.complete }
+    ensures book { result.book.now ≡ book.now }
+{
+    Asked {
+        name: NAME,
+        of: rules.of,
+        reuse: rules.reuse,
+        settled: rules.settled,
+        complete: rules.complete,
+        book,
+    }
+}
+
+/// The lines of a trace, and the verdict on it.
+fn lines_of(
+    alloc: Global,
+    trace: &[u8],
+    book: &[u8],
+    rules: Rules,
+) -> Result<(Vec<u8>, Verdict), Stop>
+    ensures { IfOk result (λ said. said.1 ≢ Verdict.Error → 0 < length book.now → IsClearBook book.now) }
+{
+    let mut lines = Counted::new(Vec::new(alloc));
+    let verdict = match book_of(alloc, book)? {
+        Ok(book) => write_lines(alloc, Ok(trace), asked_by(rules, &book), &mut lines)?,
+        Err(why) => {
+            let Ok(none) = Book::from_json(alloc, NO_OPERATIONS) else {
+                return Err(Stop::Memory);
+            };
+            write_lines(alloc, Err(&why), asked_by(rules, &none), &mut lines)?
+        }
+    };
+    Ok((lines.into_inner(), verdict))
+}
+
+/// Lays the lines of a trace over the room, and answers the exit status. Where memory runs out, they are one line that says so.
+pub(crate) fn test(
+    alloc: Global,
+    trace: &[u8],
+    book: &[u8],
+    rules: Rules,
+    room: &mut [u8],
+    len: &mut usize,
+) -> u8
+    ensures tells { Tells room.old room.new len.new result }
+    ensures book { result ≢ 3 → 0 < length book.now → IsClearBook book.now }
+{
+    match lines_of(alloc, trace, book, rules) {
+        Ok((lines, verdict)) => {
+            lay(&lines, room, len);
+            verdict.status()
+        }
+        Err(_) => {
+            lay(NO_MEMORY.as_bytes(), room, len);
+            Verdict::Error.status()
+        }
+    }
+}

@@ -1,0 +1,182 @@
+-- The steps of a checker, over what is kept, are those of the replay, entry by entry, whoever is judged.
+use Rattle.std.proofs.Common.{◌≡◌, ℕ, ◌+◌, ◌==◌, Bool, true, false, List, [], ◌∷◌, ◌++◌, length, Option, Some, None, Result, Ok, Err, refl, sym, ap, ap₂, ◌∙◌, zero-add}
+use Rattle.std.specs.Prelude.{ok_or, slice_get}
+use Rattle.tcap_record.specs.declared.entry.End.{End as Side}
+use Rattle.tcap_end.specs.Table.{Table}
+use Rattle.tcap_end.specs.Step.{needs, ◌>>◌, ◌>>=◌}
+use Rattle.tcap_check.specs.declared.certificate.Fate.{Fate}
+use Rattle.tcap_check.specs.declared.fault.CheckFault.{CheckFault}
+use Rattle.tcap_model.specs.declared.reason.Reason.{Reason}
+use Rattle.tcap_model.specs.declared.reason.Reason.TheVariants.{FateCount}
+use Rattle.tcap_check.specs.declared.outline.Outline.{Outline}
+use Rattle.tcap_model.specs.World.{Item, channel_from}
+use Rattle.tcap_check.specs.Certificate.{Certificate}
+use Rattle.tcap_check.specs.Replayed.{Replay, certificate_fits, entries_by, entry_by, fault_at, gap_by, item_by, next_entry, nothing_replayed}
+use Rattle.tcap_check.specs.Outlines.{is_named, outline_of, outlines_from, since_from}
+use Rattle.tcap_check.specs.Checking.{Checking, Kept, Took, ended, entry_kept, gap_before, hearing_by, item_kept, kept_ended, kept_next, kept_of, kept_with, map_ok, taken, taken_from, taken_next}
+use Rattle.tcap_check.proofs.AloneReplays.{item_leads}
+use Rattle.tcap_check.proofs.HeardEntries.{item_of_one}
+use Rattle.tcap_check.proofs.HeardGaps.{gap_is as gap_of_one}
+use Rattle.tcap_check.proofs.HeardOwn.{heard_empty}
+use Rattle.tcap_check.proofs.KeptEntries.{gap_of_both, item_of_both, item_sends, map_both, ok_behind, outlines_more, since_more, then_same, then_then}
+use Rattle.tcap_check.proofs.KeptHidden.{outlines_count}
+
+-- Nothing is on its way from the end that is judged alone.
+abbrev pub IsHeard : Option Side → Replay → Type 0
+IsHeard None r = Unit {0}
+IsHeard (Some judged) r = channel_from judged r.world ≡ []
+
+pub taken_is_heard : (judged : Option Side) (table : Table) (c : Certificate) (entries : List (Result Item Reason)) (r : Replay)
+    → taken judged table c entries ≡ Ok r → IsHeard judged r
+taken_is_heard None table c entries r is = tt
+taken_is_heard (Some judged) table c entries r is = heard_empty judged table c entries r is
+
+-- ---- the parts of an entry
+
+gap_kept_is : (judged : Option Side) (table : Table) (c : Certificate) (r : Replay)
+    → gap_before judged table c (kept_of judged c r) ≡ map_ok (hearing_by judged c) (gap_by judged table c r)
+gap_kept_is None table c r = gap_of_both table c r
+gap_kept_is (Some judged) table c r = gap_of_one table c judged r
+
+item_kept_is : (judged : Option Side) (table : Table) (c : Certificate) (fate : Fate) (item : Item) (r : Replay)
+    → slice_get c.fates (next_entry r) ≡ Some fate → IsHeard judged r
+    → item_kept judged table c fate item (kept_of judged c r) ≡ map_ok (hearing_by judged c) (item_by judged table c fate item r)
+item_kept_is None table c fate item r has empty = item_of_both table c fate item r has
+item_kept_is (Some judged) table c fate item r has empty = item_of_one table c judged r fate item has empty
+
+sends_it : (judged : Option Side) (table : Table) (c : Certificate) (fate : Fate) (item : Item) (r next : Replay)
+    → slice_get c.fates (next_entry r) ≡ Some fate
+    → item_by judged table c fate item r ≡ Ok next → next.world.sent ≡ r.world.sent ++ item ∷ []
+sends_it None table c fate item r next has is = item_sends table c fate item r next has is
+sends_it (Some judged) table c fate item r next has is = (item_leads judged table c fate item r next is).sent
+
+-- What is kept of an entry more.
+kept_more : (judged : Option Side) (c : Certificate) (item : Item) (r next : Replay) → next.world.sent ≡ r.world.sent ++ item ∷ []
+    → kept_with c item (kept_of judged c r) (hearing_by judged c next) ≡ kept_of judged c next
+kept_more judged c item r next sent =
+    ap₂ (λ (entries : List Outline) (since : ℕ).
+    let k : Kept = record { hearing = hearing_by judged c next; entries = entries; since = since } in k) entries since
+  where
+    items : List Item
+    items = r.world.sent
+
+    -- the number of the entry, counted over the outlines
+    count : 0 + length items ≡ length (outlines_from c 0 items)
+    count = zero-add (length items) ∙ sym (outlines_count c 0 items)
+
+    entries : outlines_from c 0 items ++ outline_of (is_named c (length (outlines_from c 0 items))) item ∷ []
+        ≡ outlines_from c 0 next.world.sent
+    entries = sym (ap (outlines_from c 0) sent ∙ outlines_more c 0 items item
+        ∙ ap (λ (k : ℕ). outlines_from c 0 items ++ outline_of (is_named c k) item ∷ []) count)
+
+    since : since_from (since_from 0 0 items) (length (outlines_from c 0 items)) (item ∷ [])
+        ≡ since_from 0 0 next.world.sent
+    since = sym (ap (since_from 0 0) sent ∙ since_more 0 0 items item
+        ∙ ap (λ (k : ℕ). since_from (since_from 0 0 items) k (item ∷ [])) count)
+
+-- ---- an entry
+
+module _ (judged : Option Side) (table : Table) (c : Certificate) where
+  entry_is : (fate : Fate) (entry : Result Item Reason) (r : Replay) → slice_get c.fates (next_entry r) ≡ Some fate → IsHeard judged r
+      → entry_kept judged table c fate entry (kept_of judged c r) ≡ map_ok (kept_of judged c) (entry_by judged table c fate entry r)
+  entry_is fate (Ok item) r has empty =
+      ap (map_ok (kept_with c item (kept_of judged c r))) (item_kept_is judged table c fate item r has empty)
+      ∙ map_both (hearing_by judged c) (kept_with c item (kept_of judged c r)) (kept_of judged c) (item_by judged table c fate item r)
+      (λ next is. kept_more judged c item r next (sends_it judged table c fate item r next has is))
+  entry_is fate (Err reason) r has empty = rw (outlines_count c 0 r.world.sent) refl
+
+  next_is : (entry : Result Item Reason) (r : Replay) → IsHeard judged r
+      → kept_next judged table c entry (kept_of judged c r) ≡ map_ok (kept_of judged c) (taken_next judged table c entry r)
+  next_is entry r empty =
+      ap (λ (n : ℕ). ok_or (slice_get c.fates n) (fault_at FateCount n)
+      >>= λ fate. entry_kept judged table c fate entry (kept_of judged c r)) (outlines_count c 0 r.world.sent)
+      ∙ by (slice_get c.fates (next_entry r)) refl
+    where
+      by : (o : Option Fate) → slice_get c.fates (next_entry r) ≡ o
+          → (ok_or o (fault_at FateCount (next_entry r)) >>= λ fate. entry_kept judged table c fate entry (kept_of judged c r))
+          ≡ map_ok (kept_of judged c) (ok_or o (fault_at FateCount (next_entry r)) >>= λ fate. entry_by judged table c fate entry r)
+      by None has = refl
+      by (Some fate) has = entry_is fate entry r has empty
+
+  ended_is : (r : Replay) → kept_ended judged table c (kept_of judged c r) ≡ map_ok (hearing_by judged c) (ended judged table c r)
+  ended_is r =
+      ap (λ (n : ℕ). needs (n == length c.fates) (fault_at FateCount n) >> gap_before judged table c (kept_of judged c r))
+      (outlines_count c 0 r.world.sent)
+      ∙ by (next_entry r == length c.fates)
+    where
+      by : (b : Bool) → (needs b (fault_at FateCount (next_entry r)) >> gap_before judged table c (kept_of judged c r))
+          ≡ map_ok (hearing_by judged c) (needs b (fault_at FateCount (next_entry r)) >> gap_by judged table c r)
+      by true = gap_kept_is judged table c r
+      by false = refl
+
+  -- ---- entries, one after the other
+
+  more_from : (entries : List (Result Item Reason)) (entry : Result Item Reason) (r : Replay)
+      → taken_from judged table c (entries ++ entry ∷ []) r ≡ (taken_from judged table c entries r >>= taken_next judged table c entry)
+  more_from [] entry r = ok_behind (taken_next judged table c entry r)
+  more_from (first ∷ entries) entry r =
+      then_same (taken_next judged table c first r) (taken_from judged table c (entries ++ entry ∷ []))
+      (λ next. taken_from judged table c entries next >>= taken_next judged table c entry) (more_from entries entry)
+      ∙ sym (then_then (taken_next judged table c first r) (taken_from judged table c entries) (taken_next judged table c entry))
+
+  pub taken_more : (entries : List (Result Item Reason)) (entry : Result Item Reason)
+      → taken judged table c (entries ++ entry ∷ []) ≡ (taken judged table c entries >>= taken_next judged table c entry)
+  taken_more entries entry = by (certificate_fits c)
+    where
+      by : (fits : Result (Unit {0}) CheckFault)
+          → (fits >> taken_from judged table c (entries ++ entry ∷ []) nothing_replayed)
+          ≡ (fits >> taken_from judged table c entries nothing_replayed >>= taken_next judged table c entry)
+      by (Ok done) = more_from entries entry nothing_replayed
+      by (Err fault) = refl
+
+  replayed_from : (entries : List (Result Item Reason)) (r : Replay)
+      → entries_by judged table c entries r ≡ (taken_from judged table c entries r >>= ended judged table c)
+  replayed_from [] r = refl
+  replayed_from (entry ∷ entries) r =
+      sym (then_then (ok_or (slice_get c.fates (next_entry r)) (fault_at FateCount (next_entry r)))
+      (λ fate. entry_by judged table c fate entry r) (entries_by judged table c entries))
+      ∙ then_same (taken_next judged table c entry r) (entries_by judged table c entries)
+      (λ next. taken_from judged table c entries next >>= ended judged table c) (replayed_from entries)
+      ∙ sym (then_then (taken_next judged table c entry r) (taken_from judged table c entries) (ended judged table c))
+
+  pub replayed_is : (entries : List (Result Item Reason))
+      → (certificate_fits c >> entries_by judged table c entries nothing_replayed)
+      ≡ (taken judged table c entries >>= ended judged table c)
+  replayed_is entries = by (certificate_fits c)
+    where
+      by : (fits : Result (Unit {0}) CheckFault)
+          → (fits >> entries_by judged table c entries nothing_replayed)
+          ≡ (fits >> taken_from judged table c entries nothing_replayed >>= ended judged table c)
+      by (Ok done) = replayed_from entries nothing_replayed
+      by (Err fault) = refl
+
+-- ---- a checker
+
+-- One step over what is kept of a step that was made.
+then_made : {B C : Type 0} (f : Replay → B) (g : Replay → C) (step : Result Replay CheckFault) (kept : B → Result C CheckFault)
+    (on : Replay → Result Replay CheckFault) → ((x : Replay) → step ≡ Ok x → kept (f x) ≡ map_ok g (on x))
+    → (map_ok f step >>= kept) ≡ map_ok g (step >>= on)
+then_made f g (Ok x) kept on same = same x refl
+then_made f g (Err reason) kept on same = refl
+
+-- Where a checker stands for these entries, its next step stands for one more.
+pub took_next : (s : Checking) (entries : List (Result Item Reason)) (entry : Result Item Reason) → Took s entries
+    → (s.so_far >>= kept_next s.judged s.table s.certificate entry)
+    ≡ map_ok (kept_of s.judged s.certificate) (taken s.judged s.table s.certificate (entries ++ entry ∷ []))
+took_next s entries entry took =
+    ap (λ (x : Result Kept CheckFault). x >>= kept_next s.judged s.table s.certificate entry) took
+    ∙ then_made (kept_of s.judged s.certificate) (kept_of s.judged s.certificate) (taken s.judged s.table s.certificate entries)
+    (kept_next s.judged s.table s.certificate entry) (taken_next s.judged s.table s.certificate entry)
+    (λ r is. next_is s.judged s.table s.certificate entry r (taken_is_heard s.judged s.table s.certificate entries r is))
+    ∙ ap (map_ok (kept_of s.judged s.certificate)) (sym (taken_more s.judged s.table s.certificate entries entry))
+
+pub took_end : (s : Checking) (entries : List (Result Item Reason)) → Took s entries
+    → (s.so_far >>= kept_ended s.judged s.table s.certificate)
+    ≡ map_ok (hearing_by s.judged s.certificate)
+    (certificate_fits s.certificate >> entries_by s.judged s.table s.certificate entries nothing_replayed)
+took_end s entries took =
+    ap (λ (x : Result Kept CheckFault). x >>= kept_ended s.judged s.table s.certificate) took
+    ∙ then_made (kept_of s.judged s.certificate) (hearing_by s.judged s.certificate) (taken s.judged s.table s.certificate entries)
+    (kept_ended s.judged s.table s.certificate) (ended s.judged s.table s.certificate)
+    (λ r is. ended_is s.judged s.table s.certificate r)
+    ∙ ap (map_ok (hearing_by s.judged s.certificate)) (sym (replayed_is s.judged s.table s.certificate entries))

@@ -1,0 +1,16 @@
+use Rattle.std.proofs.Common.{Result, Err, ap}
+use Rattle.tcap_check.specs.declared.checker.Report.{Report}
+use Rattle.tcap_check.specs.declared.fault.CheckFault.{CheckFault}
+use Rattle.tcap_check.specs.Ready.{kept_in}
+use Rattle.tcap_check.proofs.CheckerLaws.{finished_err, finished_ok}
+use Rattle.tcap_check.proofs.replaying.Replaying.finish.Goals as goal
+
+pub returns-in-Ok : goal.returns-in-Ok
+returns-in-Ok c = λ entries took other.
+    let r = c.args.self in rw c.report.ensures (finished_ok r.judged r.table.now r.certificate.now (kept_in r) c.end.new.self.hearing c.in-Ok.ensures entries took)
+
+pub returns : goal.returns
+returns c = λ entries took other.
+    let r = c.args.self in
+    finished_err r.judged r.table.now r.certificate.now (kept_in r) c.in-Err.fault
+    (c.in-Err.ensures (λ is. other (ap (λ (f : CheckFault). let x : Result Report CheckFault = Err f in x) is))) entries took

@@ -1,0 +1,406 @@
+//! A certificate that is replayed over entries, for both ends or for the one that is judged: what a checker does with each.
+
+ghost use Rattle.std.specs.Prelude.{◌≡◌, ◌≢◌, ◌++◌, ◌∷◌, ◌+◌, ◌<◌, ◌≤◌, ◌^◌, [], List, length, not, slice_get, ◌||◌, Some, Result, Ok, Err, IfOk, IfSome, OnOk, ok_or};
+ghost use Rattle.tcap_check.specs.declared.fault.CheckFault.{CheckFault as Refusal};
+ghost use Rattle.tcap_model.specs.declared.reason.Reason.{Reason as Why};
+ghost use Rattle.tcap_model.specs.declared.reason.Reason.TheVariants as reasons;
+ghost use Rattle.tcap_model.specs.World.{Item, Sent};
+ghost use Rattle.tcap_check.specs.Outlines.{outline_of};
+ghost use Rattle.tcap_check.specs.Progress.{YieldsInMemory, overtakes, seat_at};
+ghost use Rattle.tcap_check.specs.Replayed.{certificate_fits, fault_at, is_gap, run_by};
+ghost use Rattle.tcap_check.specs.Checking.{Took, gap_before, is_alone, kept_ended, kept_next, map_ok, message_taken};
+ghost use Rattle.tcap_check.specs.Checking.{quiet_by, reading, reported, tied_now};
+ghost use Rattle.tcap_check.specs.Plan.{IsPlan, flag_by};
+ghost use Rattle.tcap_check.specs.Ready.{IsReady, IsSameBesideEntries, IsSameBesideHearing, checking_of, kept_in};
+
+use crate::certificate::{Certificate, Fate};
+use crate::checker::Report;
+use crate::fault::CheckFault;
+use crate::hearing::{Hearing, told_among};
+use crate::outline::Outline;
+use crate::plan::{Plan, check_ranges};
+use crate::progress::OUT_OF_MEMORY;
+use std::alloc::Global;
+use tcap_ber::Fault;
+use tcap_end::Table;
+use tcap_model::Reason;
+use tcap_msg::{Message, MessageParts};
+use tcap_record::End;
+
+/// A replay under way. Of the entries so far it keeps the messages that wait, lent where they outlive it (`'r`), who sent
+/// each, and the IDs of those that a listed event names.
+#[derive(Debug, Drop)]
+pub(crate) struct Replaying<'a, 'r> {
+    alloc: Global,
+    // The end that is judged alone; else both are.
+    pub(crate) judged: Option<End>,
+    table: &'a Table,
+    certificate: &'a Certificate,
+    plan: Plan,
+    pub(crate) hearing: Hearing<'r>,
+    entries: Vec<Outline>,
+    since: usize,
+}
+
+impl<'a, 'r> Replaying<'a, 'r> {
+    /// A replay of that certificate for both ends or for the one that is judged, over which no entry went yet. `FateRange`
+    /// where a number of the certificate lies out of its range, at the entry of it; or `Memory`.
+    pub(crate) fn new(
+        alloc: Global,
+        table: &'a Table,
+        certificate: &'a Certificate,
+        judged: Option<End>,
+    ) -> Result<Replaying<'a, 'r>, CheckFault>
+        ensures ready { IfOk result (λ replaying. IsReady replaying) }
+        ensures took { IfOk result (λ replaying. Took (checking_of replaying) [] × (replaying.judged ≡ judged)
+            × (replaying.table.now ≡ table.entry.now) × (replaying.certificate.now ≡ certificate.entry.now)) }
+        ensures fits { OnOk result (certificate_fits certificate.entry.now ≡ Ok tt) }
+        ensures refused { (f : Refusal) → result ≡ Err f → f ≢ fault_at reasons.Memory 0
+            → certificate_fits certificate.entry.now ≡ Err f }
+    {
+        check_ranges(certificate)?;
+        let Ok(plan) = Plan::new(alloc, certificate) else {
+            return Err(OUT_OF_MEMORY);
+        };
+        let Ok(entries) = Vec::with_capacity(alloc, certificate.fates().len()) else {
+            return Err(OUT_OF_MEMORY);
+        };
+        Ok(Replaying {
+            alloc,
+            judged,
+            table,
+            certificate,
+            plan,
+            hearing: Hearing::new(alloc),
+            entries,
+            since: 0,
+        })
+    }
+
+    /// A refusal of the next entry.
+    fn refusal(&self, reason: Reason) -> CheckFault
+        ensures { result ≡ fault_at reason (length self.now.entries.items) }
+    {
+        CheckFault {
+            reason,
+            entry: self.entries.len() as u64,
+        }
+    }
+
+    /// The fate of the next entry, if it has one.
+    fn fate(&self) -> Result<Fate, CheckFault>
+        ensures { result ≡ ok_or (slice_get self.now.certificate.now.fates (length self.now.entries.items))
+            (fault_at reasons.FateCount (length self.now.entries.items)) }
+    {
+        match self.certificate.fates().get(self.entries.len()) {
+            Some(fate) => Ok(*fate),
+            None => Err(self.refusal(Reason::FateCount)),
+        }
+    }
+
+    /// Whether a listed event names the next entry.
+    fn is_named(&self) -> bool
+        ensures { result ≡ flag_by (slice_get self.now.plan.named.items (length self.now.entries.items)) }
+    {
+        matches!(self.plan.named.get(self.entries.len()), Some(true))
+    }
+
+    /// Whether a message with that fate may come behind what its end sent earlier: what the judged end sends comes to nobody.
+    fn is_in_order(&self, side: End, fate: Fate) -> bool
+        ensures { result ≡ is_alone self.now.judged side || not (overtakes fate (seat_at side self.now.hearing.progress)) }
+    {
+        self.judged == Some(side) || !self.hearing.progress.seat(side).overtakes(fate)
+    }
+
+    /// The peer's messages that the next entry takes, where that end alone is judged.
+    fn tied_to(&self, judged: End) -> Result<Vec<u32>, CheckFault>
+        requires plan { IsPlan self.now.certificate.now self.now.plan }
+        requires within { length self.now.entries.items ≤ length self.now.certificate.now.fates }
+        ensures tied { IfOk result (λ tied. tied.items ≡ tied_now (Some judged) self.now.certificate.now (kept_in self.now)) }
+        ensures memory { (f : Refusal) → result ≡ Err f → f ≡ fault_at reasons.Memory 0 }
+    {
+        let takes = self.plan.taken.get(self.entries.len());
+        match told_among(self.alloc, &self.entries, judged.other(), takes) {
+            Ok(tied) => Ok(tied),
+            Err(_) => Err(OUT_OF_MEMORY),
+        }
+    }
+
+    /// The gap before the next entry.
+    fn pass_gap(&mut self) -> Result<(), CheckFault>
+        requires ready { IsReady self.old }
+        ensures passed { YieldsInMemory (gap_before self.old.judged self.old.table.now self.old.certificate.now
+            (kept_in self.old)) result self.new.hearing }
+        ensures grows { OnOk result (self.new.hearing.progress.moves ≤ self.old.hearing.progress.moves + 2 ^ 66) }
+        ensures own { OnOk result (self.new.hearing.own ≡ self.old.hearing.own) }
+        ensures unheard { OnOk result (self.new.hearing.unheard ≤ self.old.hearing.unheard + 100000) }
+        ensures others { IsSameBesideHearing self.old self.new }
+    {
+        match self.judged {
+            None => self.hearing.progress.pass_gap(
+                self.table,
+                self.certificate,
+                &self.plan,
+                &self.entries,
+                self.since,
+            ),
+            Some(judged) => self.hearing.pass_gap(
+                self.table,
+                self.certificate,
+                &self.plan,
+                judged,
+                &self.entries,
+                self.since,
+            ),
+        }
+    }
+
+    /// What is kept of the next entry.
+    fn keep(&mut self, outline: Outline) -> Result<(), CheckFault>
+        ensures kept { OnOk result (self.new.entries.items ≡ self.old.entries.items ++ outline ∷ []) }
+        ensures memory { (f : Refusal) → result ≡ Err f → f ≡ fault_at reasons.Memory 0 }
+        ensures others { IsSameBesideEntries self.old self.new }
+    {
+        match self.entries.push(outline) {
+            Ok(()) => Ok(()),
+            Err(_) => Err(OUT_OF_MEMORY),
+        }
+    }
+
+    /// What is kept of the next entry, which is a message that an end sent.
+    fn keep_message<M: MessageParts>(&mut self, side: End, message: &M) -> Result<(), CheckFault>
+        ensures kept { OnOk result (self.new.entries.items ≡ self.old.entries.items
+            ++ outline_of (flag_by (slice_get self.old.plan.named.items (length self.old.entries.items)))
+            (Sent side (M.meaning message.now)) ∷ []) }
+        ensures memory { (f : Refusal) → result ≡ Err f → f ≡ fault_at reasons.Memory 0 }
+        ensures others { IsSameBesideEntries self.old self.new }
+    {
+        let Ok(outline) = Outline::of_message(self.alloc, self.is_named(), side, message) else {
+            return Err(OUT_OF_MEMORY);
+        };
+        self.keep(outline)
+    }
+
+    /// Behind the gap, where that end alone is judged: it sends a message, or its peer tells it.
+    fn join_alone<M: MessageParts>(
+        &mut self,
+        judged: End,
+        side: End,
+        fate: Fate,
+        message: &M,
+        lent: Option<&'r Message>,
+    ) -> Result<(), CheckFault>
+        requires plan { IsPlan self.old.certificate.now self.old.plan }
+        requires within { length self.old.entries.items ≤ length self.old.certificate.now.fates }
+        requires few { length self.old.certificate.now.fates ≤ 100000 }
+        requires room { self.old.hearing.progress.moves < 2 ^ 127 }
+        requires counts { self.old.hearing.own + self.old.hearing.unheard < 2 ^ 63 }
+        requires same { IfSome lent (λ lent. lent.now ≡ M.meaning message.now) }
+        ensures taken { YieldsInMemory (message_taken (Some judged) self.old.table.now side fate (length self.old.entries.items)
+            (M.meaning message.now) (tied_now (Some judged) self.old.certificate.now (kept_in self.old)) self.old.hearing) result
+            self.new.hearing }
+        ensures grows { OnOk result (self.new.hearing.progress.moves ≤ self.old.hearing.progress.moves + 2 ^ 65) }
+        ensures own { OnOk result (self.new.hearing.own ≤ self.old.hearing.own + 1) }
+        ensures unheard { OnOk result (self.new.hearing.unheard ≤ self.old.hearing.unheard + 1) }
+        ensures others { IsSameBesideHearing self.old self.new }
+    {
+        let tied = self.tied_to(judged)?;
+        let number = self.entries.len() as u64;
+        if side == judged {
+            self.hearing
+                .take_own(self.alloc, self.table, judged, number, message, &tied)
+        } else {
+            self.hearing
+                .take_told(self.alloc, judged, fate, number, message, lent, &tied)
+        }
+    }
+
+    /// Behind the gap: an end sends a message, or the peer of the judged one tells it.
+    fn join<M: MessageParts>(
+        &mut self,
+        side: End,
+        fate: Fate,
+        message: &M,
+        lent: Option<&'r Message>,
+    ) -> Result<(), CheckFault>
+        requires plan { IsPlan self.old.certificate.now self.old.plan }
+        requires within { length self.old.entries.items ≤ length self.old.certificate.now.fates }
+        requires few { length self.old.certificate.now.fates ≤ 100000 }
+        requires room { self.old.hearing.progress.moves < 2 ^ 127 }
+        requires counts { self.old.hearing.own + self.old.hearing.unheard < 2 ^ 63 }
+        requires same { IfSome lent (λ lent. lent.now ≡ M.meaning message.now) }
+        ensures taken { YieldsInMemory (message_taken self.old.judged self.old.table.now side fate (length self.old.entries.items)
+            (M.meaning message.now) (tied_now self.old.judged self.old.certificate.now (kept_in self.old)) self.old.hearing) result
+            self.new.hearing }
+        ensures grows { OnOk result (self.new.hearing.progress.moves ≤ self.old.hearing.progress.moves + 2 ^ 65) }
+        ensures own { OnOk result (self.new.hearing.own ≤ self.old.hearing.own + 1) }
+        ensures unheard { OnOk result (self.new.hearing.unheard ≤ self.old.hearing.unheard + 1) }
+        ensures others { IsSameBesideHearing self.old self.new }
+    {
+        let Some(judged) = self.judged else {
+            let entry = self.entries.len();
+            return self.hearing.progress.take_message(
+                self.alloc,
+                self.table,
+                side,
+                fate,
+                entry as u64,
+                message,
+                lent,
+                self.plan.taken.get(entry),
+            );
+        };
+        self.join_alone(judged, side, fate, message, lent)
+    }
+
+    /// The next entry is a message that an end sent; it is lent, where it outlives the replay.
+    fn take_message<M: MessageParts>(
+        &mut self,
+        side: End,
+        message: &M,
+        lent: Option<&'r Message>,
+    ) -> Result<(), CheckFault>
+        requires ready { IsReady self.old }
+        requires same { IfSome lent (λ lent. lent.now ≡ M.meaning message.now) }
+        ensures taken { YieldsInMemory (kept_next self.old.judged self.old.table.now self.old.certificate.now
+            (Ok (Sent side (M.meaning message.now))) (kept_in self.old)) result (kept_in self.new) }
+        ensures ready { OnOk result (IsReady self.new) }
+        ensures judged { self.new.judged ≡ self.old.judged }
+        ensures table { self.new.table ≡ self.old.table }
+        ensures certificate { self.new.certificate ≡ self.old.certificate }
+    {
+        let fate = self.fate()?;
+        if !self.is_in_order(side, fate) {
+            return Err(self.refusal(Reason::OutOfOrder));
+        }
+        self.pass_gap()?;
+        self.join(side, fate, message, lent)?;
+        self.keep_message(side, message)
+    }
+
+    /// The next entry is a message that an end sent, and that outlives the replay.
+    pub(crate) fn take_lent(&mut self, side: End, message: &'r Message) -> Result<(), CheckFault>
+        requires ready { IsReady self.old }
+        ensures taken { YieldsInMemory (kept_next self.old.judged self.old.table.now self.old.certificate.now
+            (Ok (Sent side message.now)) (kept_in self.old)) result (kept_in self.new) }
+        ensures ready { OnOk result (IsReady self.new) }
+        ensures judged { self.new.judged ≡ self.old.judged }
+        ensures table { self.new.table ≡ self.old.table }
+        ensures certificate { self.new.certificate ≡ self.old.certificate }
+    {
+        self.take_message(side, &message.view(), Some(message))
+    }
+
+    /// All is quiet behind the gap, or for the end that is judged.
+    fn be_quiet(&mut self) -> Result<(), CheckFault>
+        requires plan { IsPlan self.old.certificate.now self.old.plan }
+        requires within { length self.old.entries.items ≤ length self.old.certificate.now.fates }
+        requires few { length self.old.certificate.now.fates ≤ 100000 }
+        requires room { self.old.hearing.progress.moves < 2 ^ 126 }
+        ensures quiet { YieldsInMemory (quiet_by self.old.judged self.old.table.now (length self.old.entries.items)
+            (tied_now self.old.judged self.old.certificate.now (kept_in self.old)) self.old.hearing) result self.new.hearing }
+        ensures grows { OnOk result (self.new.hearing.progress.moves ≤ self.old.hearing.progress.moves + 2 ^ 66) }
+        ensures own { OnOk result (self.new.hearing.own ≡ self.old.hearing.own) }
+        ensures unheard { OnOk result (self.new.hearing.unheard ≡ self.old.hearing.unheard) }
+        ensures others { IsSameBesideHearing self.old self.new }
+    {
+        let entry = self.entries.len();
+        let Some(judged) = self.judged else {
+            return self
+                .hearing
+                .progress
+                .take_mark(entry as u64, self.plan.taken.get(entry));
+        };
+        let tied = self.tied_to(judged)?;
+        self.hearing
+            .take_mark(self.table, judged, entry as u64, &tied)
+    }
+
+    /// The next entry is a quiet mark.
+    pub(crate) fn take_mark(&mut self) -> Result<(), CheckFault>
+        requires ready { IsReady self.old }
+        ensures taken { YieldsInMemory (kept_next self.old.judged self.old.table.now self.old.certificate.now
+            (Ok Item.Quiet) (kept_in self.old)) result (kept_in self.new) }
+        ensures ready { OnOk result (IsReady self.new) }
+        ensures judged { self.new.judged ≡ self.old.judged }
+        ensures table { self.new.table ≡ self.old.table }
+        ensures certificate { self.new.certificate ≡ self.old.certificate }
+    {
+        let fate = self.fate()?;
+        let entry = self.entries.len();
+        if !is_gap_behind(fate, entry) {
+            return Err(self.refusal(Reason::FateRange));
+        }
+        self.pass_gap()?;
+        self.be_quiet()?;
+        self.since = entry + 1;
+        self.keep(Outline::Mark)
+    }
+
+    /// The next entry is none that a run sends.
+    pub(crate) fn refuse(&self, reason: Reason) -> CheckFault
+        ensures { kept_next self.now.judged self.now.table.now self.now.certificate.now (Err reason) (kept_in self.now) ≡ Err result }
+    {
+        match self.fate() {
+            Ok(_) => self.refusal(reason),
+            Err(fault) => fault,
+        }
+    }
+
+    /// The next entry is a message that an end sent, or octets that are none.
+    pub(crate) fn take_body<M: MessageParts>(
+        &mut self,
+        side: End,
+        body: Result<&M, Fault>,
+    ) -> Result<(), CheckFault>
+        requires ready { IsReady self.old }
+        ensures taken { YieldsInMemory (kept_next self.old.judged self.old.table.now self.old.certificate.now
+            (reading side (map_ok (λ m. M.meaning m.now) body.entry)) (kept_in self.old)) result (kept_in self.new) }
+        ensures ready { OnOk result (IsReady self.new) }
+        ensures judged { self.new.judged ≡ self.old.judged }
+        ensures table { self.new.table ≡ self.old.table }
+        ensures certificate { self.new.certificate ≡ self.old.certificate }
+    {
+        match body {
+            Ok(message) => self.take_message(side, message, None),
+            Err(fault) => Err(self.refuse(Reason::BadMessage(fault))),
+        }
+    }
+
+    /// No entry is left: the last gap.
+    fn end(&mut self) -> Result<(), CheckFault>
+        requires ready { IsReady self.old }
+        ensures { YieldsInMemory (kept_ended self.old.judged self.old.table.now self.old.certificate.now (kept_in self.old)) result
+            self.new.hearing }
+    {
+        if self.entries.len() != self.certificate.fates().len() {
+            return Err(self.refusal(Reason::FateCount));
+        }
+        self.pass_gap()
+    }
+
+    /// No entry is left: the last gap, and what is said of the run.
+    pub(crate) fn finish(self) -> Result<Report, CheckFault>
+        requires ready { IsReady self }
+        ensures { (entries : List (Result Item Why)) → Took (checking_of self.entry) entries
+            → result ≢ Err (fault_at reasons.Memory 0) → result ≡ map_ok (reported self.entry.judged)
+            (run_by self.entry.judged self.entry.table.now self.entry.certificate.now entries) }
+    {
+        let mut replaying = self;
+        match replaying.end() {
+            Ok(()) => Ok(replaying.hearing.report()),
+            Err(fault) => Err(fault),
+        }
+    }
+}
+
+/// Whether a fate is the gap behind that entry.
+pub(crate) fn is_gap_behind(fate: Fate, entry: usize) -> bool
+    requires room { entry < 2 ^ 63 }
+    ensures { result ≡ is_gap (entry + 1) fate }
+{
+    match fate {
+        Fate::Gap(gap) => gap as usize == entry + 1,
+        _ => false,
+    }
+}

@@ -1,0 +1,109 @@
+//! Codes that stand as texts of digits, and may be meant as numbers.
+
+use crate::table_faults::is_global;
+use serde_json::Value;
+use std::alloc::{AllocError, Global};
+
+/// A code that is written as a text, and what stands around it.
+#[derive(Clone, Copy, Debug)]
+struct Meant<'a> {
+    before: &'static str,
+    digits: &'a str,
+    behind: &'static str,
+}
+
+/// The digits of a global code of one or two octets, where they are decimal digits.
+fn short_digits(alloc: Global, code: &Value) -> Result<Option<&str>, AllocError> {
+    let Some(digits) = code.as_str() else {
+        return Ok(None);
+    };
+    let is_short = matches!(digits.len(), 2 | 4);
+    if is_short && digits.bytes().all(|digit| digit.is_ascii_digit()) && is_global(alloc, digits)? {
+        return Ok(Some(digits));
+    }
+    Ok(None)
+}
+
+/// The first code of a row that may be meant as a number.
+fn meant_in(alloc: Global, row: &Value) -> Result<Option<Meant>, AllocError> {
+    if let Some(code) = row.get("code") {
+        if let Some(digits) = short_digits(alloc, code)? {
+            return Ok(Some(Meant {
+                before: "\"code\":",
+                digits,
+                behind: "",
+            }));
+        }
+    }
+    let Some(linked) = row.get("linked").and_then(Value::as_array) else {
+        return Ok(None);
+    };
+    for code in linked {
+        if let Some(digits) = short_digits(alloc, code)? {
+            return Ok(Some(Meant {
+                before: "\"linked\":[",
+                digits,
+                behind: "]",
+            }));
+        }
+    }
+    Ok(None)
+}
+
+/// Appends what such a code is, and how the number is written.
+fn push_meant(text: &mut String, meant: Meant) -> Result<(), AllocError> {
+    let Meant {
+        before,
+        digits,
+        behind,
+    } = meant;
+    let octets = if digits.len() == 2 { "octet" } else { "octets" };
+    let number = digits.parse::<u32>().unwrap_or(0);
+    write!(
+        text,
+        "{before}\"{digits}\"{behind} is an OBJECT IDENTIFIER of the {octets} {digits}"
+    )?;
+    write!(
+        text,
+        "; a local code is a number: {before}{number}{behind}\n"
+    )
+}
+
+/// Appends a line for each row of a table that has such a code; the table has that number where it is one of a book.
+fn push_rows(
+    alloc: Global,
+    text: &mut String,
+    number: Option<usize>,
+    table: &Value,
+) -> Result<(), AllocError> {
+    let Some(rows) = table.get("operations").and_then(Value::as_array) else {
+        return Ok(());
+    };
+    for (row, value) in rows.iter().enumerate() {
+        let Some(meant) = meant_in(alloc, value)? else {
+            continue;
+        };
+        match number {
+            Some(number) => write!(text, "  hint: table {number}, row {row}: ")?,
+            None => write!(text, "  hint: row {row}: ")?,
+        }
+        push_meant(text, meant)?;
+    }
+    Ok(())
+}
+
+/// Appends a line for each row of a table, or of the tables of a book, that has a code which may be meant as a number: a text of
+/// decimal digits, which is the OBJECT IDENTIFIER of one or two octets.
+pub(crate) fn push_code_hints(
+    alloc: Global,
+    text: &mut String,
+    value: &Value,
+) -> Result<(), AllocError> {
+    let Some(tables) = value.get("tables").and_then(Value::as_array) else {
+        return push_rows(alloc, text, None, value);
+    };
+    for (number, table) in tables.iter().enumerate() {
+        push_rows(alloc, text, Some(number), table)?;
+    }
+    Ok(())
+}

@@ -1,0 +1,1636 @@
+//! The frame of a page, made of the files in page/. tools/page.py writes this file.
+
+/// What stands before the objects of JSON: the style, the script and the places that it fills.
+pub const FRAME_HEAD: &str = r#"<!doctype html>
+<html lang="en">
+<head>
+<meta charset="utf-8">
+<meta name="viewport" content="width=device-width, initial-scale=1">
+<meta http-equiv="Content-Security-Policy" content="default-src 'none'; base-uri 'none'; form-action 'none'; img-src data:; style-src 'sha256-E1mfbSfEXkluwOzP2JrQtO0WoCxpnFMRAKEbCMv6+bY='; script-src 'sha256-rLk/Rn+bqkrNJJNmJniUXVZBuGOXIMitd/2HH9+Z6O0='">
+<meta name="referrer" content="no-referrer">
+<title>TCAP dialogues, judged</title>
+<link rel="icon" href="data:,">
+<style>
+:root {
+  color-scheme: light dark;
+  --ground: #ffffff;
+  --panel: #f5f6f8;
+  --ink: #1b1f24;
+  --muted: #59626d;
+  --rule: #d3d8de;
+  --strong: #848d97;
+  --focus: #0b57d0;
+  --chosen: #e3edfb;
+  --fail: #b3261e;
+  --fail-ground: #fdecea;
+  --inconc: #8a5700;
+  --error: #6b2fa0;
+  --pass: #1a6b3c;
+  --mono: ui-monospace, "DejaVu Sans Mono", Menlo, Consolas, monospace;
+}
+
+@media (prefers-color-scheme: dark) {
+  :root {
+    --ground: #14171a;
+    --panel: #1c2025;
+    --ink: #e3e6ea;
+    --muted: #9da7b1;
+    --rule: #343b43;
+    --strong: #7d8792;
+    --focus: #8ab4f8;
+    --chosen: #22334d;
+    --fail: #ff8f86;
+    --fail-ground: #3a1d1c;
+    --inconc: #f0b64f;
+    --error: #cba6f7;
+    --pass: #7fd19b;
+  }
+}
+
+* { box-sizing: border-box; }
+
+body {
+  display: grid;
+  grid-template-rows: auto auto minmax(0, 1fr);
+  height: 100vh;
+  margin: 0;
+  background: var(--ground);
+  color: var(--ink);
+  font: 13px/1.45 system-ui, "Segoe UI", "DejaVu Sans", sans-serif;
+}
+
+h1, h2, h3, p, dl, dd, ol, pre, table { margin: 0; padding: 0; }
+h1 { font-size: 16px; }
+h2 { font-size: 15px; overflow-wrap: anywhere; }
+h3 { font-size: 13px; }
+code, pre, .name, .number { font-family: var(--mono); font-size: 12px; }
+h2 .name { font-size: 14px; }
+code, .name { overflow-wrap: anywhere; unicode-bidi: isolate; }
+.small { color: var(--muted); }
+.unseen { position: absolute; width: 1px; height: 1px; overflow: hidden; clip-path: inset(50%); }
+.note { padding: 4px 8px; border-left: 4px solid var(--inconc); background: var(--panel); }
+.empty { padding: 16px; color: var(--muted); }
+:focus-visible { outline: 2px solid var(--focus); outline-offset: -2px; }
+
+button, select, input {
+  padding: 3px 7px;
+  border: 1px solid var(--strong);
+  border-radius: 3px;
+  background: var(--ground);
+  color: var(--ink);
+  font: inherit;
+}
+button { cursor: pointer; }
+button:disabled { border-color: var(--rule); color: var(--muted); cursor: default; }
+
+.badge {
+  display: inline-block;
+  padding: 0 5px;
+  border: 1px solid;
+  border-radius: 3px;
+  font: 600 11px/16px var(--mono);
+}
+.badge.fail { color: var(--fail); border-width: 1px 1px 1px 4px; }
+.badge.inconc { color: var(--inconc); border-style: dashed; }
+.badge.error { color: var(--error); border-style: double; border-width: 3px; line-height: 12px; }
+.badge.pass { color: var(--pass); border-color: transparent; }
+
+header { display: flex; flex-wrap: wrap; gap: 6px 28px; align-items: center; padding: 8px 12px; }
+#sums { display: flex; flex-wrap: wrap; gap: 4px 20px; align-items: center; }
+#notes { display: grid; gap: 4px; }
+#kinds { min-width: 0; }
+#kinds[open] { flex-basis: 100%; }
+#kinds summary { cursor: pointer; }
+#kinds dl { columns: 3 320px; column-gap: 28px; max-height: 40vh; margin-top: 4px; overflow-y: auto; }
+#kinds dl > div { display: flex; gap: 8px; break-inside: avoid; }
+#kinds dt { flex: 0 0 26px; font: 600 12px/19px var(--mono); }
+#sums table { border-collapse: collapse; font-variant-numeric: tabular-nums; }
+#sums th, #sums td { padding: 1px 10px; text-align: right; }
+#sums th[scope="row"] { padding-left: 0; text-align: left; font-weight: 600; }
+
+#filters {
+  display: flex;
+  flex-wrap: wrap;
+  gap: 6px 12px;
+  align-items: end;
+  padding: 6px 12px;
+  border-block: 1px solid var(--rule);
+  background: var(--panel);
+}
+#filters label { display: grid; color: var(--muted); font-size: 11px; }
+#filters select, #filters input { width: 130px; font-size: 13px; }
+#filters .words { flex: 1 1 180px; max-width: 340px; }
+#filters .words input { width: 100%; }
+
+main { display: grid; grid-template-columns: minmax(300px, 30%) minmax(0, 1fr); min-height: 0; }
+#lists { display: grid; grid-template-rows: auto minmax(0, 1fr); min-height: 0; border-right: 1px solid var(--rule); }
+[role="tablist"] { display: flex; border-bottom: 1px solid var(--rule); }
+[role="tab"] {
+  flex: 1;
+  padding: 6px;
+  border: 0;
+  border-bottom: 3px solid transparent;
+  border-radius: 0;
+  color: var(--muted);
+}
+[role="tab"][aria-selected="true"] { border-bottom-color: var(--focus); color: var(--ink); font-weight: 600; }
+.panel { min-height: 0; }
+.panel[hidden] { display: none; }
+.list { height: 100%; overflow-y: auto; }
+.rows { position: relative; }
+.row {
+  position: absolute;
+  display: grid;
+  align-content: center;
+  width: 100%;
+  height: 62px;
+  padding: 0 10px;
+  overflow: hidden;
+  border-bottom: 1px solid var(--rule);
+  border-left: 4px solid transparent;
+  cursor: pointer;
+}
+.row[aria-selected="true"] { border-left-color: var(--focus); background: var(--chosen); }
+.upper, .lower { display: flex; gap: 8px; overflow: hidden; white-space: nowrap; }
+.upper > * { flex: none; }
+.upper > .name, .lower > * { flex: 0 1 auto; min-width: 0; overflow: hidden; text-overflow: ellipsis; }
+.lower { color: var(--muted); }
+.lower > code { white-space: pre; }
+.lower > .name { flex-shrink: 20; }
+
+#shown { overflow-y: auto; min-width: 0; }
+article { display: grid; gap: 8px; padding: 12px 16px; }
+article > * { min-width: 0; }
+.heading .badge { vertical-align: 2px; }
+.facts { display: flex; flex-wrap: wrap; gap: 2px 24px; }
+.facts dt { color: var(--muted); font-size: 11px; }
+.facts dd { overflow-wrap: anywhere; }
+.summary { font-weight: 600; }
+.summary .badge { min-width: 52px; text-align: center; }
+.beside { display: grid; grid-template-columns: minmax(0, 1fr); gap: 16px 24px; }
+.long summary { cursor: pointer; color: var(--muted); }
+.long > .name { display: block; max-height: 240px; overflow: auto; }
+.reasons { display: grid; gap: 12px; align-content: start; overflow-wrap: anywhere; }
+.reason { overflow-wrap: anywhere; white-space: pre-wrap; font: 12px/1.5 var(--mono); }
+.doubt { font-style: italic; }
+.leap { padding: 0 5px; font: 600 12px/16px var(--mono); }
+.leap + .leap { margin-left: 4px; }
+
+.ladder { max-width: 760px; }
+.ladder ol { list-style: none; }
+.heads { display: flex; justify-content: space-between; gap: 16px; padding: 0 12px; font: 600 12px/1.5 var(--mono); }
+.heads span { overflow-wrap: anywhere; }
+.heads span:last-child { text-align: right; }
+.step {
+  display: grid;
+  grid-template-columns: 26px minmax(0, 1fr) 26px;
+  content-visibility: auto;
+  contain-intrinsic-height: auto 54px;
+}
+.between { border-inline: 2px solid var(--strong); }
+.message {
+  display: block;
+  width: 100%;
+  padding: 5px 0 4px;
+  border: 0;
+  border-radius: 0;
+  background: none;
+  text-align: left;
+}
+.message:hover { background: var(--panel); }
+.message > *:not(.arrow), .still > * { padding-inline: 10px; }
+.first { display: flex; flex-wrap: wrap; gap: 0 10px; align-items: baseline; }
+.number { min-width: 20px; color: var(--muted); text-align: right; }
+.more { color: var(--muted); font-family: var(--mono); font-size: 12px; overflow-wrap: anywhere; }
+.part { display: block; margin-left: 30px; overflow-wrap: anywhere; font-family: var(--mono); font-size: 12px; }
+.part .mark { margin-left: 3px; }
+.part u { font-weight: 600; text-underline-offset: 3px; }
+.place { display: block; margin-left: 30px; color: var(--muted); font-size: 11px; }
+.place .name { font: inherit; }
+.arrow { display: block; width: 100%; stroke: var(--ink); stroke-width: 1.3; fill: var(--ink); }
+.arrow, .arrow svg { overflow: visible; }
+.from-B .arrow { transform: scaleX(-1); }
+.arrow.dotted line { stroke-dasharray: 2 5; }
+.arrow .cross { fill: none; stroke-width: 2; }
+.still { padding-block: 6px; border-block: 1px dashed var(--strong); }
+.at-B .first { justify-content: end; }
+.gap .still { padding-inline: 10px; border-block-style: dotted; color: var(--muted); }
+.mark { font-size: 11px; line-height: 16px; }
+.mark.shows { padding: 0 5px; border: 1px dotted var(--strong); }
+.mark.fault { padding: 0 5px; border: 1px solid var(--fail); color: var(--fail); }
+.mark.doubtful { padding: 0 5px; border: 1px dashed var(--inconc); color: var(--inconc); }
+.mark.tag { color: var(--muted); font-style: italic; }
+.step.fault .between { background: var(--fail-ground); }
+.step.fault .arrow { stroke: var(--fail); stroke-width: 2.6; fill: var(--fail); }
+.detail { padding: 4px 10px 8px; background: var(--panel); }
+.detail pre { padding: 4px 0; overflow-x: auto; }
+.detail .dump { font-size: 11px; }
+.show { overflow-wrap: anywhere; white-space: pre-wrap; }
+
+.lane { position: relative; }
+.lane::before { content: ""; position: absolute; top: 0; bottom: 0; border-left: 2px solid var(--fail); }
+.lane::after { content: ""; position: absolute; top: 14px; width: 12px; border-top: 2px solid var(--fail); }
+.left::before, .left::after { left: 12px; }
+.right::before, .right::after { right: 12px; }
+.lane.begins::before { top: 14px; }
+.lane.ends::before { bottom: auto; height: 16px; }
+.lane.begins.ends::before, .passed::after { display: none; }
+.lane.fault::after { top: 9px; width: 0; border: 6px solid var(--fail); }
+.lane.fault.left::after { left: 7px; }
+.lane.fault.right::after { right: 7px; }
+.lane.late::before, .lane.late::after { border-color: var(--strong); }
+.lane:not(.fault, .shows, .passed)::before, .lane:not(.fault, .shows, .passed)::after { display: none; }
+
+.of-run { grid-template-rows: auto minmax(0, 1fr); }
+.of-run main { grid-template-columns: minmax(0, 1fr); }
+.of-run #filters, .of-run #lists { display: none; }
+
+#printed { display: none; }
+
+@media (min-width: 1350px) {
+  .beside { grid-template-columns: minmax(0, 3fr) minmax(0, 2fr); }
+}
+
+@media (max-width: 820px) {
+  body { display: block; height: auto; }
+  main { display: block; }
+  #lists { height: 45vh; border-right: 0; border-bottom: 2px solid var(--rule); }
+  #kinds dl { max-height: none; }
+  #filters label { flex: 1 1 100px; }
+  #filters select, #filters input { width: 100%; }
+  #sums th, #sums td { padding: 1px 5px; }
+  #sums th[scope="row"] { padding-left: 0; }
+  article { padding: 10px; }
+  .step { grid-template-columns: 18px minmax(0, 1fr) 18px; }
+  .left::before, .left::after { left: 8px; }
+  .right::before, .right::after { right: 8px; }
+  .lane::after { width: 9px; }
+  .lane.fault::after { border-width: 5px; }
+  .lane.fault.left::after { left: 4px; }
+  .lane.fault.right::after { right: 4px; }
+  .part, .place { margin-left: 0; }
+  .number { min-width: 0; }
+}
+
+@media print {
+  :root {
+    color-scheme: light;
+    --ground: #ffffff;
+    --panel: #ffffff;
+    --ink: #000000;
+    --muted: #333333;
+    --rule: #999999;
+    --strong: #555555;
+    --chosen: #ffffff;
+    --fail: #000000;
+    --fail-ground: #ffffff;
+    --inconc: #000000;
+    --error: #000000;
+    --pass: #000000;
+  }
+  body { display: block; height: auto; }
+  main { display: block; }
+  #filters, #lists, #kinds, .prints-listed main { display: none; }
+  .prints-listed #printed { display: block; }
+  #shown { overflow: visible; }
+  article, .beside { display: block; }
+  article > *, .beside > * { margin-bottom: 8px; }
+  .step { content-visibility: visible; }
+  .step, .reason, .heading, .summary { break-inside: avoid; }
+  #printed article + article { border-top: 2px solid #000000; }
+  .step.fault .between { border-block: 2px solid #000000; }
+}
+</style>
+</head>
+<body>
+<header>
+<h1>TCAP dialogues, judged</h1>
+<div id="sums"><p>The report is being read.</p></div>
+<details id="kinds"><summary>The kinds of fault, F1 to F15</summary></details>
+<noscript><p>It is shown by a script, which is not run here.</p></noscript>
+<div id="notes" role="status"></div>
+</header>
+<form id="filters" role="search" aria-label="What is listed">
+<label>Verdict <select name="verdict"></select></label>
+<label>End at fault <select name="end"></select></label>
+<label>Kind <select name="kind"></select></label>
+<label>Table <select name="table"></select></label>
+<label>Trace <select name="trace"></select></label>
+<label class="words">Search IDs, names, comments, lines of the trace <input type="search" name="words"
+  placeholder="as 7f01, line 12 or frame 812" autocomplete="off" spellcheck="false"></label>
+<button type="button" id="clear">Clear</button>
+<button type="button" id="print-listed" title="Prints the dialogues that are listed">Print listed</button>
+</form>
+<main>
+<section id="lists" aria-label="What was judged">
+<p id="listed" class="unseen" role="status"></p>
+<div id="tabs" role="tablist" aria-label="Lists">
+<button type="button" role="tab" id="tab-dialogues" aria-controls="panel-dialogues" aria-selected="true"></button>
+<button type="button" role="tab" id="tab-traces" aria-controls="panel-traces" aria-selected="false" tabindex="-1"></button>
+</div>
+<div id="panel-dialogues" class="panel" role="tabpanel" aria-labelledby="tab-dialogues">
+<div id="dialogues" class="list" role="listbox" tabindex="0" aria-label="Dialogues that do not pass"></div>
+</div>
+<div id="panel-traces" class="panel" role="tabpanel" aria-labelledby="tab-traces" hidden>
+<div id="traces" class="list" role="listbox" tabindex="0" aria-label="Traces"></div>
+</div>
+</section>
+<section id="shown" tabindex="-1" aria-label="What is chosen"></section>
+</main>
+<section id="printed"></section>
+<script>
+"use strict";
+(() => {
+// Texts and elements. What comes of a trace is data: it is set as text, and never as markup.
+
+// The kinds of fault, each with its words and where its rule stands; docs/VERDICTS.md says how each is found by hand.
+const KINDS = {
+  F1: ["Its octets are no message.", "Q.773, X.690"],
+  F2: ["Its peer sent nothing from the destination ID that it could answer.", "Q.774 3.3"],
+  F3: ["Its end has used the originating ID before.", "Q.774 3.3; that an ID is used once is this profile's choice"],
+  F4: ["Its end has ended this dialogue before.", "Q.774 3.3"],
+  F5: ["It answers or rejects what its peer never sent.", "Q.774 3.2"],
+  F6: ["It invokes or answers an operation as the table does not allow.", "Q.771 3.1.2, operation classes"],
+  F7: ["Its dialogue portion is one that it may not carry.", "Q.774 3.2, dialogues; Q.773 4.2.3"],
+  F8: ["Its end has no transaction over which it may send it.", "Q.774 3.3"],
+  F9: ["Its dialogue portion does not fit how the dialogue stands.", "Q.774 3.2, dialogues"],
+  F10: ["It invokes an ID that is in use.", "Q.774 3.2, invocations; Q.771, classes"],
+  F11: ["It is linked to an invocation that its end did not receive, has answered, or may not link it to.",
+    "Q.774 3.2; Q.771, linked operations"],
+  F12: ["It answers an invocation that was answered already.", "Q.774 3.2; Q.771, classes"],
+  F13: ["It rejects with a problem that nothing received has.", "Q.774 3.2; Q.773 4.2.2"],
+  F14: ["It is an Abort of the provider that answers nothing which is left.", "Q.774 3.3, abnormal procedures"],
+  F15: ["It is a quiet mark, and a transaction of the end is surely open there.", "the bench's word that all was quiet"],
+};
+const ENDS = ["A", "B"];
+const VERDICTS = ["error", "fail", "inconc", "pass"];
+const SVG = "http://www.w3.org/2000/svg";
+
+// Controls, marks of direction, and what else shows nothing or moves its neighbours.
+const UNSEEN = /[\p{Cc}\p{Cf}\p{Zl}\p{Zp}]/gu;
+const LONG_NAME = 80;
+const LONG_TITLE = 1000;
+
+/** A text with the number of each character in it that is not seen, but for those that are kept. */
+function seen(text, kept = "") {
+  return text.replace(UNSEEN, (it) => (kept.includes(it) ? it : `\\u{${it.codePointAt(0).toString(16)}}`));
+}
+
+/** The beginning of a text that is too long. */
+function cut(text, longest) {
+  return text.length > longest ? `${text.slice(0, longest)}\u2026` : text;
+}
+
+/** A count with its word. */
+function counted(count, word) {
+  return `${count.toLocaleString("en")} ${word}${count === 1 ? "" : "s"}`;
+}
+
+/** The words of a kind of fault, with where its rule stands. */
+function wordsOfKind(kind) {
+  const [words, section] = KINDS[kind] ?? ["This page has no words for it.", kind];
+  return `${words} (${section})`;
+}
+
+/** The line of an entry at fault, and the frame or frames that the comment above it names first, as far as there are such. */
+function placeOfFault({line, comment}) {
+  const frames = /\bframes? \d{1,15}\b(?: to \d{1,15}\b)?/i.exec(comment ?? "");
+  return [line > 0 ? `line ${line}` : "", frames?.[0] ?? ""].filter((it) => it !== "").join(", ");
+}
+
+/** Sets attributes, leaves out those that are null, and appends children. */
+function filled(made, attributes, children) {
+  for (const [name, value] of Object.entries(attributes)) {
+    if (value !== null) made.setAttribute(name, value);
+  }
+  made.append(...children.filter((it) => it !== null));
+  return made;
+}
+
+/** An element of HTML; a child that is a string becomes text. */
+function make(tag, attributes, ...children) {
+  return filled(document.createElement(tag), attributes, children);
+}
+
+/** An element of SVG. */
+function drawn(tag, attributes, ...children) {
+  return filled(document.createElementNS(SVG, tag), attributes, children);
+}
+
+/** A name from a trace, cut where it is long; its title has more of it. */
+function named(text, longest = LONG_NAME) {
+  const all = seen(text);
+  return make("bdi", {class: "name", title: all.length > longest ? cut(all, LONG_TITLE) : null}, cut(all, longest));
+}
+
+/** A text from a trace, which opens; null where it is not long. */
+function opening(words, text) {
+  const all = seen(text);
+  if (all.length <= LONG_NAME) return null;
+  return make("details", {class: "long"}, make("summary", {}, words), make("bdi", {class: "name"}, all));
+}
+
+/** A verdict, as a word in a frame of its own. */
+function badge(verdict) {
+  return make("span", {class: `badge ${verdict}`}, verdict);
+}
+
+// The report: what the lines say that stand in the page. A run stands in a page by itself.
+
+// In a text of JSON a quote stands behind a backslash, so these octets are a key and the beginning of its list.
+const MESSAGES = ',"messages":[';
+
+/** The object of a line, null where it is none. */
+function objectOf(line) {
+  try {
+    const found = JSON.parse(line);
+    return typeof found === "object" ? found : null;
+  } catch {
+    return null;
+  }
+}
+
+/** What a line says before its messages: they are read when they are asked for. */
+function headOf(line) {
+  const at = line.indexOf(MESSAGES);
+  return objectOf(at < 0 ? line : `${line.slice(0, at)}}`);
+}
+
+/** The ends of a dialogue that a kind of fault is said of, by their entries at fault. */
+function blamedEnds(head) {
+  return ENDS.filter((end) => head[end]?.kind !== undefined).sort((one, other) => head[one].entry - head[other].entry);
+}
+
+/** The trace of what is read next: the object of a trace stands behind its dialogues. */
+function openTrace(report, name) {
+  const last = report.traces.at(-1);
+  if (last !== undefined && last.head.verdict === null) return last;
+  report.traces.push({head: {trace: name, verdict: null}, number: report.traces.length});
+  return report.traces.at(-1);
+}
+
+/** Adds what a line says. */
+function addLine(report, line) {
+  const head = headOf(line);
+  if (head === null) {
+    report.unread += 1;
+  } else if (head.run !== undefined) {
+    report.run = head.run;
+  } else if (head.total !== undefined) {
+    report.total = head;
+  } else if (head.dialogue === undefined) {
+    openTrace(report, head.trace).head = head;
+  } else {
+    const trace = openTrace(report, head.trace).number;
+    report.dialogues.push({head, line, number: report.dialogues.length, trace, blamed: blamedEnds(head), words: null});
+  }
+}
+
+/** Reads a report as far as it has come. */
+class Reader {
+  constructor() {
+    this.report = {dialogues: [], traces: [], total: null, run: null, unread: 0, isRead: false};
+    this.from = 0;
+  }
+
+  /** Adds the lines that have come whole. */
+  take(text) {
+    for (let to = text.indexOf("\n", this.from); to >= 0; to = text.indexOf("\n", this.from)) {
+      this.add(text.slice(this.from, to));
+      this.from = to + 1;
+    }
+  }
+
+  /** Adds what is left, when no more comes. */
+  close(text) {
+    this.take(text);
+    this.add(text.slice(this.from));
+    this.report.isRead = true;
+  }
+
+  /** Adds a line, where it has something. */
+  add(line) {
+    if (line !== "") addLine(this.report, line);
+  }
+}
+
+/** The messages of a dialogue, and how many are left out; null where they can't be read. */
+function messagesOf(dialogue) {
+  const whole = objectOf(dialogue.line);
+  return whole && {messages: whole.messages ?? [], leftOut: whole.left_out ?? 0};
+}
+
+/** What is searched of a dialogue: its IDs, its lines, and in lower case the names of its trace, its table and its operations, and
+ * the comments. */
+function wordsOf(dialogue) {
+  if (dialogue.words === null) {
+    const {head} = dialogue, messages = messagesOf(dialogue)?.messages ?? [];
+    const parts = messages.flatMap((it) => it.components ?? []);
+    const names = new Set(parts.flatMap((it) => it.split(" ")).filter((it) => !/^-?\d*$/.test(it)));
+    const lower = (texts) => texts.join("\n").toLowerCase();
+    dialogue.words = {ids: ENDS.flatMap((end) => head.ids[end]), lines: head.lines,
+      names: lower([head.trace, head.table ?? "", ...names]), comments: lower(messages.map((it) => it.comment ?? ""))};
+  }
+  return dialogue.words;
+}
+
+/** No counts of verdicts. */
+function noCounts() {
+  return Object.fromEntries(VERDICTS.map((it) => [it, 0]));
+}
+
+/** The sums: those at the end, or else of the traces that are there. */
+function sumsOf(report) {
+  if (report.total !== null) return report.total.total;
+  const sums = {traces: noCounts(), dialogues: noCounts(), messages: 0, unheard: 0};
+  for (const {head} of report.traces.filter((it) => it.head.verdict !== null)) {
+    sums.traces[head.verdict] += 1;
+    sums.messages += head.messages;
+    sums.unheard += head.unheard;
+    for (const verdict of VERDICTS) sums.dialogues[verdict] += head.dialogues[verdict];
+  }
+  return sums;
+}
+
+// A list of which only the rows in view stand in the page.
+
+// The height of a row in pixels; frame.css has the same.
+const ROW = 62;
+// How many rows are drawn above and below those in view.
+const BESIDE = 8;
+
+/** A listbox. `show.row` makes what a row has, `show.chosen` is told of what is chosen, and `show.entered` of Enter. */
+class RowList {
+  constructor(box, show) {
+    Object.assign(this, {box, show, items: [], at: -1});
+    this.rows = make("div", {class: "rows", role: "presentation"});
+    box.append(this.rows);
+    box.addEventListener("scroll", () => this.draw());
+    box.addEventListener("keydown", (event) => this.pressed(event));
+    box.addEventListener("click", (event) => this.clicked(event));
+    new ResizeObserver(() => this.draw()).observe(box);
+  }
+
+  /** Lists items, of which that at a place is chosen; none where it is -1. */
+  list(items, at) {
+    const isMoved = at !== this.at;
+    Object.assign(this, {items, at});
+    this.rows.style.height = `${items.length * ROW}px`;
+    if (isMoved) this.reveal();
+    else this.draw();
+  }
+
+  /** Draws the rows in view. */
+  draw() {
+    const first = Math.max(0, Math.floor(this.box.scrollTop / ROW) - BESIDE);
+    const last = Math.min(this.items.length, Math.ceil((this.box.scrollTop + this.box.clientHeight) / ROW) + BESIDE);
+    const rows = [];
+    for (let at = first; at < last; at += 1) rows.push(this.rowAt(at));
+    this.rows.replaceChildren(...rows);
+    if (this.at < 0) this.box.removeAttribute("aria-activedescendant");
+    else this.box.setAttribute("aria-activedescendant", `${this.box.id}-${this.at}`);
+  }
+
+  /** The row at a place. */
+  rowAt(at) {
+    const row = make("div", {
+      id: `${this.box.id}-${at}`, class: "row", role: "option", "data-at": at,
+      "aria-selected": at === this.at, "aria-setsize": this.items.length, "aria-posinset": at + 1,
+    }, ...this.show.row(this.items[at]));
+    row.style.top = `${at * ROW}px`;
+    return row;
+  }
+
+  /** Chooses the item at a place. */
+  choose(at) {
+    this.at = at;
+    this.reveal();
+    this.show.chosen(this.items[at]);
+  }
+
+  /** Brings what is chosen into view, or else the first row. */
+  reveal() {
+    const {box} = this, at = Math.max(0, this.at);
+    if (at * ROW < box.scrollTop) box.scrollTop = at * ROW;
+    else if ((at + 1) * ROW > box.scrollTop + box.clientHeight) box.scrollTop = (at + 1) * ROW - box.clientHeight;
+    this.draw();
+  }
+
+  /** Chooses the row that is clicked. */
+  clicked(event) {
+    const row = event.target.closest(".row");
+    if (row !== null) this.choose(Number(row.dataset.at));
+  }
+
+  /** Chooses by a key. */
+  pressed(event) {
+    const {at} = this, last = this.items.length - 1;
+    if (last < 0 || event.ctrlKey || event.altKey || event.metaKey) return;
+    const page = Math.max(1, Math.floor(this.box.clientHeight / ROW) - 1);
+    const places = {ArrowDown: at + 1, ArrowUp: at - 1, PageDown: at + page, PageUp: at - page, Home: 0, End: last};
+    if (event.key in places) this.choose(Math.min(last, Math.max(0, places[event.key])));
+    else if (event.key === "Enter" && at >= 0) this.show.entered(this.items[at]);
+    else return;
+    event.preventDefault();
+  }
+}
+
+// What is listed: the filters, and the search.
+
+// How many traces the filter of traces has; others are chosen in their list.
+const MOST_OPTIONS = 1000;
+
+/** How often each value stands in a list. */
+function tally(values) {
+  const counts = new Map();
+  for (const value of values) counts.set(value, (counts.get(value) ?? 0) + 1);
+  return counts;
+}
+
+/** Fills a choice: any, and one option for each pair of a value, or null, and its words. What was chosen stays. */
+function fillChoice(choice, options) {
+  const {value} = choice;
+  const made = options.map(([it, words]) => make("option", {value: it, disabled: it === null ? "" : null}, words));
+  choice.replaceChildren(make("option", {value: ""}, "any"), ...made);
+  choice.value = value;
+}
+
+/** The options of kinds, each with its count and its sentence. */
+function kindOptions(dialogues) {
+  const counts = tally(dialogues.flatMap(({head, blamed}) => [...new Set(blamed.map((end) => head[end].kind))]));
+  const known = Object.keys(KINDS).filter((kind) => counts.has(kind));
+  return known.map((kind) => [kind, `${kind} (${counts.get(kind)}): ${KINDS[kind][0]}`]);
+}
+
+/** The options of tables. A value has a letter before the name, since a name may be empty. */
+function tableOptions(dialogues) {
+  const counts = [...tally(dialogues.map(({head}) => head.table))];
+  const options = counts.map(([name, count]) =>
+    name === undefined ? ["-", `without a name (${count})`] : [`=${name}`, `${cut(seen(name), LONG_NAME)} (${count})`]);
+  return options.sort((one, other) => (one[1] < other[1] ? -1 : 1));
+}
+
+/** The options of the first traces that have a listed dialogue, and how many others there are. */
+function traceOptions(report) {
+  const counts = [...tally(report.dialogues.map((it) => it.trace))], others = counts.length - MOST_OPTIONS;
+  const options = counts.slice(0, MOST_OPTIONS).map(([number, count]) =>
+    [String(number), `${cut(seen(report.traces[number].head.trace), LONG_NAME)} (${count})`]);
+  return others > 0 ? [...options, [null, `${others.toLocaleString("en")} more in the list of traces`]] : options;
+}
+
+/** Chooses a trace, which may be none of the first. */
+function chooseTrace(form, {number, head}) {
+  const choice = form.elements.trace, value = String(number);
+  if ([...choice.options].every((it) => it.value !== value)) {
+    choice.append(make("option", {value}, cut(seen(head.trace), LONG_NAME)));
+  }
+  choice.value = value;
+}
+
+/** Fills the filters with what the report has. */
+function fillFilters(form, report) {
+  const {dialogues} = report;
+  const verdicts = tally(dialogues.map(({head}) => head.verdict));
+  const ends = tally(dialogues.flatMap((it) => it.blamed));
+  const {verdict, end, kind, table, trace} = form.elements;
+  const words = (it) => (it === "pass" ? "pass (traces alone)" : `${it} (${verdicts.get(it) ?? 0})`);
+  fillChoice(verdict, VERDICTS.map((it) => [it, words(it)]));
+  fillChoice(end, ENDS.map((it) => [it, `${it} (${ends.get(it) ?? 0})`]));
+  fillChoice(kind, kindOptions(dialogues));
+  fillChoice(table, tableOptions(dialogues));
+  fillChoice(trace, traceOptions(report));
+}
+
+/** A term of the search: `part`, of an ID or a name; `line`, its number, or null; and `told`, whether comments have it. There a number
+ * is no part of a longer one, since most of these are times. */
+function termOf(part) {
+  const [, name, digits] = /^(?:(line|frame)\s+)?([1-9]\d*)$/.exec(part) ?? [];
+  if (digits === undefined) return {part, line: null, told: (comments) => comments.includes(part)};
+  const number = new RegExp(`(?<![\\w.:-])${name === "frame" ? "frames? (?:\\d+ to )?" : ""}${digits}(?![\\w:-]|\\.\\d)`);
+  return {part, line: name === "frame" ? null : Number(digits), told: (comments) => name !== "line" && number.test(comments)};
+}
+
+/** What the filters ask for. */
+function askedOf(form) {
+  const {verdict, end, kind, table, trace, words} = Object.fromEntries(new FormData(form));
+  const terms = words.toLowerCase().match(/(?:line|frame)\s+\d+(?!\S)|\S+/g) ?? [];
+  return {verdict, end, kind, table, trace, terms: terms.map(termOf)};
+}
+
+/** Whether an end at fault of a dialogue is one that is asked for, by a kind that is asked for. */
+function isBlamedSo({head, blamed}, {end, kind}) {
+  if (end === "" && kind === "") return true;
+  return blamed.some((it) => (end === "" || it === end) && (kind === "" || head[it].kind === kind));
+}
+
+/** Whether what is searched has a term. */
+function hasTerm({ids, lines, names, comments}, {part, line, told}) {
+  return names.includes(part) || ids.some((id) => id.includes(part)) || lines.includes(line) || told(comments);
+}
+
+/** Whether a dialogue has each term. */
+function hasTerms(dialogue, terms) {
+  return terms.length === 0 || terms.every((it) => hasTerm(wordsOf(dialogue), it));
+}
+
+/** Whether a dialogue is listed. */
+function isListed(dialogue, asked) {
+  const {head, trace} = dialogue;
+  return (asked.verdict === "" || head.verdict === asked.verdict) && (asked.trace === "" || String(trace) === asked.trace)
+    && (asked.table === "" || asked.table === (head.table === undefined ? "-" : `=${head.table}`))
+    && isBlamedSo(dialogue, asked) && hasTerms(dialogue, asked.terms);
+}
+
+/** Whether a trace is listed by itself: where nothing is asked that only a dialogue has. */
+function isTraceListed({head, number}, asked) {
+  const words = {ids: [], lines: [head.line], names: head.trace.toLowerCase(), comments: ""};
+  return asked.end + asked.kind + asked.table === "" && (asked.trace === "" || String(number) === asked.trace)
+    && (asked.verdict === "" || head.verdict === asked.verdict) && asked.terms.every((it) => hasTerm(words, it));
+}
+
+/** The dialogues that are listed, and the traces: those by themselves, and those of which a dialogue is. */
+function listed(report, asked) {
+  const dialogues = report.dialogues.filter((it) => isListed(it, asked));
+  const having = new Set(dialogues.map((it) => it.trace));
+  return {dialogues, traces: report.traces.filter((it) => isTraceListed(it, asked) || having.has(it.number))};
+}
+
+// The ladder: two lifelines, and a step for each message, from the top down.
+//
+// A step has `number`, its place in the ladder; `label`, the number that is seen; `entry`, that by which a button leads to it, or
+// null; `from`, the end that sends it, or null, and then `at`, the end where it happens, if it is one; the texts `title`, `ids`,
+// `more` and `place`; `parts`, texts in lines of their own; `tags`, elements behind its title; `isMarked`; `arrow`; `way`, the words
+// for it, where they are others; and `detail`, which makes what a click opens. A join is a line beside the ladder: `end`, at whose
+// side it is drawn; `by`, a set of the numbers that it ties; and `spans`, the first and the last number of each of its pieces. One that
+// ties the step at fault, which is open at once, to those that show it has `kind`; `isDoubtful`; `at`, the number of that step; and
+// `part`, that of its part at fault, or null; its span is that of what it ties.
+
+// How many parts of a step are drawn.
+const MOST_PARTS = 12;
+// An arrow, from the left to the right: where it begins and ends, in parts of a hundred, and its tip, which may be a cross.
+const WHOLE = {from: 0, to: 100, tip: "head"};
+const TIPS = {head: "M0 6 L-11 1.5 V10.5 Z", cross: "M-5 1 L5 11 M-5 11 L5 1"};
+
+/** An arrow; frame.css turns that of B. */
+function arrowView({from, to, tip, isDotted}) {
+  const end = drawn("svg", {x: `${to}%`, y: "0", overflow: "visible"}, drawn("path", {class: tip, d: TIPS[tip]}));
+  return drawn("svg", {class: isDotted ? "arrow dotted" : "arrow", height: "12", "aria-hidden": "true"},
+    drawn("line", {x1: `${from}%`, y1: "6", x2: `${to}%`, y2: "6"}), end);
+}
+
+/** What a join makes of a step: at fault, tied by it, passed by its line, or nothing. */
+function partIn(join, number) {
+  if (!join.spans.some(([first, last]) => first <= number && number <= last)) return "";
+  if (number === join.at) return "fault";
+  return join.by.has(number) ? "shows" : "passed";
+}
+
+/** A piece of a join's line beside a step. */
+function lane(join, number, side) {
+  const classes = ["lane", side];
+  const part = join === undefined ? "" : partIn(join, number);
+  if (part !== "") {
+    classes.push(part);
+    if (!join.spans.some(([first, last]) => first < number && number <= last)) classes.push("begins");
+    if (!join.spans.some(([first, last]) => first <= number && number < last)) classes.push("ends");
+    if (join.kind === undefined) classes.push("late");
+  }
+  return make("span", {class: classes.join(" "), "aria-hidden": "true"});
+}
+
+/** The mark of what a join says is at fault: where that is inconclusive, it is in doubt. */
+function faultMark(join, before, behind) {
+  const [kind, words] = join.isDoubtful ? ["doubtful", "in doubt"] : ["fault", "at fault"];
+  return make("strong", {class: `mark ${kind}`}, `${before}${words}${behind}`);
+}
+
+/** The marks of what the joins make of a step. */
+function marks(joins, number) {
+  const found = [];
+  for (const join of joins.filter((it) => it.kind !== undefined)) {
+    if (join.at === number) found.push(faultMark(join, `${join.end} `, `: ${join.kind}`));
+    if (join.by.has(number)) found.push(make("span", {class: "mark shows"}, `shows ${join.kind} of ${join.end}`));
+  }
+  return found;
+}
+
+/** A part of a step, which a join may say is at fault. */
+function partView(part, join) {
+  const words = cut(seen(part), LONG_NAME);
+  if (join === undefined) return make("span", {class: "part"}, words);
+  return make("span", {class: "part"}, make("u", {}, words), " ", faultMark(join, "", ""));
+}
+
+/** The first parts of a step and the one at fault, and how many others there are. */
+function partsOf({parts, number}, joins) {
+  const views = parts.flatMap((it, at) => {
+    const join = joins.find((one) => one.at === number && one.part === at);
+    return at < MOST_PARTS || join !== undefined ? [partView(it, join)] : [];
+  });
+  const others = parts.length - views.length;
+  return others > 0 ? [...views, make("span", {class: "part"}, `and ${counted(others, "other")}`)] : views;
+}
+
+/** What is said of a step: beside its number, and below. */
+function sayings(step, joins) {
+  const number = make("span", {class: "number"}, step.label);
+  const first = make("span", {class: "first"}, number, make("b", {}, step.title), make("code", {}, step.ids),
+    make("span", {class: "more"}, step.more), ...marks(joins, step.number), ...step.tags);
+  return [first, ...partsOf(step, joins)];
+}
+
+/** The place of a step in its trace. */
+function placed(step) {
+  return make("span", {class: "place"}, named(step.place, 2 * LONG_NAME));
+}
+
+/** Opens what a step hides, or closes it. */
+function toggle(button, step) {
+  const opens = button.getAttribute("aria-expanded") !== "true";
+  button.setAttribute("aria-expanded", String(opens));
+  if (opens) button.after(make("div", {class: "detail"}, ...step.detail()));
+  else button.nextElementSibling.remove();
+}
+
+/** A step between the lifelines: a message with its arrow, or what no end sends. */
+function between(step, joins) {
+  const inner = sayings(step, joins);
+  if (step.from === null) {
+    return make("div", {class: `between still at-${step.at ?? "none"}`, tabindex: "-1"}, ...inner, placed(step));
+  }
+  const way = make("span", {class: "unseen"}, step.way ?? (step.from === "A" ? " from A to B " : " from B to A "));
+  const button = make("button", {type: "button", class: "message", "aria-expanded": "false"}, ...inner, way,
+    arrowView(step.arrow), placed(step));
+  button.addEventListener("click", () => toggle(button, step));
+  const made = make("div", {class: `between from-${step.from}`}, button);
+  if (joins.some((it) => it.at === step.number)) toggle(button, step);
+  return made;
+}
+
+/** A row between the pieces of the joins' lines. */
+function row(attributes, number, joins, inner) {
+  const [left, right] = ["A", "B"].map((end) => joins.find((it) => it.end === end));
+  return make("li", attributes, lane(left, number, "left"), inner, lane(right, number, "right"));
+}
+
+/** The row of a step. */
+function rung(step, joins) {
+  const isFault = step.isMarked === true || joins.some((it) => it.at === step.number);
+  return row({class: isFault ? "step fault" : "step", "data-entry": step.entry}, step.number, joins, between(step, joins));
+}
+
+/** A row for steps that are not listed. */
+function gap(from, to, joins) {
+  const which = to === from ? `Entry ${from} is` : `Entries ${from} to ${to} are`;
+  return row({class: "step gap"}, to, joins, make("div", {class: "between still"}, `${which} not listed.`));
+}
+
+/** A join with the numbers between which its line goes: of the listed steps that it ties, where it has no others. */
+function spanned(join, steps) {
+  if (join.spans !== undefined) return join;
+  const tied = steps.map((it) => it.number).filter((it) => it === join.at || join.by.has(it));
+  return {...join, spans: tied.length > 0 ? [[tied[0], tied.at(-1)]] : []};
+}
+
+/** The ladder of steps, of so many as `count`, by its name. `heads` has the words above each lifeline. */
+function ladder(name, heads, steps, given, count) {
+  const joins = given.map((it) => spanned(it, steps));
+  const rows = [];
+  let next = 0;
+  for (const step of steps) {
+    if (step.number > next) rows.push(gap(next, step.number - 1, joins));
+    rows.push(rung(step, joins));
+    next = step.number + 1;
+  }
+  if (next < count) rows.push(gap(next, count - 1, joins));
+  const top = make("div", {class: "heads", "aria-hidden": "true"}, ...heads.map((it) => make("span", {}, it)));
+  return make("div", {class: "ladder"}, top, make("ol", {"aria-label": name}, ...rows));
+}
+
+// What is shown of one dialogue, and of one trace.
+
+const OCTETS_IN_ROW = 16;
+const KEPT = "\n";
+// The components of which one answers the other: an Invoke has an invoke ID and its operation, an answer the ID alone.
+const INVOKE = /^Invoke (-?\d+) (.*)$/s;
+const ANSWER = /^(?:ReturnResultLast|ReturnResultNotLast|ReturnError) (-?\d+)$/;
+
+/** Octets, 16 in a row: their place, their digits, and those that are letters. */
+function dumpOf(digits) {
+  const octets = digits.match(/../g) ?? [];
+  const rows = [];
+  for (let at = 0; at < octets.length; at += OCTETS_IN_ROW) {
+    const row = octets.slice(at, at + OCTETS_IN_ROW);
+    const letters = row.map((it) => parseInt(it, 16)).map((it) => (it > 31 && it < 127 ? String.fromCharCode(it) : "."));
+    const halves = [row.slice(0, 8).join(" "), row.slice(8).join(" ")].join("  ");
+    rows.push(`${at.toString(16).padStart(4, "0")}  ${halves.padEnd(3 * OCTETS_IN_ROW)}  ${letters.join("")}`);
+  }
+  return rows.join("\n");
+}
+
+/** What a click on a message opens: what `show` prints, and the octets, where they are told. */
+function detailOf(message) {
+  const {show, octets, comment} = message;
+  const dump = octets === undefined ? [] : [
+    make("p", {class: "small"}, counted(octets.length / 2, "octet")),
+    make("pre", {class: "dump", tabindex: "0", "aria-label": "Octets"}, dumpOf(octets)),
+  ];
+  return [make("pre", {class: "show"}, seen(show.trimEnd(), KEPT)), ...dump, opening("The whole comment", comment ?? "")];
+}
+
+/** The IDs of a message. */
+function idsIn({otid, dtid}) {
+  return [otid === undefined ? "" : `otid ${otid}`, dtid === undefined ? "" : `dtid ${dtid}`].join(" ").trim();
+}
+
+/** What `show` says of a message behind its IDs: a cause, and the dialogue portion. */
+function portionIn(show) {
+  return /^\d+ [AB] \w+(?: [od]tid=\w*)*(.*)/.exec(show)?.[1].trim() ?? "";
+}
+
+/** The line of an entry, where its trace has lines, and the comment above it. */
+function placeOf(message) {
+  return [message.line > 0 ? `line ${message.line}` : "", message.comment ?? ""].filter((it) => it !== "").join(": ");
+}
+
+/** A component of a message; an answer with its operation, where that is sure. */
+function withOperation(part, {end, dtid}, invokes) {
+  const found = invokes.get(`${otherEnd(end)} ${ANSWER.exec(part)?.[1]}`) ?? null;
+  return found !== null && found.otid === dtid ? `${part} answers ${found.operation}` : part;
+}
+
+/** Messages, of which the answers have their operations. One is sure where the other end sent but one Invoke of its ID before, from
+ * the transaction ID to which the answer goes, and where no entry before it is left out or can't be read. */
+function withOperations(messages) {
+  const invokes = new Map();
+  let isSure = true;
+  return messages.map((message, at) => {
+    const {entry, end, otid, fault, components} = message;
+    isSure &&= entry === at && fault === undefined;
+    if (!isSure || components === undefined) return message;
+    const parts = components.map((it) => withOperation(it, message, invokes));
+    for (const [, id, operation] of components.map((it) => INVOKE.exec(it)).filter((it) => it !== null)) {
+      const key = `${end} ${id}`;
+      invokes.set(key, invokes.has(key) ? null : {otid, operation});
+    }
+    return {...message, components: parts};
+  });
+}
+
+/** The step of an entry. */
+function stepOf(message) {
+  const {entry} = message;
+  const step = {number: entry, label: String(entry), entry, from: message.end ?? null, ids: idsIn(message), more: "", tags: [],
+    parts: message.components ?? [], place: placeOf(message), arrow: WHOLE, detail: () => detailOf(message)};
+  if (message.mark === true) return {...step, title: "Quiet mark"};
+  if (message.kind === undefined) return {...step, title: "No message", more: seen(message.fault)};
+  return {...step, title: message.kind, more: portionIn(message.show)};
+}
+
+/** For each end at fault its join. */
+function joinsOf({head, blamed}) {
+  return blamed.map((end) => {
+    const {entry, kind, evidence, doubt} = head[end];
+    const by = new Set((evidence?.shows ?? []).flatMap((it) => it.entries));
+    by.delete(entry);
+    return {end, at: entry, by, kind, part: evidence?.component ?? null, isDoubtful: doubt !== undefined};
+  });
+}
+
+/** A button that leads to an entry in the ladder. */
+function leap(entry) {
+  return make("button", {type: "button", class: "leap", "data-to": entry}, String(entry));
+}
+
+/** A line of a reason. Where it is one of what is shown, its entries are buttons. */
+function reasonLine(line, shows) {
+  const found = shows.find((it) => it.entries.length > 0 && line.trimStart().startsWith(`${it.what}:`));
+  if (found === undefined) return make("div", {class: "line"}, seen(line));
+  const entries = [...new Set(found.entries)].slice(0, 100).map(leap);
+  const others = new Set(found.entries).size - entries.length;
+  const behind = others > 0 ? ` and ${counted(others, "other")}` : "";
+  const margin = line.slice(0, line.search(/\S|$/));
+  return make("div", {class: "line"}, `${margin}${seen(found.what)}: `, ...entries, behind);
+}
+
+/** The words of a reason, without the blanks that all its lines begin with. */
+function reasonOf(text, evidence) {
+  const lines = text.trimEnd().split("\n");
+  const margin = lines.map((it) => it.search(/\S|$/)).reduce((one, other) => Math.min(one, other));
+  return make("div", {class: "reason"}, ...lines.map((it) => reasonLine(it.slice(margin), evidence?.shows ?? [])));
+}
+
+/** What is said of an end, in one line. Of the other end `before` is the entry at fault, where it is one. */
+function summaryOf(end, said, before) {
+  if (said.kind !== undefined) {
+    const place = placeOfFault(said), later = before < said.entry ? " It comes later and may follow from the first." : "";
+    const words = `${place === "" ? "" : `, ${place}`}, ${said.kind}. ${wordsOfKind(said.kind)}${later}`;
+    return make("p", {class: "summary"}, badge(said.verdict), ` ${end}: at entry `, leap(said.entry), words);
+  }
+  const words = said.verdict === "pass"
+    ? `sent ${counted(said.sent, "message")}, with ${counted(said.unheard, "message")} of its peer taken as unheard.`
+    : cut(seen(said.text.split("\n")[0]), LONG_TITLE);
+  return make("p", {class: "summary"}, badge(said.verdict), ` ${end}: ${words}`);
+}
+
+/** Whether more is to be said of an end than its summary has. */
+function hasReason(said) {
+  return said?.kind !== undefined || (said?.text ?? "").trimEnd().includes("\n");
+}
+
+/** Why, at length. */
+function reasonsOf(head, ends) {
+  const boxes = ends.filter((end) => hasReason(head[end])).map((end) => {
+    const {text, evidence, doubt} = head[end];
+    const doubted = doubt === undefined ? null : make("p", {class: "doubt"}, `Inconclusive: ${seen(doubt)}.`);
+    return make("div", {}, make("h3", {}, `Why, of ${end}`), doubted, reasonOf(text, evidence));
+  });
+  if (head.text !== undefined) boxes.push(make("div", {}, make("h3", {}, "Why"), reasonOf(head.text, null)));
+  return make("div", {class: "reasons"}, ...boxes);
+}
+
+/** A fact with its name. */
+function fact(name, ...words) {
+  return make("div", {}, make("dt", {}, name), make("dd", {}, ...words));
+}
+
+/** The IDs of an end. */
+function idsFact(end, ids) {
+  const words = ids.join(" ");
+  return fact(`IDs of ${end}`, make("code", {}, cut(words, LONG_NAME) || "none"), opening("All of them", words) ?? "");
+}
+
+/** The facts of a dialogue. */
+function factsOf(head) {
+  const {entries, lines, ids, table, context} = head;
+  const told = [["open", "open at the end of its trace"], ["marked", "ended by a quiet mark"],
+    ["again", "with an ID of an earlier dialogue"]].filter(([flag]) => head[flag]).map(([, words]) => words);
+  const [word, span] = lines[0] > 0 ? ["lines", lines] : ["entries", entries];
+  const words = `${entries.length.toLocaleString("en")}: ${word} ${span[0]} to ${span.at(-1)} of the trace`;
+  return make("dl", {class: "facts"},
+    ...ENDS.map((end) => idsFact(end, ids[end])),
+    table === undefined ? null : fact("Table", named(table)),
+    context === undefined ? null : fact("Context", make("code", {}, context)),
+    fact("Entries", words), told.length > 0 ? fact("State", told.join("; ")) : null);
+}
+
+/** The ladder of a dialogue, and how much of it is not listed. */
+function ladderOf(dialogue) {
+  const found = messagesOf(dialogue);
+  if (found === null) return make("p", {class: "note"}, "The messages of this dialogue can't be read: its line is cut.");
+  const joins = joinsOf(dialogue), {ids} = dialogue.head;
+  const heads = ENDS.map((end) => `${end} ${cut(ids[end].join(" "), LONG_NAME)}`);
+  const steps = withOperations(found.messages).map(stepOf);
+  const count = dialogue.head.entries.length;
+  const [left, all] = [found.leftOut, count].map((it) => it.toLocaleString("en"));
+  const note = found.leftOut > 0 ? make("p", {class: "note"}, `${left} of the ${all} entries are not listed.`) : null;
+  return make("div", {}, note, ladder("The entries of the dialogue", heads, steps, joins, count));
+}
+
+/** A heading with the name of a trace, which opens where it is long. */
+function headingOf(trace, words, verdict) {
+  const heading = make("h2", {tabindex: "-1"}, named(trace), words, verdict === null ? null : badge(verdict));
+  return make("div", {class: "heading"}, heading, opening("The whole name", trace));
+}
+
+/** All that is shown of a dialogue: where both ends are at fault, first of the one whose entry comes first. */
+function dialogueView(dialogue) {
+  const {head, blamed} = dialogue, ends = blamed.length > 1 ? blamed : ENDS.filter((end) => head[end] !== undefined);
+  const made = make("article", {class: "dialogue", "aria-label": `Dialogue ${head.dialogue}`},
+    headingOf(head.trace, ` dialogue ${head.dialogue} `, head.verdict), factsOf(head),
+    ...ends.map((end) => summaryOf(end, head[end], head[otherEnd(end)]?.entry)),
+    make("div", {class: "beside"}, ladderOf(dialogue), reasonsOf(head, ends)));
+  const there = new Set([...made.querySelectorAll(".step[data-entry]")].map((it) => it.dataset.entry));
+  for (const it of made.querySelectorAll(".leap")) it.disabled = !there.has(it.dataset.to);
+  return made;
+}
+
+/** The sums of a trace. */
+function traceSums(head) {
+  if (head.verdict === null) {
+    return make("p", {class: "note"}, "The run was stopped before this trace was judged to its end.");
+  }
+  return make("dl", {class: "facts"}, fact("Messages", head.messages.toLocaleString("en")),
+    ...VERDICTS.map((it) => fact(`Dialogues: ${it}`, head.dialogues[it].toLocaleString("en"))),
+    fact("Pass unheard or unanswered", head.unheard.toLocaleString("en")));
+}
+
+/** All that is shown of a trace. `enter` lists its dialogues. */
+function traceView({head}, count, enter) {
+  const text = head.text === undefined ? null : make("div", {class: "reason"}, seen(head.text, KEPT));
+  const button = make("button", {type: "button"}, `List its dialogues that do not pass (${count.toLocaleString("en")})`);
+  button.addEventListener("click", enter);
+  return make("article", {class: "trace"}, headingOf(head.trace, " ", head.verdict), text, traceSums(head),
+    count > 0 ? button : null);
+}
+
+// What is shown of a run (Q.774 3.2 and 3.3), one way in which the entries of a record can have come about: its rows are steps of
+// the ladder. A message that is received right behind its sending is one row; one that is received later has a row where it leaves,
+// and one where it comes, and a line at the side of its receiver joins the two.
+
+const LEAVES = {from: 0, to: 50, tip: "head"};
+const COMES = {from: 50, to: 100, tip: "head"};
+// The class of a verdict's badge.
+const BADGES = {LAWFUL: "pass", REFUTED: "fail", UNDECIDED: "inconc", "NOT SHOWN": "inconc"};
+
+/** The other end. */
+function otherEnd(end) {
+  return end === "A" ? "B" : "A";
+}
+
+/** A word on what becomes of a message, or what it does. */
+function tag(words) {
+  return make("span", {class: "mark tag"}, words);
+}
+
+/** The rows of a run, made step by step. */
+class RunRows {
+  constructor({entries, of}) {
+    Object.assign(this, {of, rows: [], sent: new Map(), spans: {A: [], B: []}});
+    this.messages = new Map(entries.map((it) => [it.entry, it]));
+  }
+
+  /** Adds a row, and returns it. */
+  add(row) {
+    this.rows.push({label: "", entry: null, from: null, ids: "", more: "", parts: [], place: "", tags: [], ...row,
+      number: this.rows.length});
+    return this.rows.at(-1);
+  }
+
+  /** Adds a row of words. */
+  say(title, end) {
+    return this.add({title, at: end});
+  }
+
+  /** Adds the row of an entry, with an arrow and words. */
+  send(number, arrow, ...words) {
+    const row = this.add({...stepOf(this.messages.get(number)), arrow, tags: words.map(tag)});
+    this.sent.set(number, row);
+    return row;
+  }
+
+  /** Adds the row of an entry that an end sends. What an end sends that is judged alone is not followed further. */
+  sends({end, entry}, ...words) {
+    const row = this.send(entry, end === this.of ? WHOLE : LEAVES, ...words);
+    row.isOnItsWay = end !== this.of;
+  }
+
+  /** Has a message come to an end: in its own row where that is the last one, else in a row that is added. */
+  come(end, number, tip, ...words) {
+    const sent = this.sent.get(number), tags = words.map(tag);
+    if (sent !== undefined) sent.isOnItsWay = false;
+    if (sent !== undefined && this.rows.at(-1) === sent) {
+      sent.arrow = {...WHOLE, tip};
+      sent.tags.push(...tags);
+      return;
+    }
+    const shown = sent ?? {title: "Message", ids: "", detail: () => [make("p", {}, "Its entry is left out.")]};
+    const {title, ids, detail} = shown;
+    const row = this.add({title, ids, detail, label: String(number), from: otherEnd(end), arrow: {...COMES, tip},
+      way: ` comes to ${end} `, tags: [tag(`comes to ${end}`), ...tags]});
+    if (sent === undefined) return;
+    sent.tags.push(tag("comes later"));
+    this.spans[end].push([sent.number, row.number]);
+  }
+
+  /** Adds what a step shows. */
+  step(it) {
+    const {step, end, entry} = it;
+    if (step === "sends" || step === "tells") this.sends(it);
+    else if (step === "receives") this.come(end, entry, "head");
+    else if (step === "discards") this.come(end, entry, "cross", `${end} can't receive it: ${it.reason}`);
+    else if (step === "loses") this.lose(end, entry);
+    else if (step === "expires") this.say(`${end}: invocation ${it.invoke} of ${it.half} ends unseen`, end);
+    else if (step === "closes") this.say(`${end}: ${it.half} closes unseen`, end);
+    else if (step === "replies") this.reply(it);
+    else if (step === "stands") this.stand(entry);
+    else this.send(entry, null);
+  }
+
+  /** Has a message be lost. */
+  lose(end, number) {
+    const sent = this.sent.get(number);
+    if (sent === undefined || end === this.of) return;
+    sent.isOnItsWay = false;
+    sent.arrow = {...LEAVES, tip: "cross"};
+    sent.tags.push(tag(this.of === undefined ? "taken as lost" : `taken as lost before ${this.of}`));
+  }
+
+  /** Adds the row of a provider's answer, behind the message that it answers. */
+  reply(it) {
+    this.come(it.end, it.answers, "head");
+    this.sends(it, `${it.end}'s provider answers ${it.answers}`);
+  }
+
+  /** Adds the row of an entry behind the last step. */
+  stand(number) {
+    if (!this.isStopped) this.say("The steps end here. The entries below stand as they are recorded.");
+    this.isStopped = true;
+    this.send(number, {...LEAVES, isDotted: true});
+  }
+
+  /** Says of messages that they are on their way where the run ends. */
+  end() {
+    for (const row of this.rows.filter((it) => it.isOnItsWay)) row.tags.push(tag("on its way at the end"));
+  }
+
+  /** Marks the entry where the verdict falls, by words. */
+  mark(number, kind, words) {
+    const row = this.sent.get(number) ?? this.say("Behind the last entry");
+    row.isMarked = true;
+    row.tags.unshift(make("strong", {class: `mark ${kind}`}, words));
+  }
+
+  /** The lines beside the ladder, of the messages that come late. */
+  lines() {
+    const ends = ENDS.filter((end) => this.spans[end].length > 0);
+    return ends.map((end) => ({end, spans: this.spans[end], by: new Set(this.spans[end].flat())}));
+  }
+}
+
+/** A row for steps that are left out, where there are some. */
+function sayLeftOut(made, count, where) {
+  if (count > 0) made.say(`${counted(count, "step")} ${where} ${count === 1 ? "is" : "are"} left out.`);
+}
+
+/** The verdict of a run, as a word, and what stands behind it in its line. */
+function verdictOf(title) {
+  const word = Object.keys(BADGES).find((it) => title.startsWith(it)) ?? "";
+  return [word, title.slice(word.length)];
+}
+
+/** Why the verdict falls where it does: the first line of its reason. */
+function whyOf(text) {
+  return seen(text.trim().split("\n")[0].replace(/^why: /, ""));
+}
+
+/** The rows of a run. */
+function rowsOf(run) {
+  const made = new RunRows(run), [before, behind] = run.left_out;
+  sayLeftOut(made, before, "above");
+  for (const it of run.steps) made.step(it);
+  sayLeftOut(made, behind, "below");
+  if (behind === 0) made.end();
+  if (run.marked !== undefined) {
+    const [word] = verdictOf(run.title);
+    made.mark(run.marked, BADGES[word] === "fail" ? "fault" : "doubtful", `${word}: ${whyOf(run.text)}`);
+  }
+  return made;
+}
+
+/** The words above the lifeline of an end. */
+function headOfEnd(end, of) {
+  return end === of ? `${end}, judged alone` : end;
+}
+
+/** All that is shown of a run. */
+function runView(run) {
+  const {title, of, count, text} = run, made = rowsOf(run), [word, more] = verdictOf(title);
+  const heads = ENDS.map((end) => headOfEnd(end, of));
+  const words = of === undefined ? null
+    : fact("Judged", `${of} alone: nothing is asked of what ${otherEnd(of)} sends, nor of what it hears`);
+  const why = text === undefined ? null : make("div", {class: "reasons"}, make("h3", {}, "Why"), reasonOf(text, null));
+  return make("article", {class: "run"},
+    make("h2", {tabindex: "-1"}, make("span", {class: `badge ${BADGES[word]}`}, word), more),
+    make("dl", {class: "facts"}, fact("Entries", count.toLocaleString("en")), words),
+    make("div", {class: "beside"}, ladder("The steps of the run", heads, made.rows, made.lines(), made.rows.length), why));
+}
+
+// The page: joins the report, the filters, the lists and what is shown.
+
+// How many dialogues are printed at once.
+const PRINTED = 500;
+// How many IDs of an end a row has.
+const SOME_IDS = 4;
+// After how many milliseconds it is looked again whether something of the report has come.
+const PAUSE = 20;
+// After how many milliseconds a dialogue that is shown is named in the address.
+const STAY = 300;
+// What of a step can have the focus.
+const WORKED = ":is(button, .still)";
+
+/** The element of that ID. */
+function byId(id) {
+  return document.getElementById(id);
+}
+
+/** The table of sums. */
+function sumsView(sums) {
+  const head = make("tr", {}, ...["", ...VERDICTS.map(badge), "all"].map((it) => make("th", {scope: "col"}, it)));
+  const rows = ["traces", "dialogues"].map((what) => {
+    const counts = VERDICTS.map((it) => sums[what][it]);
+    const all = [...counts, counts.reduce((one, other) => one + other, 0)];
+    const cells = all.map((it) => make("td", {}, it.toLocaleString("en")));
+    return make("tr", {}, make("th", {scope: "row"}, what), ...cells);
+  });
+  const others = `${counted(sums.messages, "message")}; ${sums.unheard.toLocaleString("en")} pass unheard or unanswered`;
+  return [make("table", {}, head, ...rows), make("p", {class: "small"}, others)];
+}
+
+/** What has to be known of a report that has not all. */
+function notesOn({dialogues, total, unread, isRead}) {
+  const notes = [], count = dialogues.length.toLocaleString("en");
+  if (!isRead) return [make("p", {class: "note"}, `The report is being read: ${count} dialogues so far.`)];
+  if (total === null) {
+    notes.push("This report is not whole: the run was stopped before its end. "
+      + "The sums are of the traces that were judged to their ends.");
+  }
+  if (unread > 0) notes.push(`${counted(unread, "line")} of the report can't be read.`);
+  if (total?.left_out > 0) {
+    const left = total.left_out.toLocaleString("en");
+    notes.push(`${left} of the dialogues that do not pass are not in this page, which has the first ${count}.`);
+  }
+  return notes.map((it) => make("p", {class: "note"}, it));
+}
+
+/** The kinds of fault, each with its words. */
+function kindsView() {
+  const rows = Object.keys(KINDS).map((kind) => make("div", {}, make("dt", {}, kind), make("dd", {}, wordsOfKind(kind))));
+  return make("dl", {}, ...rows);
+}
+
+/** What the row of a dialogue has of an end at fault: where, and what its kind means. */
+function faultInRow(end, said, isAlone) {
+  const place = [isAlone ? "" : end, placeOfFault(said)].filter((it) => it !== "").join(" ");
+  const words = wordsOfKind(said.kind);
+  return make("span", {title: words}, place === "" ? words : `${place}: ${words}`);
+}
+
+/** The row of a dialogue. */
+function dialogueRow({head, blamed}) {
+  const ids = ENDS.map((end) => `${end} ${head.ids[end].slice(0, SOME_IDS).join(" ") || "-"}`).join("  ");
+  const kinds = blamed.map((end) => make("b", {title: wordsOfKind(head[end].kind)}, `${end} ${head[end].kind}`));
+  const faults = blamed.map((end) => faultInRow(end, head[end], blamed.length === 1));
+  const number = make("span", {}, `dialogue ${head.dialogue}`);
+  return [
+    make("span", {class: "upper"}, badge(head.verdict), ...kinds, named(head.trace), number),
+    faults.length > 0 ? make("span", {class: "lower faults"}, ...faults) : null,
+    make("span", {class: "lower"}, make("code", {}, ids), head.table === undefined ? null : named(head.table)),
+  ];
+}
+
+/** The row of a trace. */
+function traceRow({head}) {
+  const {trace, verdict, dialogues, text} = head;
+  const counts = verdict === null ? ["not judged to its end"]
+    : VERDICTS.filter((it) => dialogues[it] > 0).map((it) => `${dialogues[it].toLocaleString("en")} ${it}`);
+  return [
+    make("span", {class: "upper"}, verdict === null ? null : badge(verdict), named(trace)),
+    make("span", {class: "lower"}, make("span", {}, counts.join(", ")), text === undefined ? null : named(text)),
+  ];
+}
+
+/** What a fragment leads to: the number of a dialogue in the page, or its trace and its number there. */
+function dialogueAt(fragment, report) {
+  if (/^#\d+$/.test(fragment)) return report.dialogues[Number(fragment.slice(1))];
+  const asked = new URLSearchParams(fragment.slice(1));
+  const [trace, number] = [asked.get("trace"), asked.get("dialogue")];
+  return report.dialogues.find(({head}) => head.trace === trace && String(head.dialogue) === number);
+}
+
+/** The fragment that leads to a dialogue. */
+function fragmentOf(dialogue, report) {
+  const {trace, dialogue: number} = dialogue.head;
+  const fragment = `#${new URLSearchParams({trace, dialogue: number})}`;
+  const isLong = trace.length > LONG_TITLE;
+  return !isLong && dialogueAt(fragment, report) === dialogue ? fragment : `#${dialogue.number}`;
+}
+
+/** The page of a report. */
+class Page {
+  constructor(report) {
+    this.report = report;
+    this.form = byId("filters");
+    this.shown = byId("shown");
+    this.lists = {
+      dialogues: new RowList(byId("dialogues"),
+        {row: dialogueRow, chosen: (it) => this.showDialogue(it), entered: () => this.enter()}),
+      traces: new RowList(byId("traces"),
+        {row: traceRow, chosen: (it) => this.showTrace(it), entered: (it) => this.listTrace(it)}),
+    };
+    this.listed = {dialogues: [], traces: []};
+    this.fragment = window.location.hash;
+    byId("kinds").append(kindsView());
+    this.hear();
+  }
+
+  /** Shows what there is of the report, and goes where the address leads as soon as that is there. */
+  renew() {
+    if (this.report.run !== null) {
+      this.showRun(this.report.run);
+      return;
+    }
+    fillFilters(this.form, this.report);
+    if (this.report.isRead) byId("sums").replaceChildren(...sumsView(sumsOf(this.report)));
+    byId("notes").replaceChildren(...notesOn(this.report));
+    this.refresh();
+    if (this.follow(this.fragment)) this.fragment = "";
+  }
+
+  /** Has each control do what it is for. */
+  hear() {
+    for (const name of ["input", "change"]) this.form.addEventListener(name, () => this.ask());
+    this.form.addEventListener("submit", (event) => this.submit(event));
+    byId("clear").addEventListener("click", () => this.clear());
+    byId("print-listed").addEventListener("click", () => this.printListed());
+    for (const name of Object.keys(this.lists)) byId(`tab-${name}`).addEventListener("click", () => this.turnTo(name));
+    byId("tabs").addEventListener("keydown", (event) => this.turnBy(event));
+    this.shown.addEventListener("click", (event) => this.leap(event.target));
+    this.shown.addEventListener("keydown", (event) => this.leave(event));
+    window.addEventListener("hashchange", () => this.follow(window.location.hash));
+    window.addEventListener("afterprint", () => this.unprint());
+  }
+
+  /** What the filters have, as a text. */
+  formText() {
+    return String(new URLSearchParams(new FormData(this.form)));
+  }
+
+  /** Lists anew where something else is asked. Behind `input` comes `change`, by a click on a row, too, which a list that is drawn anew
+   * would not hear. */
+  ask() {
+    if (this.formText() !== this.asked) this.refresh();
+  }
+
+  /** At Enter in the search goes to the list. */
+  submit(event) {
+    event.preventDefault();
+    this.ask();
+    this.list().box.focus();
+  }
+
+  /** Lists what the filters ask for, and chooses what was chosen, or else the first. */
+  refresh() {
+    const now = listed(this.report, askedOf(this.form));
+    this.listed = now;
+    this.asked = this.formText();
+    const at = Math.max(0, now.dialogues.indexOf(this.chosen));
+    this.lists.dialogues.list(now.dialogues, Math.min(at, now.dialogues.length - 1));
+    this.lists.traces.list(now.traces, -1);
+    const said = Object.keys(this.lists).map((name) => {
+      const [count, all] = [now[name].length, this.report[name].length].map((it) => it.toLocaleString("en"));
+      return byId(`tab-${name}`).textContent = `${name === "traces" ? "Traces" : "Dialogues"} ${count} of ${all}`;
+    });
+    byId("listed").textContent = `${said.join(". ")}.`;
+    if (now.dialogues.length === 0) this.showNone();
+    else this.showDialogue(now.dialogues[at]);
+  }
+
+  /** Shows a dialogue, and names it in the address once it stays: browsers let that be changed so often and no more. */
+  showDialogue(dialogue) {
+    this.chosen = dialogue;
+    this.view(dialogue, () => dialogueView(dialogue));
+    clearTimeout(this.timer);
+    this.timer = setTimeout(() => window.history.replaceState(null, "", fragmentOf(dialogue, this.report)), STAY);
+  }
+
+  /** Shows a trace. */
+  showTrace(trace) {
+    const count = this.report.dialogues.filter((it) => it.trace === trace.number).length;
+    this.view(trace, () => traceView(trace, count, () => this.listTrace(trace)));
+  }
+
+  /** Shows a run, beside which nothing is listed. */
+  showRun(run) {
+    document.body.classList.add("of-run");
+    document.title = run.title;
+    document.querySelector("h1").textContent = "A run, step by step";
+    byId("sums").replaceChildren();
+    this.view(run, () => runView(run));
+  }
+
+  /** Says that no dialogue is listed. */
+  showNone() {
+    this.view(null, () => make("p", {class: "empty"}, this.report.dialogues.length > 0
+      ? "No dialogue is listed: the filters leave none."
+      : "No dialogue is listed. Those that pass are only counted."));
+  }
+
+  /** Shows what is made of an item, but where it is shown already. */
+  view(item, made) {
+    if (item !== null && item === this.viewed) return;
+    this.viewed = item;
+    this.shown.replaceChildren(made());
+    this.shown.scrollTop = 0;
+  }
+
+  /** Goes from the list to what is shown: to the message at fault, or else to the heading. */
+  enter() {
+    (this.shown.querySelector(`.step.fault ${WORKED}`) ?? this.shown.querySelector("h2")).focus();
+  }
+
+  /** At Escape closes the message that has the focus, or else goes back to the list. */
+  leave(event) {
+    if (event.key !== "Escape") return;
+    const open = event.target.closest(".step")?.querySelector("button[aria-expanded=true]") ?? null;
+    if (open === null) this.list().box.focus();
+    else open.click();
+    open?.focus();
+  }
+
+  /** The list that is in view. */
+  list() {
+    return byId("panel-traces").hidden ? this.lists.dialogues : this.lists.traces;
+  }
+
+  /** Goes to the entry that a button names. */
+  leap(button) {
+    if (!button.matches(".leap")) return;
+    const step = button.closest("article").querySelector(`[data-entry="${button.dataset.to}"]`);
+    step.scrollIntoView({block: "center"});
+    step.querySelector(WORKED).focus();
+  }
+
+  /** Turns to a list. */
+  turnTo(name) {
+    for (const it of Object.keys(this.lists)) {
+      byId(`panel-${it}`).hidden = it !== name;
+      byId(`tab-${it}`).setAttribute("aria-selected", it === name);
+      byId(`tab-${it}`).tabIndex = it === name ? 0 : -1;
+    }
+    this.lists[name].reveal();
+  }
+
+  /** Turns to the other list by an arrow. */
+  turnBy(event) {
+    if (event.key !== "ArrowLeft" && event.key !== "ArrowRight") return;
+    const name = byId("panel-traces").hidden ? "traces" : "dialogues";
+    this.turnTo(name);
+    byId(`tab-${name}`).focus();
+  }
+
+  /** Lists the dialogues of a trace that do not pass; goes to what is shown of it where there are none. */
+  listTrace(trace) {
+    if (!this.report.dialogues.some((it) => it.trace === trace.number)) {
+      this.enter();
+      return;
+    }
+    this.form.reset();
+    chooseTrace(this.form, trace);
+    this.refresh();
+    this.turnTo("dialogues");
+    this.list().box.focus();
+  }
+
+  /** Lists all. */
+  clear() {
+    this.form.reset();
+    this.refresh();
+  }
+
+  /** Goes to the dialogue that a fragment names, and returns whether there is one. */
+  follow(fragment) {
+    const dialogue = dialogueAt(fragment, this.report);
+    if (dialogue === undefined) return false;
+    if (!this.listed.dialogues.includes(dialogue)) this.clear();
+    this.turnTo("dialogues");
+    this.lists.dialogues.choose(this.listed.dialogues.indexOf(dialogue));
+    return true;
+  }
+
+  /** Prints the dialogues that are listed. */
+  printListed() {
+    const {dialogues} = this.listed;
+    const note = dialogues.length > PRINTED
+      ? make("p", {class: "note"}, `The first ${PRINTED} of ${dialogues.length.toLocaleString("en")} dialogues.`) : "";
+    byId("printed").replaceChildren(note, ...dialogues.slice(0, PRINTED).map(dialogueView));
+    document.body.classList.add("prints-listed");
+    window.print();
+  }
+
+  /** Takes away what was printed. */
+  unprint() {
+    document.body.classList.remove("prints-listed");
+    byId("printed").replaceChildren();
+  }
+}
+
+/** Shows the first part of the report as soon as it has come, and the whole when all has. */
+function begin() {
+  const reader = new Reader(), page = new Page(reader.report);
+  const textNow = () => byId("report")?.textContent ?? "";
+  let timer = null;
+  const look = () => {
+    reader.take(textNow());
+    if (reader.report.dialogues.length > 0) page.renew();
+    else timer = setTimeout(look, PAUSE);
+  };
+  look();
+  document.addEventListener("DOMContentLoaded", () => {
+    clearTimeout(timer);
+    reader.close(textNow());
+    page.renew();
+  });
+}
+
+begin();
+})();
+</script>
+<script type="application/x-ndjson" id="report">
+"#;
+
+/// What stands behind them.
+pub const FRAME_TAIL: &str = r#"</script>
+</body>
+</html>
+"#;

@@ -1,0 +1,41 @@
+//! Fields of objects of JSON: sums, and numbers that may be missing.
+
+use crate::sum::Counts;
+use std::alloc::AllocError;
+
+/// Appends a number with its name, where there is one, before another field.
+pub(crate) fn push_some(
+    json: &mut String,
+    name: &str,
+    number: Option<i64>,
+) -> Result<(), AllocError> {
+    match number {
+        Some(number) => write!(json, "\"{name}\":{number},"),
+        None => Ok(()),
+    }
+}
+
+/// Appends how many there are of each verdict.
+pub(crate) fn push_verdicts(json: &mut String, counts: &Counts) -> Result<(), AllocError> {
+    let Counts {
+        pass,
+        inconc,
+        fail,
+        error,
+        ..
+    } = *counts;
+    write!(json, "{{\"pass\":{pass},\"inconc\":{inconc},")?;
+    write!(json, "\"fail\":{fail},\"error\":{error}}}")
+}
+
+/// Appends how many messages and dialogues there are, and how many of these pass unheard.
+pub(crate) fn push_sums(
+    json: &mut String,
+    messages: u64,
+    dialogues: &Counts,
+    unheard: u64,
+) -> Result<(), AllocError> {
+    write!(json, ",\"messages\":{messages},\"dialogues\":")?;
+    push_verdicts(json, dialogues)?;
+    write!(json, ",\"unheard\":{unheard}")
+}

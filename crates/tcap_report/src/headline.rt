@@ -1,0 +1,83 @@
+//! What is said of a dialogue that does not pass in one line, which is of no great length whatever its trace has.
+
+use crate::case::{Case, Judged};
+use crate::order::{in_order, is_asked};
+use crate::reason::push_sentence;
+use crate::text::{no_table_words, push_doubt};
+use crate::words::{letter, line_of, undecided_words};
+use std::alloc::{AllocError, Global};
+use tcap_record::End;
+use tcap_refute::Refutation;
+use tcap_traces::Said;
+
+/// Appends the line of an entry, or its number where it has no line.
+fn push_line(text: &mut String, case: &Case, entry: u64) -> Result<(), AllocError> {
+    let line = line_of(case, entry);
+    if line > 0 {
+        write!(text, "line {line}, ")
+    } else {
+        write!(text, "entry {entry} of the dialogue, ")
+    }
+}
+
+/// Appends what an end is blamed for.
+fn push_blame(
+    alloc: Global,
+    text: &mut String,
+    case: &Case,
+    judged: &Judged,
+    end: End,
+    at: Refutation,
+) -> Result<(), AllocError> {
+    let kind = at.kind.number();
+    push_line(text, case, at.entry)?;
+    write!(text, "F{kind}: ")?;
+    push_sentence(alloc, text, case, judged, end, at)
+}
+
+/// Appends the first reason that is said of an end.
+fn push_end(
+    alloc: Global,
+    text: &mut String,
+    case: &Case,
+    judged: &Judged,
+    end: End,
+    said: Said,
+) -> Result<(), AllocError> {
+    text.push_str(letter(end))?;
+    text.push_str(": ")?;
+    match said {
+        Said::Fail(at) => push_blame(alloc, text, case, judged, end, at),
+        Said::Doubtful(at, doubt) => {
+            push_blame(alloc, text, case, judged, end, at)?;
+            text.push_str("; inconclusive: ")?;
+            push_doubt(text, case, doubt)
+        }
+        Said::Behind(entry) => {
+            push_line(text, case, entry)?;
+            text.push_str("which ")?;
+            text.push_str(undecided_words(said))
+        }
+        _ => text.push_str(undecided_words(said)),
+    }
+}
+
+/// Appends what is said first of an end of which the dialogue has its verdict; or that no table is there.
+pub(crate) fn push_headline(
+    alloc: Global,
+    text: &mut String,
+    case: &Case,
+    judged: &Judged,
+    of: Option<End>,
+) -> Result<(), AllocError> {
+    let Some(ends) = judged.ends else {
+        return text.push_str(no_table_words(judged));
+    };
+    for end in in_order(ends, of) {
+        let said = ends.of(end);
+        if is_asked(of, end) && said.verdict() == judged.verdict {
+            return push_end(alloc, text, case, judged, end, said);
+        }
+    }
+    Ok(())
+}

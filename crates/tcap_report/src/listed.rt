@@ -1,0 +1,34 @@
+//! Which entries of a dialogue are listed.
+
+ghost use Rattle.std.specs.Prelude.{◌<◌, ◌≤◌, ◌+◌, ◌⊎◌, ◌↔◌, IsTrue};
+
+use crate::case::Judged;
+use tcap_traces::Said;
+
+/// The number of the entry by which an end is at fault.
+pub(crate) fn blamed_by(said: Said) -> Option<u64> {
+    match said {
+        Said::Fail(at) | Said::Doubtful(at, _) => Some(at.entry),
+        _ => None,
+    }
+}
+
+/// The number of the last entry that is listed: the last one at fault, or the last of all.
+pub(crate) fn last_listed(judged: &Judged) -> usize {
+    let last = judged.record.entries.len().saturating_sub(1);
+    let Some(ends) = judged.ends else {
+        return last;
+    };
+    match (blamed_by(ends.a), blamed_by(ends.b)) {
+        (Some(a), Some(b)) => last.min(u64::max(a, b) as usize),
+        (Some(number), None) | (None, Some(number)) => last.min(number as usize),
+        (None, None) => last,
+    }
+}
+
+/// Whether an entry is one of so many first ones, or the last one that is listed, or one of so many before that.
+pub(crate) fn is_near(number: usize, first: usize, before: usize, last: usize) -> bool
+    ensures { IsTrue result ↔ ((number < first) ⊎ ((number ≤ last) × (last ≤ number + before))) }
+{
+    number < first || (number <= last && last.saturating_sub(before) <= number)
+}

@@ -1,0 +1,83 @@
+//! The messages of a dialogue, as objects of JSON.
+
+use crate::case::{Case, Judged};
+use crate::grounds::Grounds;
+use crate::listed::{is_near, last_listed};
+use crate::no_message::push_no_message;
+use crate::words::{comment_of, line_of};
+use std::alloc::{AllocError, Global};
+use tcap_page::{push_entry, push_named, push_octets};
+use tcap_record::{Body, Entry};
+
+/// So many entries are listed of the beginning of a dialogue, and before the last one at fault.
+const FIRST: usize = 16;
+
+const BEFORE: usize = 63;
+
+/// The octets of an entry, where it is a message's: those that are held behind that of its end.
+fn octets_of(case: &Case, number: usize) -> Option<&[u8]> {
+    match case.entries.get(number)?.octets.as_slice() {
+        [_, octets @ ..] => Some(octets),
+        [] => None,
+    }
+}
+
+/// Appends the object of an entry.
+fn push_message(
+    alloc: Global,
+    json: &mut String,
+    case: &Case,
+    judged: &Judged,
+    number: usize,
+    entry: &Entry,
+) -> Result<(), AllocError> {
+    let comment = comment_of(alloc, case, number as u64)?;
+    let mut fault = String::new(alloc);
+    if let Body::Bad(found) = &entry.body {
+        push_no_message(&mut fault, entry.place, *found)?;
+    }
+    push_entry(alloc, json, number, entry, &fault, judged.table)?;
+    let line = line_of(case, number as u64);
+    write!(json, ",\"line\":{line}")?;
+    if !comment.is_empty() {
+        push_named(json, "comment", &comment)?;
+    }
+    if let Some(octets) = octets_of(case, number) {
+        push_octets(json, "octets", octets)?;
+    }
+    json.push_str("}")
+}
+
+/// How many entries a dialogue has, with the quiet mark that ends it.
+fn count_of(case: &Case) -> usize {
+    let marks = if case.is_marked() { 1 } else { 0 };
+    case.entries.len().saturating_add(marks)
+}
+
+/// Appends the messages of a dialogue, of a long one the first, those that are named, and those up to the last one at fault; and how many
+/// entries are left out, where some are.
+pub(crate) fn push_messages(
+    alloc: Global,
+    json: &mut String,
+    case: &Case,
+    judged: &Judged,
+    grounds: &Grounds,
+) -> Result<(), AllocError> {
+    let named = grounds.named(alloc, judged)?;
+    let last = last_listed(judged);
+    let mut listed = 0;
+    json.push_str(",\"messages\":[")?;
+    for (number, entry) in judged.record.entries.iter().enumerate() {
+        if is_near(number, FIRST, BEFORE, last) || named.contains(&(number as u64)) {
+            json.push_str(if listed == 0 { "" } else { "," })?;
+            push_message(alloc, json, case, judged, number, entry)?;
+            listed = usize::saturating_add(listed, 1);
+        }
+    }
+    json.push_str("]")?;
+    let left_out = count_of(case).saturating_sub(listed);
+    if left_out == 0 {
+        return Ok(());
+    }
+    write!(json, ",\"left_out\":{left_out}")
+}

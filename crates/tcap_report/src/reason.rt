@@ -1,0 +1,68 @@
+//! What a blame rests on, in words.
+
+use crate::case::{Case, Judged};
+use crate::no_message::push_why;
+use crate::which::push_which;
+use std::alloc::{AllocError, Global};
+use tcap_evidence::{find_evidence, push_evidence};
+use tcap_record::End;
+use tcap_refute::{Kind, Refutation};
+
+/// The first line of a text.
+fn first_line(text: &str) -> &str {
+    text.lines().next().unwrap_or("")
+}
+
+/// Appends what a blame for octets that are no message rests on: that line of what it rests on which says so, and why they are none.
+fn push_of_octets(
+    alloc: Global,
+    text: &mut String,
+    case: &Case,
+    at: Refutation,
+    lines: &str,
+) -> Result<(), AllocError> {
+    text.push_str(first_line(lines))?;
+    text.push_str("\n")?;
+    push_why(alloc, text, case, at.entry)
+}
+
+/// Appends what the blame rests on: what shows it, and which fault of its kind it is.
+pub(crate) fn push_reason(
+    alloc: Global,
+    text: &mut String,
+    case: &Case,
+    judged: &Judged,
+    end: End,
+    at: Refutation,
+) -> Result<(), AllocError> {
+    let Some(table) = judged.table else {
+        return Ok(());
+    };
+    let Ok(found) = find_evidence(alloc, &judged.record, table.table(), end, at, true) else {
+        return Err(AllocError);
+    };
+    let mut lines = String::new(alloc);
+    push_evidence(&mut lines, &judged.record, table.table(), end, at, &found)?;
+    if at.kind == Kind::BadMessage {
+        return push_of_octets(alloc, text, case, at, &lines);
+    }
+    text.push_str(&lines)?;
+    push_which(text, judged, table, end, at, &found)
+}
+
+/// Appends what the fault is in one sentence: what stands in the first line of what the blame rests on, behind the entry.
+pub(crate) fn push_sentence(
+    alloc: Global,
+    text: &mut String,
+    case: &Case,
+    judged: &Judged,
+    end: End,
+    at: Refutation,
+) -> Result<(), AllocError> {
+    let mut lines = String::new(alloc);
+    push_reason(alloc, &mut lines, case, judged, end, at)?;
+    match first_line(&lines).split_once(": ") {
+        Some((_, sentence)) => text.push_str(sentence),
+        None => Ok(()),
+    }
+}

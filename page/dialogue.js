@@ -1,0 +1,216 @@
+// What is shown of one dialogue, and of one trace.
+
+const OCTETS_IN_ROW = 16;
+const KEPT = "\n";
+// The components of which one answers the other: an Invoke has an invoke ID and its operation, an answer the ID alone.
+const INVOKE = /^Invoke (-?\d+) (.*)$/s;
+const ANSWER = /^(?:ReturnResultLast|ReturnResultNotLast|ReturnError) (-?\d+)$/;
+
+/** Octets, 16 in a row: their place, their digits, and those that are letters. */
+function dumpOf(digits) {
+  const octets = digits.match(/../g) ?? [];
+  const rows = [];
+  for (let at = 0; at < octets.length; at += OCTETS_IN_ROW) {
+    const row = octets.slice(at, at + OCTETS_IN_ROW);
+    const letters = row.map((it) => parseInt(it, 16)).map((it) => (it > 31 && it < 127 ? String.fromCharCode(it) : "."));
+    const halves = [row.slice(0, 8).join(" "), row.slice(8).join(" ")].join("  ");
+    rows.push(`${at.toString(16).padStart(4, "0")}  ${halves.padEnd(3 * OCTETS_IN_ROW)}  ${letters.join("")}`);
+  }
+  return rows.join("\n");
+}
+
+/** What a click on a message opens: what `show` prints, and the octets, where they are told. */
+function detailOf(message) {
+  const {show, octets, comment} = message;
+  const dump = octets === undefined ? [] : [
+    make("p", {class: "small"}, counted(octets.length / 2, "octet")),
+    make("pre", {class: "dump", tabindex: "0", "aria-label": "Octets"}, dumpOf(octets)),
+  ];
+  return [make("pre", {class: "show"}, seen(show.trimEnd(), KEPT)), ...dump, opening("The whole comment", comment ?? "")];
+}
+
+/** The IDs of a message. */
+function idsIn({otid, dtid}) {
+  return [otid === undefined ? "" : `otid ${otid}`, dtid === undefined ? "" : `dtid ${dtid}`].join(" ").trim();
+}
+
+/** What `show` says of a message behind its IDs: a cause, and the dialogue portion. */
+function portionIn(show) {
+  return /^\d+ [AB] \w+(?: [od]tid=\w*)*(.*)/.exec(show)?.[1].trim() ?? "";
+}
+
+/** The line of an entry, where its trace has lines, and the comment above it. */
+function placeOf(message) {
+  return [message.line > 0 ? `line ${message.line}` : "", message.comment ?? ""].filter((it) => it !== "").join(": ");
+}
+
+/** A component of a message; an answer with its operation, where that is sure. */
+function withOperation(part, {end, dtid}, invokes) {
+  const found = invokes.get(`${otherEnd(end)} ${ANSWER.exec(part)?.[1]}`) ?? null;
+  return found !== null && found.otid === dtid ? `${part} answers ${found.operation}` : part;
+}
+
+/** Messages, of which the answers have their operations. One is sure where the other end sent but one Invoke of its ID before, from
+ * the transaction ID to which the answer goes, and where no entry before it is left out or can't be read. */
+function withOperations(messages) {
+  const invokes = new Map();
+  let isSure = true;
+  return messages.map((message, at) => {
+    const {entry, end, otid, fault, components} = message;
+    isSure &&= entry === at && fault === undefined;
+    if (!isSure || components === undefined) return message;
+    const parts = components.map((it) => withOperation(it, message, invokes));
+    for (const [, id, operation] of components.map((it) => INVOKE.exec(it)).filter((it) => it !== null)) {
+      const key = `${end} ${id}`;
+      invokes.set(key, invokes.has(key) ? null : {otid, operation});
+    }
+    return {...message, components: parts};
+  });
+}
+
+/** The step of an entry. */
+function stepOf(message) {
+  const {entry} = message;
+  const step = {number: entry, label: String(entry), entry, from: message.end ?? null, ids: idsIn(message), more: "", tags: [],
+    parts: message.components ?? [], place: placeOf(message), arrow: WHOLE, detail: () => detailOf(message)};
+  if (message.mark === true) return {...step, title: "Quiet mark"};
+  if (message.kind === undefined) return {...step, title: "No message", more: seen(message.fault)};
+  return {...step, title: message.kind, more: portionIn(message.show)};
+}
+
+/** For each end at fault its join. */
+function joinsOf({head, blamed}) {
+  return blamed.map((end) => {
+    const {entry, kind, evidence, doubt} = head[end];
+    const by = new Set((evidence?.shows ?? []).flatMap((it) => it.entries));
+    by.delete(entry);
+    return {end, at: entry, by, kind, part: evidence?.component ?? null, isDoubtful: doubt !== undefined};
+  });
+}
+
+/** A button that leads to an entry in the ladder. */
+function leap(entry) {
+  return make("button", {type: "button", class: "leap", "data-to": entry}, String(entry));
+}
+
+/** A line of a reason. Where it is one of what is shown, its entries are buttons. */
+function reasonLine(line, shows) {
+  const found = shows.find((it) => it.entries.length > 0 && line.trimStart().startsWith(`${it.what}:`));
+  if (found === undefined) return make("div", {class: "line"}, seen(line));
+  const entries = [...new Set(found.entries)].slice(0, 100).map(leap);
+  const others = new Set(found.entries).size - entries.length;
+  const behind = others > 0 ? ` and ${counted(others, "other")}` : "";
+  const margin = line.slice(0, line.search(/\S|$/));
+  return make("div", {class: "line"}, `${margin}${seen(found.what)}: `, ...entries, behind);
+}
+
+/** The words of a reason, without the blanks that all its lines begin with. */
+function reasonOf(text, evidence) {
+  const lines = text.trimEnd().split("\n");
+  const margin = lines.map((it) => it.search(/\S|$/)).reduce((one, other) => Math.min(one, other));
+  return make("div", {class: "reason"}, ...lines.map((it) => reasonLine(it.slice(margin), evidence?.shows ?? [])));
+}
+
+/** What is said of an end, in one line. Of the other end `before` is the entry at fault, where it is one. */
+function summaryOf(end, said, before) {
+  if (said.kind !== undefined) {
+    const place = placeOfFault(said), later = before < said.entry ? " It comes later and may follow from the first." : "";
+    const words = `${place === "" ? "" : `, ${place}`}, ${said.kind}. ${wordsOfKind(said.kind)}${later}`;
+    return make("p", {class: "summary"}, badge(said.verdict), ` ${end}: at entry `, leap(said.entry), words);
+  }
+  const words = said.verdict === "pass"
+    ? `sent ${counted(said.sent, "message")}, with ${counted(said.unheard, "message")} of its peer taken as unheard.`
+    : cut(seen(said.text.split("\n")[0]), LONG_TITLE);
+  return make("p", {class: "summary"}, badge(said.verdict), ` ${end}: ${words}`);
+}
+
+/** Whether more is to be said of an end than its summary has. */
+function hasReason(said) {
+  return said?.kind !== undefined || (said?.text ?? "").trimEnd().includes("\n");
+}
+
+/** Why, at length. */
+function reasonsOf(head, ends) {
+  const boxes = ends.filter((end) => hasReason(head[end])).map((end) => {
+    const {text, evidence, doubt} = head[end];
+    const doubted = doubt === undefined ? null : make("p", {class: "doubt"}, `Inconclusive: ${seen(doubt)}.`);
+    return make("div", {}, make("h3", {}, `Why, of ${end}`), doubted, reasonOf(text, evidence));
+  });
+  if (head.text !== undefined) boxes.push(make("div", {}, make("h3", {}, "Why"), reasonOf(head.text, null)));
+  return make("div", {class: "reasons"}, ...boxes);
+}
+
+/** A fact with its name. */
+function fact(name, ...words) {
+  return make("div", {}, make("dt", {}, name), make("dd", {}, ...words));
+}
+
+/** The IDs of an end. */
+function idsFact(end, ids) {
+  const words = ids.join(" ");
+  return fact(`IDs of ${end}`, make("code", {}, cut(words, LONG_NAME) || "none"), opening("All of them", words) ?? "");
+}
+
+/** The facts of a dialogue. */
+function factsOf(head) {
+  const {entries, lines, ids, table, context} = head;
+  const told = [["open", "open at the end of its trace"], ["marked", "ended by a quiet mark"],
+    ["again", "with an ID of an earlier dialogue"]].filter(([flag]) => head[flag]).map(([, words]) => words);
+  const [word, span] = lines[0] > 0 ? ["lines", lines] : ["entries", entries];
+  const words = `${entries.length.toLocaleString("en")}: ${word} ${span[0]} to ${span.at(-1)} of the trace`;
+  return make("dl", {class: "facts"},
+    ...ENDS.map((end) => idsFact(end, ids[end])),
+    table === undefined ? null : fact("Table", named(table)),
+    context === undefined ? null : fact("Context", make("code", {}, context)),
+    fact("Entries", words), told.length > 0 ? fact("State", told.join("; ")) : null);
+}
+
+/** The ladder of a dialogue, and how much of it is not listed. */
+function ladderOf(dialogue) {
+  const found = messagesOf(dialogue);
+  if (found === null) return make("p", {class: "note"}, "The messages of this dialogue can't be read: its line is cut.");
+  const joins = joinsOf(dialogue), {ids} = dialogue.head;
+  const heads = ENDS.map((end) => `${end} ${cut(ids[end].join(" "), LONG_NAME)}`);
+  const steps = withOperations(found.messages).map(stepOf);
+  const count = dialogue.head.entries.length;
+  const [left, all] = [found.leftOut, count].map((it) => it.toLocaleString("en"));
+  const note = found.leftOut > 0 ? make("p", {class: "note"}, `${left} of the ${all} entries are not listed.`) : null;
+  return make("div", {}, note, ladder("The entries of the dialogue", heads, steps, joins, count));
+}
+
+/** A heading with the name of a trace, which opens where it is long. */
+function headingOf(trace, words, verdict) {
+  const heading = make("h2", {tabindex: "-1"}, named(trace), words, verdict === null ? null : badge(verdict));
+  return make("div", {class: "heading"}, heading, opening("The whole name", trace));
+}
+
+/** All that is shown of a dialogue: where both ends are at fault, first of the one whose entry comes first. */
+function dialogueView(dialogue) {
+  const {head, blamed} = dialogue, ends = blamed.length > 1 ? blamed : ENDS.filter((end) => head[end] !== undefined);
+  const made = make("article", {class: "dialogue", "aria-label": `Dialogue ${head.dialogue}`},
+    headingOf(head.trace, ` dialogue ${head.dialogue} `, head.verdict), factsOf(head),
+    ...ends.map((end) => summaryOf(end, head[end], head[otherEnd(end)]?.entry)),
+    make("div", {class: "beside"}, ladderOf(dialogue), reasonsOf(head, ends)));
+  const there = new Set([...made.querySelectorAll(".step[data-entry]")].map((it) => it.dataset.entry));
+  for (const it of made.querySelectorAll(".leap")) it.disabled = !there.has(it.dataset.to);
+  return made;
+}
+
+/** The sums of a trace. */
+function traceSums(head) {
+  if (head.verdict === null) {
+    return make("p", {class: "note"}, "The run was stopped before this trace was judged to its end.");
+  }
+  return make("dl", {class: "facts"}, fact("Messages", head.messages.toLocaleString("en")),
+    ...VERDICTS.map((it) => fact(`Dialogues: ${it}`, head.dialogues[it].toLocaleString("en"))),
+    fact("Pass unheard or unanswered", head.unheard.toLocaleString("en")));
+}
+
+/** All that is shown of a trace. `enter` lists its dialogues. */
+function traceView({head}, count, enter) {
+  const text = head.text === undefined ? null : make("div", {class: "reason"}, seen(head.text, KEPT));
+  const button = make("button", {type: "button"}, `List its dialogues that do not pass (${count.toLocaleString("en")})`);
+  button.addEventListener("click", enter);
+  return make("article", {class: "trace"}, headingOf(head.trace, " ", head.verdict), text, traceSums(head),
+    count > 0 ? button : null);
+}

@@ -1,0 +1,93 @@
+// Texts and elements. What comes of a trace is data: it is set as text, and never as markup.
+
+// The kinds of fault, each with its words and where its rule stands; docs/VERDICTS.md says how each is found by hand.
+const KINDS = {
+  F1: ["Its octets are no message.", "Q.773, X.690"],
+  F2: ["Its peer sent nothing from the destination ID that it could answer.", "Q.774 3.3"],
+  F3: ["Its end has used the originating ID before.", "Q.774 3.3; that an ID is used once is this profile's choice"],
+  F4: ["Its end has ended this dialogue before.", "Q.774 3.3"],
+  F5: ["It answers or rejects what its peer never sent.", "Q.774 3.2"],
+  F6: ["It invokes or answers an operation as the table does not allow.", "Q.771 3.1.2, operation classes"],
+  F7: ["Its dialogue portion is one that it may not carry.", "Q.774 3.2, dialogues; Q.773 4.2.3"],
+  F8: ["Its end has no transaction over which it may send it.", "Q.774 3.3"],
+  F9: ["Its dialogue portion does not fit how the dialogue stands.", "Q.774 3.2, dialogues"],
+  F10: ["It invokes an ID that is in use.", "Q.774 3.2, invocations; Q.771, classes"],
+  F11: ["It is linked to an invocation that its end did not receive, has answered, or may not link it to.",
+    "Q.774 3.2; Q.771, linked operations"],
+  F12: ["It answers an invocation that was answered already.", "Q.774 3.2; Q.771, classes"],
+  F13: ["It rejects with a problem that nothing received has.", "Q.774 3.2; Q.773 4.2.2"],
+  F14: ["It is an Abort of the provider that answers nothing which is left.", "Q.774 3.3, abnormal procedures"],
+  F15: ["It is a quiet mark, and a transaction of the end is surely open there.", "the bench's word that all was quiet"],
+};
+const ENDS = ["A", "B"];
+const VERDICTS = ["error", "fail", "inconc", "pass"];
+const SVG = "http://www.w3.org/2000/svg";
+
+// Controls, marks of direction, and what else shows nothing or moves its neighbours.
+const UNSEEN = /[\p{Cc}\p{Cf}\p{Zl}\p{Zp}]/gu;
+const LONG_NAME = 80;
+const LONG_TITLE = 1000;
+
+/** A text with the number of each character in it that is not seen, but for those that are kept. */
+function seen(text, kept = "") {
+  return text.replace(UNSEEN, (it) => (kept.includes(it) ? it : `\\u{${it.codePointAt(0).toString(16)}}`));
+}
+
+/** The beginning of a text that is too long. */
+function cut(text, longest) {
+  return text.length > longest ? `${text.slice(0, longest)}\u2026` : text;
+}
+
+/** A count with its word. */
+function counted(count, word) {
+  return `${count.toLocaleString("en")} ${word}${count === 1 ? "" : "s"}`;
+}
+
+/** The words of a kind of fault, with where its rule stands. */
+function wordsOfKind(kind) {
+  const [words, section] = KINDS[kind] ?? ["This page has no words for it.", kind];
+  return `${words} (${section})`;
+}
+
+/** The line of an entry at fault, and the frame or frames that the comment above it names first, as far as there are such. */
+function placeOfFault({line, comment}) {
+  const frames = /\bframes? \d{1,15}\b(?: to \d{1,15}\b)?/i.exec(comment ?? "");
+  return [line > 0 ? `line ${line}` : "", frames?.[0] ?? ""].filter((it) => it !== "").join(", ");
+}
+
+/** Sets attributes, leaves out those that are null, and appends children. */
+function filled(made, attributes, children) {
+  for (const [name, value] of Object.entries(attributes)) {
+    if (value !== null) made.setAttribute(name, value);
+  }
+  made.append(...children.filter((it) => it !== null));
+  return made;
+}
+
+/** An element of HTML; a child that is a string becomes text. */
+function make(tag, attributes, ...children) {
+  return filled(document.createElement(tag), attributes, children);
+}
+
+/** An element of SVG. */
+function drawn(tag, attributes, ...children) {
+  return filled(document.createElementNS(SVG, tag), attributes, children);
+}
+
+/** A name from a trace, cut where it is long; its title has more of it. */
+function named(text, longest = LONG_NAME) {
+  const all = seen(text);
+  return make("bdi", {class: "name", title: all.length > longest ? cut(all, LONG_TITLE) : null}, cut(all, longest));
+}
+
+/** A text from a trace, which opens; null where it is not long. */
+function opening(words, text) {
+  const all = seen(text);
+  if (all.length <= LONG_NAME) return null;
+  return make("details", {class: "long"}, make("summary", {}, words), make("bdi", {class: "name"}, all));
+}
+
+/** A verdict, as a word in a frame of its own. */
+function badge(verdict) {
+  return make("span", {class: `badge ${verdict}`}, verdict);
+}

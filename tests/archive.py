@@ -1,0 +1,414 @@
+"""Runs tools/judge_archive.py over an archive of 200 traces, on loopback, by two workers: what it prints and writes is what
+one run of `tcapjudge test` over all prints and writes, octet by octet, and so is the exit status. So it is where a worker
+dies, where the run is stopped and goes on, where a run of the program gives no verdict and is tried again, and where a
+trace changes between. Where distributed is not installed, or no worker of it can run a program, it says so, and counts nothing."""
+
+import concurrent.futures
+import contextlib
+import fcntl
+import json
+import os
+import random
+import re
+import shutil
+import signal
+import socket
+import subprocess
+import sys
+import tempfile
+import time
+
+import capture_rows
+import loopback
+import made_captures
+import random_traces
+import runs
+from tested import PROGRAM
+from trace_rows import SHORT, WRONG_END, lines
+from traced import Checks, content, put
+
+TOOL, PYTHON = os.path.abspath("tools/judge_archive.py"), "/usr/bin/python3"
+LINES_TOOL = os.path.abspath("tools/lines_of_capture.py")
+TRACES, ENOUGH, PATIENCE = 200, 60, 100
+# A scheduler and two workers, until the standard input ends.
+CLUSTER = """
+import distributed, sys
+if __name__ == "__main__":
+    how = {"n_workers": 2, "threads_per_worker": 1, "dashboard_address": None, "host": "127.0.0.1"}
+    with distributed.LocalCluster(**how) as cluster:
+        print(cluster.scheduler_address, flush=True)
+        sys.stdin.read()
+"""
+# Has a worker run a program, and ends as that ends.
+PROBE = """
+import distributed, subprocess, sys
+if __name__ == "__main__":
+    how = {"n_workers": 1, "threads_per_worker": 1, "dashboard_address": None, "host": "127.0.0.1"}
+    with distributed.LocalCluster(**how) as cluster, distributed.Client(cluster) as client:
+        sys.exit(client.submit(subprocess.call, ["setpriv", "--pdeathsig", "KILL", sys.argv[1]]).result(60))
+"""
+# The program, which notes each trace; and, the first time of a trace of which that is asked, kills the worker that runs it,
+# or itself, or waits.
+NOTING = """#!/bin/sh
+for name; do :; done
+name=${{name##*/}}
+echo "$name" >> {folder}/noted
+if [ -e "{folder}/once/$name" ] && read -r how < "{folder}/once/$name" && rm "{folder}/once/$name"; then
+    case $how in
+        worker) kill -9 $PPID; sleep 9;;
+        itself) kill -9 $$;;
+        wait) exec sleep 60;;
+    esac
+fi
+exec {program} "$@"
+"""
+ODD = ["a b.hex", "it's \"so\" $(x).hex", "\u00e9\u2028.hex", "two\nlines.hex", "-x.rec", "DIGITS.HEX"]
+
+
+# ---- an archive
+
+
+class Archive:
+    """A folder with traces below `archive`, a table, and a program that notes what it judges."""
+
+    def __init__(self, folder):
+        self.folder, maker = folder, random_traces.Maker(random.Random(1))
+        self.table = put(folder, "table.json", runs.table_text(maker.table))
+        for room in "archive/one/two", "once":
+            os.makedirs(f"{folder}/{room}")
+        for number in range(TRACES - 1 - len(ODD)):
+            room = ("archive", "archive/one", "archive/one/two")[number % 3]
+            put(folder, f"{room}/{number}.hex", self.trace(maker, number))
+        for name in ODD:
+            put(folder, f"archive/{name}", lines(*SHORT).encode())
+        put(folder, "archive/readme.txt", b"no trace")
+        self.program = put(folder, "noting", NOTING.format(folder=folder, program=PROGRAM).encode())
+        os.chmod(self.program, 0o755)
+        found = [f"{room}/{name}" for room, _, names in os.walk(f"{folder}/archive") for name in names]
+        # The order is that of the code points of the paths.
+        self.names = sorted(os.path.relpath(name, folder) for name in found if not name.endswith(".txt"))
+
+    @staticmethod
+    def trace(maker, number):
+        """A trace of a random dialogue, of which some have a fault; some have no entry, a line with a fault, or a comment
+        that is no text."""
+        text = lines(*(f"{heading.end} {digits}" for heading, digits in maker.dialogue("own"))).encode()
+        return {3: b"", 7: text + b"A 62", 11: b"# \xff\n" + text}.get(number % 20, text)
+
+    def ask(self, name, how):
+        """Has the program do that the first time that it is given that trace."""
+        put(self.folder, f"once/{os.path.basename(name)}", f"{how}\n".encode())
+
+    def noted(self):
+        return content(f"{self.folder}/noted").decode().split("\n")
+
+    def words(self, *more):
+        return ["--program", self.program, "--json", "out.json", "--table", "table.json", "--complete", *more]
+
+    def run(self, *words, meanwhile=lambda running: None, **how):
+        """What the tool says, in a session of its own: its status, standard output and error."""
+        streams = {"stdout": subprocess.PIPE, "stderr": subprocess.PIPE, "stdin": subprocess.DEVNULL}
+        how = {"cwd": self.folder, **streams, **how}
+        running = subprocess.Popen([sys.executable, TOOL, *words], start_new_session=True, **how)
+        try:
+            meanwhile(running)
+            out, error = running.communicate(timeout=PATIENCE)
+        finally:
+            if running.poll() is None:
+                os.killpg(running.pid, signal.SIGKILL)
+        return running.returncode, out, error.decode()
+
+    def look(self, checks, what, found, names):
+        """Looks whether the tool said and wrote what one run of the program over these traces says and writes."""
+        words = [PROGRAM, "test", "--json", "wanted.json", "--table", "table.json", "--complete", "--"]
+        wanted = subprocess.run([*words, *names], cwd=self.folder, capture_output=True, check=False)
+        checks.same(f"{what}: status, {found[2]}", found[0], wanted.returncode)
+        checks.holds(f"{what}: the text", found[1] == wanted.stdout and len(found[1]) > 1000)
+        written, one = content(f"{self.folder}/out.json"), content(f"{self.folder}/wanted.json")
+        checks.holds(f"{what}: the lines of JSON", written == one and len(written) > 1000)
+        # Of a worker that is lost distributed may say more.
+        checks.holds(f"{what}: no error: {found[2]}", TOOL not in found[2] and not re.search("^error: ", found[2], re.MULTILINE))
+
+    def results(self):
+        """The paths of the results that are kept, by the names of their traces."""
+        folder, found = f"{self.folder}/out.json.results", {}
+        for name in os.listdir(folder) if os.path.isdir(folder) else []:
+            if "." not in name and name != "lines":
+                found[json.loads(content(f"{folder}/{name}").split(b"\n")[0])["name"]] = f"{folder}/{name}"
+        return found
+
+
+def wait_until(holds):
+    """Waits until something holds. Returns whether it does."""
+    end = time.monotonic() + PATIENCE
+    while not holds() and time.monotonic() < end:
+        time.sleep(0.02)
+    return holds()
+
+
+@contextlib.contextmanager
+def archive_of_traces():
+    with tempfile.TemporaryDirectory() as folder:
+        yield Archive(folder)
+
+
+@contextlib.contextmanager
+def cluster():
+    """The address of a scheduler with two workers, which are in another folder."""
+    with tempfile.TemporaryDirectory() as folder:
+        path = put(folder, "cluster.py", CLUSTER.encode())
+        how = {"stdin": subprocess.PIPE, "stdout": subprocess.PIPE, "stderr": subprocess.DEVNULL, "cwd": folder}
+        with subprocess.Popen([PYTHON, path], **how) as running:
+            yield running.stdout.readline().decode().strip()
+            running.stdin.close()
+            running.wait()
+
+
+# ---- what is looked at
+
+
+def a_worker_dies(archive):
+    """On this machine: a worker is killed while it judges; a trace is missing, one is named twice, there is a capture. Then
+    the one that was missing is there."""
+    checks, victim, twice = Checks("a worker dies"), archive.names[TRACES // 2], archive.names[5]
+    archive.ask(victim, "worker")
+    wires = [capture_rows.Wire(), capture_rows.Wire(ends=((301, 8), (302, 6)), tag=9)]
+    frames = [frame for wire in wires for frame in wire.all(capture_rows.DIALOGUE)]
+    put(archive.folder, "calls.pcap", made_captures.pcap(frames))
+    pairs = f"out.json.results/lines{archive.folder}/calls.pcap"
+    pairs = [f"{pairs}/pair-{number}.hex" for number in (1, 2) if shutil.which("tshark")]
+    put(archive.folder, "list", "\n".join(["archive", *(["calls.pcap"] if pairs else []), twice]).encode())
+    words = archive.words("--workers", "2", "--a", "ssn=6", "--list", "list", "none.hex")
+    found, names = archive.run(*words), ["none.hex", *archive.names, *pairs, twice]
+    archive.look(checks, "with all", found, names)
+    checks.same("the trace of that worker is judged again", archive.noted().count(os.path.basename(victim)), 2)
+    checks.same("one that is named twice is judged once", archive.noted().count(os.path.basename(twice)), 1)
+    checks.holds(f"what is left out is said: {found[2]}", "left out: 1\n" in found[2])
+    tool = [sys.executable, LINES_TOOL, "calls.pcap", "lines", "--a", "ssn=6"]
+    subprocess.run(tool, cwd=archive.folder, capture_output=True, check=False)
+    for pair in pairs:
+        alone = content(f"{archive.folder}/lines/{os.path.basename(pair)}")
+        checks.holds("the lines of the capture", alone and content(f"{archive.folder}/{pair}") == alone)
+    put(archive.folder, "none.hex", lines(*SHORT).encode())
+    os.remove(f"{archive.folder}/noted")
+    archive.look(checks, "with the one that was missing", archive.run(*words, "--resume"), names)
+    checks.same("what is judged then", archive.noted(), ["null", "none.hex", ""])
+    return checks
+
+
+def living(session):
+    """The processes of a session, but for those that have ended and that nobody waited for."""
+    listed = subprocess.run(["ps", "-o", "stat=,args=", "-s", str(session)], capture_output=True, check=False).stdout
+    return [line for line in listed.decode().splitlines() if not line.startswith("Z")]
+
+
+def all_ends(archive):
+    """Ctrl-C at a terminal, while the program runs: what is judged is kept, and no process is left."""
+    checks, sessions = Checks("Ctrl-C"), []
+    archive.ask(archive.names[0], "wait")
+
+    def stop(running):
+        checks.holds("two are judged, the first one is not", wait_until(lambda: len(archive.results()) == 2))
+        os.killpg(running.pid, signal.SIGINT)
+        sessions.append(running.pid)
+
+    words = archive.words("--workers", "2", "--progress", *archive.names[:3])
+    status, out, error = archive.run(*words, meanwhile=stop)
+    checks.same("status, and text", (status, out), (130, b""))
+    is_said = "--resume goes on" in error and " of 3, " in error and TOOL not in error
+    checks.holds(f"what is said: {error}", is_said)
+    checks.holds("no process is left", wait_until(lambda: not living(sessions[0])))
+    checks.same("what is kept", sorted(archive.results()), archive.names[1:3])
+    return checks
+
+
+def stopped(checks, archive, words):
+    """Stops a run in the middle. Returns the names of the traces of which there are results."""
+
+    def stop(running):
+        checks.holds("some are judged", wait_until(lambda: len(archive.results()) >= ENOUGH))
+        running.send_signal(signal.SIGINT)
+
+    status, out, _ = archive.run(*words, meanwhile=stop)
+    kept = [*archive.results()]
+    checks.holds(f"it stops in the middle: {len(kept)}", ENOUGH <= len(kept) < TRACES)
+    said = status, out, os.path.exists(f"{archive.folder}/out.json")
+    checks.same("status, text, and whether there are lines of JSON", said, (130, b"", False))
+    return kept
+
+
+def goes_on(archive, address):
+    """On a cluster: a run is stopped. Then a result is cut, a trace changes, and a run of the program gives no verdict."""
+    checks, words = Checks("a run that is stopped"), archive.words("--scheduler", address, "archive")
+    kept = stopped(checks, archive, words)
+    status, out, error = archive.run(*words)
+    checks.holds(f"without --resume: {error}", (status, out) == (4, b"") and "--resume goes on" in error)
+    anew = [name for name in archive.names if name not in kept] + kept[:2]
+    with open(archive.results()[kept[0]], "r+b") as file:
+        file.truncate(os.path.getsize(file.name) - 1)
+    put(archive.folder, kept[1], lines(SHORT[0], WRONG_END).encode())
+    archive.ask(anew[0], "itself")
+    os.remove(f"{archive.folder}/noted")
+    status, out, error = archive.run(*words, "--resume")
+    said = status, out, f"error: {anew[0]}: no verdict" in error, os.path.exists(f"{archive.folder}/out.json")
+    checks.same(f"no verdict of one: {error}", said, (3, b"", True, False))
+    # A name may have two lines, as it is noted.
+    wanted = {part for name in anew for part in os.path.basename(name).split("\n")}
+    checks.same("what is judged", {*archive.noted()} - {"null", ""}, wanted)
+    os.remove(f"{archive.folder}/noted")
+    archive.look(checks, "in the end", archive.run(*words, "--resume"), archive.names)
+    checks.same("what is judged in the end", archive.noted(), ["null", os.path.basename(anew[0]), ""])
+    os.remove(f"{archive.folder}/out.json")
+    with open("/dev/full", "wb") as full:
+        status, _, error = archive.run(*words, "--resume", stdout=full)
+    said = status, "can't be written" in error, os.path.exists(f"{archive.folder}/out.json")
+    checks.same(f"standard output is full: {error}", said, (3, True, False))
+    return checks
+
+
+def faulty_capture(archive, address):
+    """A capture with a fault is told, and what was written of it is judged; so is one that is missing."""
+    checks, folder = Checks("captures with faults"), archive.folder
+    whole = made_captures.pcap(capture_rows.Wire().all(capture_rows.DIALOGUE))
+    put(folder, "cut.pcap", whole[:-1])
+    put(folder, "calls.PCAP", whole)
+    words = ["--json", "faulty.json", "--program", PROGRAM, "--table", "table.json", "--scheduler", address]
+    status, out, error = archive.run(*words, "none.pcapng", "cut.pcap", "calls.PCAP")
+    checks.same(f"status, {out}, {error}", status, 3)
+    for name in "cut.pcap", "none.pcapng":
+        checks.holds(f"the fault of {name}: {error}", f"{name}: FAULT capture" in error)
+    last = out.rstrip(b"\n").rpartition(b"\n")[2]
+    checks.holds(f"the other is judged, and what stands before the fault: {last}", last.startswith(b"2 traces: "))
+    return checks
+
+
+def fault_rows(archive):
+    """Words, with the status and what is said."""
+    with socket.socket() as closed:
+        closed.bind(("127.0.0.1", 0))
+        address = f"tcp://127.0.0.1:{closed.getsockname()[1]}"
+    good, no_text = archive.names[0], os.fsencode("no\udcff.hex")
+    os.mkdir(f"{archive.folder}/empty")
+    os.mkdir(f"{archive.folder}/used.json.results")
+    put(archive.folder, "used.json.results/question.json", b"{}")
+    put(archive.folder, "used.json.results/0", b"")
+    test = ["--json", "x.json", "--program", PROGRAM]
+    yield [*test], 4, "no trace is named"
+    yield ["--program", PROGRAM, good], 4, "--json"
+    yield [*test, "-"], 4, "-"
+    yield [*test, "--junit", "x.xml", good], 4, "--junit"
+    yield [*test, "--workers", "0", good], 4, "--workers"
+    yield [*test, "--workers", "2", "--scheduler", address, good], 4, "--scheduler"
+    yield [*test, "--of", "C", good], 4, "'C'"
+    yield [*test, "--of", "A", "--of", "B", good], 4, "--of"
+    yield [*test, "--linger", "x", good], 4, "--linger"
+    yield [*test, "--a", "name=1", good], 4, "name=1"
+    yield [*test, no_text], 4, "is not text"
+    yield [*test, "--table", "none.json", good], 3, "none.json: No such file"
+    yield [*test, "--list", "none", good], 3, "none: No such file"
+    yield [*test, "empty"], 3, "empty: no file below it"
+    yield [*test, "--scheduler", "here", good], 3, "no scheduler with a worker at here"
+    yield [*test, "--scheduler", address, good], 3, f"no scheduler with a worker at {address}"
+    yield ["--json", "x.json", "--program", "./none", good], 3, "no program ./none"
+    yield ["--json", "none/x.json", *test[2:], good], 3, "none/x.json.results: No such file"
+    yield ["--json", "empty", *test[2:], good], 3, "empty"
+    yield ["--json", good, *test[2:], good], 3, f"{good}: "
+    yield ["--json", "used.json", *test[2:], good], 4, "--resume goes on"
+    yield ["--json", "used.json", *test[2:], "--resume", good], 4, "other options"
+
+
+def faults(archive):
+    """Words that are wrong, and what is not there."""
+    checks = Checks("faults")
+    for words, wanted, what in fault_rows(archive):
+        status, out, error = archive.run(*words)
+        checks.same(f"{words}: {error}", (status, out, what in error), (wanted, b"", True))
+        checks.holds(f"{words}: {error}", "Traceback" not in error)
+    good, folder = archive.names[0], archive.folder
+    checks.holds("what is read is kept", content(f"{folder}/{good}") and not os.path.exists(f"{folder}/x.json"))
+    words = ["--json", "used.json", "--program", PROGRAM, "--resume", good]
+    held = os.open(f"{folder}/used.json.results", os.O_RDONLY)
+    fcntl.flock(held, fcntl.LOCK_EX)
+    status, _, error = archive.run(*words)
+    os.close(held)
+    checks.same(f"another run: {error}", (status, "another run writes" in error), (4, True))
+    # What python runs first takes distributed away.
+    put(folder, "sitecustomize.py", b"import sys\nsys.modules['distributed'] = None\n")
+    status, _, error = archive.run(*words, env=os.environ | {"PYTHONPATH": folder})
+    checks.same(f"no distributed: {error}", (status, "missing: distributed" in error), (3, True))
+    return checks
+
+
+# ---- all
+
+
+def on_this_machine():
+    with archive_of_traces() as archive:
+        yield a_worker_dies(archive)
+    with archive_of_traces() as archive:
+        yield all_ends(archive)
+
+
+def on_a_cluster():
+    with cluster() as address, archive_of_traces() as archive:
+        yield goes_on(archive, address)
+        if shutil.which("tshark"):
+            yield faulty_capture(archive, address)
+    with archive_of_traces() as archive:
+        yield faults(archive)
+
+
+def missing():
+    """Why no worker can run a program here. None where one can."""
+    if subprocess.run([PYTHON, "-c", "import distributed"], capture_output=True, check=False).returncode:
+        return "distributed is not installed (python3-distributed)"
+    if not loopback.is_had():
+        return "there is no loopback interface"
+    with tempfile.TemporaryDirectory() as folder:
+        path, ends = put(folder, "probe.py", PROBE.encode()), put(folder, "ends", b"#!/bin/sh\nexit 7\n")
+        os.chmod(ends, 0o755)
+        run = subprocess.run(["timeout", str(PATIENCE), PYTHON, path, ends], capture_output=True, cwd=folder, check=False)
+    said = run.stderr.decode(errors="replace").strip().rpartition("\n")[2]
+    return None if run.returncode == 7 else f"no worker of distributed runs a program, status {run.returncode}: {said[:200]}"
+
+
+def found_once_by(part):
+    """What a part finds, and that it ends as it should."""
+    found, checks = [], Checks(part.__name__)
+    try:
+        found += part()
+    except Exception as error:
+        checks.holds(f"it ends, and not by {error!r}"[:600], False)
+    return [*found, checks]
+
+
+def found_by(part):
+    """What a part finds. Where something is wrong it is tried once more, since on a busy machine a worker may come too late; that
+    is said."""
+    found = found_once_by(part)
+    wrong = [line for checks in found for line in checks.wrong]
+    if not wrong:
+        return found
+    print(f"tried again, since {wrong[0]}")
+    return found_once_by(part)
+
+
+def main():
+    why = missing()
+    if why:
+        print(f"skipped: archives, since {why}")
+        print("0 passed, 0 failed")
+        return 0
+    if not shutil.which("tshark"):
+        print("skipped: captures in archives, since tshark is not installed")
+    with concurrent.futures.ThreadPoolExecutor() as lanes:
+        parts = [lanes.submit(found_by, part) for part in (on_this_machine, on_a_cluster)]
+        found = [checks for part in parts for checks in part.result()]
+    wrong = [line for checks in found for line in checks.wrong]
+    print("".join(f"{line}\n" for line in wrong), end="")
+    print(f"{sum(checks.count for checks in found) - len(wrong)} passed, {len(wrong)} failed")
+    return int(bool(wrong))
+
+
+if __name__ == "__main__":
+    sys.exit(main())

@@ -1,0 +1,97 @@
+"""Compares the frame of a page with the files that it is made of (tools/page.py), and looks at pages of made reports
+and runs (made_reports.py) in a browser (browser.py): the cases are those of page_cases.py, page_limits.py and
+page_runs.py. Where there is no browser that starts, or no loopback interface, over which it is driven, it says so, and counts the
+frame alone."""
+
+import contextlib
+import signal
+import sys
+import tempfile
+
+sys.path.insert(0, "tools")
+
+import browser
+import loopback
+import page
+import page_cases
+import page_limits
+import page_runs
+from made_reports import hostile, planted
+from traced import SCHEMA, Checks, run
+
+# How often a case is looked at, at the most.
+TURNS = 3
+
+
+def frame_checks():
+    """What tools/page.py compares."""
+    checks = Checks("frame")
+    for what, holds in page.checks():
+        checks.holds(what, holds)
+    return checks
+
+
+def made_checks():
+    """That the made objects are as docs/report.schema.json says, where there is something that looks at them by it, and that
+    the program shows the octets of planted messages as they say."""
+    checks = Checks("made reports")
+    for it in [*planted(), *hostile()]:
+        if SCHEMA is not None and "total" not in it:
+            checks.same("by the schema", [error.message for error in SCHEMA.iter_errors(it)], [])
+    messages = [message for it in planted() if "dialogue" in it for message in it["messages"]]
+    for it in [message for message in messages if "kind" in message]:
+        shown = run(["show", "--lines"], f"{it['end']} {it['octets']}\n".encode()).stdout.decode()
+        checks.same(f"octets of {it['show']!r}", shown.split(" ", 1)[1], it["show"].split(" ", 1)[1])
+    return checks
+
+
+def looked_at_once(shown, case):
+    """What a case finds, and that its pages say nothing to the console and ask for nothing but themselves."""
+    checks = Checks(case.__name__)
+    shown.resize(1280, 900)
+    shown.show_as()
+    try:
+        case(checks, shown)
+    except Exception as error:
+        # The page has not what the case looks for.
+        checks.holds(f"it ends, and not by {error!r}"[:600], False)
+    checks.same("said to the console", shown.log(), [])
+    asked = [it for it in shown.requests() if not it.startswith((f"file://{shown.folder}/", "data:,", "about:"))]
+    checks.same("asked for", asked, [])
+    return checks
+
+
+def looked_at(shown, case):
+    """What a case finds. Where something is wrong it is looked at again, since a busy machine may draw late; that is said."""
+    for _ in range(TURNS - 1):
+        checks = looked_at_once(shown, case)
+        if not checks.wrong:
+            return checks
+        print(f"looked at again, since {checks.wrong[0]}")
+    return looked_at_once(shown, case)
+
+
+def main():
+    # Stopped by the gate, it ends its browser.
+    signal.signal(signal.SIGTERM, lambda *_: sys.exit(1))
+    missing = browser.missing() or ([] if loopback.is_had() else ["a loopback interface"])
+    found = [frame_checks(), made_checks()]
+    if missing:
+        print(f"skipped: pages in a browser, for want of {', '.join(missing)}")
+    else:
+        with tempfile.TemporaryDirectory() as folder, contextlib.ExitStack() as stack:
+            try:
+                shown = stack.enter_context(browser.browser_of(folder))
+            except browser.NoBrowser as error:
+                print(f"skipped: pages in a browser, which does not start: {error}")
+            else:
+                found += [looked_at(shown, case) for case in [*page_cases.CASES, *page_limits.CASES, *page_runs.CASES]]
+    for wrong in [wrong for checks in found for wrong in checks.wrong]:
+        print(wrong)
+    failed = sum(len(checks.wrong) for checks in found)
+    print(f"{sum(checks.count for checks in found) - failed} passed, {failed} failed")
+    return int(failed != 0)
+
+
+if __name__ == "__main__":
+    sys.exit(main())

@@ -1,0 +1,70 @@
+"""The page that `tcapjudge test --html` writes, for tests/traces.py: what a reader of HTML finds in its frame, and whether
+that agrees with the lines of JSON."""
+
+import html.parser
+import itertools
+import json
+import re
+
+# So many dialogues that don't pass are in a page.
+MOST = 10_000
+# What stands in no text of JSON but by its number: what begins a tag, and what controls a line or a text.
+TOLD_BY_NUMBER = re.compile("[<\x00-\x09\x0b-\x1f\x7f-\x9f\u2028\u2029]")
+
+
+class Script(html.parser.HTMLParser):
+    """What stands in the script that has the report."""
+
+    def __init__(self, page):
+        super().__init__(convert_charrefs=False)
+        self.is_within, self.held = False, []
+        self.feed(page)
+        self.close()
+
+    def handle_starttag(self, tag, attrs):
+        self.is_within = tag == "script" and ("id", "report") in attrs
+
+    def handle_endtag(self, _):
+        self.is_within = False
+
+    def handle_data(self, data):
+        if self.is_within:
+            self.held.append(data)
+
+
+def lines_in(page):
+    """The lines of objects that a page has."""
+    return [line for line in "".join(Script(page).held).split("\n") if line]
+
+
+def sum_of(traces):
+    """What is said of all traces, by what is said of each."""
+    of, verdicts = [it["dialogues"] for it in traces], [it["verdict"] for it in traces]
+    return {
+        "traces": {verdict: verdicts.count(verdict) for verdict in ("pass", "inconc", "fail", "error")},
+        "messages": sum(it["messages"] for it in traces),
+        "dialogues": {verdict: sum(it[verdict] for it in of) for verdict in ("pass", "inconc", "fail", "error")},
+        "unheard": sum(it["unheard"] for it in traces),
+    }
+
+
+def shown(lines):
+    """Of lines of JSON those that are in the page, and how many of dialogues that don't pass aren't."""
+    kept, room = [], itertools.count(1)
+    for line in lines:
+        it = json.loads(line)
+        if "dialogue" not in it or (it["verdict"] != "pass" and next(room) <= MOST):
+            kept.append(line)
+    return kept, max(0, next(room) - 1 - MOST)
+
+
+def look_at_page(checks, page, found, text):
+    """The page has the lines of JSON of what doesn't pass and of the traces, and the sum of all behind them."""
+    lines = [line for line in text.split("\n") if line]
+    checks.holds("JSON has nothing that means something to HTML", not TOLD_BY_NUMBER.search(text))
+    wanted, left_out = shown(lines)
+    *found, last = found or ["null"]
+    checks.same("one report, and an end", (page.count('<script type="application/x-ndjson" id="report">\n'), page[-8:]), (1, "</html>\n"))
+    checks.holds("the lines of the page are those of JSON", found == wanted)
+    traces = [it for it in map(json.loads, lines) if "dialogue" not in it]
+    checks.same("the sum", json.loads(last), {"total": sum_of(traces), "left_out": left_out})

@@ -1,0 +1,469 @@
+"""Cases for tests/traces.py of the words in which `test` says what an end is blamed for, worked out by hand from docs/TRACES.md and
+docs/FORMAT.md: why octets are no message (F1), which operation is meant (F6), what is wrong with a dialogue portion (F9), which of
+two ends comes first, and the message of a testcase of JUnit's XML."""
+
+import re
+import xml.etree.ElementTree
+from dataclasses import dataclass
+
+import trace_rows
+from traced import Checks, Report, agree, look_at_messages, put, run
+from trace_rows import BACK, INVOKE, RESULT, SHORT, accepted, begin, dialogue, element, end, error, go_on, invoke, lines, request, uni
+
+LONG_NAME = "x" * 10_000
+NAMED = (
+    '{"tables":[{"operations":[{"class":1,"code":45,"name":"ask"},{"class":2,"code":46,"name":"tell"},{"class":3,"code":47},'
+    '{"class":4,"code":48},{"class":2,"code":"2a03","name":"far"},{"class":2,"code":49,"name":"' + LONG_NAME + '"}]}]}'
+)
+# The lines that say which fault it is.
+WHICH = re.compile("  (why: |invocation |and [0-9]+ more inv|the result names |an AARE |the A|.* and a Unidirectional )")
+BLAME = re.compile("  [AB]: (fail|inconc)")
+NOT_ALLOWED = "it invokes or answers an operation as the table does not allow"
+MISFIT = "its dialogue portion does not fit how the dialogue stands"
+NONE = "its octets are no message"
+MISSING = "  an AARE is missing: this is the first answer to a Begin with an AARQ"
+TOO_MANY = "  the AARE is one too many: only the first answer to a Begin may have one, and a Continue before it was that"
+NO_REQUEST = "  the ABRT is one too many: the Begin of the transaction has no AARQ"
+LACKS = "inconclusive: the table lacks the operation"
+
+ASKS, ACCEPTS = request("2A0304"), accepted("2A0304")
+# An AARE that refuses, by the user; and an ABRT of the user (Q.773 4.2.3).
+REFUSES = dialogue(
+    element("61", element("A1", element("06", "2A0304")), element("A2", "020101"), element("A3", element("A1", "020101")))
+)
+ABORTS = dialogue(element("64", "800100"))
+GLOBAL = element("A1", "020101", element("06", "2A03"))
+
+
+def names(id, *code):
+    """A Return Result that names an operation."""
+    return element("A2", element("02", id), element("30", *code))
+
+
+def not_last(id, *code):
+    return element("A7", element("02", id), element("30", *code))
+
+
+@dataclass
+class Said:
+    """A trace with one dialogue that doesn't pass: which fault it is by each end, the lines of the ends that are blamed in their
+    order, and the message of its testcase."""
+
+    name: str
+    entries: list
+    which: dict
+    blames: list
+    message: str
+    words: str = ""
+    table: str = NAMED
+
+
+def one(name, entries, which, blamed, sentence, at=None, verdict="fail", before=(), **more):
+    """One end is blamed, at the last entry of the dialogue where no other is named. Entries stand in lines from 1 on, behind those
+    of another dialogue."""
+    at, (of, kind) = len(entries) - 1 if at is None else at, blamed.split()
+    line = len(before) + at + 1
+    said = f"  {of}: {verdict} at entry {at} of the dialogue, line {line}, {kind}"
+    return Said(name, [*before, *entries], {of: which}, [said], f"{of}: line {line}, {kind}: {sentence}", **more)
+
+
+ONE = [
+    # ---- F1: the octet is counted from 0, and at most 8 stand on each side of it
+    one(
+        "the example of docs/FORMAT.md",
+        ["A 620d4801016c08a10602010130012d"],
+        [
+            "  why: unexpected tag; place 12 of the message; Begin / components / Invoke / operation code; "
+            "octets 01 6c 08 a1 06 02 01 01 [30] 01 2d; Begin otid=01"
+        ],
+        "A F1",
+        NONE,
+    ),
+    one(
+        "an empty component portion, in the third entry",
+        ["A 6203480101", "B 6506480107490101", "A 65084801014901076C00"],
+        [
+            "  why: empty component portion; place 8 of the message; Continue / components; "
+            "octets 65 08 48 01 01 49 01 07 [6c] 00; Continue otid=01 dtid=07"
+        ],
+        "A F1",
+        NONE,
+    ),
+    one(
+        "another tag than a message's",
+        [f"B {trace_rows.OTHER_TAG}"],
+        ["  why: unexpected tag; place 0 of the message; message; octets [63] 03 48 01 01"],
+        "B F1",
+        NONE,
+        before=SHORT,
+    ),
+    one(
+        "an ID of no octets",
+        [f"A {trace_rows.NO_OCTETS}"],
+        ["  why: bad transaction ID; place 2 of the message; Begin / originating transaction ID; octets 62 02 [48] 00; Begin"],
+        "A F1",
+        NONE,
+        before=SHORT,
+    ),
+    # ---- F6
+    one(
+        "an error of class 3",
+        [f"A {begin('01', invoke('01', '2F'))}", f"B {end('01', error('01'))}"],
+        ["  invocation 1 in entry 0 is of 47, of class 3, which allows no Return Error"],
+        "B F6",
+        NOT_ALLOWED,
+    ),
+    one(
+        "a result of class 2",
+        [f"A {begin('01', invoke('01', '2E'))}", f"B {end('01', RESULT)}"],
+        ["  invocation 1 in entry 0 is of tell 46, of class 2, which allows no Return Result"],
+        "B F6",
+        NOT_ALLOWED,
+    ),
+    one(
+        "an answer to class 4, of an ID below 0",
+        [f"A {begin('01', invoke('FF', '30'))}", f"B {end('01', error('FF'))}"],
+        ["  invocation -1 in entry 0 is of 48, of class 4, which allows no Return Error"],
+        "B F6",
+        NOT_ALLOWED,
+    ),
+    one(
+        "the result names another operation than was invoked",
+        [f"A {begin('01', INVOKE)}", f"B {end('01', names('01', '02012E', '0400'))}"],
+        ["  invocation 1 in entry 0 is of ask 45, of class 1", "  the result names tell 46"],
+        "B F6",
+        NOT_ALLOWED,
+    ),
+    one(
+        "so does one that is not the last, and names what the table lacks",
+        [f"A {begin('01', INVOKE)}", f"B {go_on('07', '01', not_last('01', '06032A0405'))}"],
+        ["  invocation 1 in entry 0 is of ask 45, of class 1", "  the result names 2a0405"],
+        "B F6",
+        NOT_ALLOWED,
+    ),
+    one(
+        "a global operation by its name, of class 2",
+        [f"A {begin('01', GLOBAL)}", f"B {end('01', names('01', '06022A03'))}"],
+        ["  invocation 1 in entry 0 is of far 2a03, of class 2, which allows no Return Result", "  the result names far 2a03"],
+        "B F6",
+        NOT_ALLOWED,
+    ),
+    one(
+        "two invocations of the ID, and not those of other IDs, of the end itself, or behind the answer",
+        [
+            f"A {begin('01', invoke('01', '30'), invoke('02', '2D'))}",
+            f"B {go_on('07', '01', invoke('01', '2D'))}",
+            f"A {go_on('01', '07', invoke('01', '2E'))}",
+            f"B {go_on('07', '01', RESULT)}",
+            f"A {go_on('01', '07', invoke('01', '2D'))}",
+        ],
+        [
+            "  invocation 1 in entry 0 is of 48, of class 4, which allows no Return Result",
+            "  invocation 1 in entry 2 is of tell 46, of class 2, which allows no Return Result",
+        ],
+        "B F6",
+        NOT_ALLOWED,
+        at=3,
+    ),
+    one(
+        "of ten invocations the first eight",
+        [
+            *SHORT[:1],
+            BACK,
+            *[f"A {go_on('01', '07', invoke('01', '30'))}"] * 8,
+            f"A {go_on('01', '07', invoke('01', '30'), invoke('02', '30'))}",
+            f"A {go_on('01', '07', invoke('01', '30'))}",
+            f"B {end('01', RESULT)}",
+        ],
+        [
+            *(f"  invocation 1 in entry {at} is of 48, of class 4, which allows no Return Result" for at in range(2, 10)),
+            "  and 2 more invocations of it",
+        ],
+        "B F6",
+        NOT_ALLOWED,
+    ),
+    one(
+        "what another ID of the peer invoked is not meant",
+        [
+            f"A {begin('01', invoke('01', '2F'))}",
+            f"A {begin('02', INVOKE)}",
+            f"B {go_on('07', '01', error('01'))}",
+            f"B {go_on('07', '02')}",
+        ],
+        ["  invocation 1 in entry 0 is of 47, of class 3, which allows no Return Error"],
+        "B F6",
+        NOT_ALLOWED,
+        at=2,
+    ),
+    one(
+        "a Unidirectional of class 1; one of class 4 stands before it",
+        [f"A {uni(invoke('02', '30'), INVOKE)}"],
+        ["  ask 45 is of class 1, and a Unidirectional may invoke operations of class 4 alone"],
+        "A F6",
+        NOT_ALLOWED,
+    ),
+    one(
+        "a Unidirectional of an operation that the table lacks",
+        [f"A {uni(invoke('01', '63'))}"],
+        [],
+        "A F6",
+        f"{NOT_ALLOWED}; {LACKS}",
+        verdict="inconc",
+    ),
+    one(
+        "a name of 10,000 characters",
+        [f"A {begin('01', invoke('01', '31'))}", f"B {end('01', RESULT)}"],
+        [f"  invocation 1 in entry 0 is of {LONG_NAME} 49, of class 2, which allows no Return Result"],
+        "B F6",
+        NOT_ALLOWED,
+    ),
+    # ---- F9
+    one(
+        "no AARE in a Continue",
+        [f"A {begin('01', asks=ASKS)}", BACK],
+        [MISSING],
+        "B F9",
+        MISFIT,
+    ),
+    one(
+        "no AARE in an End",
+        [f"A {begin('01', asks=ASKS)}", SHORT[1]],
+        [MISSING],
+        "B F9",
+        MISFIT,
+    ),
+    one(
+        "an AARE in the second Continue too",
+        [f"A {begin('01', asks=ASKS)}", *[f"B {go_on('07', '01', asks=ACCEPTS)}"] * 2],
+        [TOO_MANY],
+        "B F9",
+        MISFIT,
+    ),
+    one(
+        "an AARE in the End too",
+        [f"A {begin('01', asks=ASKS)}", f"B {go_on('07', '01', asks=ACCEPTS)}", f"B {end('01', asks=ACCEPTS)}"],
+        [TOO_MANY],
+        "B F9",
+        MISFIT,
+    ),
+    one(
+        "an AARE in an Abort behind that",
+        [
+            f"A {begin('01', asks=ASKS)}",
+            f"B {go_on('07', '01', asks=ACCEPTS)}",
+            f"B {element('67', element('49', '01'), REFUSES)}",
+        ],
+        [TOO_MANY],
+        "B F9",
+        MISFIT,
+    ),
+    one(
+        "the first answer lacks it: the second, which has it, is not looked at",
+        [f"A {begin('01', asks=ASKS)}", BACK, f"B {go_on('07', '01', asks=ACCEPTS)}"],
+        [MISSING],
+        "B F9",
+        MISFIT,
+        at=1,
+    ),
+    one(
+        "an ABRT of the user, where the Begin has no AARQ",
+        [SHORT[0], f"B {element('67', element('49', '01'), ABORTS)}"],
+        [NO_REQUEST],
+        "B F9",
+        MISFIT,
+    ),
+    one(
+        "so by the end that began",
+        [SHORT[0], BACK, f"A {element('67', element('49', '07'), ABORTS)}"],
+        [NO_REQUEST],
+        "A F9",
+        MISFIT,
+    ),
+    one(
+        "an AARE where there was no AARQ is F7, which says it",
+        [SHORT[0], f"B {go_on('07', '01', asks=ACCEPTS)}"],
+        [],
+        "B F7",
+        "its dialogue portion is one that it may not carry",
+    ),
+    # ---- other kinds, which have no such lines
+    one(
+        "answered twice",
+        [f"A {begin('01', INVOKE)}", f"B {end('01', RESULT, RESULT)}"],
+        [],
+        "B F12",
+        "it answers an invocation that was answered already",
+    ),
+    one(
+        "one end alone is asked: what comes later is not said to",
+        [f"A {begin('01', INVOKE, INVOKE)}", f"B {end('01', trace_rows.result('05'))}"],
+        [],
+        "B F5",
+        "it answers or rejects what its peer never sent",
+        words="--of B",
+    ),
+]
+
+SAID = [
+    *ONE,
+    # ---- both ends
+    Said(
+        "B is at fault before A",
+        [SHORT[0], f"B {go_on('07', '01', trace_rows.result('05'))}", f"A {trace_rows.BAD_CONTINUE}"],
+        {},
+        [
+            "  B: fail at entry 1 of the dialogue, line 2, F5",
+            "  A: fail at entry 2 of the dialogue, line 3, F1; it comes later, and may follow from that of B",
+        ],
+        "B: line 2, F5: it answers or rejects what its peer never sent",
+    ),
+    Said(
+        "A is at fault before B",
+        [f"A {begin('01', INVOKE, INVOKE)}", f"B {end('01', trace_rows.result('05'))}"],
+        {},
+        [
+            "  A: fail at entry 0 of the dialogue, line 1, F10",
+            "  B: fail at entry 1 of the dialogue, line 2, F5; it comes later, and may follow from that of A",
+        ],
+        "A: line 1, F10: it invokes an ID that is in use",
+    ),
+    Said(
+        "both are inconclusive: B answers what A invoked",
+        [f"A {begin('01', invoke('01', '63'))}", f"B {end('01', RESULT)}"],
+        {"B": ["  invocation 1 in entry 0 is of 99, which the table lacks"]},
+        [
+            "  A: inconc at entry 0 of the dialogue, line 1, F6",
+            "  B: inconc at entry 1 of the dialogue, line 2, F6; it comes later, and may follow from that of A",
+        ],
+        f"A: line 1, F6: {NOT_ALLOWED}; {LACKS}",
+    ),
+    Said(
+        "what comes first is inconclusive: the testcase fails by the other",
+        [f"A {begin('01', INVOKE, invoke('02', '63'))}", f"B {end('01', RESULT, RESULT)}"],
+        {"B": []},
+        [
+            "  A: inconc at entry 0 of the dialogue, line 1, F6",
+            "  B: fail at entry 1 of the dialogue, line 2, F12; it comes later, and may follow from that of A",
+        ],
+        "B: line 2, F12: it answers an invocation that was answered already",
+    ),
+    Said(
+        "both at one quiet mark",
+        [SHORT[0], BACK, f"A {go_on('01', '07')}", "Q"],
+        {},
+        [
+            "  A: inconc at entry 3 of the dialogue, line 4, F15",
+            "  B: inconc at entry 3 of the dialogue, line 4, F15",
+        ],
+        "A: line 4, F15: a transaction of A is open at this quiet mark; "
+        "inconclusive: the trace's quiet mark is the bench's word, and it may stand too early",
+    ),
+    # ---- no end is blamed
+    Said(
+        "a limit of the profile, below a long comment",
+        [SHORT[0], f"# {'y' * 10_000}", f"B {trace_rows.LIMIT_END}"],
+        {},
+        [f"  B: inconc: entry 1 of the dialogue, line 3 ({'y' * 10_000}) is no message that is judged, and is its own or stands before others of its own"],
+        "B: line 3, which is no message that is judged, and is its own or stands before others of its own",
+    ),
+    Said(
+        "open",
+        [SHORT[0], BACK],
+        {},
+        [
+            "  A: inconc: the dialogue is open at the end of its trace",
+            "  B: inconc: the dialogue is open at the end of its trace",
+        ],
+        "A: the dialogue is open at the end of its trace",
+        "--complete",
+    ),
+    Said(
+        "undecided",
+        [*SHORT, SHORT[0], f"B {end('01', trace_rows.result('05'))}"],
+        {},
+        [
+            "  A: inconc: it is not found how it can have sent its part, and no entry of it is blamed",
+            "  B: inconc: it is not found how it can have sent its part, and no entry of it is blamed",
+        ],
+        "A: it is not found how it can have sent its part, and no entry of it is blamed",
+        "--ids once",
+    ),
+    Said(
+        "no table for a dialogue without a context",
+        SHORT,
+        {},
+        [],
+        "no table is for a dialogue without an application context name",
+        table=f'{{"tables":[{trace_rows.WIDE}]}}',
+    ),
+    Said(
+        "no table for a context",
+        [f"A {begin('01', asks=request('2C0404'))}"],
+        {},
+        [],
+        "no table is for this application context name",
+        table=f'{{"tables":[{trace_rows.WIDE}]}}',
+    ),
+]
+
+
+def look_at_case(checks, report, path, case):
+    """What is said of the one dialogue of a case that doesn't pass. Returns that, and its testcase."""
+    agree(checks, report)
+    (found,) = [it for it in report.dialogues[path] if it["verdict"] != "pass"]
+    (told,) = [it for it in xml.etree.ElementTree.fromstring(report.junit).iter() if it.tag in ("failure", "error")]
+    for of, wanted in case.which.items():
+        text = found[of]["text"].splitlines()
+        checks.same(f"which fault of {of}", [line for line in text if WHICH.match(line)], wanted)
+        for line in text:
+            checks.holds(f"the text has {line[:100]}", f"\n{line}\n" in report.text)
+            checks.holds(f"JUnit has {line[:100]}", f"\n{line}\n" in told.text)
+    return found, told
+
+
+def said(case, folder):
+    """The words that are said of a case, and those of its record, which has no lines."""
+    checks, text = Checks(f"words: {case.name}"), lines(*case.entries)
+    path = put(folder, "x.hex", text.encode())
+    report = Report(folder, case.words.split(), [path], table=case.table)
+    found, told = look_at_case(checks, report, path, case)
+    for name, block in ("the text", report.text), ("JUnit", told.text):
+        checks.same(f"the ends in {name}", [line for line in block.splitlines() if BLAME.match(line)], case.blames)
+    checks.same("the message", told.get("message"), case.message)
+    look_at_messages(checks, folder, found, text)
+    record = put(folder, "record", run(["pack"], text.encode()).stdout)
+    _, told = look_at_case(checks, Report(folder, case.words.split(), [record], table=case.table), record, case)
+    blamed = re.match("  [AB]: [a-z]+ at entry ([0-9]+)", case.blames[0]) if case.blames else None
+    if blamed and "line" in case.message:
+        at = int(re.search("at entry ([0-9]+)", next(it for it in case.blames if it[2] == case.message[0]))[1])
+        wanted = re.sub("line [0-9]+", f"entry {at} of the dialogue", case.message, count=1)
+        checks.same("the message of the record", told.get("message"), wanted)
+    return checks
+
+
+def sums(_, folder):
+    """The sums of all traces: two that pass, of which there is one testcase each; a failure and what passes; an error of a trace
+    beside one that is inconclusive; and one of which no dialogue was judged."""
+    checks = Checks("the sums of JUnit's XML")
+    texts = [
+        lines(*SHORT),
+        lines(*SHORT, "Q", *SHORT),
+        lines(SHORT[0], trace_rows.WRONG_END, "Q", *SHORT),
+        lines(SHORT[0], SHORT[0], "Q", "A 62"),
+        "",
+    ]
+    paths = [put(folder, f"x{number}.hex", text.encode()) for number, text in enumerate(texts)]
+    for of, wanted in ([0, 1, 2, 3, 4], (7, 1, 3)), ([0], (1, 0, 0)), ([2], (2, 1, 0)), ([4], (1, 0, 1)):
+        report = Report(folder, [], [paths[one] for one in of])
+        agree(checks, report)
+        root = xml.etree.ElementTree.fromstring(report.junit)
+        checks.same(f"the sums of {of}", tuple(int(root.get(it)) for it in ("tests", "failures", "errors")), wanted)
+    told = [it.get("message") for it in root.iter("error")]
+    checks.same("the message of a trace", told, ["there is no message in it"])
+    return checks
+
+
+def jobs():
+    """Each case, with what it is about."""
+    yield from ((said, case) for case in SAID)
+    yield sums, None

@@ -1,0 +1,136 @@
+"""What tools/judge_archive.py keeps of a run: a folder with a file for each trace that is judged and each capture of
+which lines are made. Each file is written whole or not at all, so a run that was stopped goes on from there.
+
+Such a file has a line of JSON, with the name of what it is about, its stamp and how many octets each part has, and behind
+it the parts: of a trace the text and the lines of JSON that `tcapjudge test` gives of it, of a capture what
+tools/lines_of_capture.py said."""
+
+import collections
+import contextlib
+import fcntl
+import hashlib
+import json
+import os
+import shutil
+
+VERDICTS = ["pass", "inconc", "fail", "error"]
+STATUS = {"pass": 0, "inconc": 2, "fail": 1, "error": 3}
+
+
+def stamp_of(path):
+    """What tells whether a file has changed: its size, and when it was last written. None where there is no such file."""
+    with contextlib.suppress(OSError):
+        found = os.stat(path)
+        return [found.st_size, found.st_mtime_ns]
+    return None
+
+
+def content_of(path):
+    """What is in a file, nothing where it can't be read."""
+    with contextlib.suppress(OSError), open(path, "rb") as file:
+        return file.read()
+    return b""
+
+
+def checksum(path):
+    return hashlib.sha256(content_of(path)).hexdigest()
+
+
+def write(path, octets):
+    """Writes a file, whole or not at all."""
+    with open(f"{path}.part", "wb") as file:
+        file.write(octets)
+    os.replace(f"{path}.part", path)
+
+
+class Unfit(Exception):
+    """The folder can't be used, and why."""
+
+
+class Results:
+    """The folder of the results of one question: its options, and checksums of the tables and the program."""
+
+    def __init__(self, folder, question, resumes):
+        self.folder, asked = folder, f"{folder}/question.json"
+        with contextlib.suppress(FileExistsError):
+            os.mkdir(folder)
+        self.held = os.open(folder, os.O_RDONLY)
+        try:
+            fcntl.flock(self.held, fcntl.LOCK_EX | fcntl.LOCK_NB)
+        except BlockingIOError:
+            raise Unfit(f"another run writes to {folder}") from None
+        if os.listdir(folder) in ([], ["question.json"]):
+            write(asked, json.dumps(question).encode())
+        elif not resumes:
+            raise Unfit(f"{folder} has results of an earlier run: --resume goes on there; remove it to begin anew")
+        elif content_of(asked) != json.dumps(question).encode():
+            raise Unfit(f"the results in {folder} are of other options, tables or another program: remove it")
+
+    def path_of(self, name):
+        return f"{self.folder}/{hashlib.sha256(name.encode()).hexdigest()[:40]}"
+
+    def keep(self, name, stamp, parts, **more):
+        """Keeps a result."""
+        head = {"name": name, "stamp": stamp, "parts": [len(part) for part in parts], **more}
+        write(self.path_of(name), b"".join([json.dumps(head).encode(), b"\n", *parts]))
+
+    def head(self, name):
+        """The first line of a result. None where there is none, or it is not whole."""
+        with contextlib.suppress(OSError, ValueError), open(self.path_of(name), "rb") as file:
+            first = file.readline()
+            head = json.loads(first)
+            if os.fstat(file.fileno()).st_size == len(first) + sum(head["parts"]):
+                return head
+        return None
+
+    def holds(self, name):
+        """Whether there is a result of that file as it is now."""
+        head = self.head(name)
+        return head is not None and head["stamp"] == stamp_of(name) and all(map(os.path.exists, head.get("files", [])))
+
+    def parts(self, name):
+        """The parts of a result."""
+        with open(self.path_of(name), "rb") as file:
+            lengths = json.loads(file.readline())["parts"]
+            return [file.read(length) for length in lengths]
+
+    def keep_lines(self, name, stamp, files, said, status):
+        """Keeps the files of lines that were made of a capture, what was said of it, and the exit status."""
+        folder = f"{self.folder}/lines{os.path.abspath(name)}"
+        shutil.rmtree(folder, ignore_errors=True)
+        os.makedirs(folder)
+        for file, octets in files:
+            write(f"{folder}/{file}", octets)
+        self.keep(name, stamp, [said], files=[f"{folder}/{file}" for file, _ in files], status=status)
+
+
+class Sum:
+    """The sum of traces: how many there are of each verdict, and of all that they have."""
+
+    def __init__(self):
+        self.traces, self.dialogues, self.messages, self.unheard = collections.Counter(), collections.Counter(), 0, 0
+
+    def add(self, trace):
+        """Adds the object of a trace."""
+        self.traces[trace["verdict"]] += 1
+        self.dialogues.update(trace["dialogues"])
+        self.messages += trace["messages"]
+        self.unheard += trace["unheard"]
+
+    def line(self):
+        """The line that `tcapjudge test` prints of them all."""
+
+        def all_of(counts, thing):
+            each = ", ".join(f"{counts[verdict]} {verdict}" for verdict in VERDICTS)
+            return f"{counted(sum(counts.values()), thing)}: {each}"
+
+        front = f"{all_of(self.traces, 'trace')}; {counted(self.messages, 'message')}"
+        return f"{front}, {all_of(self.dialogues, 'dialogue')}; {self.unheard} pass unheard or unanswered\n"
+
+    def status(self):
+        """The exit status of the worst verdict."""
+        return STATUS[max(self.traces, key=VERDICTS.index, default="pass")]
+
+
+def counted(count, thing):
+    return f"{count} {thing}{'' if count == 1 else 's'}"

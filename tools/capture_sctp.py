@@ -1,0 +1,113 @@
+"""What associations of SCTP (RFC 9260) carry: chunks of data in the order in which they were sent, each once, and put together
+where a message goes over several; and between which point codes an association carries messages."""
+
+import bisect
+import collections
+
+from signalling import Refused
+
+
+class Direction:
+    """What one end of an association sent: its chunks of data by their TSNs, which are counted on over 2^32."""
+
+    def __init__(self):
+        # Of each chunk its TSN, its place and the hash of its octets, sorted by the TSNs.
+        self.tsns, self.places, self.hashes, self.pieces = [], [], [], {}
+
+    def took(self, chunk, frame, index):
+        """The TSN of a chunk, counted, and its place; None where it came before."""
+        tsn, at = chunk.tsn, len(self.tsns)
+        if at:
+            last = self.tsns[-1]
+            tsn = last + (tsn - last + 2**31) % 2**32 - 2**31
+            at = at if tsn > last else bisect.bisect_left(self.tsns, tsn)
+        if at == len(self.tsns):
+            place = frame, index, tsn
+        elif self.tsns[at] == tsn:
+            if self.hashes[at] != hash(chunk.payload):
+                raise Refused("tsn", f"the TSN {chunk.tsn} comes again, with other octets")
+            return None
+        else:
+            # It was sent before those of a greater TSN, though it was captured behind them.
+            place = *self.places[at][:2], tsn
+        self.tsns.insert(at, tsn)
+        self.places.insert(at, place)
+        self.hashes.insert(at, hash(chunk.payload))
+        return tsn, place
+
+    def whole(self, chunk, tsn, place, frame):
+        """The place, the frames and the octets of the message of which this chunk was the last that was missing, else
+        None."""
+        if chunk.first and chunk.last:
+            return place, (frame,), chunk.payload
+        self.pieces[tsn] = chunk, place, frame
+        first = last = tsn
+        while not self.pieces[first][0].first and first - 1 in self.pieces:
+            first -= 1
+        while not self.pieces[last][0].last and last + 1 in self.pieces:
+            last += 1
+        if not (self.pieces[first][0].first and self.pieces[last][0].last):
+            return None
+        taken = [self.pieces.pop(one) for one in range(first, last + 1)]
+        return taken[0][1], tuple(sorted({number for *_, number in taken})), b"".join(piece.payload for piece, *_ in taken)
+
+    def gaps(self):
+        """The place of each chunk before which others are missing, how many, and the TSN of the first of them."""
+        for before, tsn, place in zip(self.tsns, self.tsns[1:], self.places[1:]):
+            if tsn != before + 1:
+                yield place, tsn - before - 1, (before + 1) % 2**32
+
+
+class Way:
+    """The way that packets of one association go from one host to another: what was sent so, and the labels, pairs of point
+    codes, of all messages that the association carries."""
+
+    __slots__ = "direction", "labels"
+
+    def __init__(self, direction, labels):
+        self.direction, self.labels = direction, labels
+
+
+class Ways:
+    """All ways of a capture. Packets are of one association where they have one verification tag and the same ports, or go
+    between the same hosts and ports."""
+
+    def __init__(self):
+        self.ways, self.directions, self.labels = {}, collections.defaultdict(Direction), {}
+
+    def of(self, hosts, head):
+        """The way of packets between these hosts, in that order, with that head: two ports and the tag."""
+        return self.ways.get((hosts, head)) or self.add(hosts, head)
+
+    def add(self, hosts, head):
+        tag, ports = head[4:], (head[:2], head[2:4])
+        # Packets that a tool made have no tag: then both directions have one name, but for their hosts.
+        direction = self.directions[head if any(tag) else (head, hosts[0])]
+        names = [frozenset(zip(hosts, ports))] + ([head] if any(tag) else [])
+        known = [self.labels[name] for name in names if name in self.labels]
+        labels = known[0] if known else set()
+        if known and known[-1] is not labels:
+            self.make_one(labels, known[-1])
+        self.labels.update(dict.fromkeys(names, labels))
+        self.ways[hosts, head] = Way(direction, labels)
+        return self.ways[hosts, head]
+
+    def make_one(self, labels, gone):
+        """Makes one association of two, of which these are the labels."""
+        labels |= gone
+        self.labels = {name: labels if found is gone else found for name, found in self.labels.items()}
+        for way in self.ways.values():
+            way.labels = labels if way.labels is gone else way.labels
+
+    def all(self):
+        """Each direction, with the labels of its association."""
+        ways = {id(way.direction): way for way in self.ways.values()}
+        return [(way.direction, frozenset(way.labels)) for way in ways.values()]
+
+    def labels_of(self, hosts, head):
+        """The labels of the association of such packets; where their head is not known, of all associations between
+        these hosts."""
+        if (hosts, head) in self.ways:
+            return self.ways[hosts, head].labels
+        found = [way.labels for (between, _), way in self.ways.items() if set(between) == set(hosts)]
+        return set().union(*found)

@@ -1,0 +1,350 @@
+#!/usr/bin/env python3
+"""Judges an archive of traces and captures by many workers side by side: docs/ARCHIVES.md says how.
+
+    tools/judge_archive.py --json FILE [--resume] [--list LIST].. [--workers N | --scheduler ADDRESS] [--program PATH]
+        [--progress] [options of `tcapjudge test`] [options of tools/lines_of_capture.py] [TRACE..]
+
+The workers are those of Dask's distributed. What is printed and written is what one `tcapjudge test --json` over all
+the traces prints and writes, and so is the exit status; it is 3 too where something else went wrong, and 4 for wrong
+words."""
+
+import contextlib
+import functools
+import importlib.util
+import itertools
+import json
+import logging
+import os
+import re
+import shutil
+import signal
+import subprocess
+import sys
+import tempfile
+import time
+
+import archive_results
+import archive_words
+import lines_of_capture
+import unproved
+from archive_results import stamp_of
+from archive_words import FAULTY, WRONG_WORDS, Fault, is_capture, say
+
+DEBIAN = "/usr/bin/python3"
+# So many traces are given out at once.
+AHEAD = 1000
+# So many seconds a scheduler that is named and its first worker are waited for; and a worker of this machine, or another one
+# where all are gone.
+PATIENCE, LONGEST = 15, 60
+WIDTH = 40
+
+
+# ---- commands
+
+
+def refused(status, why):
+    """Ends as the command ended that refused its options, with what it said."""
+    sys.stderr.buffer.write(why)
+    sys.exit(status)
+
+
+def program_of(words):
+    """The program and its words, of which it takes the options and the tables."""
+    program = shutil.which(words.program)
+    if not program:
+        raise Fault(f"no program {words.program}: --program says where it is")
+    command = [os.path.abspath(program), "test", *words.test]
+    # A trace without a message.
+    status, _, why, lines = judged(command, os.getcwd(), os.devnull)
+    if not lines:
+        refused(status, why)
+    return command
+
+
+def tool_of(words):
+    """The tool that makes lines of captures, and its words, of which it takes the options."""
+    command = [os.path.abspath(lines_of_capture.__file__), *words.lines]
+    asked = subprocess.run([sys.executable, *command, "--help"], capture_output=True, check=False)
+    if asked.returncode:
+        refused(asked.returncode, asked.stderr)
+    return command
+
+
+# ---- what the workers do: each function stands alone, and is sent to them
+
+
+def judged(command, folder, name):
+    """What the program says of a trace: its exit status, standard output and error, and lines of JSON. It ends with the
+    worker at the latest."""
+    with tempfile.TemporaryFile() as lines:
+        # The program opens the file by that path, though it has no name.
+        words = ["setpriv", "--pdeathsig", "KILL", *command, "--json", f"/dev/fd/{lines.fileno()}", "--", name]
+        how = {"cwd": folder, "stdin": subprocess.DEVNULL, "capture_output": True, "pass_fds": [lines.fileno()]}
+        run = subprocess.run(words, check=False, **how)
+        lines.seek(0)
+        return run.returncode, run.stdout, run.stderr, lines.read()
+
+
+def lines_made(command, folder, name):
+    """The files of lines that are made of a capture, with their names; the exit status, and what is said of it."""
+    with tempfile.TemporaryDirectory() as room:
+        words = [sys.executable, *command, "--", name, f"{room}/lines"]
+        run = subprocess.run(words, cwd=folder, stdin=subprocess.DEVNULL, capture_output=True, check=False)
+        files = []
+        names = os.listdir(f"{room}/lines") if os.path.isdir(f"{room}/lines") else []
+        # pair-2.hex stands before pair-10.hex.
+        for file in sorted(names, key=lambda file: (len(file), file)):
+            with open(f"{room}/lines/{file}", "rb") as opened:
+                files.append((file, opened.read()))
+        return run.returncode, run.stderr, files
+
+
+# ---- what is kept
+
+
+def last_line(octets):
+    return octets[octets[:-1].rfind(b"\n") + 1 :]
+
+
+def trace_of(lines):
+    """The object of the trace, which is the last of its lines of JSON. None where it is not there."""
+    with contextlib.suppress(ValueError):
+        trace = json.loads(last_line(lines))
+        return trace if "messages" in trace else None
+    return None
+
+
+def keep_verdict(results, name, stamp, found):
+    """Keeps what the program said of a trace. Returns what is wrong, where it gave no verdict."""
+    status, text, why, lines = found
+    if why or not trace_of(lines):
+        return f"no verdict, status {status}: {why.decode(errors='replace').strip()}"
+    # The last line is the sum of this trace alone.
+    results.keep(name, stamp, [text.removesuffix(last_line(text)), lines])
+    return None
+
+
+def keep_lines(results, name, stamp, found):
+    """Keeps the lines that were made of a capture. Returns what is wrong, where none could be made."""
+    status, said, files = found
+    text = said.decode(errors="replace").strip()
+    # That tool says of a capture NOTE and FAULT, and error of what it could not write.
+    if status not in (0, lines_of_capture.FAULTY) or re.search("^error: ", text, re.MULTILINE):
+        return f"no lines, status {status}: {text}"
+    results.keep_lines(name, stamp, files, said, status)
+    return None
+
+
+# ---- the run
+
+
+class Watch:
+    """Looks once a second after the workers, of whom `client` knows: lost ones are replaced by `replace`. It says on
+    standard error how far it is, where that is asked for, or where that is a terminal."""
+
+    def __init__(self, client, replace, is_told):
+        self.client, self.replace, self.is_told = client, replace, is_told or sys.stderr.isatty()
+        self.end = "\r" if sys.stderr.isatty() else "\n"
+        self.next = self.seen = time.monotonic()
+
+    def of(self, what, before, all):
+        """What looks when so many more are done than there were before."""
+        return lambda count: self.look(what, before + count, all)
+
+    def look(self, what, count, all):
+        """Looks, where a second has gone by, or all is done."""
+        now = time.monotonic()
+        if now < self.next and count < all:
+            return
+        self.next, workers = now + 1, len(self.client.scheduler_info()["workers"])
+        self.replace()
+        if self.is_told:
+            done = count / max(1, all)
+            bar = f"[{'#' * int(WIDTH * done):.<{WIDTH}}] {what} {count} of {all}, {done:4.0%}, {workers} workers"
+            say(bar, self.end if count < all else "\n")
+        self.seen = now if workers else self.seen
+        if now - self.seen > LONGEST:
+            raise Fault(f"no worker is there for {LONGEST} seconds")
+
+
+def run_all(client, task, names, keep, look):
+    """Has the workers do a task for each name, and what comes of it kept. Returns what is wrong, by name."""
+    import distributed
+
+    wrong, under_way, waiting, count = {}, {}, iter(names), 0
+    running = distributed.as_completed(with_results=True, raise_errors=False)
+
+    def give_out(count):
+        for name in itertools.islice(waiting, count):
+            future = client.submit(task, name, pure=False)
+            under_way[future.key] = name, stamp_of(name)
+            running.add(future)
+
+    give_out(AHEAD)
+    while under_way:
+        ended = running.next_batch(block=False)
+        for future, found in ended:
+            name, stamp = under_way.pop(future.key)
+            # Its status is no guide: it is lost again where the worker that had done it died since.
+            if isinstance(found, BaseException):
+                raise Fault("the scheduler is gone")
+            # An error comes as its type, itself and its place; a task has an exit status there.
+            is_error = isinstance(found[0], type)
+            why = f"no worker could do it: {found[1]}" if is_error else keep(name, stamp, found)
+            if why:
+                wrong[name] = why
+            count += 1
+        give_out(len(ended))
+        look(count)
+        if not ended:
+            time.sleep(0.02)
+    return wrong
+
+
+def quiet(*parts):
+    """Has these parts of distributed say nothing more."""
+    for part in parts:
+        logging.getLogger(f"distributed.{part}").setLevel(logging.CRITICAL)
+
+
+@contextlib.contextmanager
+def workers_of(words):
+    """A client of the cluster that is named, or of workers on this machine, which end with it; and what replaces workers
+    that are lost."""
+    import distributed
+
+    # What is lost with a worker is done again; that it ended its nanny says.
+    quiet("client", "scheduler")
+    with contextlib.ExitStack() as stack:
+        address, replace = words.scheduler, lambda: None
+        try:
+            if not address:
+                room = stack.enter_context(tempfile.TemporaryDirectory())
+                # Ctrl-C at a terminal is for this process alone, which ends them.
+                handler = signal.signal(signal.SIGINT, signal.SIG_IGN)
+                how = {"threads_per_worker": 1, "memory_limit": None, "local_directory": room, "host": "127.0.0.1"}
+                # Without a dashboard there is a server of HTTP all the same.
+                how |= {"dashboard_address": None, "scheduler_kwargs": {"dashboard_address": "127.0.0.1:0"}}
+                address = stack.enter_context(distributed.LocalCluster(n_workers=words.workers, **how))
+                signal.signal(signal.SIGINT, handler)
+                replace = functools.partial(address.scale, words.workers)
+            patience = PATIENCE if words.scheduler else LONGEST
+            client = stack.enter_context(distributed.Client(address, timeout=patience))
+            client.wait_for_workers(1, timeout=patience)
+        except (OSError, ValueError, RuntimeError, distributed.TimeoutError) as error:
+            raise Fault(f"no scheduler with a worker at {address or 'this machine'}: {error}") from None
+        stack.callback(quiet, "nanny")
+        yield client, replace
+        if not words.scheduler:
+            # A worker that is ended while it starts would say so at length.
+            with contextlib.suppress(distributed.TimeoutError):
+                client.wait_for_workers(words.workers, timeout=PATIENCE)
+
+
+def traces_of(names, results):
+    """The traces, in order: a capture stands for the files of lines that were made of it."""
+    for name in names:
+        if not is_capture(name):
+            yield name
+        elif head := results.head(name):
+            yield from head["files"]
+
+
+def judge(words, names, tool, program, results):
+    """Has all judged that is not. Returns what is wrong, by name."""
+    with workers_of(words) as (client, replace):
+        watch = Watch(client, replace, words.progress)
+
+        def do(what, task, command, names, keep):
+            todo = [name for name in names if not results.holds(name)]
+            task, done = functools.partial(task, command, os.getcwd()), len(names) - len(todo)
+            return run_all(client, task, todo, functools.partial(keep, results), watch.of(what, done, len(names)))
+
+        captures = [name for name in dict.fromkeys(names) if is_capture(name)]
+        wrong = do("captures", lines_made, tool, captures, keep_lines) if captures else {}
+        traces = [*dict.fromkeys(traces_of(names, results))]
+        return wrong | do("traces", judged, program, traces, keep_verdict)
+
+
+def said_of_captures(names, results):
+    """Passes on what was said of each capture. Returns whether one has a fault."""
+    has_fault = False
+    for name in filter(is_capture, names):
+        has_fault |= results.head(name)["status"] != 0
+        for line in results.parts(name)[0].decode(errors="replace").splitlines():
+            say(f"{name}: {line}")
+    return has_fault
+
+
+def put_out(names, results, path):
+    """Prints what is said of all traces, in order, and writes the lines of JSON. Returns the exit status."""
+    total = archive_results.Sum()
+    try:
+        with open(f"{path}.part", "wb") as file, open(1, "wb", closefd=False) as out:
+            for name in traces_of(names, results):
+                text, lines = results.parts(name)
+                total.add(trace_of(lines))
+                out.write(text)
+                file.write(lines)
+            out.write(total.line().encode())
+        os.replace(f"{path}.part", path)
+    except OSError as error:
+        raise Fault(f"standard output or {path} can't be written: {error.strerror}") from None
+    return total.status()
+
+
+# ---- all
+
+
+def run_with_distributed():
+    """Goes on with Debian's python3 where that has distributed and this one has not."""
+    if importlib.util.find_spec("distributed"):
+        return
+    asked = [DEBIAN, "-c", "import importlib.util, sys; sys.exit(not importlib.util.find_spec('distributed'))"]
+    if sys.executable != DEBIAN and shutil.which(DEBIAN) and subprocess.run(asked, check=False).returncode == 0:
+        os.execv(DEBIAN, [DEBIAN, os.path.abspath(__file__), *sys.argv[1:]])
+    raise Fault("missing: distributed, of Dask (Debian's package python3-distributed)")
+
+
+def results_of(words, names, program):
+    """What is kept of earlier runs with these words."""
+    if os.path.exists(words.json):
+        read = filter(os.path.exists, [*names, *archive_words.tables_of(words)])
+        if not os.path.isfile(words.json) or any(os.path.samefile(words.json, path) for path in read):
+            raise Fault(f"{words.json}: lines of JSON go to a file, and to none that is read")
+    checksums = {path: archive_results.checksum(path) for path in [program, *archive_words.tables_of(words)]}
+    question = {"test": words.test, "lines": words.lines, "checksums": checksums}
+    try:
+        return archive_results.Results(f"{words.json}.results", question, words.resume)
+    except archive_results.Unfit as why:
+        raise Fault(str(why), WRONG_WORDS) from None
+    except OSError as error:
+        raise Fault(f"{error.filename}: {error.strerror}") from None
+
+
+def main(arguments):
+    words = archive_words.words_of(arguments)
+    try:
+        run_with_distributed()
+        names = archive_words.names_of(words, f"{words.json}.results")
+        tool, program = tool_of(words), program_of(words)
+        results = results_of(words, names, program[0])
+        unproved.end_in_order()
+        try:
+            wrong = judge(words, names, tool, program, results)
+        except SystemExit:
+            say(f"stopped: what is judged is kept in {results.folder}, and --resume goes on")
+            raise
+        for name, why in wrong.items():
+            say(f"error: {name}: {why}")
+        if wrong:
+            raise Fault(f"nothing is put out, for want of {len(wrong)} results; --resume tries them again")
+        has_fault = said_of_captures(names, results)
+        return max(put_out(names, results, words.json), FAULTY if has_fault else 0)
+    except Fault as fault:
+        say(f"error: {fault}")
+        return fault.status
+
+
+if __name__ == "__main__":
+    sys.exit(main(sys.argv[1:]))
