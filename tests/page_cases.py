@@ -307,7 +307,8 @@ def open_and_hint(checks, shown):
                 (["What it waits for"], ["it waits for an answer of B to the Begin in entry 0"]))
     shown.click("#tab-traces")
     shown.click("#traces .row", 1)
-    checks.same("a hint", shown.text("#shown .reason"), "line 1: no end; column 1\nhint: this looks like a capture")
+    found = shown.run("document.querySelector('#shown .reason').innerText")
+    checks.same("a hint", found, "line 1: no end; column 1\nhint: this looks like a capture")
 
 
 def list_of_faults(checks, shown):
