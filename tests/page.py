@@ -16,7 +16,7 @@ import page
 import page_cases
 import page_limits
 import page_runs
-from made_reports import hostile, planted
+from made_reports import hostile, looked_like, open_at_end, planted
 from traced import SCHEMA, Checks, run
 
 # How often a case is looked at, at the most.
@@ -35,7 +35,7 @@ def made_checks():
     """That the made objects are as docs/report.schema.json says, where there is something that looks at them by it, and that
     the program shows the octets of planted messages as they say."""
     checks = Checks("made reports")
-    for it in [*planted(), *hostile()]:
+    for it in [*planted(), *hostile(), open_at_end(), looked_like("a capture")]:
         if SCHEMA is not None and "total" not in it:
             checks.same("by the schema", [error.message for error in SCHEMA.iter_errors(it)], [])
     messages = [message for it in planted() if "dialogue" in it for message in it["messages"]]
