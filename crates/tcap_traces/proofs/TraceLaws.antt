@@ -1,5 +1,5 @@
 -- Who is at fault in a dialogue is at fault in its trace.
-use Rattle.std.proofs.Common.{◌≡◌, inl, inr, ℕ, zero, suc, ◌+◌, false, true, List, [], ◌∷◌, ◌++◌, length, map, take, Some, Result, Ok, refl, sym, ap, ◌∙◌}
+use Rattle.std.proofs.Common.{◌≡◌, inl, inr, ℕ, zero, suc, ◌+◌, false, true, List, [], ◌∷◌, ◌++◌, length, map, take, Some, Result, Ok, refl, sym, ap, subst, ◌∙◌, add-one}
 use Rattle.std.specs.Prelude.{Contains, slice_get}
 use Rattle.std.proofs.lemmas.List.{take-map}
 use Rattle.tcap_ber.specs.declared.fault.Fault.{Fault}
@@ -23,7 +23,7 @@ use Rattle.tcap_traces.specs.Shown.{IsFaultOfTrace}
 
 -- the first items, and the one behind them
 up_to : (before : List Item) (item : Item) (more : List (Result Item Reason)) (n : ℕ) → length before ≡ n
-    → take (n + 1) (oks before ++ (Ok item ∷ more)) ≡ oks (before ++ item ∷ [])
+    → take (suc n) (oks before ++ (Ok item ∷ more)) ≡ oks (before ++ item ∷ [])
 up_to [] item more zero is = refl
 up_to [] item more (suc n) is = cc
 up_to (first ∷ before) item more zero is = cc
@@ -42,16 +42,16 @@ same_items (item ∷ items) (other ∷ others) is =
 
 -- the entries up to one that is the first behind these items are the items with it
 items_up_to : (entries : List Entry) (items before : List Item) (item : Item) (more : List (Result Item Reason)) (n : ℕ)
-    → AreItems (take (n + 1) entries) items → map item_of entries ≡ oks before ++ (Ok item ∷ more) → length before ≡ n
+    → AreItems (take (suc n) entries) items → map item_of entries ≡ oks before ++ (Ok item ∷ more) → length before ≡ n
     → items ≡ before ++ item ∷ []
 items_up_to entries items before item more n are is counted =
     same_items items (before ++ item ∷ [])
-    (sym (are_oks (take (n + 1) entries) items are) ∙ sym (take-map item_of (n + 1) entries)
-    ∙ ap (take (n + 1)) is ∙ up_to before item more n counted)
+    (sym (are_oks (take (suc n) entries) items are) ∙ sym (take-map item_of (suc n) entries)
+    ∙ ap (take (suc n)) is ∙ up_to before item more n counted)
 
 -- an entry whose octets are no message is no item
 bad_is_none : (entries : List Entry) (items : List Item) (entry : Entry) (fault : Fault) (n : ℕ)
-    → AreItems (take (n + 1) entries) items → slice_get entries n ≡ Some entry → entry.body ≡ Bad fault → ⊥
+    → AreItems (take (suc n) entries) items → slice_get entries n ≡ Some entry → entry.body ≡ Bad fault → ⊥
 bad_is_none [] items entry fault n are there bad = cc
 bad_is_none (first ∷ entries) [] entry fault zero are there bad = absurd are
 bad_is_none (first ∷ entries) [] entry fault (suc n) are there bad = absurd are
@@ -64,7 +64,7 @@ bad_is_none (first ∷ entries) (item ∷ items) entry fault (suc n) are there b
 
 -- So an end can't have sent the items up to the entry at fault.
 not_sent : (table : Table) (side : Side) (entries : List Entry) (items : List Item) (r : Refutation)
-    → AreItems (take (r.entry + 1) entries) items → IsAtFaultOf table side entries r → IsLawfulFor side items table → ⊥
+    → AreItems (take (suc r.entry) entries) items → IsAtFaultOf table side entries r → IsLawfulFor side items table → ⊥
 not_sent table side entries items r are (inl (kind, bad)) lawful =
     bad_is_none entries items bad.entry bad.fault r.entry are bad.there bad.body_is
 not_sent table side entries items r are (inr (inl f)) (events, (w, runs, sent), keeps) =
@@ -80,7 +80,9 @@ pub fault_of_trace : (table : Table) (side : Side) (reuse : Reuse) (items : List
     → AreItems (take (r.entry + 1) entries) (part_of (has_entry d) 0 (take (n + 1) items)) → IsAtFaultOf table side entries r
     → IsFaultOfTrace table side (take (n + 1) items)
 fault_of_trace table side reuse items d n entries r unmarked has anew of_it are fault =
+    let up_to_it : AreItems (take (suc r.entry) entries) (part_of (has_entry d) 0 (take (n + 1) items)) =
+    subst (λ (k : ℕ). AreItems (take k entries) (part_of (has_entry d) 0 (take (n + 1) items))) (add-one r.entry) are in
     let none : IsLawfulFor side (take (n + 1) items) table → ⊥ = λ lawful. not_sent table side entries
-        (part_of (has_entry d) 0 (take (n + 1) items)) r are fault
-        (course_keeps side reuse items table d n unmarked has anew of_it lawful) in
+    (part_of (has_entry d) 0 (take (n + 1) items)) r up_to_it fault
+    (course_keeps side reuse items table d n unmarked has anew of_it lawful) in
     (none, λ earlier lawful. none (stretch_keeps table side earlier (take (n + 1) items) lawful))
