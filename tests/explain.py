@@ -235,10 +235,17 @@ def faults(rows, files):
     with open(files.chart, "rb") as file:
         rows.row("the chart is as it was", file.read(), b"old")
     over = "error: the chart would be written over a file that is read\n"
-    rows.row("over", run("explain", files.record, files.table, "--chart", files.table), ("", over, 3))
+    folder = os.path.dirname(files.record)
+    os.link(files.record, f"{folder}/hard")
+    for name in "table", "./record", "hard", "./cert":
+        words = files.record, files.table, files.cert, "--chart", f"{folder}/{name}"
+        rows.row(f"over {name}", run("explain", *words), ("", over, 3))
+    with open(files.record, "rb") as file:
+        rows.row("the record is as it was", file.read(), b"\x41\x62\x03\x48\x01\x01")
     lawful = "LAWFUL 1\n  one run that shows it:\n  A sends 0 Begin otid=01\n  B receives 0\n"
-    said = "error: the chart can't be written to /none/chart\n"
-    rows.row("no chart", run("explain", files.record, files.table, "--chart", "/none/chart"), (lawful, said, 3))
+    said = "error: the chart can't be written to {}: {}\n".format
+    for path, why in ("/none/chart", "No such file or directory (os error 2)"), (folder, "Is a directory (os error 21)"):
+        rows.row("no chart", run("explain", files.record, files.table, "--chart", path), (lawful, said(path, why), 3))
 
 
 def main():

@@ -1,6 +1,6 @@
 //! The word `explain`: a verdict, why it is so, and a chart of the run.
 
-use crate::opening::{is_fault, noted, open, status_of, tell, unopened};
+use crate::opening::{is_fault, is_same, noted, open, status_of, tell, unopened};
 use std::{fs, io};
 use tcap_ber::{Counted, Read};
 use tcap_explain::{Noted, Role};
@@ -30,8 +30,8 @@ fn finish(
     match path {
         Some(path) if !chart.is_empty() => match fs::write(rt, path, chart) {
             Ok(()) => status_of(ended),
-            Err(_) => {
-                let _ = eprintln!(rt; "error: the chart can't be written to {path}");
+            Err(error) => {
+                let _ = eprintln!(rt; "error: the chart can't be written to {path}: {error}");
                 Status::Fault.number()
             }
         },
@@ -112,12 +112,16 @@ fn explained_by<T: Read>(rt: &HostRuntime, table: &mut Noted<T>, paths: Paths, a
     }
 }
 
-/// Whether the path of the chart is that of one of the files that are read.
-fn is_overwritten(paths: Paths) -> bool {
-    match paths.chart {
-        Some(chart) => {
-            chart == paths.table || chart == paths.entries || paths.cert == Some(chart)
-        }
+/// Whether the file of the chart is one of those that are read.
+fn is_overwritten(rt: &HostRuntime, paths: Paths) -> bool {
+    let Some(chart) = paths.chart else {
+        return false;
+    };
+    if is_same(rt, chart, paths.table) || is_same(rt, chart, paths.entries) {
+        return true;
+    }
+    match paths.cert {
+        Some(cert) => is_same(rt, chart, cert),
         None => false,
     }
 }
@@ -125,7 +129,7 @@ fn is_overwritten(paths: Paths) -> bool {
 /// Explains the record of those paths, by the operation table of that path. Nothing is done where the chart would take the
 /// place of one of the files.
 pub(crate) fn explain(rt: &HostRuntime, paths: Paths, asked: Asked) -> u8 {
-    if is_overwritten(paths) {
+    if is_overwritten(rt, paths) {
         let _ = eprintln!(rt; "error: the chart would be written over a file that is read");
         return Status::Fault.number();
     }

@@ -1,6 +1,7 @@
 //! Files that are read, and what is said of those that were given by mistake.
 
-use std::fs::File;
+use std::fs::{File, Metadata};
+use std::os::unix::fs::MetadataExt;
 use std::{fs, io};
 use tcap_ber::{Counted, Read, Unopened};
 use tcap_explain::{Noted, Role, write_hint};
@@ -44,10 +45,26 @@ pub(crate) fn unopened(rt: &HostRuntime) -> Noted<Unopened> {
 }
 
 /// Whether that path is that of a plain file, of which reading waits for nobody.
-fn is_plain(rt: &HostRuntime, path: &str) -> bool {
+pub(crate) fn is_plain(rt: &HostRuntime, path: &str) -> bool {
     match fs::metadata(rt, path) {
         Ok(found) => found.is_file(),
         Err(_) => false,
+    }
+}
+
+/// Whether these are of one file: its number on its device is the same.
+fn is_one(one: &Metadata, other: &Metadata) -> bool {
+    one.dev() == other.dev() && one.ino() == other.ino()
+}
+
+/// Whether two paths are those of one file, by whatever links.
+pub(crate) fn is_same(rt: &HostRuntime, one: &str, other: &str) -> bool {
+    if one == other {
+        return true;
+    }
+    match (fs::metadata(rt, one), fs::metadata(rt, other)) {
+        (Ok(one), Ok(other)) => is_one(&one, &other),
+        _ => false,
     }
 }
 
