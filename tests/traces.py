@@ -1,6 +1,6 @@
 """Runs the built program's word `test` over traces. The rows of trace_rows.py have what must be said of each, and
-trace_files.py has cases of files, lines, comments and words, trace_messages.py of the messages of dialogues, trace_words.py of
-what is said of a blame. Then traces of random dialogues: of each dialogue, by the
+trace_files.py has cases of files, lines, comments and words, trace_outputs.py of files that are written, trace_messages.py of the
+messages of dialogues, trace_words.py of what is said of a blame. Then traces of random dialogues: of each dialogue, by the
 cut of trace_cut.py, `test` says what `blame` says of the record of that dialogue alone. All that is written as JSON is
 looked at by docs/report.schema.json, where python's jsonschema is installed, and all that is JUnit's XML by
 junitparser, where that is."""
@@ -17,6 +17,7 @@ import runs
 import trace_cut
 import trace_files
 import trace_messages
+import trace_outputs
 import trace_rows
 import trace_words
 from trace_rows import BEHIND, UNDECIDED, lines
@@ -319,7 +320,8 @@ def main():
         print(f"what is written is not looked at by {name}, which is not installed")
     # The longest cases begin first.
     jobs = [(look_at_random, seed * 1000 + number) for number in range(RANDOM_TRACES)]
-    jobs += [*trace_files.jobs(), *trace_messages.jobs(), *trace_words.jobs(), *((look_at, row) for row in trace_rows.ROWS)]
+    jobs += [*trace_files.jobs(), *trace_outputs.jobs(), *trace_messages.jobs(), *trace_words.jobs()]
+    jobs += [(look_at, row) for row in trace_rows.ROWS]
     passed, failed, seen = 0, 0, collections.Counter()
     with concurrent.futures.ThreadPoolExecutor(SIDE_BY_SIDE) as pool:
         for checks, more in pool.map(looked_at, jobs):

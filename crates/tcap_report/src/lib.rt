@@ -29,5 +29,5 @@ pub use fault::Stop;
 pub use junit::Junit;
 pub use page::Page;
 pub use sum::Sum;
-pub use telling::Sinks;
+pub use telling::{Lines, Sinks};
 pub use trace::{Asked, Watch, run_trace, tell_unread};

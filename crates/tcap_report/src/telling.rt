@@ -7,9 +7,22 @@ use crate::page::Page;
 use crate::sum::{Counts, Sum};
 use crate::{json, text};
 use std::alloc::Global;
-use tcap_ber::Write;
+use std::io;
+use tcap_ber::{Counted, Failed, Write};
 use tcap_record::End;
 use tcap_traces::Verdict;
+
+/// A writer of lines, which may keep some of them back for a while.
+pub trait Lines: Write {
+    /// Writes those that are kept back. `Failed` where that could not be done.
+    fn flush(&mut self) -> Result<(), Failed>;
+}
+
+impl<T: io::Write> Lines for Counted<T> {
+    fn flush(&mut self) -> Result<(), Failed> {
+        Counted::flush(self)
+    }
+}
 
 /// Where it is said.
 #[derive(Debug, Drop)]
@@ -47,7 +60,7 @@ pub(crate) fn write_text<W: Write>(writer: &mut W, text: &str) -> Result<(), Sto
     writer.write_all(text.as_bytes()).map_err(|_| Stop::Write)
 }
 
-impl<W: Write, J: Write, P> Sinks<'_, W, J, P> {
+impl<W: Write, J: Lines, P> Sinks<'_, W, J, P> {
     /// Says what is said of a dialogue.
     pub(crate) fn tell_case(
         &mut self,
@@ -86,6 +99,14 @@ impl<W: Write, J: Write, P> Sinks<'_, W, J, P> {
         match &mut self.page {
             Some(page) if shown => page.write(line),
             _ => Ok(()),
+        }
+    }
+
+    /// Writes the lines of JSON that are kept back.
+    pub(crate) fn flush(&mut self) -> Result<(), Stop> {
+        match &mut self.json {
+            Some(lines) => lines.flush().map_err(|_| Stop::Write),
+            None => Ok(()),
         }
     }
 

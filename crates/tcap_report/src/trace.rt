@@ -5,7 +5,7 @@ use crate::entries::{Entries, Piece};
 use crate::fault::{FormFault, Halt, Stop};
 use crate::order::is_asked;
 use crate::sum::{Counts, Sum, push_counts};
-use crate::telling::{Sinks, Told, write_text};
+use crate::telling::{Lines, Sinks, Told, write_text};
 use std::alloc::{AllocError, Global};
 use std::collections::BTreeMap;
 use std::mem;
@@ -34,7 +34,7 @@ pub struct Asked<'a> {
 
 /// Who looks on while traces are read.
 pub trait Watch {
-    /// Some octets were read; that is the sum so far.
+    /// Some octets were read, or a dialogue was judged; that is the sum so far.
     fn look(&mut self, sum: &Sum);
 }
 
@@ -100,7 +100,7 @@ impl<'a> Trace<'a> {
     }
 
     /// An entry comes.
-    fn enter<W: Write, J: Write, P: Watch>(
+    fn enter<W: Write, J: Lines, P: Watch>(
         &mut self,
         octets: Vec<u8>,
         line: u64,
@@ -138,7 +138,7 @@ impl<'a> Trace<'a> {
     }
 
     /// The stretch ends: by a quiet mark, or with the trace.
-    fn end_stretch<W: Write, J: Write, P: Watch>(
+    fn end_stretch<W: Write, J: Lines, P: Watch>(
         &mut self,
         behind: Behind,
         sinks: &mut Sinks<W, J, P>,
@@ -148,6 +148,7 @@ impl<'a> Trace<'a> {
         cut.finish(&mut done)?;
         for gathered in done {
             self.judge(gathered, behind, sinks)?;
+            sinks.watch.look(&self.so_far(sinks.sum));
         }
         self.before = self.before.saturating_add(self.count).saturating_add(1);
         self.count = 0;
@@ -169,7 +170,7 @@ impl<'a> Trace<'a> {
     }
 
     /// Judges a dialogue, and says what is said of it.
-    fn judge<W: Write, J: Write, P: Watch>(
+    fn judge<W: Write, J: Lines, P: Watch>(
         &mut self,
         gathered: Gathered,
         behind: Behind,
@@ -205,7 +206,7 @@ impl<'a> Trace<'a> {
     }
 
     /// Reads the pieces that are held.
-    fn read_on<W: Write, J: Write, P: Watch>(
+    fn read_on<W: Write, J: Lines, P: Watch>(
         &mut self,
         entries: &mut Entries,
         sinks: &mut Sinks<W, J, P>,
@@ -229,7 +230,7 @@ impl<'a> Trace<'a> {
     }
 
     /// Reads all.
-    fn read_all<R: Read, W: Write, J: Write, P: Watch>(
+    fn read_all<R: Read, W: Write, J: Lines, P: Watch>(
         &mut self,
         reader: &mut R,
         entries: &mut Entries,
@@ -243,6 +244,7 @@ impl<'a> Trace<'a> {
             };
             entries.feed(&piece[..told])?;
             self.read_on(entries, sinks)?;
+            sinks.flush()?;
             sinks.watch.look(&self.so_far(sinks.sum));
             if told == 0 {
                 break;
@@ -269,7 +271,7 @@ impl<'a> Trace<'a> {
     }
 
     /// Says what is said of the trace.
-    fn end<W: Write, J: Write, P: Watch>(
+    fn end<W: Write, J: Lines, P: Watch>(
         &self,
         fault: Option<FormFault>,
         hint: Option<&str>,
@@ -292,6 +294,7 @@ impl<'a> Trace<'a> {
             line: line_in(&fault),
         };
         sinks.tell_trace(self.alloc, told)?;
+        sinks.flush()?;
         *sinks.sum = self.so_far(sinks.sum);
         sinks.sum.traces.add(verdict);
         Ok(verdict)
@@ -348,7 +351,7 @@ fn push_fault(
 
 /// Judges each dialogue of the trace that `reader` tells, says of each one that does not pass why, and answers the verdict on the
 /// trace. A fault of its form ends the reading; what was judged before that stands.
-pub fn run_trace<R: Read, W: Write, J: Write, P: Watch>(
+pub fn run_trace<R: Read, W: Write, J: Lines, P: Watch>(
     alloc: Global,
     reader: &mut R,
     asked: Asked,
@@ -364,7 +367,7 @@ pub fn run_trace<R: Read, W: Write, J: Write, P: Watch>(
 }
 
 /// Says that a trace can't be read, and why, and answers the verdict on it.
-pub fn tell_unread<W: Write, J: Write, P: Watch>(
+pub fn tell_unread<W: Write, J: Lines, P: Watch>(
     alloc: Global,
     asked: Asked,
     why: &str,

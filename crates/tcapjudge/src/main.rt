@@ -5,6 +5,7 @@
 mod explaining;
 mod judging;
 mod opening;
+mod outputs;
 mod testing;
 mod writing;
 

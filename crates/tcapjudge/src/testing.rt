@@ -1,14 +1,15 @@
 //! The word `test`: each dialogue of traces is judged.
 
 use crate::opening::{is_folder, tell_text};
-use crate::writing::Output;
+use crate::outputs::{INPUT, Outputs, stand_ins};
+use crate::writing::{Output, Sink, tell_unprinted};
 use std::time::Instant;
 use std::{fs, io};
 use tcap_ber::{Counted, Read, Write};
 use tcap_books::{AMBIGUOUS, Book, CARRIED_BOOK};
 use tcap_dialogues::Reuse;
 use tcap_explain::Role;
-use tcap_report::{Asked, Junit, Page, Sinks, Stop, Sum, Watch, run_trace, tell_unread};
+use tcap_report::{Asked, Junit, Lines, Page, Sinks, Stop, Sum, Watch, run_trace, tell_unread};
 use tcap_traces::Verdict;
 use tcap_words::{Ids, Test};
 
@@ -98,55 +99,11 @@ fn read_book(rt: &HostRuntime, name: &str, text: &[u8]) -> Option<Book> {
     }
 }
 
-/// Whether two paths are those of one file, as far as links tell.
-fn is_same(rt: &HostRuntime, one: &str, other: &str) -> bool {
-    if one == other {
-        return true;
-    }
-    match (fs::canonicalize(rt, one), fs::canonicalize(rt, other)) {
-        (Ok(one), Ok(other)) => one == other,
-        _ => false,
-    }
-}
-
-/// Whether a file of that path is one of those that are read.
-fn is_read(rt: &HostRuntime, test: &Test, path: &str) -> bool {
-    for read in &test.traces {
-        if is_same(rt, *read, path) {
-            return true;
-        }
-    }
-    for read in &test.tables {
-        if is_same(rt, *read, path) {
-            return true;
-        }
-    }
-    false
-}
-
-/// Whether a file that is written is one of those that are read, or two of them are one.
-fn is_overwritten(rt: &HostRuntime, test: &Test) -> bool {
-    let written = [test.json, test.junit, test.html];
-    for (number, path) in written.iter().enumerate() {
-        let Some(path) = path else {
-            continue;
-        };
-        if is_read(rt, test, *path) {
-            return true;
-        }
-        for other in written[..number].iter() {
-            if let Some(other) = other {
-                if is_same(rt, *other, *path) {
-                    return true;
-                }
-            }
-        }
-    }
-    false
-}
+/// Why a directory is no trace.
+const IS_FOLDER: &str = "it is a directory";
 
 /// Judges the trace of that path.
-fn test_path<W: Write, J: Write, P: Watch>(
+fn test_path<W: Write, J: Lines, P: Watch>(
     rt: &HostRuntime,
     path: &str,
     asked: Asked,
@@ -154,10 +111,13 @@ fn test_path<W: Write, J: Write, P: Watch>(
 ) -> Result<Verdict, Stop> {
     let alloc = rt.alloc();
     if path == "-" {
+        if is_folder(rt, INPUT) {
+            return tell_unread(alloc, asked, IS_FOLDER, sinks);
+        }
         return run_trace(alloc, &mut Counted::new(rt.reader()), asked, sinks);
     }
     match fs::open(rt, path) {
-        Ok(file) if is_folder(rt, path) => tell_unread(alloc, asked, "it is a directory", sinks),
+        Ok(file) if is_folder(rt, path) => tell_unread(alloc, asked, IS_FOLDER, sinks),
         Ok(file) => run_trace(alloc, &mut Counted::new(file), asked, sinks),
         Err(error) => {
             let mut text = String::new(alloc);
@@ -170,7 +130,7 @@ fn test_path<W: Write, J: Write, P: Watch>(
 }
 
 /// Judges all traces, and says the sum.
-fn test_all<W: Write, J: Write, P: Watch>(
+fn test_all<W: Write, J: Lines, P: Watch>(
     rt: &HostRuntime,
     test: &Test,
     book: &Book,
@@ -198,19 +158,13 @@ fn test_all<W: Write, J: Write, P: Watch>(
     Ok(sinks.sum.worst())
 }
 
-/// Writes the file of JUnit XML, where it is asked for.
-fn write_junit(rt: &HostRuntime, test: &Test, junit: &Junit) -> Result<(), Stop> {
-    let Some(path) = test.junit else {
+/// Writes the JUnit XML, where it is asked for. `Stop::Write` where the file failed, which keeps why.
+fn write_junit(output: Option<&mut Output>, junit: &Junit) -> Result<(), Stop> {
+    let Some(output) = output else {
         return Ok(());
     };
     let text = junit.text()?;
-    match fs::write(rt, path, text) {
-        Ok(()) => Ok(()),
-        Err(error) => {
-            let _ = eprintln!(rt; "error: {path}: {error}");
-            Err(Stop::Write)
-        }
-    }
+    output.write_all(text.as_bytes()).map_err(|_| Stop::Write)
 }
 
 /// Judges all traces, and says it to what is lent.
@@ -235,37 +189,68 @@ fn begun<'a>(html: Option<&'a mut Output>) -> Result<Option<Page<'a, Output>>, S
     }
 }
 
-/// Judges all traces. The files that it goes to are there before the first one is read.
-fn tested(rt: &HostRuntime, test: &Test, book: &Book) -> Result<Verdict, Stop> {
-    let mut json = Output::create(rt, test.json)?;
-    let mut html = Output::create(rt, test.html)?;
-    let mut junit = Junit::new(rt.alloc());
+/// Judges all traces by that book. Where standard output can't be written, standard error says why.
+fn tested(
+    rt: &HostRuntime,
+    test: &Test,
+    book: &Book,
+    json: Option<&mut Output>,
+    html: Option<&mut Output>,
+    junit: &mut Junit,
+) -> Result<Verdict, Stop> {
     let mut sum = Sum::new();
-    let mut text = Counted::new(io::writer(rt));
+    let mut text = Sink::new(io::writer(rt));
     let mut watch = Progress::new(rt, test);
-    let page = match begun(html.as_mut()) {
-        Ok(page) => page,
-        Err(stop) => {
-            let _ = Output::finish(rt, html);
-            return Err(stop);
-        }
-    };
-    let lent = json.as_mut();
+    let page = begun(html)?;
     let mut sinks = Sinks {
         text: &mut text,
-        json: lent,
+        json,
         page,
-        junit: Some(&mut junit),
+        junit: Some(junit),
         sum: &mut sum,
         watch: &mut watch,
     };
     let ended = test_over(rt, test, book, &mut sinks);
+    tell_unprinted(rt, &text);
+    ended
+}
+
+/// Reads the tables, and judges all traces by them. What is wrong with a table is said.
+fn judged(
+    rt: &HostRuntime,
+    test: &Test,
+    json: Option<&mut Output>,
+    html: Option<&mut Output>,
+    junit: Option<&mut Output>,
+) -> Result<Verdict, Stop> {
+    let Some(book) = book_of(rt, &test.tables) else {
+        return Ok(Verdict::Error);
+    };
+    if book.is_ambiguous() {
+        let _ = eprintln!(rt; "error: {AMBIGUOUS}");
+        return Ok(Verdict::Error);
+    }
+    let mut cases = Junit::new(rt.alloc());
+    let verdict = tested(rt, test, &book, json, html, &mut cases)?;
+    write_junit(junit, &cases)?;
+    Ok(verdict)
+}
+
+/// Judges all traces. The files that it goes to are there, and empty, before the first table is read, so that none is of a run before.
+fn written(rt: &HostRuntime, test: &Test) -> Result<Verdict, Stop> {
+    let Outputs {
+        mut json,
+        mut html,
+        mut junit,
+    } = Outputs::open(rt, test)?;
+    let ended = judged(rt, test, json.as_mut(), html.as_mut(), junit.as_mut());
     let json_ended = Output::finish(rt, json);
     let html_ended = Output::finish(rt, html);
+    let junit_ended = Output::finish(rt, junit);
     let verdict = ended?;
-    write_junit(rt, test, &junit)?;
     json_ended?;
     html_ended?;
+    junit_ended?;
     Ok(verdict)
 }
 
@@ -282,20 +267,8 @@ pub(crate) fn test(rt: &HostRuntime, test: &Test) -> u8 {
         let _ = eprintln!(rt; "error: --json, --junit and --html take the path of a file");
         return WRONG_WORDS;
     }
-    if is_overwritten(rt, test) {
-        let _ = eprintln!(rt;
-            "error: what is said would be written over a file that is read, or twice into one"
-        );
-        return Verdict::Error.status();
-    }
-    let Some(book) = book_of(rt, &test.tables) else {
-        return Verdict::Error.status();
-    };
-    if book.is_ambiguous() {
-        let _ = eprintln!(rt; "error: {AMBIGUOUS}");
-        return Verdict::Error.status();
-    }
-    match tested(rt, test, &book) {
+    let _held = stand_ins(rt);
+    match written(rt, test) {
         Ok(verdict) => verdict.status(),
         Err(Stop::Memory) => {
             let _ = eprintln!(rt; "error: out of memory");

@@ -1,30 +1,34 @@
-//! Files that are written.
+//! Where `test` writes: files, and standard output.
 
 ghost use Rattle.std.specs.Prelude.{None};
 
-use std::fs::File;
+use std::fs::{File, OpenOptions};
+use std::io;
 use std::io::{BufWriter, Write as _};
-use std::{fs, io};
 use tcap_ber::{Failed, Write};
-use tcap_report::Stop;
+use tcap_report::{Lines, Stop};
 
-/// A file that is written, and its path.
+/// A writer, and why it failed, the last time that it did.
 #[derive(Drop)]
-pub(crate) struct Output {
-    path: String,
-    buffer: BufWriter<File>,
-    // Why it could not be written, the last time that it could not.
+pub(crate) struct Sink<W> {
+    writer: W,
     error: Option<io::Error>,
     failures: u64,
 }
 
-impl Write for Output {
-    ghost taken = { λ _. None };
+impl<W: io::Write> Sink<W> {
+    /// Over a writer that did not fail.
+    pub(crate) fn new(writer: W) -> Sink<W> {
+        Sink {
+            writer,
+            error: None,
+            failures: 0,
+        }
+    }
 
-    ghost failures = { λ output. output.failures };
-
-    fn write_all(&mut self, octets: &[u8]) -> Result<(), Failed> {
-        match self.buffer.write_all(octets) {
+    /// Writes what the writer keeps back.
+    fn flush(&mut self) -> Result<(), Failed> {
+        match self.writer.flush() {
             Ok(()) => Ok(()),
             Err(error) => {
                 self.error = Some(error);
@@ -35,19 +39,75 @@ impl Write for Output {
     }
 }
 
+impl<W: io::Write> Write for Sink<W> {
+    ghost taken = { λ _. None };
+
+    ghost failures = { λ sink. sink.failures };
+
+    fn write_all(&mut self, octets: &[u8]) -> Result<(), Failed> {
+        match self.writer.write_all(octets) {
+            Ok(()) => Ok(()),
+            Err(error) => {
+                self.error = Some(error);
+                self.failures = self.failures.saturating_add(1);
+                Err(Failed)
+            }
+        }
+    }
+}
+
+/// Says on standard error that standard output can't be written, where that is so, and why.
+pub(crate) fn tell_unprinted<W>(rt: &HostRuntime, sink: &Sink<W>) {
+    if let Some(error) = &sink.error {
+        let _ = eprintln!(rt; "error: standard output can't be written: {error}");
+    }
+}
+
+/// A file that is written, and its path.
+#[derive(Drop)]
+pub(crate) struct Output {
+    path: String,
+    sink: Sink<BufWriter<File>>,
+}
+
+impl Write for Output {
+    ghost taken = { λ _. None };
+
+    ghost failures = { λ output. output.sink.failures };
+
+    fn write_all(&mut self, octets: &[u8]) -> Result<(), Failed> {
+        self.sink.write_all(octets)
+    }
+}
+
+impl Lines for Output {
+    fn flush(&mut self) -> Result<(), Failed> {
+        self.sink.flush()
+    }
+}
+
 /// Says on standard error that the file of that path can't be written, and why.
 fn unwritten(rt: &HostRuntime, path: &str, error: io::Error) -> Stop {
     let _ = eprintln!(rt; "error: {path}: {error}");
     Stop::Write
 }
 
+/// Makes a file empty, where it is a plain one: others keep nothing.
+fn empty(file: &File) -> io::Result<()> {
+    if file.metadata()?.is_file() {
+        return file.set_len(0);
+    }
+    Ok(())
+}
+
 impl Output {
-    /// Makes the file of that path empty, where there is a path. Where it can't, standard error says why.
-    pub(crate) fn create(rt: &HostRuntime, path: Option<&str>) -> Result<Option<Output>, Stop> {
+    /// Opens the file of that path, where there is a path, and makes it where there is no file; what is in it stays. Where it can't,
+    /// standard error says why.
+    pub(crate) fn open(rt: &HostRuntime, path: Option<&str>) -> Result<Option<Output>, Stop> {
         let Some(path) = path else {
             return Ok(None);
         };
-        let file = match fs::create(rt, path) {
+        let file = match OpenOptions::new().write(true).create(true).open(rt, path) {
             Ok(file) => file,
             Err(error) => return Err(unwritten(rt, path, error)),
         };
@@ -58,10 +118,22 @@ impl Output {
         name.push_str(path)?;
         Ok(Some(Output {
             path: name,
-            buffer,
-            error: None,
-            failures: 0,
+            sink: Sink::new(buffer),
         }))
+    }
+
+    /// Makes a file empty that is there. Where it can't, standard error says why.
+    pub(crate) fn emptied(
+        rt: &HostRuntime,
+        output: Option<Output>,
+    ) -> Result<Option<Output>, Stop> {
+        let Some(output) = output else {
+            return Ok(None);
+        };
+        match empty(output.sink.writer.get_ref()) {
+            Ok(()) => Ok(Some(output)),
+            Err(error) => Err(unwritten(rt, &output.path, error)),
+        }
     }
 
     /// Writes what is left of a file that is there. Where it could not be written, standard error says why.
@@ -69,12 +141,12 @@ impl Output {
         let Some(output) = output else {
             return Ok(());
         };
-        let Output {
-            path,
-            mut buffer,
+        let Output { path, sink } = output;
+        let Sink {
+            writer: mut buffer,
             error,
             ..
-        } = output;
+        } = sink;
         let ended = match error {
             Some(error) => Err(error),
             None => buffer.flush(),

@@ -1,0 +1,190 @@
+"""Cases for tests/traces.py of what `test` writes: when it is written, that nothing is destroyed that is read or written, and what
+is said where it can't be written."""
+
+import contextlib
+import itertools
+import json
+import os
+import re
+import subprocess
+import time
+
+import trace_rows
+from tested import PROGRAM
+from trace_files import IS_FOLDER, NO_FILE, NO_SPACE, says
+from traced import Checks, Report, agree, content, put, run
+from trace_rows import OPERATIONS, SHORT, lines
+
+FLAGS = ["--json", "--junit", "--html"]
+# So long a line of JSON is waited for, in seconds.
+PATIENCE = 30
+OVER = b"error: what is said would be written over a file that is read, or twice into one: "
+UNPRINTED = "error: standard output can't be written: "
+
+
+def given(folder):
+    """A trace whose dialogue passes, and a table for it."""
+    return put(folder, "good.hex", lines(*SHORT).encode()), put(folder, "table.json", OPERATIONS.encode())
+
+
+# ---- when it is written
+
+
+def waited(path, count):
+    """How many lines a file has, when it has as many as are wanted, or has been waited for."""
+    end = time.monotonic() + PATIENCE
+    while content(path).count(b"\n") < count and time.monotonic() < end:
+        time.sleep(0.02)
+    return content(path).count(b"\n")
+
+
+def slow(_, folder):
+    """A line of JSON is written while the trace still comes: that of a dialogue, and that of a trace before."""
+    checks, (good, table), path = Checks("a slow pipe"), given(folder), f"{folder}/slow.json"
+    words = ["test", "--table", table, "--json", path, good, "-"]
+    with subprocess.Popen([PROGRAM, *words], stdin=subprocess.PIPE, stdout=subprocess.DEVNULL) as ran:
+        checks.same("the lines of the trace before", (waited(path, 2), ran.poll()), (2, None))
+        for count in 3, 4:
+            ran.stdin.write(lines(*SHORT, "Q").encode())
+            ran.stdin.flush()
+            checks.same("with those of dialogues", (waited(path, count), ran.poll()), (count, None))
+        ran.stdin.close()
+        checks.same("status, and all lines", (ran.wait(), content(path).count(b"\n")), (0, 5))
+    return checks
+
+
+def progress(_, folder):
+    """How far the run is is said once a second, also while dialogues are judged: here it lasts since what is said is read slowly."""
+    checks, (_, table) = Checks("--progress"), given(folder)
+    wrong = [[f"A {trace_rows.begin(id)}", f"B {trace_rows.end(id, trace_rows.RESULT)}"] for id in (f"{it:04X}" for it in range(3000))]
+    path = put(folder, "x.hex", lines(*itertools.chain(*wrong)).encode())
+    words, pipes = ["test", "--table", table, "--ids", "once", "--progress", path], {"stdout": subprocess.PIPE, "stderr": subprocess.PIPE}
+    begin = time.monotonic()
+    with subprocess.Popen([PROGRAM, *words], bufsize=0, **pipes) as ran:
+        for _ in range(12):
+            # The first one waits until all is read, and a dialogue is judged.
+            os.read(ran.stdout.fileno(), 1 << 16)
+            time.sleep(0.5)
+        told, status = len(ran.stdout.read()), ran.wait()
+        lasted, said = time.monotonic() - begin, ran.stderr.read().decode().splitlines()
+    judged = [int(found[1]) for found in (re.search("; 6000 messages, ([0-9]+) dialogues: ", it) for it in said) if found]
+    checks.holds(f"it was blocked: {told} more octets", told > 1 << 16)
+    checks.holds(f"{len(said)} lines in {lasted} seconds", len(said) <= lasted + 1)
+    checks.holds(f"while it judges: {judged}", len(judged) >= 4 and judged == sorted(set(judged)))
+    checks.same("status", status, 1)
+    return checks
+
+
+# ---- nothing is destroyed
+
+
+def is_refused(checks, name, ran, *paths):
+    """It ends as an error, prints nothing, and says in one line which paths are one."""
+    told = ran.stderr.startswith(OVER) and all(path.encode() in ran.stderr for path in paths) and ran.stderr.count(b"\n") == 1
+    checks.same(f"{name}: status, output, {ran.stderr}", (ran.returncode, ran.stdout, told), (3, b"", True))
+
+
+def one_file(_, folder):
+    """Two paths of one file that is not there yet, or is: by a dot, a linked folder, a link that leads nowhere yet, a hard link."""
+    checks, (good, table) = Checks("two paths of one file"), given(folder)
+    os.symlink(folder, f"{folder}/linked")
+    os.symlink("new", f"{folder}/dangling")
+    os.link(put(folder, "old", b"old"), f"{folder}/hard")
+    for paths in ("new", "./new"), ("new", "linked/new"), ("new", "dangling"), ("old", "hard"):
+        paths = [f"{folder}/{path}" for path in paths]
+        for one, other in itertools.permutations(FLAGS, 2):
+            with contextlib.suppress(FileNotFoundError):
+                os.remove(f"{folder}/new")
+            is_refused(checks, f"{one} {other}", run(["test", "--table", table, one, paths[0], other, paths[1], good]), *paths)
+    checks.same("what was there stays", content(f"{folder}/old"), b"old")
+    return checks
+
+
+def hard_links(_, folder):
+    """Hard links of what is read, of standard input and of standard output are not written."""
+    checks, (good, table) = Checks("hard links"), given(folder)
+    os.link(good, f"{folder}/trace")
+    os.link(table, f"{folder}/book")
+    os.symlink("trace", f"{folder}/soft")
+    for flag in FLAGS:
+        words = ["test", "--table", table, flag]
+        for link, path in ("trace", good), ("soft", good), ("book", table):
+            is_refused(checks, link, run([*words, f"{folder}/{link}", good]), f"{folder}/{link}", path)
+        with open(good, "rb") as file:
+            ran = subprocess.run([PROGRAM, *words, f"{folder}/trace", "-"], stdin=file, capture_output=True, check=False)
+        is_refused(checks, "standard input", ran, f"{folder}/trace", "/dev/stdin")
+        with open(f"{folder}/said", "wb") as file:
+            ran = subprocess.run([PROGRAM, *words, f"{folder}/said", good], stdout=file, stderr=subprocess.PIPE, check=False)
+        checks.same("standard output", (ran.returncode, ran.stderr), (3, OVER + f"{folder}/said, which is /dev/stdout\n".encode()))
+    checks.same("what is read stays", (content(good), content(table)), (lines(*SHORT).encode(), OPERATIONS.encode()))
+    return checks
+
+
+def anew(_, folder):
+    """Of what was in a file nothing stays, also where no trace is read: since a table is missing, or another file can't be written."""
+    checks, (good, table) = Checks("files of a run before"), given(folder)
+    first, names = Report(folder, [], [good]), ["report.json", "report.xml", "report.html"]
+    for name in names:
+        put(folder, name, b"old" * 1_000_000)
+    second = Report(folder, [], [good])
+    agree(checks, second)
+    checks.same("what is said anew", (second.json, second.junit, second.page), (first.json, first.junit, first.page))
+    for flag in FLAGS:
+        path = put(folder, "old", b"old")
+        says(checks, run(["test", "--table", f"{folder}/none.json", flag, path, good]), "none.json", NO_FILE)
+        checks.same(f"{flag}, no table", (os.path.isfile(path), content(path)), (True, b""))
+        for other in FLAGS:
+            path = put(folder, "old", b"old")
+            if other != flag:
+                says(checks, run(["test", "--table", table, flag, path, other, f"{folder}/none/x", good]), "none/x", NO_FILE)
+                checks.same(f"{flag}, no {other}", content(path), b"")
+    return checks
+
+
+# ---- what can't be written, or read
+
+
+@contextlib.contextmanager
+def closed_pipe():
+    """The end of a pipe to which is written, where the other one is closed."""
+    reading, writing = os.pipe()
+    os.close(reading)
+    with open(writing, "wb") as pipe:
+        yield pipe
+
+
+def unprinted(_, folder):
+    """Standard output that can't be written, and standard input that is a directory."""
+    checks, (good, table) = Checks("standard streams"), given(folder)
+    for device, why in (lambda: open("/dev/full", "wb"), NO_SPACE), (closed_pipe, "Broken pipe"):
+        with device() as full:
+            ran = run(["test", "--table", table, good], stdout=full)
+        said = ran.stderr.decode()
+        told = said.startswith(f"{UNPRINTED}{why}") and said.count("\n") == 1
+        checks.same(f"standard output, {why}: {said}", (ran.returncode, told), (3, True))
+    opened = os.open(folder, os.O_RDONLY)
+    ran = subprocess.run([PROGRAM, "test", "--table", table, "-"], stdin=opened, capture_output=True, check=False)
+    os.close(opened)
+    told = IS_FOLDER[3:] in ran.stdout.decode()
+    checks.same(f"standard input is a directory: {ran.stdout}", (ran.returncode, told), (3, True))
+    return checks
+
+
+def closed(_, folder):
+    """Where no standard stream is open, the files that are written are not taken for one."""
+    checks, (good, table) = Checks("closed streams"), given(folder)
+    paths = [f"{folder}/{name}" for name in ("said.json", "said.xml", "said.html")]
+    words = [PROGRAM, "test", "--table", table, *itertools.chain(*zip(FLAGS, paths)), good]
+    ran = subprocess.run(["sh", "-c", 'exec "$@" <&- >&- 2>&-', "sh", *words], check=False)
+    json_text, junit, page = (content(path) for path in paths)
+    # The line of the dialogue is written before that of its trace, which can't be printed.
+    checks.same("status, JUnit", (ran.returncode, junit), (3, b""))
+    checks.same("JSON", [json.loads(line)["verdict"] for line in json_text.splitlines()], ["pass"])
+    checks.holds("the page", page.startswith(b"<!doctype html>") and b"2 messages" not in page)
+    return checks
+
+
+def jobs():
+    """Each case, with what it is about."""
+    for case in progress, slow, one_file, hard_links, anew, unprinted, closed:
+        yield case, None
