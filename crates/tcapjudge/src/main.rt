@@ -7,12 +7,14 @@ mod judging;
 mod opening;
 mod outputs;
 mod testing;
+mod wording;
 mod writing;
 
 use crate::explaining::{Paths, explain};
 use crate::judging::{Question, check, judge};
 use crate::opening::open;
 use crate::testing::test;
+use crate::wording::tell_no_text;
 use std::alloc::Global;
 use std::io::BufWriter;
 use std::process::ExitCode;
@@ -51,7 +53,7 @@ fn run(rt: &HostRuntime) -> io::Result<u8> {
         Ok(args) => args,
         Err(error) if error.kind() == io::ErrorKind::OutOfMemory => return Err(error),
         Err(_) => {
-            let _ = eprintln!(rt; "error: a word of the command is not text");
+            tell_no_text(rt);
             return Ok(NO_TEXT);
         }
     };
