@@ -1,5 +1,6 @@
-"""Shows how much processor time tools/lines_of_capture.py takes beside the `tshark` that it runs, and how much memory, over a
-capture of 100,000 frames of the network of tests/made_network.py."""
+"""Shows how much processor time tools/lines_of_capture.py takes beside the `tshark` that it runs, and how much memory each of
+both, over a capture of 100,000 frames of the network of tests/made_network.py. The exit status is 1 where the tool takes over
+TIMES the processor time of tshark, or over MOST of memory, or loses messages. Where tshark is not installed it says so."""
 
 import shutil
 import subprocess
@@ -12,7 +13,9 @@ import made_captures as made
 import made_network
 
 FRAMES = 100_000
-# Runs the tool in a process of its own, and prints the processor times of it and of tshark, and its peak of memory.
+# How many times the processor time of tshark the tool may take, and how much memory, without that of tshark, in MB (2^20 octets).
+TIMES, MOST = 2, 150
+# Runs the tool in a process of its own, and prints the processor times of it and of tshark, and the peaks of their memory.
 RUN = """
 import resource, runpy, sys
 sys.argv, sys.path[0] = sys.argv[1:], "tools"
@@ -20,7 +23,7 @@ try:
     runpy.run_path(sys.argv[0], run_name="__main__")
 finally:
     own, other = (resource.getrusage(who) for who in (resource.RUSAGE_SELF, resource.RUSAGE_CHILDREN))
-    print(own.ru_utime + own.ru_stime, other.ru_utime + other.ru_stime, own.ru_maxrss)
+    print(own.ru_utime + own.ru_stime, other.ru_utime + other.ru_stime, own.ru_maxrss, other.ru_maxrss)
 """
 
 
@@ -37,8 +40,12 @@ def main():
     messages = sum(int(line.rpartition(" ")[2]) for line in files)
     if run.returncode or messages != FRAMES:
         sys.exit(f"{messages} messages of {FRAMES} frames:\n{run.stdout}{run.stderr}")
-    own, tshark, peak = map(float, numbers.split())
-    print(f"lines of a capture of {FRAMES} frames: {own:.1f} s beside {tshark:.1f} s of tshark, {peak / 1024:.0f} MB")
+    own, tshark, *peaks = map(float, numbers.split())
+    mine, other = (peak / 1024 for peak in peaks)
+    times, sizes = f"{own:.1f} s beside {tshark:.1f} s of tshark", f"{mine:.0f} MB beside {other:.0f} MB"
+    print(f"lines of a capture of {FRAMES} frames: {times}, {sizes}")
+    if own > TIMES * tshark or mine > MOST:
+        sys.exit(f"the tool may take {TIMES} times the processor time of tshark, and {MOST} MB")
 
 
 if __name__ == "__main__":

@@ -4,6 +4,7 @@ alone. It prints what `tcapjudge judge` prints, and ends as it does.
 example.py --test TRACE [BOOK]: judges each dialogue of the trace of a file, by the book of a file or by the one that the library
 carries. It prints the lines that `tcapjudge test` writes as JSON, and ends as it does.
 
+Where a file can't be read it says so on standard error, judges nothing and ends with the status 3; 4 where the words are wrong.
 The library is that which `make clib` built beside this file."""
 
 import ctypes
@@ -12,6 +13,7 @@ import sys
 
 LIBRARY = os.path.join(os.path.dirname(os.path.abspath(__file__)), "out", "libtcapjudge.so")
 IDS = {"again": 0, "settled": 1, "once": 2}
+ERROR, WRONG_CALL = 3, 4
 
 
 class Answer(ctypes.Structure):
@@ -81,14 +83,30 @@ def octets_in(path):
         return file.read()
 
 
-def main():
-    if sys.argv[1] == "--test":
-        lines, status = test(loaded(), *map(octets_in, sys.argv[2:4]))
+def run(library, words):
+    """Does what the words ask for. Returns the exit status."""
+    if len(words) < 2:
+        return WRONG_CALL
+    if words[0] == "--test":
+        lines, status = test(library, *map(octets_in, words[1:3]))
         sys.stdout.buffer.write(lines)
         return status
-    end = ord(sys.argv[3]) if len(sys.argv) > 3 else 0
-    said, status = judge(loaded(), *map(octets_in, sys.argv[1:3]), end)
-    print(line_of(said, end))
+    end = ord(words[2][0]) if words[2:] else 0
+    said, status = judge(library, *map(octets_in, words[:2]), end)
+    if status != WRONG_CALL:
+        print(line_of(said, end))
+    return status
+
+
+def main():
+    library = loaded()
+    try:
+        status = run(library, sys.argv[1:])
+    except OSError as error:
+        print(f"{error.filename}: {error.strerror}", file=sys.stderr)
+        status = ERROR
+    if status == WRONG_CALL:
+        print("example.py RECORD TABLE [A|B]\nexample.py --test TRACE [BOOK]", file=sys.stderr)
     return status
 
 

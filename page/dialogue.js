@@ -136,7 +136,10 @@ function reasonsOf(head, ends) {
     const doubted = doubt === undefined ? null : make("p", {class: "doubt"}, `Inconclusive: ${seen(doubt)}.`);
     return make("div", {}, make("h3", {}, `Why, of ${end}`), doubted, reasonOf(text, evidence));
   });
-  if (head.text !== undefined) boxes.push(make("div", {}, make("h3", {}, "Why"), reasonOf(head.text, null)));
+  if (head.text !== undefined) {
+    const heading = head.verdict === "error" ? "Why" : "What it waits for";
+    boxes.push(make("div", {}, make("h3", {}, heading), reasonOf(head.text, null)));
+  }
   return make("div", {class: "reasons"}, ...boxes);
 }
 
@@ -208,7 +211,8 @@ function traceSums(head) {
 
 /** All that is shown of a trace. `enter` lists its dialogues. */
 function traceView({head}, count, enter) {
-  const text = head.text === undefined ? null : make("div", {class: "reason"}, seen(head.text, KEPT));
+  const hint = head.hint === undefined ? "" : `\nhint: ${head.hint}`;
+  const text = head.text === undefined ? null : make("div", {class: "reason"}, seen(`${head.text}${hint}`, KEPT));
   const button = make("button", {type: "button"}, `List its dialogues that do not pass (${count.toLocaleString("en")})`);
   button.addEventListener("click", enter);
   return make("article", {class: "trace"}, headingOf(head.trace, " ", head.verdict), text, traceSums(head),

@@ -296,7 +296,7 @@ def fault_rows(archive):
     yield [*test], 4, "no trace is named"
     yield ["--program", PROGRAM, good], 4, "--json"
     yield [*test, "-"], 4, "-"
-    yield [*test, "--junit", "x.xml", good], 4, "--junit"
+    yield [*test, "--junit", "x.xml", "--html", "x.html", good], 4, "--junit --html"
     yield [*test, "--workers", "0", good], 4, "--workers"
     yield [*test, "--workers", "2", "--scheduler", address, good], 4, "--scheduler"
     yield [*test, "--of", "C", good], 4, "'C'"

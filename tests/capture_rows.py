@@ -290,48 +290,6 @@ def others():
     yield Row("SCCP of others", over(frames, made.MTP3), [], [DIALOGUE, [BEGIN]], 3, wanted)
 
 
-def cuts():
-    """Cut frames of others, and of the same association."""
-    def frames():
-        wire, other = Wire(), Wire(((303, 8), (404, 6)), tag=9, hosts=(3, 4))
-        turns = (other, BEGIN), (wire, BEGIN), (other, RESULT), (other, SECOND), (wire, RESULT)
-        return [frame for one, line in turns for frame in one.frames(line)]
-
-    for kept, parts in (100, [[BEGIN], DIALOGUE]), (40, [[BEGIN], DIALOGUE]), (20, [[BEGIN], [BEGIN]]):
-        cut = over(frames(), cuts={3: kept})
-        yield Row(f"a frame of others cut to {kept}", cut, [], parts, 3, [f"FAULT cut, frame 3 of capture: {kept} octets"])
-    alone = over(frames()[1:3] + frames()[4:], cuts={2: 100})
-    yield Row("the only frame of others, cut", alone, [], [DIALOGUE], 3, ["FAULT cut, frame 2 of capture", "may be: 0"])
-    lone = over(Wire().all([BEGIN, RESULT, END]), cuts={2: 60})
-    yield Row("the only frame of a direction, cut", lone, [], [[BEGIN]], 3, ["FAULT cut, frame 2 of capture"])
-    wire = Wire()
-    two = made.ip(wire.packet("A", wire.chunk(BEGIN), wire.chunk(SECOND)))
-    cut = over(two + wire.all([RESULT]), cuts={1: len(two[0]) - 4})
-    yield Row("the second chunk is cut", cut, [], [[BEGIN]], 3, ["FAULT cut, frame 1 of capture"])
-    wire, paths = Wire(), Wire(hosts=(11, 12))
-    paths.tsns = wire.tsns
-    turns = (wire, BEGIN), (paths, SECOND), (wire, OTHER_RESULT), (paths, RESULT)
-    both = [frame for one, line in turns for frame in one.frames(line)]
-    yield Row("an association of two paths", over(both), [], [[BEGIN, SECOND, OTHER_RESULT, RESULT]])
-    cut = over(both, cuts={4: 60})
-    yield Row("a frame of its second path is cut", cut, [], [[BEGIN, SECOND, OTHER_RESULT]], 3, ["FAULT cut, frame 4"])
-    titles = "4917012", "491702"
-    first, second = (Wire(((101, 8), (pc, 6)), titles, tag=10 * pc, hosts=(1, pc - 900)) for pc in (902, 903))
-    load = first.frames(OPEN) + second.frames(GOES_ON) + first.frames(END)
-    wanted = ["FAULT cut, frame 2 of capture", "may be: 1"]
-    yield Row("what goes by the other point is cut", over(load, cuts={2: 100}), [], [[OPEN]], 3, wanted)
-    other = Wire(((303, 8), (902, 6)), ("4917013", "491703"), tag=70, hosts=(3, 2))
-    point = first.frames(OPEN) + other.frames(BEGIN) + other.frames(RESULT) + first.frames(GOES_ON) + first.frames(END)
-    wanted = ["FAULT cut, frame 3 of capture", "may be: 1"]
-    yield Row("others at that transfer point, cut", over(point, cuts={3: 100}), [], [[OPEN, GOES_ON, END], [BEGIN]], 3, wanted)
-    isup = b"\x85" + Wire().mtp3(LONG)[1:]
-    units = [Wire().mtp3(BEGIN), isup, Wire().mtp3(RESULT)]
-    yield Row("a cut frame of ISUP", over(units, made.MTP3, cuts={2: 30}), [], [DIALOGUE], 0, ["protocols mtp3"])
-    units[1] = made.mtp3(Wire().sccp(LONG), 303, 404)
-    wanted = ["FAULT cut, frame 2 of capture", "may be: 0"]
-    yield Row("a cut frame of other point codes", over(units, made.MTP3, cuts={2: 30}), [], [DIALOGUE], 3, wanted)
-
-
 def rows():
-    for part in layers, transport, of_sccp, contents, captures, others, cuts:
+    for part in layers, transport, of_sccp, contents, captures, others:
         yield from part()

@@ -23,6 +23,7 @@ sys.path.insert(0, "tools")
 import capture_answers
 import capture_frames
 import capture_rows
+import cut_rows
 import lines_of_capture
 import wireshark
 
@@ -262,7 +263,7 @@ def main():
     with tempfile.TemporaryDirectory() as folder:
         # Most of the time goes into the start of tshark.
         with concurrent.futures.ThreadPoolExecutor(os.cpu_count()) as lanes:
-            rows = [*capture_rows.rows(), *capture_answers.rows()]
+            rows = [*capture_rows.rows(), *cut_rows.rows(), *capture_answers.rows()]
             held = list(lanes.map(is_as_wanted, rows))
         held += [*examples_come_back(folder), vectors_come_back(folder), is_network_lawful(folder), is_steady()]
         held += [is_progress_said(folder), words_are_refused(folder)]

@@ -1,7 +1,8 @@
 """The library for programs in C, which tools/clib.py built: of the records of judged.py, blamed.py, alone.py and examples/,
 and of octets that are none, it says what the program prints, of both ends and of one alone, with and without a certificate;
-of traces it says what the program writes as JSON (clib_traces.py); and so do its two examples, in C and in Python. Where an
-allocation fails, it says so, and gives back all that it took. Closes with `N passed, M failed`."""
+of traces it says what the program writes as JSON (clib_traces.py); and so do its two examples, in C and in Python, which say of a
+file that it can't be read. Where an allocation fails, the library says so, and gives back all that it took. Closes with
+`N passed, M failed`."""
 
 import ctypes
 import glob
@@ -170,9 +171,8 @@ def compare(count, library, folder, name, record, table, cert):
     count.same(f"blame {name}", library.blamed([record, table]), printed([PROGRAM, "blame", *paths]))
 
 
-def run_examples(count, folder):
+def run_examples(count, folder, python):
     """Compares what the two examples print of each record of examples/, and of each trace; that in Python from another folder."""
-    python = [sys.executable, os.path.abspath("clib/example.py")]
     for name, record, table, cert in examples():
         if cert is not None:
             continue
@@ -188,6 +188,41 @@ def run_examples(count, folder):
             words = ["--test", *map(os.path.abspath, [path, *book])]
             count.same(f"{EXAMPLE} {words}", printed([EXAMPLE, *words]), wanted)
             count.same(f"example.py {words}", printed([*python, *words], cwd=folder), wanted)
+
+
+def long_files(folder):
+    """A record, a trace and a table of over a mebioctet, which are cut where that many octets of them are taken."""
+    def element(tag, content):
+        return bytes([tag, 0x82, *divmod(len(content), 256)]) + content
+
+    # Begins with Invokes of 45, from an ID each, whose parameters are long.
+    parts = element(0x6C, element(0xA1, bytes.fromhex("02010102012d") + element(0x04, bytes(60_000))))
+    record = b"".join(b"A" + element(0x62, bytes([0x48, 1, number]) + parts) for number in range(20))
+    trace = (b"# " + b"long " * 20_000 + b"\n") * 12 + octets_in("examples/answered_already.hex")
+    paths = [f"{folder}/{name}" for name in ("long_record", "long_trace", "long_table")]
+    for path, text in zip(paths, (record, trace, b" " * (1 << 20) + octets_in("examples/operations.json"))):
+        with open(path, "wb") as file:
+            file.write(text)
+        assert len(text) > 1 << 20
+    return paths
+
+
+def files_of_examples(count, folder, python):
+    """The two examples read long files as a whole, and say of one that can't be read, and of wrong words."""
+    record, trace, table = long_files(folder)
+    none, word = f"{folder}/none", clib_traces.Word(folder)
+    for words in [EXAMPLE], python:
+        found = printed([*words, record, table])
+        count.same(f"{words}, a long record", found, printed([PROGRAM, "judge", record, table]))
+        wanted = word.said(octets_in(trace), octets_in(table), "")[:2]
+        count.same(f"{words}, a long trace", printed([*words, "--test", trace, table]), wanted)
+        for given in [none, table], [record, none], [folder, table], ["--test", none], ["--test", trace, none]:
+            ran = subprocess.run([*words, *given], capture_output=True, check=False)
+            path = next(it for it in given if it in (none, folder))
+            is_named = ran.stderr.decode().startswith(f"{path}: ")
+            count.same(f"{words}, {given}: {ran.stderr}", (ran.returncode, ran.stdout, is_named), (3, b"", True))
+        for given in [], [record], ["--test"], [record, table, "C"]:
+            count.same(f"{words}, {given}", printed([*words, *given]), (b"", 4))
 
 
 def wrong_calls(count, library):
@@ -217,7 +252,9 @@ def main():
     with tempfile.TemporaryDirectory() as folder:
         for row in [*examples(), *rows()]:
             compare(count, library, folder, *row)
-        run_examples(count, folder)
+        python = [sys.executable, os.path.abspath("clib/example.py")]
+        run_examples(count, folder, python)
+        files_of_examples(count, folder, python)
         fails_each(count, folder)
     wrong_calls(count, library)
     clib_traces.look_at(count, library, lambda: example.Asked(linger=10000))

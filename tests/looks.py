@@ -1,5 +1,5 @@
 """Files of each look for tests/words.py, which gives them to each word by mistake, and what has to be told of them. It was worked out by
-hand: Q.773 and RFC 8259 for records and JSON, Q.713 and RFC 4666 for SCCP and M3UA."""
+hand: Q.773 and RFC 8259 for records and JSON, Q.713 and RFC 4666 for SCCP and M3UA, RFC 1952 for gzip, and RFC 3629 for the byte order mark."""
 
 # By what a file of a name begins, as what it is told, and the roles that it may have.
 LOOKS = {
@@ -22,6 +22,17 @@ LOOKS = {
     "empty": (b"{}", "JSON, as an operation table or a certificate is", "table book cert"),
     "pcap": (bytes.fromhex("d4c3b2a102000400"), "a capture, of which tools/lines_of_capture.py makes lines", ""),
     "pcapng": (bytes.fromhex("0a0d0d0a1c000000"), "a capture, of which tools/lines_of_capture.py makes lines", ""),
+    "gzip": (bytes.fromhex("1f8b080000000000"), "a compressed file, which `gunzip` unpacks", ""),
+    "marked": (
+        b"\xef\xbb\xbfA 6203480101\n",
+        "a text behind a byte order mark, EF BB BF, which may not stand there",
+        "",
+    ),
+    "marked_table": (
+        b'\xef\xbb\xbf{"operations":[]}',
+        "a text behind a byte order mark, EF BB BF, which may not stand there",
+        "",
+    ),
     "ansi": (bytes.fromhex("e206c70401020304"), "TCAP of ANSI (T1.114), and a record holds that of ITU-T (Q.773)", ""),
     "sccp": (bytes.fromhex("0981030507024206"), "SCCP, and an entry of a record holds the TCAP message in it", ""),
     "m3ua": (bytes.fromhex("0100010100000018"), "M3UA, and an entry of a record holds the TCAP message in it", ""),

@@ -40,6 +40,21 @@ def pcapng(frames, link=ETHERNET, directions=None):
 # ---- layers
 
 
+def ethernet(kind, content):
+    """A frame of Ethernet, of a type or, of IEEE 802.3, of a length."""
+    return bytes([2, 0, 0, 0, 0, 2, 2, 0, 0, 0, 0, 1]) + struct.pack(">H", kind) + content
+
+
+def llc(content):
+    """A frame of IEEE 802.3 of content that begins with the header of LLC."""
+    return ethernet(len(content), content)
+
+
+def inside(frame):
+    """What a frame of Ethernet carries."""
+    return frame[14:]
+
+
 def ip(packet, ends=(1, 2), protocol=132, cut=None):
     """Frames of Ethernet that carry a packet of IPv4 from one end to the other, in fragments of so many octets."""
     step = cut or len(packet) or 1

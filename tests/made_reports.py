@@ -56,10 +56,10 @@ def dialogue(trace, number, verdict, messages, a_ids, b_ids, ends, **more):
             "ids": ids, **more, **flags, **(ends or {}), "messages": messages, **behind}
 
 
-def trace(name, verdict, messages, unheard=0, text=None, line=None, **counts):
+def trace(name, verdict, messages, unheard=0, text=None, line=None, hint=None, **counts):
     """The object of a trace."""
     dialogues = {it: counts.get(it, 0) for it in VERDICTS}
-    more = {key: value for key, value in (("text", text), ("line", line)) if value is not None}
+    more = {key: value for key, value in (("text", text), ("line", line), ("hint", hint)) if value is not None}
     return {"trace": name, "verdict": verdict, "messages": messages, "dialogues": dialogues, "unheard": unheard, **more}
 
 
@@ -195,6 +195,19 @@ def open_at_both_ends():
     """A quiet mark at which both ends are at fault."""
     made = open_at_mark()
     return made | {"A": made["B"]}
+
+
+def open_at_end():
+    """A dialogue that is to be complete and is open at the end of its trace."""
+    messages = [message(0, "A", "Begin", "otid=d4", "62034801d4")]
+    end = {"verdict": "inconc", "text": "the dialogue is open at the end of its trace\n"}
+    text = "  it waits for an answer of B to the Begin in entry 0\n"
+    return dialogue("open.hex", 0, "inconc", messages, "d4", "", {"A": end, "B": end}, text=text, open=True)
+
+
+def looked_like(look):
+    """A trace that looks like another file."""
+    return trace("packed.hex", "error", 0, text="line 1: no end; column 1", line=1, hint=f"this looks like {look}")
 
 
 def planted():

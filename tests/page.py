@@ -1,7 +1,7 @@
 """Compares the frame of a page with the files that it is made of (tools/page.py), and looks at pages of made reports
-and runs (made_reports.py) in a browser (browser.py): the cases are those of page_cases.py, page_limits.py and
-page_runs.py. Where there is no browser that starts, or no loopback interface, over which it is driven, it says so, and counts the
-frame alone."""
+and runs (made_reports.py), and at pages that the program writes, in a browser (browser.py): the cases are those of page_cases.py,
+page_limits.py and page_runs.py, and of page_written.py. Where there is no browser that starts, or no loopback interface, over which
+it is driven, it says so, and counts the frame alone."""
 
 import contextlib
 import signal
@@ -16,7 +16,8 @@ import page
 import page_cases
 import page_limits
 import page_runs
-from made_reports import hostile, planted
+import page_written
+from made_reports import hostile, looked_like, open_at_end, planted
 from traced import SCHEMA, Checks, run
 
 # How often a case is looked at, at the most.
@@ -35,7 +36,7 @@ def made_checks():
     """That the made objects are as docs/report.schema.json says, where there is something that looks at them by it, and that
     the program shows the octets of planted messages as they say."""
     checks = Checks("made reports")
-    for it in [*planted(), *hostile()]:
+    for it in [*planted(), *hostile(), open_at_end(), looked_like("a capture")]:
         if SCHEMA is not None and "total" not in it:
             checks.same("by the schema", [error.message for error in SCHEMA.iter_errors(it)], [])
     messages = [message for it in planted() if "dialogue" in it for message in it["messages"]]
@@ -85,7 +86,8 @@ def main():
             except browser.NoBrowser as error:
                 print(f"skipped: pages in a browser, which does not start: {error}")
             else:
-                found += [looked_at(shown, case) for case in [*page_cases.CASES, *page_limits.CASES, *page_runs.CASES]]
+                cases = [*page_cases.CASES, *page_limits.CASES, *page_runs.CASES, *page_written.CASES]
+                found += [looked_at(shown, case) for case in cases]
     for wrong in [wrong for checks in found for wrong in checks.wrong]:
         print(wrong)
     failed = sum(len(checks.wrong) for checks in found)

@@ -297,6 +297,20 @@ def both_ends(checks, shown):
     checks.same("at one entry", shown.texts(".summary"), [f"inconc {end}: at entry 2, line 4, F15. {OF_MARK}" for end in "AB"])
 
 
+def open_and_hint(checks, shown):
+    """What a dialogue waits for stands once, of both ends; and what a trace looks like stands behind its fault."""
+    objects = [made.open_at_end(), made.trace("open.hex", "inconc", 1, inconc=1), made.looked_like("a capture")]
+    shown.open(shown.put("open", made.page_with(objects)))
+    summaries = [f"inconc {end}: the dialogue is open at the end of its trace" for end in "AB"]
+    checks.same("open", shown.texts(".summary"), summaries)
+    checks.same("what it waits for", (shown.texts(".reasons h3"), shown.texts(".reasons .line")),
+                (["What it waits for"], ["it waits for an answer of B to the Begin in entry 0"]))
+    shown.click("#tab-traces")
+    shown.click("#traces .row", 1)
+    found = shown.run("document.querySelector('#shown .reason').innerText")
+    checks.same("a hint", found, "line 1: no end; column 1\nhint: this looks like a capture")
+
+
 def list_of_faults(checks, shown):
     """The list says where each fault is, and what its kind means."""
     open_planted(shown)
@@ -392,5 +406,5 @@ def keys(checks, shown):
     checks.same("Escape leads back", focus(shown), "dialogues")
 
 
-CASES = [sums, filters, events, filters_by_keys, typed_search, a_click, ladder, reasons, both_ends, list_of_faults, kinds, operations,
-         open_at_once, octets, keys]
+CASES = [sums, filters, events, filters_by_keys, typed_search, a_click, ladder, reasons, both_ends, open_and_hint, list_of_faults, kinds,
+         operations, open_at_once, octets, keys]

@@ -9,6 +9,8 @@ import xml.etree.ElementTree
 
 import trace_rows
 import words
+from looks import LOOKS, SHOWN_LOOKS
+from table_rows import meant
 from traced import Checks, Report, agree, content, put, run
 from trace_rows import OPERATIONS, SHORT, WRONG_END, lines
 
@@ -54,6 +56,24 @@ def bad_line(case, folder):
     checks.holds(f"the rule and the column, {rule}: {found['text']}", rule in found["text"])
     checks.holds("the text says it", f"line {number}: {rule}" in report.text)
     checks.same("the next one", (report.traces[good]["verdict"], report.status), ("pass", 3))
+    return checks
+
+
+def hints(_, folder):
+    """Files that are given as traces by mistake: what each looks like is said in the text, in JSON and in JUnit's XML."""
+    checks = Checks("hints of traces")
+    for name, (octets, look, roles) in LOOKS.items():
+        path = put(folder, name, octets)
+        report = Report(folder, [], [path])
+        agree(checks, report)
+        found, is_wrong = report.traces[path], look is not None and "record" not in roles and "lines" not in roles
+        hint = f"this looks like {SHOWN_LOOKS.get(name, look)}" if is_wrong else None
+        checks.same(f"{name}: JSON", found.get("hint"), hint)
+        told = [line for line in report.text.splitlines() if "hint" in line]
+        checks.same(f"{name}: the text", told, [f"  hint: {hint}"] * is_wrong)
+        errors = [it.text for it in xml.etree.ElementTree.fromstring(report.junit).iter("error")]
+        behind = f"\n  hint: {hint}\n" if is_wrong else ""
+        checks.same(f"{name}: JUnit", errors, [found["text"] + behind] if "text" in found else [])
     return checks
 
 
@@ -241,6 +261,24 @@ def tables(_, folder):
     return checks
 
 
+def codes(_, folder):
+    """A table with codes that may be meant as numbers: standard error tells it, with the path of the table, and nothing else changes."""
+    checks = Checks("codes of tables")
+    trace = put(folder, "x.hex", lines(*trace_rows.LONG).encode())
+    good = put(folder, "good.json", b'{"operations":[{"class":1,"code":46},{"class":1,"code":"2A03"}]}')
+    bad = put(folder, "bad.json", b'{"operations":[{"class":1,"code":46},{"class":1,"code":"45"}]}')
+    book = put(folder, "book.json", b'{"tables":[{"contexts":["2A"],"operations":[]},{"contexts":["2B"],"operations":[{"class":1,"code":2,"linked":["0102"]}]}]}')
+    row = meant(f"{bad}: row 1", '"code":"45"', "octet 45", '"code":45')
+    linked = meant(f"{book}: table 1, row 0", '"linked":["0102"]', "octets 0102", '"linked":[102]')
+    silent = run(["test", "--table", good, trace])
+    checks.same("none of them", (silent.returncode, silent.stderr), (2, b""))
+    ran = run(["test", "--table", bad, trace])
+    checks.same("one, of a code", (ran.returncode, ran.stderr.decode(), ran.stdout), (2, row, silent.stdout))
+    ran = run(["test", "--table", bad, "--table", book, trace])
+    checks.same("of two tables", (ran.returncode, ran.stderr.decode()), (2, row + linked))
+    return checks
+
+
 def unwritten(_, folder):
     """Files that can't be written, or that are read."""
     checks = Checks("files that are written")
@@ -297,5 +335,5 @@ def jobs():
     yield from ((bad_line, case) for case in bad_lines())
     yield from ((odd, comment) for comment in ODD)
     yield from ((longest, case) for case in LONGEST)
-    for case in judged_before, bad_records, many, several, standard_input, unread_traces, tables, unwritten, command:
+    for case in hints, judged_before, bad_records, many, several, standard_input, unread_traces, tables, codes, unwritten, command:
         yield case, None

@@ -374,7 +374,7 @@ SAID = [
             "  A: inconc: the dialogue is open at the end of its trace",
             "  B: inconc: the dialogue is open at the end of its trace",
         ],
-        "A: the dialogue is open at the end of its trace",
+        "A: the dialogue is open at the end of its trace; it waits for an End or an Abort",
         "--complete",
     ),
     Said(
@@ -430,6 +430,8 @@ def said(case, folder):
     for name, block in ("the text", report.text), ("JUnit", told.text):
         checks.same(f"the ends in {name}", [line for line in block.splitlines() if BLAME.match(line)], case.blames)
     checks.same("the message", told.get("message"), case.message)
+    later = {line[2]: line[-1] for line in case.blames if "may follow from that of" in line}
+    checks.same("what may follow", {end: found[end]["may_follow"] for end in "AB" if "may_follow" in found.get(end, {})}, later)
     look_at_messages(checks, folder, found, text)
     record = put(folder, "record", run(["pack"], text.encode()).stdout)
     _, told = look_at_case(checks, Report(folder, case.words.split(), [record], table=case.table), record, case)

@@ -29,6 +29,8 @@ STATUS = {"pass": 0, "fail": 1, "inconc": 2, "error": 3}
 MOST_LOOKED_AT = 1000
 # No message of a testcase is longer.
 LONGEST = 400
+# What is said of an end of a dialogue that is to be complete.
+OPEN = "the dialogue is open at the end of its trace"
 
 
 # ---- running
@@ -228,7 +230,21 @@ def headline(it):
         words += f"; inconclusive: {said['doubt']}" if "doubt" in said else ""
     elif behind:
         words = f"which {behind[2]}"
+    elif words == OPEN:
+        words = f"{OPEN}; {it.get('text', 'nothing').splitlines()[0].strip()}"
     return f"{end}: {words}" if at is None else f"{end}: {place}, {words}"
+
+
+def look_at_texts(checks, dialogues):
+    """A dialogue has a text by itself where it is an error, and where an end is said to be open; and of two ends at fault that of the
+    later entry names the other."""
+    for it in dialogues:
+        is_open = any(it.get(end, {}).get("text") == f"{OPEN}\n" for end in "AB")
+        checks.same("a text of the dialogue", "text" in it, is_open or it["verdict"] == "error")
+        blamed = [end for end in in_order(it) if "kind" in it.get(end, {})]
+        is_later = len({it[end]["entry"] for end in blamed}) > 1
+        found = {end: it[end]["may_follow"] for end in "AB" if "may_follow" in it.get(end, {})}
+        checks.same("what may follow", found, {blamed[1]: blamed[0]} if is_later else {})
 
 
 def look_at_trace(checks, trace, dialogues, suite):
@@ -290,6 +306,7 @@ def agree(checks, report):
     for (name, trace), suite in zip(report.traces.items(), suites):
         look_at_trace(checks, trace, report.dialogues[name], suite)
         look_at_names(checks, report.dialogues[name])
+        look_at_texts(checks, report.dialogues[name])
     if "junitparser" in globals():
         look_by_junitparser(checks, report.junit)
     verdicts = [it["verdict"] for it in report.traces.values()]

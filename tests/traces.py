@@ -1,9 +1,9 @@
 """Runs the built program's word `test` over traces. The rows of trace_rows.py have what must be said of each, and
-trace_files.py has cases of files, lines, comments and words, trace_outputs.py of files that are written, trace_messages.py of the
-messages of dialogues, trace_words.py of what is said of a blame. Then traces of random dialogues: of each dialogue, by the
-cut of trace_cut.py, `test` says what `blame` says of the record of that dialogue alone. All that is written as JSON is
-looked at by docs/report.schema.json, where python's jsonschema is installed, and all that is JUnit's XML by
-junitparser, where that is."""
+trace_files.py has cases of files, lines, comments and words, trace_outputs.py of files that are written, trace_messages.py
+of the messages of dialogues, trace_words.py of what is said of a blame, trace_waits.py of what an open dialogue waits for.
+Then traces of random dialogues: of each dialogue, by the cut of trace_cut.py, `test` says what `blame` says of the record of
+that dialogue alone. All that is written as JSON is looked at by docs/report.schema.json, where python's jsonschema is
+installed, and all that is JUnit's XML by junitparser, where that is."""
 
 import collections
 import concurrent.futures
@@ -19,6 +19,7 @@ import trace_files
 import trace_messages
 import trace_outputs
 import trace_rows
+import trace_waits
 import trace_words
 from trace_rows import BEHIND, UNDECIDED, lines
 from traced import Checks, Report, agree, in_order, look_at_end, look_at_messages, missing, put, run, worst
@@ -320,7 +321,7 @@ def main():
         print(f"what is written is not looked at by {name}, which is not installed")
     # The longest cases begin first.
     jobs = [(look_at_random, seed * 1000 + number) for number in range(RANDOM_TRACES)]
-    jobs += [*trace_files.jobs(), *trace_outputs.jobs(), *trace_messages.jobs(), *trace_words.jobs()]
+    jobs += [*trace_files.jobs(), *trace_outputs.jobs(), *trace_messages.jobs(), *trace_words.jobs(), *trace_waits.jobs()]
     jobs += [(look_at, row) for row in trace_rows.ROWS]
     passed, failed, seen = 0, 0, collections.Counter()
     with concurrent.futures.ThreadPoolExecutor(SIDE_BY_SIDE) as pool:

@@ -8,6 +8,7 @@ import subprocess
 import tempfile
 
 import signalling
+from capture_cuts import SCCP_USER, SCTP_NUMBER, may_carry
 from capture_sctp import Ways
 from signalling import Refused
 
@@ -29,6 +30,9 @@ FIELDS = {
     "options": "ipv6.dstopts.nxt",
     "routing": "ipv6.routing.nxt",
     "pieces": "ipv6.fraghdr.nxt",
+    "type": "eth.type",
+    "tagged": "vlan.etype",
+    "cooked": "sll.etype",
     "more": "ip.flags.mf",
     "more6": "ipv6.fraghdr.more",
     "offset": "ip.frag_offset",
@@ -49,11 +53,8 @@ OWN = list(FIELDS).index("link")
 # So tshark gives the octets of these whole, as data.
 UNREAD = ["sctp", "sccp", "tcap"]
 NEXT_HEADERS = "ip", "ipv6", "hops", "options", "routing", "pieces"
-# Frames of these protocols hold no messages, so that they may be cut.
-HARMLESS = {"tcp", "udp", "arp", "icmp", "icmpv6", "lldp", "stp"}
+TYPES = "type", "tagged", "cooked"
 SCCP_LINK = "101"
-SCTP_NUMBER = "132"
-SCCP_USER = 3
 # The greatest point code of 14 bits.
 MOST_CODE = 0x3FFF
 
@@ -108,7 +109,7 @@ class Shape:
         layers = self.protocols.split(":")
         self.hosts = (fields["source"], fields["source6"]), (fields["target"], fields["target6"])
         self.has_hosts = any(map(any, self.hosts))
-        numbers = ",".join(fields[name] for name in NEXT_HEADERS).split(",")
+        numbers, types = (set(",".join(fields[name] for name in names).split(",")) - {""} for names in (NEXT_HEADERS, TYPES))
         has_data = layers[-1] == "data" and not {"icmp", "icmpv6"} & set(layers)
         self.is_sctp = SCTP_NUMBER in numbers and has_data
         last = {name: fields[name].split(",")[-1] for name in ("more", "more6", "offset", "offset6")}
@@ -118,7 +119,7 @@ class Shape:
         self.side = {1: ("far", "near"), 2: ("near", "far")}.get(int(fields["way"] or "0", 0) & 3)
         user = int(fields["user"], 0) if fields["user"] else None
         self.is_sccp, self.is_mtp2 = user == SCCP_USER, "mtp2" in layers
-        self.is_harmless = bool(HARMLESS & set(layers)) or user not in (None, SCCP_USER)
+        self.is_harmless = not may_carry(layers, numbers, types, user)
         self.label = None
         if self.is_exported and fields["from"] and fields["to"]:
             self.label = signalling.Label(None, int(fields["from"]), int(fields["to"]))

@@ -106,8 +106,20 @@ class Ways:
 
     def labels_of(self, hosts, head):
         """The labels of the association of such packets; where their head is not known, of all associations between
-        these hosts."""
+        these hosts, as far as these are known."""
         if (hosts, head) in self.ways:
             return self.ways[hosts, head].labels
-        found = [way.labels for (between, _), way in self.ways.items() if set(between) == set(hosts)]
+        found = [way.labels for (between, _), way in self.ways.items() if are_of(hosts, between)]
         return set().union(*found)
+
+
+def are_of(hosts, between):
+    """Whether packets of these hosts may be of others: they are the same, in any order, or the outer ones of a tunnel, or one
+    of them is not known, since the header of IP was cut."""
+    return begin(hosts, between) or begin(hosts, between[::-1])
+
+
+def begin(hosts, between):
+    """Whether each host is the other's, or stands before it, in a header of IP further out."""
+    pairs = [pair for two in zip(hosts, between) for pair in zip(*two)]
+    return all(not one or f"{other},".startswith(f"{one},") for one, other in pairs)

@@ -5,6 +5,7 @@ lets some overtake others. FOLDER has the program of the ends, and takes the cap
 lossy-B.pcapng, and what all programs print. The exit status is 0 where both ends have passed all lines, and LOSSLESS where
 this kernel can lose none."""
 
+import collections
 import contextlib
 import os
 import signal
@@ -56,12 +57,30 @@ def wait_for(word, path, run):
     sys.exit(f"{' '.join(run.args[:2])}: no {word} in {path}")
 
 
-def settle(paths):
-    """Waits until files grow no more."""
-    before = None
+def settle(paths, wanted):
+    """Waits until files have each of these octets so often, and then until they grow no more."""
+    ends, before = time.monotonic() + LONG, None
+    while time.monotonic() < ends and not all(has_all(path, wanted) for path in paths):
+        time.sleep(0.2)
     while (sizes := [os.path.getsize(path) for path in paths]) != before:
         before = sizes
         time.sleep(SETTLED)
+
+
+def has_all(path, wanted):
+    """Whether a file has each of these octets so often."""
+    with open(path, "rb") as file:
+        octets = file.read()
+    return all(octets.count(one) >= count for one, count in wanted.items())
+
+
+def messages_of(files):
+    """The octets of each message of files of lines, and how often it stands there."""
+    messages = collections.Counter()
+    for path in files:
+        with open(path, encoding="utf-8") as file:
+            messages.update(bytes.fromhex(line[2:]) for line in file if line[:1] in ("A", "B"))
+    return messages
 
 
 def exchange(folder, way, files):
@@ -85,7 +104,7 @@ def exchange(folder, way, files):
             run.stdin.write(b"\n")
             run.stdin.close()
         statuses = [run.wait(LONG) for run in running]
-        settle(captures.values())
+        settle(captures.values(), messages_of(files))
     return statuses
 
 

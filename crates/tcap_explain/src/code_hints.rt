@@ -69,10 +69,29 @@ fn push_meant(text: &mut String, meant: Meant) -> Result<(), AllocError> {
     )
 }
 
+/// Appends how the line of a row begins: with the path of its file, where one is told, and the table's number where it is one of a book.
+fn push_place(
+    text: &mut String,
+    path: Option<&str>,
+    number: Option<usize>,
+    row: usize,
+) -> Result<(), AllocError> {
+    text.push_str("  hint: ")?;
+    if let Some(path) = path {
+        text.push_str(path)?;
+        text.push_str(": ")?;
+    }
+    match number {
+        Some(number) => write!(text, "table {number}, row {row}: "),
+        None => write!(text, "row {row}: "),
+    }
+}
+
 /// Appends a line for each row of a table that has such a code; the table has that number where it is one of a book.
 fn push_rows(
     alloc: Global,
     text: &mut String,
+    path: Option<&str>,
     number: Option<usize>,
     table: &Value,
 ) -> Result<(), AllocError> {
@@ -83,27 +102,25 @@ fn push_rows(
         let Some(meant) = meant_in(alloc, value)? else {
             continue;
         };
-        match number {
-            Some(number) => write!(text, "  hint: table {number}, row {row}: ")?,
-            None => write!(text, "  hint: row {row}: ")?,
-        }
+        push_place(text, path, number, row)?;
         push_meant(text, meant)?;
     }
     Ok(())
 }
 
 /// Appends a line for each row of a table, or of the tables of a book, that has a code which may be meant as a number: a text of
-/// decimal digits, which is the OBJECT IDENTIFIER of one or two octets.
+/// decimal digits, which is the OBJECT IDENTIFIER of one or two octets. A line has the path, where one is told.
 pub(crate) fn push_code_hints(
     alloc: Global,
     text: &mut String,
+    path: Option<&str>,
     value: &Value,
 ) -> Result<(), AllocError> {
     let Some(tables) = value.get("tables").and_then(Value::as_array) else {
-        return push_rows(alloc, text, None, value);
+        return push_rows(alloc, text, path, None, value);
     };
     for (number, table) in tables.iter().enumerate() {
-        push_rows(alloc, text, Some(number), table)?;
+        push_rows(alloc, text, path, Some(number), table)?;
     }
     Ok(())
 }

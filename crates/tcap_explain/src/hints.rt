@@ -21,6 +21,10 @@ enum Look {
     M3ua,
     /// A capture, a pcap or a pcapng.
     Capture,
+    /// A file that gzip compressed (RFC 1952).
+    Gzip,
+    /// A text behind a byte order mark of UTF-8.
+    Marked,
     /// An operation table.
     Table,
     /// A book of operation tables.
@@ -192,6 +196,8 @@ fn look_of(octets: &[u8]) -> Option<Look> {
         | [0x4D, 0x3C, 0xB2, 0xA1, ..]
         | [0xA1, 0xB2, 0x3C, 0x4D, ..]
         | [0x0A, 0x0D, 0x0D, 0x0A, ..] => return Some(Look::Capture),
+        [0x1F, 0x8B, ..] => return Some(Look::Gzip),
+        [0xEF, 0xBB, 0xBF, ..] => return Some(Look::Marked),
         _ => {}
     }
     if are_lines(octets) {
@@ -221,37 +227,35 @@ fn is_right(role: Role, look: Look) -> bool {
 /// How the line begins that tells what a file looks like.
 const HINT: &str = "  hint: ";
 
-/// The line that tells it of a file that is given as something else.
-fn line_of(role: Role, look: Look) -> &'static str {
+/// The words that tell it of a file that is given as something else.
+fn words_of(role: Role, look: Look) -> &'static str {
     match look {
         Look::Lines if role == Role::Shown => {
-            "  hint: this looks like lines of hexadecimal digits, which `tcapjudge show --lines` reads\n"
+            "this looks like lines of hexadecimal digits, which `tcapjudge show --lines` reads"
         }
         Look::Lines => {
-            "  hint: this looks like lines of hexadecimal digits, of which `tcapjudge pack` makes a record\n"
+            "this looks like lines of hexadecimal digits, of which `tcapjudge pack` makes a record"
         }
-        Look::Record => "  hint: this looks like a record, which `tcapjudge show` prints\n",
+        Look::Record => "this looks like a record, which `tcapjudge show` prints",
         Look::Ansi => {
-            "  hint: this looks like TCAP of ANSI (T1.114), and a record holds that of ITU-T (Q.773)\n"
+            "this looks like TCAP of ANSI (T1.114), and a record holds that of ITU-T (Q.773)"
         }
-        Look::Sccp => {
-            "  hint: this looks like SCCP, and an entry of a record holds the TCAP message in it\n"
+        Look::Sccp => "this looks like SCCP, and an entry of a record holds the TCAP message in it",
+        Look::M3ua => "this looks like M3UA, and an entry of a record holds the TCAP message in it",
+        Look::Capture =>
+            "this looks like a capture, of which tools/lines_of_capture.py makes lines",
+        Look::Gzip => "this looks like a compressed file, which `gunzip` unpacks",
+        Look::Marked => {
+            "this looks like a text behind a byte order mark, EF BB BF, which may not stand there"
         }
-        Look::M3ua => {
-            "  hint: this looks like M3UA, and an entry of a record holds the TCAP message in it\n"
-        }
-        Look::Capture => {
-            "  hint: this looks like a capture, of which tools/lines_of_capture.py makes lines\n"
-        }
-        Look::Table =>
-            "  hint: this looks like an operation table, which `tcapjudge table` prints\n",
+        Look::Table => "this looks like an operation table, which `tcapjudge table` prints",
         Look::Book => {
-            "  hint: this looks like a book of operation tables, which `tcapjudge test --table` takes\n"
+            "this looks like a book of operation tables, which `tcapjudge test --table` takes"
         }
         Look::Certificate => {
-            "  hint: this looks like a certificate, which `tcapjudge check` takes behind the table\n"
+            "this looks like a certificate, which `tcapjudge check` takes behind the table"
         }
-        Look::Json => "  hint: this looks like JSON, as an operation table or a certificate is\n",
+        Look::Json => "this looks like JSON, as an operation table or a certificate is",
     }
 }
 
@@ -263,18 +267,18 @@ fn told_of(role: Role, look: Look) -> Look {
     }
 }
 
-/// The line that tells what a file looks like that begins with these octets, where that is not what it is given as.
-fn hint_line(role: Role, first: &[u8]) -> Option<&'static str> {
+/// The words that tell what a file looks like that begins with these octets, where that is not what it is given as.
+fn words_on(role: Role, first: &[u8]) -> Option<&'static str> {
     match look_of(first) {
-        Some(look) if !is_right(role, look) => Some(line_of(role, told_of(role, look))),
+        Some(look) if !is_right(role, look) => Some(words_of(role, told_of(role, look))),
         _ => None,
     }
 }
 
-/// What `first`, the first octets of what was given as a trace, look like, where they look neither like lines of digits nor like a record: a
-/// line for behind a line of fault.
+/// What `first`, the first octets of what was given as a trace, look like, in words, where they look neither like lines of digits nor like a
+/// record: a hint for behind a line of fault.
 pub fn hint_of(first: &[u8]) -> Option<&'static str> {
-    hint_line(Role::Trace, first)
+    words_on(Role::Trace, first)
 }
 
 /// Writes octets.
@@ -296,14 +300,19 @@ pub fn write_hint<W: Write>(
     ensures counts { OnOk result (W.failures writer.new ≡ W.failures writer.old) }
     ensures failed { OnErr result (W.failures writer.new ≡ one_more (W.failures writer.old)) }
 {
-    match (hint_line(role, first), path) {
-        (Some(line), Some(path)) => {
+    match (words_on(role, first), path) {
+        (Some(words), Some(path)) => {
             write(HINT.as_bytes(), writer)?;
             write(path.as_bytes(), writer)?;
             write(b": ", writer)?;
-            write(line.strip_prefix(HINT).unwrap_or(line).as_bytes(), writer)
+            write(words.as_bytes(), writer)?;
+            write(b"\n", writer)
         }
-        (Some(line), None) => write(line.as_bytes(), writer),
+        (Some(words), None) => {
+            write(HINT.as_bytes(), writer)?;
+            write(words.as_bytes(), writer)?;
+            write(b"\n", writer)
+        }
         (None, _) => Ok(()),
     }
 }

@@ -79,7 +79,7 @@ fn push_text(
 {
     let value = value_of(alloc, octets)?;
     if let Some(value) = &value {
-        push_code_hints(alloc, hints, value)?;
+        push_code_hints(alloc, hints, None, value)?;
     }
     match Book::from_json(alloc, octets) {
         Ok(book) => {
@@ -149,4 +149,35 @@ pub fn run_table<R: Read, W: Write, F: Write>(
     writer.write_all(line).map_err(|_| WriteFailed)?;
     let _ = faults.write_all(hints.as_bytes());
     Ok(status)
+}
+
+/// Appends the lines of the codes of a text of JSON that may be meant as numbers; of a text that is no JSON nothing.
+fn push_codes(
+    alloc: Global,
+    text: &mut String,
+    path: &str,
+    octets: &[u8],
+) -> Result<(), AllocError> {
+    match value_of(alloc, octets)? {
+        Some(value) => push_code_hints(alloc, text, Some(path), &value),
+        None => Ok(()),
+    }
+}
+
+/// Writes which codes of an operation table, or of a book of them, may be meant as numbers: the lines that `run_table` tells of them, each
+/// with that path; where there are none, or memory runs out, nothing. `WriteFailed` where the writer failed in this call.
+pub fn write_code_hints<W: Write>(
+    alloc: Global,
+    path: &str,
+    table: &[u8],
+    writer: &mut W,
+) -> Result<(), WriteFailed>
+    ensures counts { OnOk result (W.failures writer.new ≡ W.failures writer.old) }
+    ensures failed { OnErr result (W.failures writer.new ≡ one_more (W.failures writer.old)) }
+{
+    let mut text = String::new(alloc);
+    match push_codes(alloc, &mut text, path, table) {
+        Ok(()) => writer.write_all(text.as_bytes()).map_err(|_| WriteFailed),
+        Err(AllocError) => Ok(()),
+    }
 }

@@ -6,7 +6,7 @@ pub const FRAME_HEAD: &str = r#"<!doctype html>
 <head>
 <meta charset="utf-8">
 <meta name="viewport" content="width=device-width, initial-scale=1">
-<meta http-equiv="Content-Security-Policy" content="default-src 'none'; base-uri 'none'; form-action 'none'; img-src data:; style-src 'sha256-E1mfbSfEXkluwOzP2JrQtO0WoCxpnFMRAKEbCMv6+bY='; script-src 'sha256-rLk/Rn+bqkrNJJNmJniUXVZBuGOXIMitd/2HH9+Z6O0='">
+<meta http-equiv="Content-Security-Policy" content="default-src 'none'; base-uri 'none'; form-action 'none'; img-src data:; style-src 'sha256-E1mfbSfEXkluwOzP2JrQtO0WoCxpnFMRAKEbCMv6+bY='; script-src 'sha256-umg4LzvkpIDNq+WXFjTR5V4O306ZpByJx1sv9LmCXbE='">
 <meta name="referrer" content="no-referrer">
 <title>TCAP dialogues, judged</title>
 <link rel="icon" href="data:,">
@@ -1045,7 +1045,10 @@ function reasonsOf(head, ends) {
     const doubted = doubt === undefined ? null : make("p", {class: "doubt"}, `Inconclusive: ${seen(doubt)}.`);
     return make("div", {}, make("h3", {}, `Why, of ${end}`), doubted, reasonOf(text, evidence));
   });
-  if (head.text !== undefined) boxes.push(make("div", {}, make("h3", {}, "Why"), reasonOf(head.text, null)));
+  if (head.text !== undefined) {
+    const heading = head.verdict === "error" ? "Why" : "What it waits for";
+    boxes.push(make("div", {}, make("h3", {}, heading), reasonOf(head.text, null)));
+  }
   return make("div", {class: "reasons"}, ...boxes);
 }
 
@@ -1117,7 +1120,8 @@ function traceSums(head) {
 
 /** All that is shown of a trace. `enter` lists its dialogues. */
 function traceView({head}, count, enter) {
-  const text = head.text === undefined ? null : make("div", {class: "reason"}, seen(head.text, KEPT));
+  const hint = head.hint === undefined ? "" : `\nhint: ${head.hint}`;
+  const text = head.text === undefined ? null : make("div", {class: "reason"}, seen(`${head.text}${hint}`, KEPT));
   const button = make("button", {type: "button"}, `List its dialogues that do not pass (${count.toLocaleString("en")})`);
   button.addEventListener("click", enter);
   return make("article", {class: "trace"}, headingOf(head.trace, " ", head.verdict), text, traceSums(head),

@@ -153,7 +153,7 @@ impl Entries {
         Ok(())
     }
 
-    /// What the first octets look like, where that is neither lines of digits nor a record.
+    /// What the first octets look like, in words, where that is neither lines of digits nor a record.
     pub(crate) fn hint(&self) -> Option<&'static str> {
         hint_of(&self.first)
     }

@@ -2,7 +2,7 @@
 
 use crate::case::Judged;
 use crate::listed::blamed_by;
-use crate::order::is_asked;
+use crate::order::{is_asked, later_end};
 use std::alloc::{AllocError, Global};
 use std::collections::BTreeSet;
 use tcap_evidence::{Evidence, find_evidence};
@@ -17,6 +17,8 @@ const MOST: usize = 8;
 pub(crate) struct Grounds {
     a: Option<Evidence>,
     b: Option<Evidence>,
+    /// The end whose fault comes later than that of the other, and may follow from it.
+    pub(crate) later: Option<End>,
 }
 
 /// That of an end.
@@ -63,6 +65,10 @@ impl Grounds {
         Ok(Grounds {
             a: evidence_of(alloc, judged, of, End::A)?,
             b: evidence_of(alloc, judged, of, End::B)?,
+            later: match judged.ends {
+                Some(ends) => later_end(ends, of),
+                None => None,
+            },
         })
     }
 

@@ -4,6 +4,7 @@ use crate::case::{Case, Judged};
 use crate::order::{in_order, is_asked};
 use crate::reason::push_sentence;
 use crate::text::{no_table_words, push_doubt};
+use crate::waiting::push_first_wait;
 use crate::words::{letter, line_of, undecided_words};
 use std::alloc::{AllocError, Global};
 use tcap_record::End;
@@ -57,6 +58,11 @@ fn push_end(
             push_line(text, case, entry)?;
             text.push_str("which ")?;
             text.push_str(undecided_words(said))
+        }
+        Said::Open => {
+            text.push_str(undecided_words(said))?;
+            text.push_str("; ")?;
+            push_first_wait(alloc, text, judged)
         }
         _ => text.push_str(undecided_words(said)),
     }

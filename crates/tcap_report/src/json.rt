@@ -4,11 +4,12 @@ use crate::case::{Behind, Case, Judged, sent_by};
 use crate::fields::{push_some, push_sums, push_verdicts};
 use crate::grounds::Grounds;
 use crate::messages::push_messages;
-use crate::order::is_asked;
+use crate::order::{is_asked, last_open};
 use crate::reason::push_reason;
 use crate::sum::Sum;
 use crate::telling::Told;
 use crate::text::{push_behind, push_doubt, push_undecided};
+use crate::waiting::push_waiting;
 use crate::words::{comment_of, ids_of, letter, line_of};
 use std::alloc::{AllocError, Global};
 use tcap_evidence::{Evidence, push_what};
@@ -67,7 +68,7 @@ fn push_blamed(
     judged: &Judged,
     end: End,
     at: Refutation,
-    evidence: &Option<Evidence>,
+    grounds: &Grounds,
 ) -> Result<(), AllocError> {
     let (entry, line, kind) = (at.entry, line_of(case, at.entry), at.kind.number());
     write!(json, ",\"entry\":{entry},\"line\":{line},")?;
@@ -79,7 +80,10 @@ fn push_blamed(
     let mut text = String::new(alloc);
     push_reason(alloc, &mut text, case, judged, end, at)?;
     push_named(json, "text", &text)?;
-    push_evidence(alloc, json, end, evidence)
+    if grounds.later == Some(end) {
+        push_named(json, "may_follow", letter(end.other()))?;
+    }
+    push_evidence(alloc, json, end, grounds.at(end))
 }
 
 /// Appends what a blame rests on: the component at fault, the invoke ID that is counted, and what entries show.
@@ -134,7 +138,7 @@ fn push_end(
     judged: &Judged,
     end: End,
     said: Said,
-    evidence: &Option<Evidence>,
+    grounds: &Grounds,
 ) -> Result<(), AllocError> {
     json.push_str("{\"verdict\":\"")?;
     json.push_str(said.verdict().word())?;
@@ -144,16 +148,16 @@ fn push_end(
             let sent = sent_by(&judged.record, end);
             write!(json, ",\"unheard\":{unheard},\"sent\":{sent}")?;
         }
-        Said::Fail(at) => push_blamed(alloc, json, case, judged, end, at, evidence)?,
+        Said::Fail(at) => push_blamed(alloc, json, case, judged, end, at, grounds)?,
         Said::Doubtful(at, doubt) => {
-            push_blamed(alloc, json, case, judged, end, at, evidence)?;
+            push_blamed(alloc, json, case, judged, end, at, grounds)?;
             let mut text = String::new(alloc);
             push_doubt(&mut text, case, doubt)?;
             push_named(json, "doubt", &text)?;
         }
         _ => {
             let mut text = String::new(alloc);
-            push_undecided(alloc, &mut text, case, judged, end, said)?;
+            push_undecided(alloc, &mut text, case, said)?;
             push_named(json, "text", &text)?;
         }
     }
@@ -171,7 +175,7 @@ fn push_table(json: &mut String, judged: &Judged) -> Result<(), AllocError> {
     Ok(())
 }
 
-/// Appends what is said of the ends that are asked, or that no table is there.
+/// Appends what is said of the ends that are asked, and what the dialogue waits for that is open; or that no table is there.
 fn push_ends(
     alloc: Global,
     json: &mut String,
@@ -190,11 +194,15 @@ fn push_ends(
             json.push_str(",\"")?;
             json.push_str(letter(end))?;
             json.push_str("\":")?;
-            let evidence = grounds.at(end);
-            push_end(alloc, json, case, judged, end, ends.of(end), evidence)?;
+            push_end(alloc, json, case, judged, end, ends.of(end), grounds)?;
         }
     }
-    Ok(())
+    if last_open(ends, of).is_none() {
+        return Ok(());
+    }
+    let mut text = String::new(alloc);
+    push_waiting(alloc, &mut text, judged)?;
+    push_named(json, "text", &text)
 }
 
 /// Appends the object of a dialogue, with its messages where it does not pass.
@@ -240,6 +248,9 @@ pub(crate) fn push_trace(json: &mut String, told: Told) -> Result<(), AllocError
     }
     if let Some(line) = told.line {
         write!(json, ",\"line\":{line}")?;
+    }
+    if let Some(hint) = told.hint {
+        push_named(json, "hint", hint)?;
     }
     json.push_str("}\n")
 }

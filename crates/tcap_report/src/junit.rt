@@ -3,7 +3,7 @@
 use crate::case::{Case, Judged};
 use crate::headline::push_headline;
 use crate::sum::Counts;
-use crate::words::push_ids;
+use crate::words::{push_hint, push_ids};
 use std::alloc::{AllocError, Global};
 use tcap_record::End;
 use tcap_traces::Verdict;
@@ -154,10 +154,21 @@ impl Junit {
         self.push_case(trace, &name, judged.verdict, &message, text)
     }
 
-    /// A fault of a trace's form.
-    pub(crate) fn add_fault(&mut self, trace: &str, text: &str) -> Result<(), AllocError> {
-        let message = text.lines().next().unwrap_or("");
-        self.push_case(trace, "trace", Verdict::Error, message, text)
+    /// A fault of a trace's form, with a hint, where there is one.
+    pub(crate) fn add_fault(
+        &mut self,
+        trace: &str,
+        why: &str,
+        hint: Option<&str>,
+    ) -> Result<(), AllocError> {
+        let message = why.lines().next().unwrap_or("");
+        let mut text = String::new(self.alloc);
+        text.push_str(why)?;
+        if hint.is_some() {
+            text.push_str("\n")?;
+            push_hint(&mut text, hint)?;
+        }
+        self.push_case(trace, "trace", Verdict::Error, message, &text)
     }
 
     /// The trace ends, of which so many dialogues pass.

@@ -2,7 +2,7 @@
 
 use crate::listed::blamed_by;
 use tcap_record::End;
-use tcap_traces::Ends;
+use tcap_traces::{Ends, Said};
 
 /// Whether an end is asked.
 pub(crate) fn is_asked(of: Option<End>, end: End) -> bool {
@@ -18,6 +18,18 @@ pub(crate) fn later_end(ends: Ends, of: Option<End>) -> Option<End> {
         (None, Some(a), Some(b)) if a < b => Some(End::B),
         (None, Some(a), Some(b)) if b < a => Some(End::A),
         _ => None,
+    }
+}
+
+/// The last end that is asked and of which it is said that the dialogue is open: then no two are blamed, and that of B is said behind
+/// that of A.
+pub(crate) fn last_open(ends: Ends, of: Option<End>) -> Option<End> {
+    if is_asked(of, End::B) && ends.b == Said::Open {
+        Some(End::B)
+    } else if is_asked(of, End::A) && ends.a == Said::Open {
+        Some(End::A)
+    } else {
+        None
     }
 }
 

@@ -53,6 +53,8 @@ pub(crate) struct Told<'a> {
     pub(crate) why: &'a str,
     /// The line with the fault.
     pub(crate) line: Option<u64>,
+    /// What it looks like, where that is no trace.
+    pub(crate) hint: Option<&'a str>,
 }
 
 /// Writes a text.
@@ -119,7 +121,7 @@ impl<W: Write, J: Lines, P> Sinks<'_, W, J, P> {
         }
         if let Some(junit) = &mut self.junit {
             if !told.why.is_empty() {
-                junit.add_fault(told.name, told.why)?;
+                junit.add_fault(told.name, told.why, told.hint)?;
             }
             junit.end_trace(told.name, &told.dialogues)?;
         }

@@ -3,7 +3,7 @@
 use crate::case::{Case, Judged};
 use crate::listed::{is_near, last_listed};
 use crate::no_message::push_no_message;
-use crate::order::{in_order, is_asked, later_end};
+use crate::order::{in_order, is_asked, last_open, later_end};
 use crate::reason::push_reason;
 use crate::waiting::push_waiting;
 use crate::words::{comment_of, doubt_words, ids_of, letter, line_of, push_ids, undecided_words};
@@ -129,8 +129,6 @@ pub(crate) fn push_undecided(
     alloc: Global,
     text: &mut String,
     case: &Case,
-    judged: &Judged,
-    end: End,
     said: Said,
 ) -> Result<(), AllocError> {
     if let Said::Behind(entry) = said {
@@ -139,11 +137,7 @@ pub(crate) fn push_undecided(
         text.push_str(" ")?;
     }
     text.push_str(undecided_words(said))?;
-    text.push_str("\n")?;
-    match said {
-        Said::Open => push_waiting(alloc, text, judged, end),
-        _ => Ok(()),
-    }
+    text.push_str("\n")
 }
 
 /// Appends what is said of an end that does not pass.
@@ -173,7 +167,7 @@ fn push_end(
             text.push_str("  ")?;
             text.push_str(letter(end))?;
             text.push_str(": inconc: ")?;
-            push_undecided(alloc, text, case, judged, end, said)
+            push_undecided(alloc, text, case, said)
         }
     }
 }
@@ -271,8 +265,8 @@ pub(crate) fn push_case(
     push_entries(alloc, text, case, judged)
 }
 
-/// Appends what stands behind the line of a dialogue: what is said of each end that is asked. Where both are blamed the lower entry
-/// stands first.
+/// Appends what stands behind the line of a dialogue: what is said of each end that is asked, and once what the dialogue waits for that is
+/// open. Where both are blamed the lower entry stands first.
 pub(crate) fn push_behind(
     alloc: Global,
     text: &mut String,
@@ -284,6 +278,7 @@ pub(crate) fn push_behind(
         return push_no_table(text, judged);
     };
     let later = later_end(ends, of);
+    let open = last_open(ends, of);
     for end in in_order(ends, of) {
         if is_asked(of, end) {
             push_end(
@@ -295,6 +290,9 @@ pub(crate) fn push_behind(
                 ends.of(end),
                 later == Some(end),
             )?;
+        }
+        if open == Some(end) {
+            push_waiting(alloc, text, judged)?;
         }
     }
     Ok(())

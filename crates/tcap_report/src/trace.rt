@@ -6,6 +6,7 @@ use crate::fault::{FormFault, Halt, Stop};
 use crate::order::is_asked;
 use crate::sum::{Counts, Sum, push_counts};
 use crate::telling::{Lines, Sinks, Told, write_text};
+use crate::words::push_hint;
 use std::alloc::{AllocError, Global};
 use std::collections::BTreeMap;
 use std::mem;
@@ -282,7 +283,7 @@ impl<'a> Trace<'a> {
         push_fault(&mut why, &fault, self.readable)?;
         let mut line = String::new(self.alloc);
         self.push_line(&mut line, verdict, &why)?;
-        line.push_str(hint.unwrap_or(""))?;
+        push_hint(&mut line, hint)?;
         write_text(sinks.text, &line)?;
         let told = Told {
             name: self.asked.name,
@@ -292,6 +293,7 @@ impl<'a> Trace<'a> {
             unheard: self.unheard,
             why: &why,
             line: line_in(&fault),
+            hint,
         };
         sinks.tell_trace(self.alloc, told)?;
         sinks.flush()?;

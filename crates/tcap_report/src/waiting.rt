@@ -10,16 +10,18 @@ use tcap_record::{Body, End, Entry};
 /// So many things are told that it waits for.
 const MOST: usize = 8;
 
-/// What is waited for.
+/// An answer that is waited for.
 #[derive(Clone, Copy, Debug, PartialEq, Eq)]
-enum Wait {
-    /// An answer to the Begin in that entry.
-    Begin(usize),
-    /// An answer to that invocation in that entry.
-    Invoke(usize, i8),
+struct Wait {
+    /// The end that is to answer.
+    of: End,
+    /// The entry of what it is to answer.
+    entry: usize,
+    /// The invocation of that ID in the entry; where there is none, the Begin.
+    invocation: Option<i8>,
 }
 
-/// What that end sent behind an entry.
+/// What an end sent behind an entry.
 #[derive(Debug, Drop)]
 struct Answers {
     /// Something.
@@ -47,6 +49,14 @@ fn answered_by(component: ComponentView) -> Option<i8> {
 }
 
 impl Answers {
+    /// None.
+    fn new(alloc: Global) -> Answers {
+        Answers {
+            any: false,
+            answered: Vec::new(alloc),
+        }
+    }
+
     /// A message more, before the others.
     fn note(&mut self, message: &Message) -> Result<(), AllocError> {
         self.any = true;
@@ -61,74 +71,105 @@ impl Answers {
     }
 }
 
-/// Notes what a message of the peer waits for.
-fn note_waits(
-    waits: &mut Vec<Wait>,
-    judged: &Judged,
-    number: usize,
-    message: &Message,
-    behind: &Answers,
-) -> Result<(), AllocError> {
-    for component in message.components() {
-        let ComponentView::Invoke { id, code, .. } = component else {
-            continue;
-        };
-        let class = match judged.table {
-            Some(table) => table.table().class_of(code),
-            None => None,
-        };
-        if class == Some(1) && !behind.answered.contains(&id) {
-            waits.push(Wait::Invoke(number, id))?;
-        }
+/// The invocation of class 1 that a component is, by its ID.
+fn asking(judged: &Judged, component: ComponentView) -> Option<i8> {
+    let ComponentView::Invoke { id, code, .. } = component else {
+        return None;
+    };
+    match judged.table?.table().class_of(code) {
+        Some(1) => Some(id),
+        _ => None,
     }
-    if message.kind() == Form::Begin && !behind.any {
-        waits.push(Wait::Begin(number))?;
-    }
-    Ok(())
 }
 
-/// What is waited for of that end, the last first.
-fn waits_for(alloc: Global, judged: &Judged, end: End) -> Result<Vec<Wait>, AllocError> {
+/// What the message of an entry waits for of the end that receives it, which sent that behind it.
+fn waits_of(
+    alloc: Global,
+    judged: &Judged,
+    of: End,
+    entry: usize,
+    message: &Message,
+    behind: &Answers,
+) -> Result<Vec<Wait>, AllocError> {
     let mut waits = Vec::new(alloc);
-    let mut behind = Answers {
-        any: false,
-        answered: Vec::new(alloc),
-    };
-    for (number, entry) in judged.record.entries.iter().enumerate().rev() {
-        match sent(entry) {
-            Some((sender, message)) if sender == end => behind.note(message)?,
-            Some((_, message)) => note_waits(&mut waits, judged, number, message, &behind)?,
-            None => {}
+    if message.kind() == Form::Begin && !behind.any {
+        waits.push(Wait {
+            of,
+            entry,
+            invocation: None,
+        })?;
+    }
+    for component in message.components() {
+        match asking(judged, component) {
+            Some(id) if !behind.answered.contains(&id) => waits.push(Wait {
+                of,
+                entry,
+                invocation: Some(id),
+            })?,
+            _ => {}
         }
     }
     Ok(waits)
 }
 
-/// Appends what it waits for of that end: answers to Begins and to invocations of class 1; or else that it ends.
+/// What is waited for of both ends, the last first.
+fn all_waits(alloc: Global, judged: &Judged) -> Result<Vec<Wait>, AllocError> {
+    let mut waits = Vec::new(alloc);
+    let mut by_a = Answers::new(alloc);
+    let mut by_b = Answers::new(alloc);
+    for (number, entry) in judged.record.entries.iter().enumerate().rev() {
+        let Some((sender, message)) = sent(entry) else {
+            continue;
+        };
+        let (own, peers) = match sender {
+            End::A => (&mut by_a, &by_b),
+            End::B => (&mut by_b, &by_a),
+        };
+        let more = waits_of(alloc, judged, sender.other(), number, message, peers)?;
+        for wait in more.iter().rev() {
+            waits.push(*wait)?;
+        }
+        own.note(message)?;
+    }
+    Ok(waits)
+}
+
+/// Appends one thing that it waits for; where no answer is waited for, that it ends.
+fn push_wait(text: &mut String, wait: Option<Wait>) -> Result<(), AllocError> {
+    let Some(
+        Wait {
+            of,
+            entry,
+            invocation,
+        },
+    ) = wait
+    else {
+        return text.push_str("it waits for an End or an Abort");
+    };
+    text.push_str("it waits for an answer of ")?;
+    text.push_str(letter(of))?;
+    match invocation {
+        Some(id) => write!(text, " to invocation {id} in entry {entry}, of class 1"),
+        None => write!(text, " to the Begin in entry {entry}"),
+    }
+}
+
+/// Appends a line with one thing that it waits for.
+fn push_line(text: &mut String, wait: Option<Wait>) -> Result<(), AllocError> {
+    text.push_str("  ")?;
+    push_wait(text, wait)?;
+    text.push_str("\n")
+}
+
+/// Appends what it waits for, of both ends: answers to Begins and to invocations of class 1; or else that it ends.
 pub(crate) fn push_waiting(
     alloc: Global,
     text: &mut String,
     judged: &Judged,
-    end: End,
 ) -> Result<(), AllocError> {
-    let waits = waits_for(alloc, judged, end)?;
-    let letter = letter(end);
+    let waits = all_waits(alloc, judged)?;
     for wait in waits.iter().rev().take(MOST) {
-        match wait {
-            Wait::Begin(number) => {
-                writeln!(
-                    text,
-                    "  it waits for an answer of {letter} to the Begin in entry {number}"
-                )?;
-            }
-            Wait::Invoke(number, id) => {
-                write!(
-                    text,
-                    "  it waits for an answer of {letter} to invocation {id} "
-                )?;
-                writeln!(text, "in entry {number}, of class 1")?;
-            }
-        }
+        push_line(text, Some(*wait))?;
     }
     let count = waits.len();
     if count > MOST {
@@ -136,7 +177,17 @@ pub(crate) fn push_waiting(
         writeln!(text, "  and for {more} more answers")?;
     }
     if count == 0 {
-        text.push_str("  it waits for an End or an Abort\n")?;
+        push_line(text, None)?;
     }
     Ok(())
+}
+
+/// Appends the first thing that it waits for.
+pub(crate) fn push_first_wait(
+    alloc: Global,
+    text: &mut String,
+    judged: &Judged,
+) -> Result<(), AllocError> {
+    let waits = all_waits(alloc, judged)?;
+    push_wait(text, waits.last().copied())
 }

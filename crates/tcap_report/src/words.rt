@@ -68,6 +68,16 @@ pub(crate) fn undecided_words(said: Said) -> &'static str {
     }
 }
 
+/// Appends the line of a hint, where there is one.
+pub(crate) fn push_hint(text: &mut String, hint: Option<&str>) -> Result<(), AllocError> {
+    let Some(hint) = hint else {
+        return Ok(());
+    };
+    text.push_str("  hint: ")?;
+    text.push_str(hint)?;
+    text.push_str("\n")
+}
+
 /// The IDs of an end.
 pub(crate) fn ids_of(case: &Case, end: End) -> &BTreeSet<TransactionId> {
     match end {

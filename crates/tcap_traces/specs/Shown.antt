@@ -1,10 +1,12 @@
 -- What it means that something is said of an end of a dialogue: whom it calls at fault is, and whom it lets pass may have sent its
 -- part.
-use Rattle.std.specs.Prelude.{◌≡◌, ◌⊎◌, ℕ, false, List, drop, take, Option, Some}
+use Rattle.std.specs.Prelude.{◌≡◌, ◌⊎◌, ℕ, false, List, ◌∷◌, ◌++◌, drop, take, Option, Some}
 use Rattle.std.specs.List.{list_any}
 use Rattle.tcap_record.specs.declared.entry.End.{End as Side}
 use Rattle.tcap_record.specs.declared.entry.Entry.{Entry}
 use Rattle.tcap_end.specs.Table.{Table}
+use Rattle.tcap_model.specs.World.{Item}
+use Rattle.tcap_model.specs.Run.{IsLawfulFor}
 use Rattle.tcap_faults.specs.AtFault.{IsAtFaultOf}
 use Rattle.tcap_judge.specs.declared.finding.Finding.{Finding}
 use Rattle.tcap_judge.specs.Blamed.{IsFound}
@@ -37,3 +39,9 @@ IsSo side table entries saids.Open = MayHaveSent side table entries
 abbrev pub IsFoundBefore : Side → Table → List Entry → Option ℕ → Option Finding → Type 0
 IsFoundBefore side table entries (Some number) (Some found) = IsFound side table (take number entries) found
 IsFoundBefore side table entries number found = Unit {0}
+
+-- An end that keeps the rules can't have sent its part of these items, whatever its peer sent: neither where they begin a trace, nor behind
+-- what stands before them in it and a quiet mark.
+abbrev pub IsFaultOfTrace : Table → Side → List Item → Type 0
+IsFaultOfTrace table side items = (IsLawfulFor side items table → ⊥)
+    × ((earlier : List Item) → IsLawfulFor side (earlier ++ Item.Quiet ∷ items) table → ⊥)

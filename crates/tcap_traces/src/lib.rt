@@ -3,6 +3,7 @@
 
 mod doubts;
 mod judging;
+pub mod laws;
 mod said;
 #[cfg(test)]
 mod tests;

@@ -4,7 +4,7 @@ use std::fs::{File, Metadata};
 use std::os::unix::fs::MetadataExt;
 use std::{fs, io};
 use tcap_ber::{Counted, Read, Unopened};
-use tcap_explain::{Noted, Role, write_hint};
+use tcap_explain::{Noted, Role, write_code_hints, write_hint};
 use tcap_judge::{Status, WriteFailed};
 
 /// So many octets of a file are looked at.
@@ -82,6 +82,12 @@ pub(crate) fn tell<R: Read>(rt: &HostRuntime, role: Role, path: &str, reader: &m
 pub(crate) fn tell_text(rt: &HostRuntime, role: Role, path: &str, octets: &[u8]) {
     let mut faults = Counted::new(rt.stderr());
     let _ = write_hint(role, Some(path), octets, &mut faults);
+}
+
+/// Says on standard error which codes of the table of that path may be meant as numbers.
+pub(crate) fn tell_codes(rt: &HostRuntime, path: &str, table: &[u8]) {
+    let mut faults = Counted::new(rt.stderr());
+    let _ = write_code_hints(rt.alloc(), path, table, &mut faults);
 }
 
 /// Whether a run ended with a line of fault.

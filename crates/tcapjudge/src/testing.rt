@@ -1,6 +1,6 @@
 //! The word `test`: each dialogue of traces is judged.
 
-use crate::opening::{is_folder, tell_text};
+use crate::opening::{is_folder, tell_codes, tell_text};
 use crate::outputs::{INPUT, Outputs, stand_ins};
 use crate::writing::{Output, Sink, tell_unprinted};
 use std::time::Instant;
@@ -73,6 +73,7 @@ fn book_of(rt: &HostRuntime, paths: &[&str]) -> Option<Book> {
             }
         };
         let book = read_book(rt, *path, &octets)?;
+        tell_codes(rt, *path, &octets);
         all = match all {
             None => Some(book),
             Some(mut books) => {
