@@ -3,6 +3,7 @@ is said where it can't be written."""
 
 import contextlib
 import itertools
+import json
 import os
 import re
 import subprocess
@@ -169,7 +170,21 @@ def unprinted(_, folder):
     return checks
 
 
+def closed(_, folder):
+    """Where no standard stream is open, the files that are written are not taken for one."""
+    checks, (good, table) = Checks("closed streams"), given(folder)
+    paths = [f"{folder}/{name}" for name in ("said.json", "said.xml", "said.html")]
+    words = [PROGRAM, "test", "--table", table, *itertools.chain(*zip(FLAGS, paths)), good]
+    ran = subprocess.run(["sh", "-c", 'exec "$@" <&- >&- 2>&-', "sh", *words], check=False)
+    json_text, junit, page = (content(path) for path in paths)
+    # The line of the dialogue is written before that of its trace, which can't be printed.
+    checks.same("status, JUnit", (ran.returncode, junit), (3, b""))
+    checks.same("JSON", [json.loads(line)["verdict"] for line in json_text.splitlines()], ["pass"])
+    checks.holds("the page", page.startswith(b"<!doctype html>") and b"2 messages" not in page)
+    return checks
+
+
 def jobs():
     """Each case, with what it is about."""
-    for case in progress, slow, one_file, hard_links, anew, unprinted:
+    for case in progress, slow, one_file, hard_links, anew, unprinted, closed:
         yield case, None

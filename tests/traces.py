@@ -1,9 +1,9 @@
 """Runs the built program's word `test` over traces. The rows of trace_rows.py have what must be said of each, and
-trace_files.py has cases of files, lines, comments and words, trace_outputs.py of files that are written, trace_messages.py of the
-messages of dialogues, trace_words.py of what is said of a blame, trace_waits.py of what an open dialogue waits for. Then traces of random dialogues: of each dialogue, by the
-cut of trace_cut.py, `test` says what `blame` says of the record of that dialogue alone. All that is written as JSON is
-looked at by docs/report.schema.json, where python's jsonschema is installed, and all that is JUnit's XML by
-junitparser, where that is."""
+trace_files.py has cases of files, lines, comments and words, trace_outputs.py of files that are written, trace_messages.py
+of the messages of dialogues, trace_words.py of what is said of a blame, trace_waits.py of what an open dialogue waits for.
+Then traces of random dialogues: of each dialogue, by the cut of trace_cut.py, `test` says what `blame` says of the record of
+that dialogue alone. All that is written as JSON is looked at by docs/report.schema.json, where python's jsonschema is
+installed, and all that is JUnit's XML by junitparser, where that is."""
 
 import collections
 import concurrent.futures

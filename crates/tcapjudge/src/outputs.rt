@@ -2,6 +2,8 @@
 
 use crate::opening::{is_plain, is_same};
 use crate::writing::Output;
+use std::fs;
+use std::fs::File;
 use tcap_report::Stop;
 use tcap_words::Test;
 
@@ -11,12 +13,32 @@ pub(crate) const INPUT: &str = "/dev/stdin";
 /// That of standard output.
 const PRINTED: &str = "/dev/stdout";
 
+/// That of standard error.
+const FAULTS: &str = "/dev/stderr";
+
 /// The files that it goes to.
 #[derive(Drop)]
 pub(crate) struct Outputs {
     pub(crate) json: Option<Output>,
     pub(crate) html: Option<Output>,
     pub(crate) junit: Option<Output>,
+}
+
+/// A file in the place of a standard stream, where that is closed. It can't be written, as the stream can't.
+fn stand_in(rt: &HostRuntime, stream: &str) -> Option<File> {
+    match fs::metadata(rt, stream) {
+        Ok(_) => None,
+        Err(_) => fs::open(rt, "/dev/null").ok(),
+    }
+}
+
+/// Files in the place of the standard streams that are closed: while these are there, no file that is opened is taken for a stream.
+pub(crate) fn stand_ins(rt: &HostRuntime) -> [Option<File>; 3] {
+    [
+        stand_in(rt, INPUT),
+        stand_in(rt, PRINTED),
+        stand_in(rt, FAULTS),
+    ]
 }
 
 /// Whether a standard stream is the plain file of that path. A terminal may be both.

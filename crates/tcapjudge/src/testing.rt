@@ -1,7 +1,7 @@
 //! The word `test`: each dialogue of traces is judged.
 
 use crate::opening::{is_folder, tell_codes, tell_text};
-use crate::outputs::{INPUT, Outputs};
+use crate::outputs::{INPUT, Outputs, stand_ins};
 use crate::writing::{Output, Sink, tell_unprinted};
 use std::time::Instant;
 use std::{fs, io};
@@ -268,6 +268,7 @@ pub(crate) fn test(rt: &HostRuntime, test: &Test) -> u8 {
         let _ = eprintln!(rt; "error: --json, --junit and --html take the path of a file");
         return WRONG_WORDS;
     }
+    let _held = stand_ins(rt);
     match written(rt, test) {
         Ok(verdict) => verdict.status(),
         Err(Stop::Memory) => {
