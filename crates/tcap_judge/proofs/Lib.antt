@@ -6,3 +6,4 @@ pub mod VerdictLaws
 pub mod BlamedLaws
 pub mod EachEndLaws
 mod NeverGivenLaws
+pub mod OctetLaws

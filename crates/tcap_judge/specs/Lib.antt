@@ -7,6 +7,7 @@ pub mod Judged
 pub mod Checked
 pub mod Judging
 pub mod LawfulRecord
+pub mod OctetsRead
 pub mod Verdict
 pub mod Blamed
 pub mod EachEnd
