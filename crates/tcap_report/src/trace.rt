@@ -159,6 +159,22 @@ impl<'a> Trace<'a> {
         Ok(())
     }
 
+    /// A fault of its form ends the trace: the dialogues that are over are judged. Of the others more may have been to come.
+    fn judge_over<W: Write, J: Lines, P: Watch>(
+        &mut self,
+        sinks: &mut Sinks<W, J, P>,
+    ) -> Result<(), Stop> {
+        let mut done = Vec::new(self.alloc);
+        let cut = mem::replace(&mut self.cut, Cut::new(self.alloc, self.asked.reuse));
+        cut.finish(&mut done)?;
+        for gathered in done {
+            if gathered.over.is_some() {
+                self.judge(gathered, Behind::More, sinks)?;
+            }
+        }
+        Ok(())
+    }
+
     /// The entries of a dialogue, which are held no longer.
     fn taken(&mut self, gathered: &Gathered) -> Result<Vec<Held>, AllocError> {
         let mut entries = Vec::new(self.alloc);
@@ -352,7 +368,7 @@ fn push_fault(
 }
 
 /// Judges each dialogue of the trace that `reader` tells, says of each one that does not pass why, and answers the verdict on the
-/// trace. A fault of its form ends the reading; what was judged before that stands.
+/// trace. A fault of its form ends the reading; what is over by then is judged.
 pub fn run_trace<R: Read, W: Write, J: Lines, P: Watch>(
     alloc: Global,
     reader: &mut R,
@@ -363,7 +379,10 @@ pub fn run_trace<R: Read, W: Write, J: Lines, P: Watch>(
     let mut entries = Entries::new(alloc);
     match trace.read_all(reader, &mut entries, sinks) {
         Ok(()) => trace.end(None, None, sinks),
-        Err(Halt::Form(fault)) => trace.end(Some(fault), entries.hint(), sinks),
+        Err(Halt::Form(fault)) => {
+            trace.judge_over(sinks)?;
+            trace.end(Some(fault), entries.hint(), sinks)
+        }
         Err(Halt::Stop(stop)) => Err(stop),
     }
 }
