@@ -266,7 +266,7 @@ def main():
             rows = [*capture_rows.rows(), *cut_rows.rows(), *capture_answers.rows()]
             held = list(lanes.map(is_as_wanted, rows))
         held += [*examples_come_back(folder), vectors_come_back(folder), is_network_lawful(folder), is_steady()]
-        held += [is_progress_said(folder), words_are_refused(folder)]
+        held += [is_progress_said(folder), words_are_refused(folder), cut_rows.are_cuts_met(folder)]
         messages = [octets for octets, _ in vectors()]
         messages += [bytes.fromhex(line[2:]) for lines in example_lines() for line in lines]
         held += [*wireshark.agreements(PROGRAM, folder, messages), wireshark.addresses_agree(folder)]

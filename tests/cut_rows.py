@@ -1,6 +1,10 @@
 """More captures as those of capture_rows.py: of frames that were not captured whole, of associations, of third parties and of
-tunnels. tests/captures.py runs them, too."""
+tunnels; and cut frames of every type of Ethernet. tests/captures.py runs them, too."""
 
+import collections
+import subprocess
+
+import capture_frames
 import made_captures as made
 from capture_rows import BEGIN, DIALOGUE, END, GOES_ON, LONG, OPEN, OTHER_RESULT, RESULT, SECOND, Row, Wire, over
 
@@ -99,6 +103,43 @@ def carriers():
         parts = [[BEGIN], [BEGIN] if ended == 2 else DIALOGUE]
         wanted = [f"FAULT cut, frame 3 of capture: {kept} octets", f"may be: {ended}"]
         yield Row(f"{name}, cut at {kept}", over(turns, cuts={3: kept}), [], parts, 3, wanted)
+
+
+# ---- every type of Ethernet
+
+
+def types():
+    """The types of Ethernet that tshark knows."""
+    run = subprocess.run(["tshark", "-G", "decodes"], capture_output=True, text=True, check=False)
+    rows = [line.split("\t") for line in run.stdout.splitlines() if line.startswith("ethertype\t")]
+    return [kind for kind in sorted({int(row[1]) for row in rows}) if kind >= 1536]
+
+
+def shapes_of(folder, frames, cuts=None):
+    """What the tool makes of each frame."""
+    with open(f"{folder}/frames", "wb") as file:
+        file.write(made.pcap(frames, cuts=cuts))
+    return [capture_frames.Shape(frame.shape) for frame in capture_frames.frames_of(f"{folder}/frames")]
+
+
+def are_cuts_met(folder):
+    """Whether no frame that as a whole is read for SCTP is taken for one without signalling, wherever it is cut: of frames of
+    each type that tshark knows, in which SCTP over IP stands behind some octets, and of the same over SNAP."""
+    frame = Wire().frames(BEGIN)[0]
+    begins = [bytes(count) + inner for count in range(24) for inner in (frame, frame[12:], made.inside(frame))]
+    kinds = [kind.to_bytes(2, "big") for kind in types()]
+    heads = frame[:12], made.llc(b"")[:12] + b"\1\0\xaa\xaa\3\0\0\0"
+    frames = [head + kind + begin for head in heads for kind in kinds for begin in begins]
+    stacks = collections.defaultdict(list)
+    for frame, shape in zip(frames, shapes_of(folder, frames)):
+        if shape.is_sctp:
+            stacks[shape.protocols].append(frame)
+    turns = [(frame, kept) for found in stacks.values() for frame in found[:2] for kept in range(1, len(frame))]
+    shapes = shapes_of(folder, [frame for frame, _ in turns], {at: kept for at, (_, kept) in enumerate(turns, 1)})
+    missed = sorted({shape.protocols for shape in shapes if shape.is_harmless})
+    if missed or len(stacks) < 20:
+        print(f"cut frames of {len(stacks)} kinds that carry SCTP: taken for others where they are cut to {missed}")
+    return not missed and len(stacks) >= 20
 
 
 def rows():

@@ -11,17 +11,17 @@ UNDER_IP = LINKS | {"raw", "null", "mpls", "pppoes", "ppp"}
 # What tshark reads over LINKS (`tshark -G decodes`) that carries frames or packets of others: tags, tunnels and other links.
 CARRIERS = set(
     """
-    6lowpan avsp awdl_data batadv bpq brcm-tag brdwlk btl2cap cesoeth cfp cl3 cmd comp_data crtp crtp_cntcp crtp_cs
-    crtp_cudp16 crtp_cudp8 csm_encaps ddp dect ecatf ecpri esl etag exeh fcoe fr gmhdr gnw hsr idp ieee1722 ieee8021ah
+    3comxns 6lowpan avsp awdl_data batadv bpq brcm-tag brdwlk btl2cap cesoeth cfp cl3 cmd comp_data crtp crtp_cntcp crtp_cs
+    crtp_cudp16 crtp_cudp8 csm_encaps ddp dect ecatf ecpri esl etag exeh fcoe fr gmhdr gnw hbbak hsr idp ieee1722 ieee8021ah
     ieee8021cb ieee802a infiniband ipos irlap isi isl lapbether linx llap llt lwapp lwl4 m2m macsec mausb mdshdr mint mpls
     nsh nwp ppp pppmux pppoes radiotap realtek rohc roofnet rtcfg rtmac siii tdmoe tecmp telkonet tipc trill tte tte_pcf
-    vines_ip vntag wcp wlan wlan_centrino wlccp wpan wreth x25 xip
+    vines_ip vmlab vntag wcp wlan wlan_centrino wlccp wpan wreth x25 xip
     """.split()
 )
 # The types of Ethernet of two of them, MACsec and TDMoE, of which tshark takes what is cut for data of an unknown type.
 TAKEN_FOR_DATA = {"0x88e5", "0xd00d"}
-# With one of these over UDP a packet of a tunnel has begun.
-TUNNELLED = {"eth", "ethertype", "llc", "ip", "ipv6", "mpls", "ppp", "vxlan", "geneve", "teredo", "nsh"}
+# Where one of these stands over UDP, or over a link of another kind, a frame or packet of a tunnel has begun.
+BEGUN = {"eth", "ethertype", "llc", "ip", "ipv6", "mpls", "ppp", "vxlan", "geneve", "teredo", "nsh"}
 # The numbers (IANA) of the headers that stand between IPv6 and what it carries; and of what carries packets of others: IP, GRE,
 # Ethernet, PPP, MPLS and the like, and UDP, of which no header is read in a fragment.
 EXTENSIONS = set("0 43 44 60 135 139 140".split())
@@ -39,14 +39,17 @@ def may_carry(layers, numbers, types, user):
     if SCTP_NUMBER in numbers:
         return True
     if "udp" in names:
-        behind = layers[::-1].index("udp")
-        return bool(TUNNELLED.intersection(layers[len(layers) - behind :]))
+        return has_begun(layers[len(layers) - layers[::-1].index("udp") :])
     if first_over(UNDER_IP, layers) in ("ip", "ipv6"):
         return not numbers - EXTENSIONS or bool(TUNNELS & numbers)
     over = first_over(LINKS, layers)
-    if layers[0] not in ("eth", "sll") or over == "data" and TAKEN_FOR_DATA & types:
+    if layers[0] not in ("eth", "sll") or over is None or over == "data" and TAKEN_FOR_DATA & types:
         return True
-    return over is None or over in CARRIERS
+    return over in CARRIERS or has_begun(layers[layers.index(over) :])
+
+
+def has_begun(layers):
+    return not BEGUN.isdisjoint(layers)
 
 
 def first_over(under, layers):

@@ -33,6 +33,7 @@ FIELDS = {
     "type": "eth.type",
     "tagged": "vlan.etype",
     "cooked": "sll.etype",
+    "snap": "llc.type",
     "more": "ip.flags.mf",
     "more6": "ipv6.fraghdr.more",
     "offset": "ip.frag_offset",
@@ -53,7 +54,7 @@ OWN = list(FIELDS).index("link")
 # So tshark gives the octets of these whole, as data.
 UNREAD = ["sctp", "sccp", "tcap"]
 NEXT_HEADERS = "ip", "ipv6", "hops", "options", "routing", "pieces"
-TYPES = "type", "tagged", "cooked"
+TYPES = "type", "tagged", "cooked", "snap"
 SCCP_LINK = "101"
 # The greatest point code of 14 bits.
 MOST_CODE = 0x3FFF
