@@ -19,7 +19,7 @@ function byId(id) {
 /** A text, as a button where there is something to list. */
 function lister(words, title, list) {
   if (list === null) return words;
-  const button = make("button", {type: "button", class: "lister", title}, words);
+  const button = make("button", {type: "button", class: "lister", title, "aria-label": `${words}. ${title}`}, words);
   button.addEventListener("click", list);
   return button;
 }

@@ -19,7 +19,8 @@ const KINDS = {
   F14: ["It is an Abort of the provider that answers nothing which is left.", "Q.774 3.3, abnormal procedures"],
   F15: ["It is a quiet mark, and a transaction of the end is surely open there.", "the bench's word that all was quiet"],
 };
-// The lines of a reason that say which fault of its kind it is, the most telling ones first; docs/TRACES.md has them.
+// The lines of a reason that say which fault of its kind it is, the most telling ones first; docs/TRACES.md has them, and
+// docs/FORMAT.md that of F8.
 const TELLING = {
   F1: [/^why: (.*)/],
   F6: [/^(the result names .*)/, /^(.* and a Unidirectional may invoke .*)/, /^(invocation -?\d+ in entry \d+ is of .*)/],

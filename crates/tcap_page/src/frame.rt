@@ -6,7 +6,7 @@ pub const FRAME_HEAD: &str = r##"<!doctype html>
 <head>
 <meta charset="utf-8">
 <meta name="viewport" content="width=device-width, initial-scale=1">
-<meta http-equiv="Content-Security-Policy" content="default-src 'none'; base-uri 'none'; form-action 'none'; img-src data:; style-src 'sha256-b0zgqhZQcEiID3cAmXbQG5ZjidSJJ+1gn/Cjo2FQ6OU='; script-src 'sha256-XpyuXKmiqCRe6AFsgZggt5MroAe74Q1xIEgAdAZCm7Y='">
+<meta http-equiv="Content-Security-Policy" content="default-src 'none'; base-uri 'none'; form-action 'none'; img-src data:; style-src 'sha256-b0zgqhZQcEiID3cAmXbQG5ZjidSJJ+1gn/Cjo2FQ6OU='; script-src 'sha256-+xp/v7tcxSQ8mx2NEIqA6YMf8tMIgRta2ilIpDCFSWo='">
 <meta name="referrer" content="no-referrer">
 <title>TCAP dialogues, judged</title>
 <link rel="icon" href="data:,">
@@ -375,7 +375,8 @@ const KINDS = {
   F14: ["It is an Abort of the provider that answers nothing which is left.", "Q.774 3.3, abnormal procedures"],
   F15: ["It is a quiet mark, and a transaction of the end is surely open there.", "the bench's word that all was quiet"],
 };
-// The lines of a reason that say which fault of its kind it is, the most telling ones first; docs/TRACES.md has them.
+// The lines of a reason that say which fault of its kind it is, the most telling ones first; docs/TRACES.md has them, and
+// docs/FORMAT.md that of F8.
 const TELLING = {
   F1: [/^why: (.*)/],
   F6: [/^(the result names .*)/, /^(.* and a Unidirectional may invoke .*)/, /^(invocation -?\d+ in entry \d+ is of .*)/],
@@ -1573,7 +1574,7 @@ function byId(id) {
 /** A text, as a button where there is something to list. */
 function lister(words, title, list) {
   if (list === null) return words;
-  const button = make("button", {type: "button", class: "lister", title}, words);
+  const button = make("button", {type: "button", class: "lister", title, "aria-label": `${words}. ${title}`}, words);
   button.addEventListener("click", list);
   return button;
 }
