@@ -10,6 +10,12 @@ function faultInRow(end, said, isAlone) {
   return make("span", {title: words === kind ? kind : `${kind} ${words}`}, place === "" ? words : `${place}: ${words}`);
 }
 
+/** What a dialogue without an end at fault is not judged for, or not decided, in a line. */
+function undecidedInRow(head) {
+  const text = [head.text, ...ENDS.map((end) => head[end]?.text)].find((it) => it !== undefined) ?? "";
+  return make("span", {class: "lower"}, make("span", {}, cut(seen(text.trim().split("\n")[0]), LONG_TITLE)));
+}
+
 /** The row of a dialogue. */
 function dialogueRow({head, blamed}) {
   const ids = ENDS.map((end) => `${end} ${head.ids[end].slice(0, SOME_IDS).join(" ") || "-"}`).join("  ");
@@ -18,7 +24,7 @@ function dialogueRow({head, blamed}) {
   const number = make("span", {}, `dialogue ${head.dialogue}`);
   return [
     make("span", {class: "upper"}, badge(head.verdict), ...kinds, named(head.trace), number),
-    faults.length > 0 ? make("span", {class: "lower faults"}, ...faults) : null,
+    faults.length > 0 ? make("span", {class: "lower faults"}, ...faults) : undecidedInRow(head),
     make("span", {class: "lower"}, make("code", {}, ids), head.table === undefined ? null : named(head.table)),
   ];
 }

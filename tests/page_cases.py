@@ -304,6 +304,9 @@ def list_of_faults(checks, shown):
         it => [...it.querySelectorAll('b')].map(it => it.innerText))""")
     checks.same("kinds", rows, [[], *FAULTS[:3], [], FAULTS[3], []])
     checks.same("words", shown.texts("#dialogues .faults"), FAULT_WORDS)
+    others = [it for it in shown.texts("#dialogues .row") if "calls.hex dialogue 3" in it or "record.bin" in it]
+    checks.same("others", others, ["error calls.hex dialogue 3 no table is for a dialogue without a context A e5 B -", "inconc record.bin "
+                                   "dialogue 0 it is not found how it can have sent its part, and no entry of it is blamed A 0b99 B -"])
     titles = shown.run("[...document.querySelectorAll('#dialogues b')].map(it => it.title)")
     checks.same("title", titles[1], "Its end has ended this dialogue before. (Q.774 3.3)")
     cut = shown.run("[...document.querySelectorAll('#dialogues .row > *')].filter(it => it.scrollHeight > it.clientHeight).length")

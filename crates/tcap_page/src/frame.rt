@@ -6,7 +6,7 @@ pub const FRAME_HEAD: &str = r##"<!doctype html>
 <head>
 <meta charset="utf-8">
 <meta name="viewport" content="width=device-width, initial-scale=1">
-<meta http-equiv="Content-Security-Policy" content="default-src 'none'; base-uri 'none'; form-action 'none'; img-src data:; style-src 'sha256-b0zgqhZQcEiID3cAmXbQG5ZjidSJJ+1gn/Cjo2FQ6OU='; script-src 'sha256-+xp/v7tcxSQ8mx2NEIqA6YMf8tMIgRta2ilIpDCFSWo='">
+<meta http-equiv="Content-Security-Policy" content="default-src 'none'; base-uri 'none'; form-action 'none'; img-src data:; style-src 'sha256-b0zgqhZQcEiID3cAmXbQG5ZjidSJJ+1gn/Cjo2FQ6OU='; script-src 'sha256-YP4ZBCT+7K0JzAozXICrBgCmcEPIRSU42YgdcpCrxZI='">
 <meta name="referrer" content="no-referrer">
 <title>TCAP dialogues, judged</title>
 <link rel="icon" href="data:,">
@@ -1289,6 +1289,12 @@ function faultInRow(end, said, isAlone) {
   return make("span", {title: words === kind ? kind : `${kind} ${words}`}, place === "" ? words : `${place}: ${words}`);
 }
 
+/** What a dialogue without an end at fault is not judged for, or not decided, in a line. */
+function undecidedInRow(head) {
+  const text = [head.text, ...ENDS.map((end) => head[end]?.text)].find((it) => it !== undefined) ?? "";
+  return make("span", {class: "lower"}, make("span", {}, cut(seen(text.trim().split("\n")[0]), LONG_TITLE)));
+}
+
 /** The row of a dialogue. */
 function dialogueRow({head, blamed}) {
   const ids = ENDS.map((end) => `${end} ${head.ids[end].slice(0, SOME_IDS).join(" ") || "-"}`).join("  ");
@@ -1297,7 +1303,7 @@ function dialogueRow({head, blamed}) {
   const number = make("span", {}, `dialogue ${head.dialogue}`);
   return [
     make("span", {class: "upper"}, badge(head.verdict), ...kinds, named(head.trace), number),
-    faults.length > 0 ? make("span", {class: "lower faults"}, ...faults) : null,
+    faults.length > 0 ? make("span", {class: "lower faults"}, ...faults) : undecidedInRow(head),
     make("span", {class: "lower"}, make("code", {}, ids), head.table === undefined ? null : named(head.table)),
   ];
 }
