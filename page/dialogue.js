@@ -2,9 +2,6 @@
 
 const OCTETS_IN_ROW = 16;
 const KEPT = "\n";
-// The components of which one answers the other: an Invoke has an invoke ID and its operation, an answer the ID alone.
-const INVOKE = /^Invoke (-?\d+) (.*)$/s;
-const ANSWER = /^(?:ReturnResultLast|ReturnResultNotLast|ReturnError) (-?\d+)$/;
 
 /** Octets, 16 in a row: their place, their digits, and those that are letters. */
 function dumpOf(digits) {
@@ -44,35 +41,11 @@ function placeOf(message) {
   return [message.line > 0 ? `line ${message.line}` : "", message.comment ?? ""].filter((it) => it !== "").join(": ");
 }
 
-/** A component of a message; an answer with its operation, where that is sure. */
-function withOperation(part, {end, dtid}, invokes) {
-  const found = invokes.get(`${otherEnd(end)} ${ANSWER.exec(part)?.[1]}`) ?? null;
-  return found !== null && found.otid === dtid ? `${part} answers ${found.operation}` : part;
-}
-
-/** Messages, of which the answers have their operations. One is sure where the other end sent but one Invoke of its ID before, from
- * the transaction ID to which the answer goes, and where no entry before it is left out or can't be read. */
-function withOperations(messages) {
-  const invokes = new Map();
-  let isSure = true;
-  return messages.map((message, at) => {
-    const {entry, end, otid, fault, components} = message;
-    isSure &&= entry === at && fault === undefined;
-    if (!isSure || components === undefined) return message;
-    const parts = components.map((it) => withOperation(it, message, invokes));
-    for (const [, id, operation] of components.map((it) => INVOKE.exec(it)).filter((it) => it !== null)) {
-      const key = `${end} ${id}`;
-      invokes.set(key, invokes.has(key) ? null : {otid, operation});
-    }
-    return {...message, components: parts};
-  });
-}
-
-/** The step of an entry. */
-function stepOf(message) {
+/** The step of an entry. `operations` has the names of those of its dialogue, by their codes. */
+function stepOf(message, operations) {
   const {entry} = message;
   const step = {number: entry, label: String(entry), entry, from: message.end ?? null, ids: idsIn(message), more: "", tags: [],
-    parts: message.components ?? [], place: placeOf(message), arrow: WHOLE, detail: () => detailOf(message)};
+    parts: partsIn(message, operations), place: placeOf(message), arrow: WHOLE, detail: () => detailOf(message)};
   if (message.mark === true) return {...step, title: "Quiet mark"};
   if (message.kind === undefined) return {...step, title: "No message", more: seen(message.fault)};
   return {...step, title: message.kind, more: portionIn(message.show)};
@@ -93,15 +66,15 @@ function leap(entry) {
   return make("button", {type: "button", class: "leap", "data-to": entry}, String(entry));
 }
 
-/** A line of a reason. Where it is one of what is shown, its entries are buttons. */
+/** A line of a reason. Where it is one of what is shown, its entries are buttons, with how often it names each. */
 function reasonLine(line, shows) {
   const found = shows.find((it) => it.entries.length > 0 && line.trimStart().startsWith(`${it.what}:`));
   if (found === undefined) return make("div", {class: "line"}, seen(line));
-  const entries = [...new Set(found.entries)].slice(0, 100).map(leap);
-  const others = new Set(found.entries).size - entries.length;
+  const counts = [...tally(found.entries)], first = counts.slice(0, 100), others = counts.length - first.length;
+  const entries = first.flatMap(([entry, count]) => [" ", leap(entry), often(count)]);
   const behind = others > 0 ? ` and ${counted(others, "other")}` : "";
   const margin = line.slice(0, line.search(/\S|$/));
-  return make("div", {class: "line"}, `${margin}${seen(found.what)}: `, ...entries, behind);
+  return make("div", {class: "line"}, `${margin}${seen(found.what)}:`, ...entries, behind);
 }
 
 /** The words of a reason, without the blanks that all its lines begin with. */
@@ -111,12 +84,18 @@ function reasonOf(text, evidence) {
   return make("div", {class: "reason"}, ...lines.map((it) => reasonLine(it.slice(margin), evidence?.shows ?? [])));
 }
 
+/** Which fault of its kind it is; null where no line of the reason tells it. */
+function tellingView(said) {
+  const telling = tellingOf(said);
+  return telling === "" ? null : make("span", {class: "telling"}, cut(seen(telling), LONG_TITLE));
+}
+
 /** What is said of an end, in one line. Of the other end `before` is the entry at fault, where it is one. */
 function summaryOf(end, said, before) {
   if (said.kind !== undefined) {
     const place = placeOfFault(said), later = before < said.entry ? " It comes later and may follow from the first." : "";
     const words = `${place === "" ? "" : `, ${place}`}, ${said.kind}. ${wordsOfKind(said.kind)}${later}`;
-    return make("p", {class: "summary"}, badge(said.verdict), ` ${end}: at entry `, leap(said.entry), words);
+    return make("p", {class: "summary"}, badge(said.verdict), ` ${end}: at entry `, leap(said.entry), words, tellingView(said));
   }
   const words = said.verdict === "pass"
     ? `sent ${counted(said.sent, "message")}, with ${counted(said.unheard, "message")} of its peer taken as unheard.`
@@ -174,7 +153,8 @@ function ladderOf(dialogue) {
   if (found === null) return make("p", {class: "note"}, "The messages of this dialogue can't be read: its line is cut.");
   const joins = joinsOf(dialogue), {ids} = dialogue.head;
   const heads = ENDS.map((end) => `${end} ${cut(ids[end].join(" "), LONG_NAME)}`);
-  const steps = withOperations(found.messages).map(stepOf);
+  const operations = operationsIn(found.messages, reasonsIn(dialogue.head));
+  const steps = withOperations(found.messages).map((it) => stepOf(it, operations));
   const count = dialogue.head.entries.length;
   const [left, all] = [found.leftOut, count].map((it) => it.toLocaleString("en"));
   const note = found.leftOut > 0 ? make("p", {class: "note"}, `${left} of the ${all} entries are not listed.`) : null;
@@ -187,9 +167,10 @@ function headingOf(trace, words, verdict) {
   return make("div", {class: "heading"}, heading, opening("The whole name", trace));
 }
 
-/** All that is shown of a dialogue: where both ends are at fault, first of the one whose entry comes first. */
+/** All that is shown of a dialogue: first of the end that is at fault, and where both are, of the one whose entry comes first. */
 function dialogueView(dialogue) {
-  const {head, blamed} = dialogue, ends = blamed.length > 1 ? blamed : ENDS.filter((end) => head[end] !== undefined);
+  const {head, blamed} = dialogue;
+  const ends = [...blamed, ...ENDS.filter((end) => head[end] !== undefined && !blamed.includes(end))];
   const made = make("article", {class: "dialogue", "aria-label": `Dialogue ${head.dialogue}`},
     headingOf(head.trace, ` dialogue ${head.dialogue} `, head.verdict), factsOf(head),
     ...ends.map((end) => summaryOf(end, head[end], head[otherEnd(end)]?.entry)),
@@ -209,12 +190,21 @@ function traceSums(head) {
     fact("Pass unheard or unanswered", head.unheard.toLocaleString("en")));
 }
 
-/** All that is shown of a trace. `enter` lists its dialogues. */
-function traceView({head}, count, enter) {
+/** What became of the messages of a trace that is an error by itself. */
+function unjudgedWords({dialogues, messages}) {
+  if (VERDICTS.some((it) => dialogues[it] > 0)) return "What was under way at the fault is not judged.";
+  if (messages === 0) return "";
+  return messages === 1 ? "Its message was not judged." : `None of its ${messages.toLocaleString("en")} messages was judged.`;
+}
+
+/** All that is shown of a trace. `enter` lists its dialogues, and `note` is what else is to be known. */
+function traceView(trace, count, enter, note) {
+  const {head} = trace, words = isInError(trace) ? unjudgedWords(head) : "";
+  const notes = [note, words].filter((it) => it !== "").map((it) => make("p", {class: "note"}, it));
   const hint = head.hint === undefined ? "" : `\nhint: ${head.hint}`;
   const text = head.text === undefined ? null : make("div", {class: "reason"}, seen(`${head.text}${hint}`, KEPT));
   const button = make("button", {type: "button"}, `List its dialogues that do not pass (${count.toLocaleString("en")})`);
   button.addEventListener("click", enter);
-  return make("article", {class: "trace"}, headingOf(head.trace, " ", head.verdict), text, traceSums(head),
+  return make("article", {class: "trace"}, headingOf(head.trace, " ", head.verdict), ...notes, text, traceSums(head),
     count > 0 ? button : null);
 }

@@ -53,7 +53,7 @@ function chooseTrace(form, {number, head}) {
 /** Fills the filters with what the report has. */
 function fillFilters(form, report) {
   const {dialogues} = report;
-  const verdicts = tally(dialogues.map(({head}) => head.verdict));
+  const verdicts = tally([...report.traces.filter(isInError), ...dialogues].map(({head}) => head.verdict));
   const ends = tally(dialogues.flatMap((it) => it.blamed));
   const {verdict, end, kind, table, trace} = form.elements;
   const words = (it) => (it === "pass" ? "pass (traces alone)" : `${it} (${verdicts.get(it) ?? 0})`);
@@ -64,13 +64,15 @@ function fillFilters(form, report) {
   fillChoice(trace, traceOptions(report));
 }
 
-/** A term of the search: `part`, of an ID or a name; `line`, its number, or null; and `told`, whether comments have it. There a number
- * is no part of a longer one, since most of these are times. */
+/** A term of the search: `part`, of an ID or a name; `line`, its number, or null; `told`, whether comments have it; and `isWord`, whether
+ * it may be one of a reason. In comments a number is no part of a longer one, since most of these are times; in reasons it may be one
+ * of any thing, so that they are not asked. */
 function termOf(part) {
   const [, name, digits] = /^(?:(line|frame)\s+)?([1-9]\d*)$/.exec(part) ?? [];
-  if (digits === undefined) return {part, line: null, told: (comments) => comments.includes(part)};
+  if (digits === undefined) return {part, line: null, told: (comments) => comments.includes(part), isWord: !/^\d*$/.test(part)};
   const number = new RegExp(`(?<![\\w.:-])${name === "frame" ? "frames? (?:\\d+ to )?" : ""}${digits}(?![\\w:-]|\\.\\d)`);
-  return {part, line: name === "frame" ? null : Number(digits), told: (comments) => name !== "line" && number.test(comments)};
+  const told = (comments) => name !== "line" && number.test(comments);
+  return {part, line: name === "frame" ? null : Number(digits), told, isWord: false};
 }
 
 /** What the filters ask for. */
@@ -87,8 +89,9 @@ function isBlamedSo({head, blamed}, {end, kind}) {
 }
 
 /** Whether what is searched has a term. */
-function hasTerm({ids, lines, names, comments}, {part, line, told}) {
-  return names.includes(part) || ids.some((id) => id.includes(part)) || lines.includes(line) || told(comments);
+function hasTerm({ids, lines, kinds, names, comments, reasons}, {part, line, told, isWord}) {
+  return names.includes(part) || ids.some((id) => id.includes(part)) || lines.includes(line) || told(comments)
+    || kinds.includes(part) || (isWord && reasons.includes(part));
 }
 
 /** Whether a dialogue has each term. */
@@ -106,14 +109,18 @@ function isListed(dialogue, asked) {
 
 /** Whether a trace is listed by itself: where nothing is asked that only a dialogue has. */
 function isTraceListed({head, number}, asked) {
-  const words = {ids: [], lines: [head.line], names: head.trace.toLowerCase(), comments: ""};
+  const reasons = [head.text ?? "", head.hint ?? "", head.unheard > 0 ? UNHEARD : ""].join("\n").toLowerCase();
+  const words = {ids: [], lines: [head.line], kinds: [], names: head.trace.toLowerCase(), comments: "", reasons};
   return asked.end + asked.kind + asked.table === "" && (asked.trace === "" || String(number) === asked.trace)
     && (asked.verdict === "" || head.verdict === asked.verdict) && asked.terms.every((it) => hasTerm(words, it));
 }
 
-/** The dialogues that are listed, and the traces: those by themselves, and those of which a dialogue is. */
+/** The dialogues that are listed; `inError`, the traces that are listed before them since they are errors by themselves; `rows`, both;
+ * and the traces in their own list: those by themselves, and those of which a dialogue is. */
 function listed(report, asked) {
   const dialogues = report.dialogues.filter((it) => isListed(it, asked));
-  const having = new Set(dialogues.map((it) => it.trace));
-  return {dialogues, traces: report.traces.filter((it) => isTraceListed(it, asked) || having.has(it.number))};
+  const having = new Set(dialogues.map((it) => it.trace)), alone = report.traces.filter((it) => isTraceListed(it, asked));
+  const inError = alone.filter(isInError), of = new Set(alone.map((it) => it.number));
+  const traces = report.traces.filter(({number}) => of.has(number) || having.has(number));
+  return {dialogues, inError, rows: [...inError, ...dialogues], traces};
 }

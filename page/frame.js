@@ -2,31 +2,41 @@
 
 // How many dialogues are printed at once.
 const PRINTED = 500;
-// How many IDs of an end a row has.
-const SOME_IDS = 4;
 // After how many milliseconds it is looked again whether something of the report has come.
 const PAUSE = 20;
 // After how many milliseconds a dialogue that is shown is named in the address.
 const STAY = 300;
 // What of a step can have the focus.
 const WORKED = ":is(button, .still)";
+// Where the lists stand above what is shown; frame.css has the same.
+const NARROW = "(max-width: 820px)";
 
 /** The element of that ID. */
 function byId(id) {
   return document.getElementById(id);
 }
 
-/** The table of sums. */
-function sumsView(sums) {
+/** A text, as a button where there is something to list. */
+function lister(words, title, list) {
+  if (list === null) return words;
+  const button = make("button", {type: "button", class: "lister", title, "aria-label": `${words}. ${title}`}, words);
+  button.addEventListener("click", list);
+  return button;
+}
+
+/** The table of sums. Where the lists have what is counted, a click on a count lists it, by the filter or the word that does. */
+function sumsView(sums, list) {
   const head = make("tr", {}, ...["", ...VERDICTS.map(badge), "all"].map((it) => make("th", {scope: "col"}, it)));
   const rows = ["traces", "dialogues"].map((what) => {
-    const counts = VERDICTS.map((it) => sums[what][it]);
-    const all = [...counts, counts.reduce((one, other) => one + other, 0)];
-    const cells = all.map((it) => make("td", {}, it.toLocaleString("en")));
-    return make("tr", {}, make("th", {scope: "row"}, what), ...cells);
+    const counts = VERDICTS.map((it) => sums[what][it]), all = counts.reduce((one, other) => one + other, 0);
+    const isListed = (it) => sums[what][it] > 0 && (what === "traces" || it !== "pass");
+    const cells = VERDICTS.map((it) => lister(sums[what][it].toLocaleString("en"), `Lists the ${what} whose verdict is ${it}`,
+      isListed(it) ? () => list(what, "verdict", it) : null));
+    return make("tr", {}, ...[make("th", {scope: "row"}, what)], ...[...cells, all.toLocaleString("en")].map((it) => make("td", {}, it)));
   });
-  const others = `${counted(sums.messages, "message")}; ${sums.unheard.toLocaleString("en")} pass unheard or unanswered`;
-  return [make("table", {}, head, ...rows), make("p", {class: "small"}, others)];
+  const unheard = lister(`${sums.unheard.toLocaleString("en")} pass ${UNHEARD}`, "Lists the traces that have such dialogues",
+    sums.unheard > 0 ? () => list("traces", "words", "unheard") : null);
+  return [make("table", {}, head, ...rows), make("p", {class: "small"}, `${counted(sums.messages, "message")}; `, unheard)];
 }
 
 /** What has to be known of a report that has not all. */
@@ -51,53 +61,6 @@ function kindsView() {
   return make("dl", {}, ...rows);
 }
 
-/** What the row of a dialogue has of an end at fault: where, and what its kind means. */
-function faultInRow(end, said, isAlone) {
-  const place = [isAlone ? "" : end, placeOfFault(said)].filter((it) => it !== "").join(" ");
-  const words = wordsOfKind(said.kind);
-  return make("span", {title: words}, place === "" ? words : `${place}: ${words}`);
-}
-
-/** The row of a dialogue. */
-function dialogueRow({head, blamed}) {
-  const ids = ENDS.map((end) => `${end} ${head.ids[end].slice(0, SOME_IDS).join(" ") || "-"}`).join("  ");
-  const kinds = blamed.map((end) => make("b", {title: wordsOfKind(head[end].kind)}, `${end} ${head[end].kind}`));
-  const faults = blamed.map((end) => faultInRow(end, head[end], blamed.length === 1));
-  const number = make("span", {}, `dialogue ${head.dialogue}`);
-  return [
-    make("span", {class: "upper"}, badge(head.verdict), ...kinds, named(head.trace), number),
-    faults.length > 0 ? make("span", {class: "lower faults"}, ...faults) : null,
-    make("span", {class: "lower"}, make("code", {}, ids), head.table === undefined ? null : named(head.table)),
-  ];
-}
-
-/** The row of a trace. */
-function traceRow({head}) {
-  const {trace, verdict, dialogues, text} = head;
-  const counts = verdict === null ? ["not judged to its end"]
-    : VERDICTS.filter((it) => dialogues[it] > 0).map((it) => `${dialogues[it].toLocaleString("en")} ${it}`);
-  return [
-    make("span", {class: "upper"}, verdict === null ? null : badge(verdict), named(trace)),
-    make("span", {class: "lower"}, make("span", {}, counts.join(", ")), text === undefined ? null : named(text)),
-  ];
-}
-
-/** What a fragment leads to: the number of a dialogue in the page, or its trace and its number there. */
-function dialogueAt(fragment, report) {
-  if (/^#\d+$/.test(fragment)) return report.dialogues[Number(fragment.slice(1))];
-  const asked = new URLSearchParams(fragment.slice(1));
-  const [trace, number] = [asked.get("trace"), asked.get("dialogue")];
-  return report.dialogues.find(({head}) => head.trace === trace && String(head.dialogue) === number);
-}
-
-/** The fragment that leads to a dialogue. */
-function fragmentOf(dialogue, report) {
-  const {trace, dialogue: number} = dialogue.head;
-  const fragment = `#${new URLSearchParams({trace, dialogue: number})}`;
-  const isLong = trace.length > LONG_TITLE;
-  return !isLong && dialogueAt(fragment, report) === dialogue ? fragment : `#${dialogue.number}`;
-}
-
 /** The page of a report. */
 class Page {
   constructor(report) {
@@ -106,11 +69,11 @@ class Page {
     this.shown = byId("shown");
     this.lists = {
       dialogues: new RowList(byId("dialogues"),
-        {row: dialogueRow, chosen: (it) => this.showDialogue(it), entered: () => this.enter()}),
+        {row: rowOf, chosen: (it) => this.choose(it), clicked: () => this.uncover(), entered: () => this.enter()}),
       traces: new RowList(byId("traces"),
-        {row: traceRow, chosen: (it) => this.showTrace(it), entered: (it) => this.listTrace(it)}),
+        {row: traceRow, chosen: (it) => this.choose(it), clicked: () => this.uncover(), entered: (it) => this.listTrace(it)}),
     };
-    this.listed = {dialogues: [], traces: []};
+    this.listed = {dialogues: [], inError: [], rows: [], traces: []};
     this.fragment = window.location.hash;
     byId("kinds").append(kindsView());
     this.hear();
@@ -123,14 +86,17 @@ class Page {
       return;
     }
     fillFilters(this.form, this.report);
-    if (this.report.isRead) byId("sums").replaceChildren(...sumsView(sumsOf(this.report)));
+    const list = (...what) => this.listBy(...what);
+    if (this.report.isRead) byId("sums").replaceChildren(...sumsView(sumsOf(this.report), list));
     byId("notes").replaceChildren(...notesOn(this.report));
+    if (!this.isUsed) this.chosen = null;
     this.refresh();
     if (this.follow(this.fragment)) this.fragment = "";
   }
 
   /** Has each control do what it is for. */
   hear() {
+    for (const name of ["click", "keydown", "input"]) document.addEventListener(name, () => (this.isUsed = true), {capture: true});
     for (const name of ["input", "change"]) this.form.addEventListener(name, () => this.ask());
     this.form.addEventListener("submit", (event) => this.submit(event));
     byId("clear").addEventListener("click", () => this.clear());
@@ -139,6 +105,7 @@ class Page {
     byId("tabs").addEventListener("keydown", (event) => this.turnBy(event));
     this.shown.addEventListener("click", (event) => this.leap(event.target));
     this.shown.addEventListener("keydown", (event) => this.leave(event));
+    byId("lists").addEventListener("keydown", (event) => this.leaveList(event));
     window.addEventListener("hashchange", () => this.follow(window.location.hash));
     window.addEventListener("afterprint", () => this.unprint());
   }
@@ -166,30 +133,54 @@ class Page {
     const now = listed(this.report, askedOf(this.form));
     this.listed = now;
     this.asked = this.formText();
-    const at = Math.max(0, now.dialogues.indexOf(this.chosen));
-    this.lists.dialogues.list(now.dialogues, Math.min(at, now.dialogues.length - 1));
+    const at = Math.max(0, now.rows.indexOf(this.chosen));
+    this.lists.dialogues.list(now.rows, Math.min(at, now.rows.length - 1));
     this.lists.traces.list(now.traces, -1);
+    this.tellCounts(now);
+    if (now.rows.length === 0) this.showNone();
+    else this.choose(now.rows[at]);
+  }
+
+  /** Says how many are listed. */
+  tellCounts(now) {
+    const inError = now.inError.length > 0 ? `, ${counted(now.inError.length, "trace")} in error` : "";
     const said = Object.keys(this.lists).map((name) => {
       const [count, all] = [now[name].length, this.report[name].length].map((it) => it.toLocaleString("en"));
-      return byId(`tab-${name}`).textContent = `${name === "traces" ? "Traces" : "Dialogues"} ${count} of ${all}`;
+      const words = name === "traces" ? `Traces ${count} of ${all}` : `Dialogues ${count} of ${all}${inError}`;
+      return byId(`tab-${name}`).textContent = words;
     });
     byId("listed").textContent = `${said.join(". ")}.`;
-    if (now.dialogues.length === 0) this.showNone();
-    else this.showDialogue(now.dialogues[at]);
   }
 
-  /** Shows a dialogue, and names it in the address once it stays: browsers let that be changed so often and no more. */
-  showDialogue(dialogue) {
-    this.chosen = dialogue;
-    this.view(dialogue, () => dialogueView(dialogue));
+  /** Lists what a filter or a word leaves, in the list of dialogues or of traces. */
+  listBy(name, filter, value) {
+    this.form.reset();
+    this.form.elements[filter].value = value;
+    this.refresh();
+    this.turnTo(name);
+    this.list().box.focus();
+  }
+
+  /** Shows a dialogue or a trace that is chosen, and names it in the address once it stays: browsers let that be changed so often and
+   * no more. */
+  choose(item) {
+    const {report} = this;
+    if (this.listed.rows.includes(item)) this.chosen = item;
+    this.view(item, () => this.viewOf(item, ""));
+    this.name(isTrace(item) ? fragmentOfTrace(item, report) : fragmentOf(item, report));
+  }
+
+  /** Has the address have a fragment, soon. */
+  name(fragment) {
     clearTimeout(this.timer);
-    this.timer = setTimeout(() => window.history.replaceState(null, "", fragmentOf(dialogue, this.report)), STAY);
+    this.timer = setTimeout(() => window.history.replaceState(null, "", fragment), STAY);
   }
 
-  /** Shows a trace. */
-  showTrace(trace) {
-    const count = this.report.dialogues.filter((it) => it.trace === trace.number).length;
-    this.view(trace, () => traceView(trace, count, () => this.listTrace(trace)));
+  /** What is shown of a dialogue or a trace; `note` is what else is to be known of a trace. */
+  viewOf(item, note) {
+    if (!isTrace(item)) return dialogueView(item);
+    const count = this.report.dialogues.filter((it) => it.trace === item.number).length;
+    return traceView(item, count, () => this.listTrace(item), note);
   }
 
   /** Shows a run, beside which nothing is listed. */
@@ -201,11 +192,23 @@ class Page {
     this.view(run, () => runView(run));
   }
 
-  /** Says that no dialogue is listed. */
+  /** Says that no dialogue is listed, and leads to the traces where there are such. */
   showNone() {
-    this.view(null, () => make("p", {class: "empty"}, this.report.dialogues.length > 0
-      ? "No dialogue is listed: the filters leave none."
-      : "No dialogue is listed. Those that pass are only counted."));
+    const count = this.listed.traces.length, isAsked = [...new FormData(this.form).values()].some((it) => it !== "");
+    const words = isAsked || this.report.dialogues.length > 0 ? "No dialogue is listed: the filters leave none."
+      : "No dialogue is listed. Those that pass are only counted.";
+    const which = count === 1 ? "the trace" : `the ${count.toLocaleString("en")} traces`;
+    const button = make("button", {type: "button"}, `Show ${which} that the filters leave`);
+    button.addEventListener("click", () => this.turnToTraces());
+    this.chosen = null;
+    this.view(null, () => make("p", {class: "empty"}, words, ...(isAsked && count > 0 ? [" ", button] : [])));
+  }
+
+  /** Turns to the list of traces, and shows the first. */
+  turnToTraces() {
+    this.turnTo("traces");
+    this.lists.traces.choose(0);
+    this.list().box.focus();
   }
 
   /** Shows what is made of an item, but where it is shown already. */
@@ -218,7 +221,17 @@ class Page {
 
   /** Goes from the list to what is shown: to the message at fault, or else to the heading. */
   enter() {
-    (this.shown.querySelector(`.step.fault ${WORKED}`) ?? this.shown.querySelector("h2")).focus();
+    (this.shown.querySelector(`.step.fault ${WORKED}`) ?? this.shown.querySelector("h2"))?.focus();
+  }
+
+  /** Where what is shown stands below the list, goes there. */
+  uncover() {
+    if (window.matchMedia(NARROW).matches) this.enter();
+  }
+
+  /** At Escape goes from the list back to the search. */
+  leaveList(event) {
+    if (event.key === "Escape") this.form.elements.words.focus();
   }
 
   /** At Escape closes the message that has the focus, or else goes back to the list. */
@@ -280,22 +293,52 @@ class Page {
     this.refresh();
   }
 
-  /** Goes to the dialogue that a fragment names, and returns whether there is one. */
+  /** Goes to what a fragment names, and returns whether it is there. What has no dialogue may come yet, until all is read. */
   follow(fragment) {
-    const dialogue = dialogueAt(fragment, this.report);
-    if (dialogue === undefined) return false;
-    if (!this.listed.dialogues.includes(dialogue)) this.clear();
-    this.turnTo("dialogues");
-    this.lists.dialogues.choose(this.listed.dialogues.indexOf(dialogue));
+    const dialogue = dialogueAt(fragment, this.report), trace = traceAt(fragment, this.report);
+    if (dialogue !== undefined) {
+      this.goTo("dialogues", dialogue);
+    } else if (this.report.isRead && trace !== undefined) {
+      const [, number] = namesIn(fragment);
+      this.goTo("traces", trace);
+      if (number !== null) this.tellMissing(fragment, () => this.viewOf(trace, missingIn(trace, number, this.report)));
+    } else {
+      if (this.report.isRead) this.sayMissing(fragment);
+      return false;
+    }
+    this.uncover();
     return true;
   }
 
-  /** Prints the dialogues that are listed. */
+  /** Chooses a dialogue or a trace in its list, whatever is asked for. */
+  goTo(name, item) {
+    this.isUsed = true;
+    const rows = () => (name === "traces" ? this.listed.traces : this.listed.rows);
+    if (!rows().includes(item)) this.clear();
+    this.turnTo(name);
+    this.lists[name].choose(rows().indexOf(item));
+  }
+
+  /** Says that what a fragment names is not in the page, where it names something. */
+  sayMissing(fragment) {
+    const words = missingAt(fragment);
+    if (words === "") return;
+    this.lists.dialogues.list(this.listed.rows, -1);
+    this.tellMissing(fragment, () => make("p", {class: "note"}, words));
+  }
+
+  /** Shows what is made of a fragment that names what is not in the page; the address keeps it. */
+  tellMissing(fragment, made) {
+    this.view(null, made);
+    this.name(fragment);
+  }
+
+  /** Prints the traces in error and the dialogues that are listed. */
   printListed() {
-    const {dialogues} = this.listed;
-    const note = dialogues.length > PRINTED
-      ? make("p", {class: "note"}, `The first ${PRINTED} of ${dialogues.length.toLocaleString("en")} dialogues.`) : "";
-    byId("printed").replaceChildren(note, ...dialogues.slice(0, PRINTED).map(dialogueView));
+    const {rows} = this.listed;
+    const note = rows.length > PRINTED
+      ? make("p", {class: "note"}, `The first ${PRINTED} of ${rows.length.toLocaleString("en")} that are listed.`) : "";
+    byId("printed").replaceChildren(note, ...rows.slice(0, PRINTED).map((it) => this.viewOf(it, "")));
     document.body.classList.add("prints-listed");
     window.print();
   }

@@ -2,11 +2,11 @@
 //
 // A step has `number`, its place in the ladder; `label`, the number that is seen; `entry`, that by which a button leads to it, or
 // null; `from`, the end that sends it, or null, and then `at`, the end where it happens, if it is one; the texts `title`, `ids`,
-// `more` and `place`; `parts`, texts in lines of their own; `tags`, elements behind its title; `isMarked`; `arrow`; `way`, the words
-// for it, where they are others; and `detail`, which makes what a click opens. A join is a line beside the ladder: `end`, at whose
-// side it is drawn; `by`, a set of the numbers that it ties; and `spans`, the first and the last number of each of its pieces. One that
-// ties the step at fault, which is open at once, to those that show it has `kind`; `isDoubtful`; `at`, the number of that step; and
-// `part`, that of its part at fault, or null; its span is that of what it ties.
+// `more` and `place`; `parts`, texts in lines of their own; `tags`, elements behind its title; `isMarked`, by which mark, where it has
+// one, `fault` or `doubtful`; `arrow`; `way`, the words for it, where they are others; and `detail`, which makes what a click opens. A
+// join is a line beside the ladder: `end`, at whose side it is drawn; `by`, a set of the numbers that it ties; and `spans`, the first
+// and the last number of each of its pieces. One that ties the step at fault, which is open at once, to those that show it has `kind`;
+// `isDoubtful`; `at`, the number of that step; and `part`, that of its part at fault, or null; its span is that of what it ties.
 
 // How many parts of a step are drawn.
 const MOST_PARTS = 12;
@@ -37,8 +37,15 @@ function lane(join, number, side) {
     if (!join.spans.some(([first, last]) => first < number && number <= last)) classes.push("begins");
     if (!join.spans.some(([first, last]) => first <= number && number < last)) classes.push("ends");
     if (join.kind === undefined) classes.push("late");
+    if (join.isDoubtful === true) classes.push("doubtful");
   }
   return make("span", {class: classes.join(" "), "aria-hidden": "true"});
+}
+
+/** Whether what a join says of a step at fault is in doubt, as far as any says so. */
+function isInDoubt(joins, number) {
+  const found = joins.filter((it) => it.at === number);
+  return found.length > 0 && found.every((it) => it.isDoubtful === true);
 }
 
 /** The mark of what a join says is at fault: where that is inconclusive, it is in doubt. */
@@ -59,7 +66,7 @@ function marks(joins, number) {
 
 /** A part of a step, which a join may say is at fault. */
 function partView(part, join) {
-  const words = cut(seen(part), LONG_NAME);
+  const words = cut(seen(part), 2 * LONG_NAME);
   if (join === undefined) return make("span", {class: "part"}, words);
   return make("span", {class: "part"}, make("u", {}, words), " ", faultMark(join, "", ""));
 }
@@ -118,8 +125,10 @@ function row(attributes, number, joins, inner) {
 
 /** The row of a step. */
 function rung(step, joins) {
-  const isFault = step.isMarked === true || joins.some((it) => it.at === step.number);
-  return row({class: isFault ? "step fault" : "step", "data-entry": step.entry}, step.number, joins, between(step, joins));
+  const isFault = step.isMarked !== undefined || joins.some((it) => it.at === step.number);
+  const isDoubtful = isInDoubt(joins, step.number) || step.isMarked === "doubtful";
+  const classes = ["step", isFault ? "fault" : "", isDoubtful ? "doubtful" : ""].filter((it) => it !== "").join(" ");
+  return row({class: classes, "data-entry": step.entry}, step.number, joins, between(step, joins));
 }
 
 /** A row for steps that are not listed. */

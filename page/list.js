@@ -5,7 +5,8 @@ const ROW = 62;
 // How many rows are drawn above and below those in view.
 const BESIDE = 8;
 
-/** A listbox. `show.row` makes what a row has, `show.chosen` is told of what is chosen, and `show.entered` of Enter. */
+/** A listbox. `show.row` makes what a row has, `show.chosen` is told of what is chosen, `show.clicked` of a click on it, and
+ * `show.entered` of Enter. */
 class RowList {
   constructor(box, show) {
     Object.assign(this, {box, show, items: [], at: -1});
@@ -65,7 +66,9 @@ class RowList {
   /** Chooses the row that is clicked. */
   clicked(event) {
     const row = event.target.closest(".row");
-    if (row !== null) this.choose(Number(row.dataset.at));
+    if (row === null) return;
+    this.choose(Number(row.dataset.at));
+    this.show.clicked();
   }
 
   /** Chooses by a key. */

@@ -2,6 +2,8 @@
 
 // In a text of JSON a quote stands behind a backslash, so these octets are a key and the beginning of its list.
 const MESSAGES = ',"messages":[';
+// What is said of dialogues that pass though an end did not hear all, or did not answer.
+const UNHEARD = "unheard or unanswered";
 
 /** The object of a line, null where it is none. */
 function objectOf(line) {
@@ -17,6 +19,16 @@ function objectOf(line) {
 function headOf(line) {
   const at = line.indexOf(MESSAGES);
   return objectOf(at < 0 ? line : `${line.slice(0, at)}}`);
+}
+
+/** Whether it is a trace; else it is a dialogue. */
+function isTrace(item) {
+  return item.line === undefined;
+}
+
+/** Whether a trace is an error by itself, and not by one of its dialogues. */
+function isInError({head}) {
+  return head.verdict === "error" && head.text !== undefined;
 }
 
 /** The ends of a dialogue that a kind of fault is said of, by their entries at fault. */
@@ -83,16 +95,23 @@ function messagesOf(dialogue) {
   return whole && {messages: whole.messages ?? [], leftOut: whole.left_out ?? 0};
 }
 
-/** What is searched of a dialogue: its IDs, its lines, and in lower case the names of its trace, its table and its operations, and
- * the comments. */
+/** What the reasons of a dialogue say. */
+function reasonsIn(head) {
+  const ends = ENDS.map((end) => head[end]).filter((it) => it !== undefined);
+  return [head.text ?? "", ...ends.flatMap(({text, doubt}) => [text ?? "", doubt ?? ""])];
+}
+
+/** What is searched of a dialogue: its IDs, its lines, and in lower case the kinds of fault, the names of its trace, its table and its
+ * operations, the comments, and the reasons. */
 function wordsOf(dialogue) {
   if (dialogue.words === null) {
-    const {head} = dialogue, messages = messagesOf(dialogue)?.messages ?? [];
+    const {head, blamed} = dialogue, messages = messagesOf(dialogue)?.messages ?? [];
     const parts = messages.flatMap((it) => it.components ?? []);
     const names = new Set(parts.flatMap((it) => it.split(" ")).filter((it) => !/^-?\d*$/.test(it)));
     const lower = (texts) => texts.join("\n").toLowerCase();
     dialogue.words = {ids: ENDS.flatMap((end) => head.ids[end]), lines: head.lines,
-      names: lower([head.trace, head.table ?? "", ...names]), comments: lower(messages.map((it) => it.comment ?? ""))};
+      kinds: blamed.map((end) => head[end].kind.toLowerCase()), names: lower([head.trace, head.table ?? "", ...names]),
+      comments: lower(messages.map((it) => it.comment ?? "")), reasons: lower(reasonsIn(head))};
   }
   return dialogue.words;
 }

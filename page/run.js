@@ -22,6 +22,7 @@ class RunRows {
   constructor({entries, of}) {
     Object.assign(this, {of, rows: [], sent: new Map(), spans: {A: [], B: []}});
     this.messages = new Map(entries.map((it) => [it.entry, it]));
+    this.operations = operationsIn(entries);
   }
 
   /** Adds a row, and returns it. */
@@ -38,7 +39,7 @@ class RunRows {
 
   /** Adds the row of an entry, with an arrow and words. */
   send(number, arrow, ...words) {
-    const row = this.add({...stepOf(this.messages.get(number)), arrow, tags: words.map(tag)});
+    const row = this.add({...stepOf(this.messages.get(number), this.operations), arrow, tags: words.map(tag)});
     this.sent.set(number, row);
     return row;
   }
@@ -111,7 +112,7 @@ class RunRows {
   /** Marks the entry where the verdict falls, by words. */
   mark(number, kind, words) {
     const row = this.sent.get(number) ?? this.say("Behind the last entry");
-    row.isMarked = true;
+    row.isMarked = kind;
     row.tags.unshift(make("strong", {class: `mark ${kind}`}, words));
   }
 

@@ -19,6 +19,14 @@ const KINDS = {
   F14: ["It is an Abort of the provider that answers nothing which is left.", "Q.774 3.3, abnormal procedures"],
   F15: ["It is a quiet mark, and a transaction of the end is surely open there.", "the bench's word that all was quiet"],
 };
+// The lines of a reason that say which fault of its kind it is, the most telling ones first; docs/TRACES.md has them, and
+// docs/FORMAT.md that of F8.
+const TELLING = {
+  F1: [/^why: (.*)/],
+  F6: [/^(the result names .*)/, /^(.* and a Unidirectional may invoke .*)/, /^(invocation -?\d+ in entry \d+ is of .*)/],
+  F8: [/^(the transaction of [AB]: .*)/],
+  F9: [/^(an AARE is missing: .*)/, /^(the (?:AARE|ABRT) is one too many: .*)/],
+};
 const ENDS = ["A", "B"];
 const VERDICTS = ["error", "fail", "inconc", "pass"];
 const SVG = "http://www.w3.org/2000/svg";
@@ -47,6 +55,18 @@ function counted(count, word) {
 function wordsOfKind(kind) {
   const [words, section] = KINDS[kind] ?? ["This page has no words for it.", kind];
   return `${words} (${section})`;
+}
+
+/** What of a reason tells which fault of its kind it is, in a line; nothing where no line does. */
+function tellingOf({kind, text}) {
+  const lines = text.split("\n").map((it) => it.trim());
+  return (TELLING[kind] ?? []).flatMap((form) => lines.map((it) => form.exec(it)?.[1])).filter((it) => it !== undefined).join("; ");
+}
+
+/** How often something is, in words, where it is more than once. */
+function often(count) {
+  if (count < 2) return "";
+  return count === 2 ? " (twice)" : ` (${count.toLocaleString("en")} times)`;
 }
 
 /** The line of an entry at fault, and the frame or frames that the comment above it names first, as far as there are such. */

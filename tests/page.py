@@ -1,6 +1,6 @@
 """Compares the frame of a page with the files that it is made of (tools/page.py), and looks at pages of made reports
 and runs (made_reports.py), and at pages that the program writes, in a browser (browser.py): the cases are those of page_cases.py,
-page_limits.py and page_runs.py, and of page_written.py. Where there is no browser that starts, or no loopback interface, over which
+page_parts.py, page_traces.py, page_limits.py and page_runs.py, and of page_written.py. Where there is no browser that starts, or no loopback interface, over which
 it is driven, it says so, and counts the frame alone."""
 
 import contextlib
@@ -15,7 +15,9 @@ import loopback
 import page
 import page_cases
 import page_limits
+import page_parts
 import page_runs
+import page_traces
 import page_written
 from made_reports import hostile, looked_like, open_at_end, planted
 from traced import SCHEMA, Checks, run
@@ -86,8 +88,8 @@ def main():
             except browser.NoBrowser as error:
                 print(f"skipped: pages in a browser, which does not start: {error}")
             else:
-                cases = [*page_cases.CASES, *page_limits.CASES, *page_runs.CASES, *page_written.CASES]
-                found += [looked_at(shown, case) for case in cases]
+                parts = [page_cases, page_parts, page_traces, page_limits, page_runs, page_written]
+                found += [looked_at(shown, case) for part in parts for case in part.CASES]
     for wrong in [wrong for checks in found for wrong in checks.wrong]:
         print(wrong)
     failed = sum(len(checks.wrong) for checks in found)

@@ -83,18 +83,6 @@ FAULT_WORDS = [
     f"line 4: {OF_MARK}",
     "line 52, frames 21 to 23: It invokes an ID that is in use. (Q.774 3.2, invocations; Q.771, classes)",
 ]
-# Of made_reports.answers the components of each message. The others have no operation that is sure: B invoked 7 itself, nobody 9, A 2
-# twice and 4 from an ID to which B does not answer; and before the last stands an entry that is no message.
-ANSWERS = [
-    ["Invoke 1 updateLocation 2", "Invoke 2 sendIMSI 58", "Invoke -3 45"],
-    ["ReturnResultNotLast 1 answers updateLocation 2", "ReturnResultLast -3 answers 45", "Invoke 7 cancelLocation 3"],
-    ["ReturnResultLast 1 answers updateLocation 2", "ReturnResultLast 7", "ReturnResultLast 9", "Reject 1"],
-    ["ReturnError 7 answers cancelLocation 3", "Invoke 2 sendIMSI 58"],
-    ["Invoke 4 checkIMEI 43"],
-    ["ReturnResultLast 2", "ReturnResultLast 4", "ReturnResultLast 1 answers updateLocation 2"],
-    [],
-    ["ReturnResultLast 1"],
-]
 OF_RESULT = "ReturnResultLast 1 answers updateLocation 2"
 DUMP = """0000  64 12 49 04 0b 00 00 01  6c 0a a2 03 02 01 01 a2  d.I.....l.......
 0010  03 02 01 01                                       ...."""
@@ -105,11 +93,20 @@ def open_planted(shown, fragment=""):
     shown.open(shown.put("planted", made.page_with(made.planted())) + fragment)
 
 
+def first_rows(shown):
+    """Of the rows of the list of dialogues that stand in the page the name and what stands last beside it."""
+    return shown.run("""[...document.querySelectorAll('#dialogues .upper')].map(
+        it => [it.querySelector('.name').textContent, it.lastChild.textContent])""")
+
+
 def listed(shown):
     """The dialogues whose rows stand in the page."""
-    rows = shown.run("""[...document.querySelectorAll('#dialogues .upper')].map(
-        it => [it.querySelector('.name').textContent, it.lastChild.textContent])""")
-    return [(name, int(number.removeprefix("dialogue "))) for name, number in rows]
+    return [(name, int(last.removeprefix("dialogue "))) for name, last in first_rows(shown) if last != name]
+
+
+def in_error(shown):
+    """The traces whose rows stand there before them: of a trace its name stands last."""
+    return [name for name, last in first_rows(shown) if last == name]
 
 
 def listed_traces(shown):
@@ -146,12 +143,16 @@ def filters(checks, shown):
         for name, value in chosen.items():
             shown.choose(name, value)
         checks.same(f"{chosen}, dialogues", listed(shown), dialogues)
-        counts = [f"Dialogues {len(dialogues)} of 6", f"Traces {len(traces)} of 5"]
+        # The trace that is an error by itself stands before the dialogues.
+        broken = [it for it in traces if it == "broken.hex"]
+        counts = [f"Dialogues {len(dialogues)} of 6{', 1 trace in error' * len(broken)}", f"Traces {len(traces)} of 5"]
+        checks.same(f"{chosen}, traces in error", in_error(shown), broken)
         checks.same(f"{chosen}, counts", shown.texts("[role=tab]"), counts)
         checks.same(f"{chosen}, said aloud", shown.text("#listed"), f"{'. '.join(counts)}.")
         checks.same(f"{chosen}, traces", listed_traces(shown), traces)
-        if not dialogues:
-            checks.same(f"{chosen}, shown", shown.text("#shown"), "No dialogue is listed: the filters leave none.")
+        if not dialogues and not broken:
+            words = "No dialogue is listed: the filters leave none."
+            checks.same(f"{chosen}, shown", shown.text("#shown"), words + " Show the trace that the filters leave" * len(traces))
         shown.click("#clear")
     kinds = shown.texts("#filters [name=kind] option")
     checks.same("kinds", [it.split(":")[0] for it in kinds], ["any", "F4 (1)", "F8 (1)", "F10 (1)", "F12 (1)", "F15 (1)"])
@@ -202,14 +203,14 @@ def typed_search(checks, shown):
     shown.click("#dialogues .row", 1)
     checks.same("the click behind it is heard", (len(listed(shown)), heading(shown)), (4, "calls.hex dialogue 1 fail"))
     words = [shown.text("#filters .words"), shown.run("document.querySelector('[name=words]').placeholder")]
-    checks.same("what is searched", words, ["Search IDs, names, comments, lines of the trace", "as 7f01, line 12 or frame 812"])
+    checks.same("what is searched", words, ["Search IDs, names, comments, lines, kinds, reasons", "as 7f01, line 12, frame 812, F9 or unheard"])
 
 
 def a_click(checks, shown):
     open_planted(shown)
-    checks.same("at first", heading(shown), "calls.hex dialogue 0 fail")
-    shown.click("#dialogues .row", 4)
-    checks.same("the fifth", heading(shown), "long.hex dialogue 0 fail")
+    checks.same("at first", heading(shown), "broken.hex error")
+    shown.click("#dialogues .row", 5)
+    checks.same("the sixth", heading(shown), "long.hex dialogue 0 fail")
     checks.same("chosen", shown.texts("#dialogues .row[aria-selected=true] .name"), ["long.hex", "MAP"])
     shown.click("#tab-traces")
     shown.click("#traces .row", 4)
@@ -252,9 +253,8 @@ def ladder(checks, shown):
 
 def reasons(checks, shown):
     open_planted(shown, "#0")
-    wanted = ["pass A: sent 2 messages, with 0 messages of its peer taken as unheard.",
-              "fail B: at entry 3, line 5, frame 15, F12. It answers an invocation that was answered already. "
-              "(Q.774 3.2; Q.771, classes)"]
+    wanted = ["fail B: at entry 3, line 5, frame 15, F12. It answers an invocation that was answered already. "
+              "(Q.774 3.2; Q.771, classes)", "pass A: sent 2 messages, with 0 messages of its peer taken as unheard."]
     checks.same("summaries", shown.texts(".summary"), wanted)
     lines = shown.texts(".reason .line")
     checks.same("first line", lines[0], "entry 3 of B, component 1: it answers an invocation that was answered already")
@@ -316,8 +316,11 @@ def list_of_faults(checks, shown):
     open_planted(shown)
     rows = shown.run("""[...document.querySelectorAll('#dialogues .row')].map(
         it => [...it.querySelectorAll('b')].map(it => it.innerText))""")
-    checks.same("kinds", rows, [*FAULTS[:3], [], FAULTS[3], []])
+    checks.same("kinds", rows, [[], *FAULTS[:3], [], FAULTS[3], []])
     checks.same("words", shown.texts("#dialogues .faults"), FAULT_WORDS)
+    others = [it for it in shown.texts("#dialogues .row") if "calls.hex dialogue 3" in it or "record.bin" in it]
+    checks.same("others", others, ["error calls.hex dialogue 3 no table is for a dialogue without a context A e5 B -", "inconc record.bin "
+                                   "dialogue 0 it is not found how it can have sent its part, and no entry of it is blamed A 0b99 B -"])
     titles = shown.run("[...document.querySelectorAll('#dialogues b')].map(it => it.title)")
     checks.same("title", titles[1], "Its end has ended this dialogue before. (Q.774 3.3)")
     cut = shown.run("[...document.querySelectorAll('#dialogues .row > *')].filter(it => it.scrollHeight > it.clientHeight).length")
@@ -344,18 +347,6 @@ def kinds(checks, shown):
     checks.same("Enter closes them", shown.run(seen), False)
     shown.press(Keys.SPACE)
     checks.same("a blank opens them", shown.run(seen), True)
-
-
-def operations(checks, shown):
-    """An answer has its operation, where that is sure."""
-    shown.open(shown.put("answers", made.page_with([made.answers()])))
-    found = shown.run("""[...document.querySelectorAll('.step')].map(
-        it => [...it.querySelectorAll('.part')].map(it => it.textContent))""")
-    checks.same("components", found, ANSWERS)
-    left_out = made.answers() | {"messages": [it for it in made.answers()["messages"] if it["entry"] != 4], "left_out": 1}
-    shown.open(shown.put("answers", made.page_with([left_out])))
-    found = shown.run("[...document.querySelectorAll('[data-entry=\"5\"] .part')].map(it => it.textContent)")
-    checks.same("behind what is left out", found, ["ReturnResultLast 2", "ReturnResultLast 4", "ReturnResultLast 1"])
 
 
 def open_at_once(checks, shown):
@@ -388,12 +379,15 @@ def keys(checks, shown):
         shown.press(Keys.TAB)
     checks.same("Tab leads to the list", focus(shown), "dialogues")
     checks.same("the focus is seen", shown.run("getComputedStyle(document.activeElement).outlineStyle"), "solid")
-    for name, wanted in (("ARROW_DOWN", 1), ("END", 5), ("ARROW_UP", 4), ("HOME", 0), ("ARROW_UP", 0), ("PAGE_DOWN", 5)):
+    rows = [["broken.hex", "error"], *([name, "dialogue", str(number)] for name, number in ALL)]
+    for name, wanted in (("ARROW_DOWN", 1), ("END", 6), ("ARROW_UP", 5), ("HOME", 0), ("ARROW_UP", 0), ("PAGE_DOWN", 6)):
         shown.press(getattr(Keys, name))
         active = shown.run("document.getElementById('dialogues').getAttribute('aria-activedescendant')")
         checks.same(f"{name}, its row", shown.run("document.getElementById(arguments[0]).dataset.at", active), str(wanted))
-        checks.same(f"{name}, shown", heading(shown).split()[:3], [ALL[wanted][0], "dialogue", str(ALL[wanted][1])])
+        checks.same(f"{name}, shown", heading(shown).split()[:3], rows[wanted])
     shown.press(Keys.HOME, Keys.ENTER)
+    checks.same("Enter leads to a trace in error", focus(shown), "h2")
+    shown.press(Keys.ESCAPE, Keys.ARROW_DOWN, Keys.ENTER)
     checks.same("Enter leads to the fault", shown.run("document.activeElement.closest('.step').dataset.entry"), "3")
     checks.same("it is open", len(shown.all(".detail")), 1)
     shown.press(Keys.ENTER)
@@ -404,6 +398,8 @@ def keys(checks, shown):
     checks.same("Escape closes it", (len(shown.all(".detail")), focus(shown)), (0, "message"))
     shown.press(Keys.ESCAPE)
     checks.same("Escape leads back", focus(shown), "dialogues")
+    shown.press(Keys.ESCAPE)
+    checks.same("and to the search", shown.run("document.activeElement.name"), "words")
 
 
 CASES = [sums, filters, events, filters_by_keys, typed_search, a_click, ladder, reasons, both_ends, open_and_hint, list_of_faults, kinds,

@@ -8,13 +8,12 @@ from page_cases import CALLS, LONG, focus, heading, listed, open_planted
 TURNS, MOST_TURNS = 3, 12
 # How often as long 10,000 dialogues may take as 1,000: until the first are listed, and until all are read.
 MOST_TIMES = [3, 10]
-# Fragments, and the dialogues that they lead to; the first where there is none.
-LINKS = [("#trace=long.hex&dialogue=0", LONG), ("#2", CALLS[2]), ("#trace=calls.hex&dialogue=3", CALLS[3]),
-         ("#trace=calls.hex&dialogue=9", CALLS[0]), ("#99", CALLS[0]), ("#nothing", CALLS[0]), ("", CALLS[0])]
+# Fragments, and the dialogues that they lead to.
+LINKS = [("#trace=long.hex&dialogue=0", LONG), ("#2", CALLS[2]), ("#trace=calls.hex&dialogue=3", CALLS[3]), ("#0", CALLS[0])]
 # Each colour of words, and what may stand behind it.
 INKS = ["ink", "muted", "fail", "inconc", "error", "pass"]
 PAIRS = [(ink, ground) for ink in INKS for ground in ("ground", "panel", "chosen")]
-PAIRS += [(ink, "fail-ground") for ink in INKS[:4]]
+PAIRS += [(ink, ground) for ink in INKS[:4] for ground in ("fail-ground", "inconc-ground")]
 # What WCAG 2.1 asks of words (1.4.3).
 CONTRAST = 4.5
 
@@ -200,7 +199,7 @@ def schemes(checks, shown):
 
 
 def printed(checks, shown):
-    open_planted(shown)
+    open_planted(shown, "#0")
     shown.show_as("print", "dark")
     seen = "arguments[0].map(it => document.querySelector(it).offsetHeight > 0)"
     parts = ["header", "#filters", "#lists", "#shown", "#printed"]
@@ -227,9 +226,9 @@ def named(checks, shown):
     for it in shown.all("button, select, input, [role=listbox], [role=tablist], [role=tabpanel], main section, .dump"):
         if it.get_attribute("id") not in ("printed", "traces", "panel-traces"):
             checks.holds(f"a name of {it.get_attribute('outerHTML')[:80]}", it.accessible_name)
-    row = shown.all("#dialogues .row")[2]
+    row = shown.all("#dialogues .row")[3]
     states = map(row.get_attribute, ("aria-selected", "aria-posinset", "aria-setsize"))
-    checks.same("a row", [row.aria_role, *states], ["option", "false", "3", "6"])
+    checks.same("a row", [row.aria_role, *states], ["option", "false", "4", "7"])
     checks.same("lists", [it.aria_role for it in shown.all("#dialogues, [role=tab]")], ["tab", "tab", "listbox"])
 
 

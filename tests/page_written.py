@@ -124,8 +124,8 @@ def hostile_texts(checks, shown):
         whole = shown.run("[...document.querySelectorAll('.step.fault .long .name')].map(it => it.textContent)")
         wanted = visible(comment, len(comment) * 9)
         checks.same(f"{number}, the whole comment", whole, [wanted] if len(wanted) > 80 else [])
-        summaries = [f"pass {PASSES}", f"fail B: at entry 1, line {line}{', frame 812' if 'frame' in comment else ''}, F5. "
-                     "It answers or rejects what its peer never sent. (Q.774 3.2)"]
+        summaries = [f"fail B: at entry 1, line {line}{', frame 812' if 'frame' in comment else ''}, F5. "
+                     "It answers or rejects what its peer never sent. (Q.774 3.2)", f"pass {PASSES}"]
         checks.same(f"{number}, summaries", shown.texts(".summary"), summaries)
         checks.same(f"{number}, elements", shown.run(found), [2, 1, 0, 0])
         checks.same(f"{number}, title", shown.run("document.title"), "TCAP dialogues, judged")

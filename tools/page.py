@@ -12,7 +12,7 @@ import sys
 
 FOLDER = "page"
 FRAME = "crates/tcap_page/src/frame.rt"
-SCRIPTS = ["text", "report", "list", "filters", "ladder", "dialogue", "run", "frame"]
+SCRIPTS = ["text", "report", "list", "filters", "ladder", "parts", "dialogue", "rows", "links", "run", "frame"]
 SCRIPT_FORM = '"use strict";\n(() => {{\n{}}})();\n'
 MARKER = "MARKER\n"
 POLICY = "default-src 'none'; base-uri 'none'; form-action 'none'; img-src data:; style-src '{}'; script-src '{}'"

@@ -1,12 +1,12 @@
 //! The frame of a page, made of the files in page/. tools/page.py writes this file.
 
 /// What stands before the objects of JSON: the style, the script and the places that it fills.
-pub const FRAME_HEAD: &str = r#"<!doctype html>
+pub const FRAME_HEAD: &str = r##"<!doctype html>
 <html lang="en">
 <head>
 <meta charset="utf-8">
 <meta name="viewport" content="width=device-width, initial-scale=1">
-<meta http-equiv="Content-Security-Policy" content="default-src 'none'; base-uri 'none'; form-action 'none'; img-src data:; style-src 'sha256-E1mfbSfEXkluwOzP2JrQtO0WoCxpnFMRAKEbCMv6+bY='; script-src 'sha256-umg4LzvkpIDNq+WXFjTR5V4O306ZpByJx1sv9LmCXbE='">
+<meta http-equiv="Content-Security-Policy" content="default-src 'none'; base-uri 'none'; form-action 'none'; img-src data:; style-src 'sha256-b0zgqhZQcEiID3cAmXbQG5ZjidSJJ+1gn/Cjo2FQ6OU='; script-src 'sha256-oTE1hcgZqAzxnlBV8s48A9Fnjyq23grB2XY9RT7/wWQ='">
 <meta name="referrer" content="no-referrer">
 <title>TCAP dialogues, judged</title>
 <link rel="icon" href="data:,">
@@ -23,6 +23,7 @@ pub const FRAME_HEAD: &str = r#"<!doctype html>
   --chosen: #e3edfb;
   --fail: #b3261e;
   --fail-ground: #fdecea;
+  --inconc-ground: #fff4df;
   --inconc: #8a5700;
   --error: #6b2fa0;
   --pass: #1a6b3c;
@@ -41,6 +42,7 @@ pub const FRAME_HEAD: &str = r#"<!doctype html>
     --chosen: #22334d;
     --fail: #ff8f86;
     --fail-ground: #3a1d1c;
+    --inconc-ground: #33270f;
     --inconc: #f0b64f;
     --error: #cba6f7;
     --pass: #7fd19b;
@@ -157,16 +159,21 @@ main { display: grid; grid-template-columns: minmax(300px, 30%) minmax(0, 1fr); 
 .lower { color: var(--muted); }
 .lower > code { white-space: pre; }
 .lower > .name { flex-shrink: 20; }
+.faults > span + span { flex-shrink: 1000; }
 
 #shown { overflow-y: auto; min-width: 0; }
 article { display: grid; gap: 8px; padding: 12px 16px; }
 article > * { min-width: 0; }
+article > button { justify-self: start; }
 .heading .badge { vertical-align: 2px; }
 .facts { display: flex; flex-wrap: wrap; gap: 2px 24px; }
 .facts dt { color: var(--muted); font-size: 11px; }
 .facts dd { overflow-wrap: anywhere; }
 .summary { font-weight: 600; }
 .summary .badge { min-width: 52px; text-align: center; }
+.telling { display: block; margin-left: 58px; font: 12px/1.5 var(--mono); overflow-wrap: anywhere; }
+.lister { padding: 0 2px; border: 0; background: none; text-decoration: underline; text-underline-offset: 2px; }
+.small .lister { color: inherit; }
 .beside { display: grid; grid-template-columns: minmax(0, 1fr); gap: 16px 24px; }
 .long summary { cursor: pointer; color: var(--muted); }
 .long > .name { display: block; max-height: 240px; overflow: auto; }
@@ -174,7 +181,6 @@ article > * { min-width: 0; }
 .reason { overflow-wrap: anywhere; white-space: pre-wrap; font: 12px/1.5 var(--mono); }
 .doubt { font-style: italic; }
 .leap { padding: 0 5px; font: 600 12px/16px var(--mono); }
-.leap + .leap { margin-left: 4px; }
 
 .ladder { max-width: 760px; }
 .ladder ol { list-style: none; }
@@ -222,6 +228,8 @@ article > * { min-width: 0; }
 .mark.tag { color: var(--muted); font-style: italic; }
 .step.fault .between { background: var(--fail-ground); }
 .step.fault .arrow { stroke: var(--fail); stroke-width: 2.6; fill: var(--fail); }
+.step.doubtful .between { background: var(--inconc-ground); }
+.step.doubtful .arrow { stroke: var(--inconc); fill: var(--inconc); }
 .detail { padding: 4px 10px 8px; background: var(--panel); }
 .detail pre { padding: 4px 0; overflow-x: auto; }
 .detail .dump { font-size: 11px; }
@@ -239,6 +247,7 @@ article > * { min-width: 0; }
 .lane.fault.left::after { left: 7px; }
 .lane.fault.right::after { right: 7px; }
 .lane.late::before, .lane.late::after { border-color: var(--strong); }
+.lane.doubtful::before, .lane.doubtful::after { border-color: var(--inconc); }
 .lane:not(.fault, .shows, .passed)::before, .lane:not(.fault, .shows, .passed)::after { display: none; }
 
 .of-run { grid-template-rows: auto minmax(0, 1fr); }
@@ -270,6 +279,7 @@ article > * { min-width: 0; }
   .lane.fault.right::after { right: 4px; }
   .part, .place { margin-left: 0; }
   .number { min-width: 0; }
+  .telling { margin-left: 0; }
 }
 
 @media print {
@@ -284,17 +294,20 @@ article > * { min-width: 0; }
     --chosen: #ffffff;
     --fail: #000000;
     --fail-ground: #ffffff;
+    --inconc-ground: #ffffff;
     --inconc: #000000;
     --error: #000000;
     --pass: #000000;
   }
   body { display: block; height: auto; }
   main { display: block; }
-  #filters, #lists, #kinds, .prints-listed main { display: none; }
+  #filters, #lists, #kinds, .prints-listed main, article > button { display: none; }
   .prints-listed #printed { display: block; }
   #shown { overflow: visible; }
-  article, .beside { display: block; }
-  article > *, .beside > * { margin-bottom: 8px; }
+  article, .beside, .reasons { display: block; }
+  h2, h3, .heading, .summary, .doubt, .heads { break-after: avoid; }
+  .lister { color: inherit; text-decoration: none; }
+  article > *, .beside > *, .reasons > * { margin-bottom: 8px; }
   .step { content-visibility: visible; }
   .step, .reason, .heading, .summary { break-inside: avoid; }
   #printed article + article { border-top: 2px solid #000000; }
@@ -316,10 +329,10 @@ article > * { min-width: 0; }
 <label>Kind <select name="kind"></select></label>
 <label>Table <select name="table"></select></label>
 <label>Trace <select name="trace"></select></label>
-<label class="words">Search IDs, names, comments, lines of the trace <input type="search" name="words"
-  placeholder="as 7f01, line 12 or frame 812" autocomplete="off" spellcheck="false"></label>
+<label class="words">Search IDs, names, comments, lines, kinds, reasons <input type="search" name="words"
+  placeholder="as 7f01, line 12, frame 812, F9 or unheard" autocomplete="off" spellcheck="false"></label>
 <button type="button" id="clear">Clear</button>
-<button type="button" id="print-listed" title="Prints the dialogues that are listed">Print listed</button>
+<button type="button" id="print-listed" title="Prints the dialogues and the traces in error that are listed">Print listed</button>
 </form>
 <main>
 <section id="lists" aria-label="What was judged">
@@ -329,7 +342,7 @@ article > * { min-width: 0; }
 <button type="button" role="tab" id="tab-traces" aria-controls="panel-traces" aria-selected="false" tabindex="-1"></button>
 </div>
 <div id="panel-dialogues" class="panel" role="tabpanel" aria-labelledby="tab-dialogues">
-<div id="dialogues" class="list" role="listbox" tabindex="0" aria-label="Dialogues that do not pass"></div>
+<div id="dialogues" class="list" role="listbox" tabindex="0" aria-label="Traces in error, and dialogues that do not pass"></div>
 </div>
 <div id="panel-traces" class="panel" role="tabpanel" aria-labelledby="tab-traces" hidden>
 <div id="traces" class="list" role="listbox" tabindex="0" aria-label="Traces"></div>
@@ -362,6 +375,14 @@ const KINDS = {
   F14: ["It is an Abort of the provider that answers nothing which is left.", "Q.774 3.3, abnormal procedures"],
   F15: ["It is a quiet mark, and a transaction of the end is surely open there.", "the bench's word that all was quiet"],
 };
+// The lines of a reason that say which fault of its kind it is, the most telling ones first; docs/TRACES.md has them, and
+// docs/FORMAT.md that of F8.
+const TELLING = {
+  F1: [/^why: (.*)/],
+  F6: [/^(the result names .*)/, /^(.* and a Unidirectional may invoke .*)/, /^(invocation -?\d+ in entry \d+ is of .*)/],
+  F8: [/^(the transaction of [AB]: .*)/],
+  F9: [/^(an AARE is missing: .*)/, /^(the (?:AARE|ABRT) is one too many: .*)/],
+};
 const ENDS = ["A", "B"];
 const VERDICTS = ["error", "fail", "inconc", "pass"];
 const SVG = "http://www.w3.org/2000/svg";
@@ -390,6 +411,18 @@ function counted(count, word) {
 function wordsOfKind(kind) {
   const [words, section] = KINDS[kind] ?? ["This page has no words for it.", kind];
   return `${words} (${section})`;
+}
+
+/** What of a reason tells which fault of its kind it is, in a line; nothing where no line does. */
+function tellingOf({kind, text}) {
+  const lines = text.split("\n").map((it) => it.trim());
+  return (TELLING[kind] ?? []).flatMap((form) => lines.map((it) => form.exec(it)?.[1])).filter((it) => it !== undefined).join("; ");
+}
+
+/** How often something is, in words, where it is more than once. */
+function often(count) {
+  if (count < 2) return "";
+  return count === 2 ? " (twice)" : ` (${count.toLocaleString("en")} times)`;
 }
 
 /** The line of an entry at fault, and the frame or frames that the comment above it names first, as far as there are such. */
@@ -439,6 +472,8 @@ function badge(verdict) {
 
 // In a text of JSON a quote stands behind a backslash, so these octets are a key and the beginning of its list.
 const MESSAGES = ',"messages":[';
+// What is said of dialogues that pass though an end did not hear all, or did not answer.
+const UNHEARD = "unheard or unanswered";
 
 /** The object of a line, null where it is none. */
 function objectOf(line) {
@@ -454,6 +489,16 @@ function objectOf(line) {
 function headOf(line) {
   const at = line.indexOf(MESSAGES);
   return objectOf(at < 0 ? line : `${line.slice(0, at)}}`);
+}
+
+/** Whether it is a trace; else it is a dialogue. */
+function isTrace(item) {
+  return item.line === undefined;
+}
+
+/** Whether a trace is an error by itself, and not by one of its dialogues. */
+function isInError({head}) {
+  return head.verdict === "error" && head.text !== undefined;
 }
 
 /** The ends of a dialogue that a kind of fault is said of, by their entries at fault. */
@@ -520,16 +565,23 @@ function messagesOf(dialogue) {
   return whole && {messages: whole.messages ?? [], leftOut: whole.left_out ?? 0};
 }
 
-/** What is searched of a dialogue: its IDs, its lines, and in lower case the names of its trace, its table and its operations, and
- * the comments. */
+/** What the reasons of a dialogue say. */
+function reasonsIn(head) {
+  const ends = ENDS.map((end) => head[end]).filter((it) => it !== undefined);
+  return [head.text ?? "", ...ends.flatMap(({text, doubt}) => [text ?? "", doubt ?? ""])];
+}
+
+/** What is searched of a dialogue: its IDs, its lines, and in lower case the kinds of fault, the names of its trace, its table and its
+ * operations, the comments, and the reasons. */
 function wordsOf(dialogue) {
   if (dialogue.words === null) {
-    const {head} = dialogue, messages = messagesOf(dialogue)?.messages ?? [];
+    const {head, blamed} = dialogue, messages = messagesOf(dialogue)?.messages ?? [];
     const parts = messages.flatMap((it) => it.components ?? []);
     const names = new Set(parts.flatMap((it) => it.split(" ")).filter((it) => !/^-?\d*$/.test(it)));
     const lower = (texts) => texts.join("\n").toLowerCase();
     dialogue.words = {ids: ENDS.flatMap((end) => head.ids[end]), lines: head.lines,
-      names: lower([head.trace, head.table ?? "", ...names]), comments: lower(messages.map((it) => it.comment ?? ""))};
+      kinds: blamed.map((end) => head[end].kind.toLowerCase()), names: lower([head.trace, head.table ?? "", ...names]),
+      comments: lower(messages.map((it) => it.comment ?? "")), reasons: lower(reasonsIn(head))};
   }
   return dialogue.words;
 }
@@ -559,7 +611,8 @@ const ROW = 62;
 // How many rows are drawn above and below those in view.
 const BESIDE = 8;
 
-/** A listbox. `show.row` makes what a row has, `show.chosen` is told of what is chosen, and `show.entered` of Enter. */
+/** A listbox. `show.row` makes what a row has, `show.chosen` is told of what is chosen, `show.clicked` of a click on it, and
+ * `show.entered` of Enter. */
 class RowList {
   constructor(box, show) {
     Object.assign(this, {box, show, items: [], at: -1});
@@ -619,7 +672,9 @@ class RowList {
   /** Chooses the row that is clicked. */
   clicked(event) {
     const row = event.target.closest(".row");
-    if (row !== null) this.choose(Number(row.dataset.at));
+    if (row === null) return;
+    this.choose(Number(row.dataset.at));
+    this.show.clicked();
   }
 
   /** Chooses by a key. */
@@ -690,7 +745,7 @@ function chooseTrace(form, {number, head}) {
 /** Fills the filters with what the report has. */
 function fillFilters(form, report) {
   const {dialogues} = report;
-  const verdicts = tally(dialogues.map(({head}) => head.verdict));
+  const verdicts = tally([...report.traces.filter(isInError), ...dialogues].map(({head}) => head.verdict));
   const ends = tally(dialogues.flatMap((it) => it.blamed));
   const {verdict, end, kind, table, trace} = form.elements;
   const words = (it) => (it === "pass" ? "pass (traces alone)" : `${it} (${verdicts.get(it) ?? 0})`);
@@ -701,13 +756,15 @@ function fillFilters(form, report) {
   fillChoice(trace, traceOptions(report));
 }
 
-/** A term of the search: `part`, of an ID or a name; `line`, its number, or null; and `told`, whether comments have it. There a number
- * is no part of a longer one, since most of these are times. */
+/** A term of the search: `part`, of an ID or a name; `line`, its number, or null; `told`, whether comments have it; and `isWord`, whether
+ * it may be one of a reason. In comments a number is no part of a longer one, since most of these are times; in reasons it may be one
+ * of any thing, so that they are not asked. */
 function termOf(part) {
   const [, name, digits] = /^(?:(line|frame)\s+)?([1-9]\d*)$/.exec(part) ?? [];
-  if (digits === undefined) return {part, line: null, told: (comments) => comments.includes(part)};
+  if (digits === undefined) return {part, line: null, told: (comments) => comments.includes(part), isWord: !/^\d*$/.test(part)};
   const number = new RegExp(`(?<![\\w.:-])${name === "frame" ? "frames? (?:\\d+ to )?" : ""}${digits}(?![\\w:-]|\\.\\d)`);
-  return {part, line: name === "frame" ? null : Number(digits), told: (comments) => name !== "line" && number.test(comments)};
+  const told = (comments) => name !== "line" && number.test(comments);
+  return {part, line: name === "frame" ? null : Number(digits), told, isWord: false};
 }
 
 /** What the filters ask for. */
@@ -724,8 +781,9 @@ function isBlamedSo({head, blamed}, {end, kind}) {
 }
 
 /** Whether what is searched has a term. */
-function hasTerm({ids, lines, names, comments}, {part, line, told}) {
-  return names.includes(part) || ids.some((id) => id.includes(part)) || lines.includes(line) || told(comments);
+function hasTerm({ids, lines, kinds, names, comments, reasons}, {part, line, told, isWord}) {
+  return names.includes(part) || ids.some((id) => id.includes(part)) || lines.includes(line) || told(comments)
+    || kinds.includes(part) || (isWord && reasons.includes(part));
 }
 
 /** Whether a dialogue has each term. */
@@ -743,27 +801,31 @@ function isListed(dialogue, asked) {
 
 /** Whether a trace is listed by itself: where nothing is asked that only a dialogue has. */
 function isTraceListed({head, number}, asked) {
-  const words = {ids: [], lines: [head.line], names: head.trace.toLowerCase(), comments: ""};
+  const reasons = [head.text ?? "", head.hint ?? "", head.unheard > 0 ? UNHEARD : ""].join("\n").toLowerCase();
+  const words = {ids: [], lines: [head.line], kinds: [], names: head.trace.toLowerCase(), comments: "", reasons};
   return asked.end + asked.kind + asked.table === "" && (asked.trace === "" || String(number) === asked.trace)
     && (asked.verdict === "" || head.verdict === asked.verdict) && asked.terms.every((it) => hasTerm(words, it));
 }
 
-/** The dialogues that are listed, and the traces: those by themselves, and those of which a dialogue is. */
+/** The dialogues that are listed; `inError`, the traces that are listed before them since they are errors by themselves; `rows`, both;
+ * and the traces in their own list: those by themselves, and those of which a dialogue is. */
 function listed(report, asked) {
   const dialogues = report.dialogues.filter((it) => isListed(it, asked));
-  const having = new Set(dialogues.map((it) => it.trace));
-  return {dialogues, traces: report.traces.filter((it) => isTraceListed(it, asked) || having.has(it.number))};
+  const having = new Set(dialogues.map((it) => it.trace)), alone = report.traces.filter((it) => isTraceListed(it, asked));
+  const inError = alone.filter(isInError), of = new Set(alone.map((it) => it.number));
+  const traces = report.traces.filter(({number}) => of.has(number) || having.has(number));
+  return {dialogues, inError, rows: [...inError, ...dialogues], traces};
 }
 
 // The ladder: two lifelines, and a step for each message, from the top down.
 //
 // A step has `number`, its place in the ladder; `label`, the number that is seen; `entry`, that by which a button leads to it, or
 // null; `from`, the end that sends it, or null, and then `at`, the end where it happens, if it is one; the texts `title`, `ids`,
-// `more` and `place`; `parts`, texts in lines of their own; `tags`, elements behind its title; `isMarked`; `arrow`; `way`, the words
-// for it, where they are others; and `detail`, which makes what a click opens. A join is a line beside the ladder: `end`, at whose
-// side it is drawn; `by`, a set of the numbers that it ties; and `spans`, the first and the last number of each of its pieces. One that
-// ties the step at fault, which is open at once, to those that show it has `kind`; `isDoubtful`; `at`, the number of that step; and
-// `part`, that of its part at fault, or null; its span is that of what it ties.
+// `more` and `place`; `parts`, texts in lines of their own; `tags`, elements behind its title; `isMarked`, by which mark, where it has
+// one, `fault` or `doubtful`; `arrow`; `way`, the words for it, where they are others; and `detail`, which makes what a click opens. A
+// join is a line beside the ladder: `end`, at whose side it is drawn; `by`, a set of the numbers that it ties; and `spans`, the first
+// and the last number of each of its pieces. One that ties the step at fault, which is open at once, to those that show it has `kind`;
+// `isDoubtful`; `at`, the number of that step; and `part`, that of its part at fault, or null; its span is that of what it ties.
 
 // How many parts of a step are drawn.
 const MOST_PARTS = 12;
@@ -794,8 +856,15 @@ function lane(join, number, side) {
     if (!join.spans.some(([first, last]) => first < number && number <= last)) classes.push("begins");
     if (!join.spans.some(([first, last]) => first <= number && number < last)) classes.push("ends");
     if (join.kind === undefined) classes.push("late");
+    if (join.isDoubtful === true) classes.push("doubtful");
   }
   return make("span", {class: classes.join(" "), "aria-hidden": "true"});
+}
+
+/** Whether what a join says of a step at fault is in doubt, as far as any says so. */
+function isInDoubt(joins, number) {
+  const found = joins.filter((it) => it.at === number);
+  return found.length > 0 && found.every((it) => it.isDoubtful === true);
 }
 
 /** The mark of what a join says is at fault: where that is inconclusive, it is in doubt. */
@@ -816,7 +885,7 @@ function marks(joins, number) {
 
 /** A part of a step, which a join may say is at fault. */
 function partView(part, join) {
-  const words = cut(seen(part), LONG_NAME);
+  const words = cut(seen(part), 2 * LONG_NAME);
   if (join === undefined) return make("span", {class: "part"}, words);
   return make("span", {class: "part"}, make("u", {}, words), " ", faultMark(join, "", ""));
 }
@@ -875,8 +944,10 @@ function row(attributes, number, joins, inner) {
 
 /** The row of a step. */
 function rung(step, joins) {
-  const isFault = step.isMarked === true || joins.some((it) => it.at === step.number);
-  return row({class: isFault ? "step fault" : "step", "data-entry": step.entry}, step.number, joins, between(step, joins));
+  const isFault = step.isMarked !== undefined || joins.some((it) => it.at === step.number);
+  const isDoubtful = isInDoubt(joins, step.number) || step.isMarked === "doubtful";
+  const classes = ["step", isFault ? "fault" : "", isDoubtful ? "doubtful" : ""].filter((it) => it !== "").join(" ");
+  return row({class: classes, "data-entry": step.entry}, step.number, joins, between(step, joins));
 }
 
 /** A row for steps that are not listed. */
@@ -907,13 +978,102 @@ function ladder(name, heads, steps, given, count) {
   return make("div", {class: "ladder"}, top, make("ol", {"aria-label": name}, ...rows));
 }
 
+// The components of a message, in few words: what the report says of each, and of its line in what `show` prints what is not there.
+
+// The components of which one answers the other: an Invoke has an invoke ID and its operation, an answer the ID alone.
+const INVOKE = /^Invoke (-?\d+) (.*)$/s;
+const ANSWER = /^(?:ReturnResultLast|ReturnResultNotLast|ReturnError) (-?\d+)$/;
+// What a reason says of the operation that a Return Result names.
+const NAMED = /^ *the result names (.*)$/m;
+// What the line of a component has behind its invoke ID.
+const FIELD = / (linked|op|error|general|invoke|result)=(?:g:)?(\S*)/g;
+// The problems of a Reject, by the field that has their numbers (Q.773 4.2.2).
+const PROBLEMS = {
+  general: ["general problem", ["unrecognizedComponent", "mistypedComponent", "badlyStructuredComponent"]],
+  invoke: ["invoke problem", ["duplicateInvokeID", "unrecognizedOperation", "mistypedParameter", "resourceLimitation",
+    "initiatingRelease", "unrecognizedLinkedID", "linkedResponseUnexpected", "unexpectedLinkedOperation"]],
+  result: ["return result problem", ["unrecognizedInvokeID", "returnResultUnexpected", "mistypedParameter"]],
+  error: ["return error problem", ["unrecognizedInvokeID", "returnErrorUnexpected", "unrecognizedError", "unexpectedError",
+    "mistypedParameter"]],
+};
+
+/** The fields of the components of a message, from the lines that `show` prints below that of the message. */
+function fieldsOf(show) {
+  return show.split("\n").slice(1).map((line) => {
+    const [head] = line.split(" parameter=");
+    return Object.fromEntries([...head.matchAll(FIELD)].map(([, name, value]) => [name, value]));
+  });
+}
+
+/** The code of an operation, which stands behind its name where it has one. */
+function codeOf(operation) {
+  return operation.split(" ").at(-1);
+}
+
+/** The names of operations with their codes, by the codes: those that messages invoke, and those that reasons say a result names. */
+function operationsIn(messages, reasons = []) {
+  const invoked = messages.flatMap((it) => it.components ?? []).map((it) => INVOKE.exec(it)?.[2]);
+  const named = reasons.map((it) => NAMED.exec(it)?.[1]);
+  return new Map([...invoked, ...named].filter((it) => it !== undefined).map((it) => [codeOf(it), it]));
+}
+
+/** The problem of a Reject. */
+function problemIn(fields) {
+  const [name] = Object.keys(PROBLEMS).filter((it) => it in fields);
+  if (name === undefined) return "";
+  const [words, problems] = PROBLEMS[name], problem = problems[Number(fields[name])];
+  return ` with ${words} ${fields[name]}${problem === undefined ? "" : `, ${problem}`}`;
+}
+
+/** What a Return Result names, where that is not the operation that it answers. */
+function namedIn({op}, answered, operations) {
+  if (op === undefined || (answered !== null && codeOf(answered) === op)) return "";
+  return `${answered === null ? "" : ", but"} names ${operations.get(op) ?? op}`;
+}
+
+/** A component: `fields` are those of its line, `answered` is the operation that it answers, or null. */
+function partWords(part, fields, answered, operations) {
+  const [kind] = part.split(" "), answers = answered === null ? "" : ` answers ${answered}`;
+  if (kind === "Invoke") return fields.linked === undefined ? part : `${part} linked to ${fields.linked}`;
+  if (kind === "Reject") return part + problemIn(fields);
+  if (kind === "ReturnError") return part + answers + (fields.error === undefined ? "" : ` with error ${fields.error}`);
+  return part + answers + namedIn(fields, answered, operations);
+}
+
+/** The components of a message. */
+function partsIn({components, answered, show}, operations) {
+  const fields = fieldsOf(show ?? "");
+  return (components ?? []).map((it, at) => partWords(it, fields[at] ?? {}, answered?.[at] ?? null, operations));
+}
+
+/** The operation that a component answers, where that is sure; else null. */
+function answeredBy(part, {end, dtid}, invokes) {
+  const found = invokes.get(`${otherEnd(end)} ${ANSWER.exec(part)?.[1]}`) ?? null;
+  return found !== null && found.otid === dtid ? found.operation : null;
+}
+
+/** Messages, of which the answers have their operations. One is sure where the other end sent but one Invoke of its ID before, from
+ * the transaction ID to which the answer goes, and where no entry before it is left out or can't be read. */
+function withOperations(messages) {
+  const invokes = new Map();
+  let isSure = true;
+  return messages.map((message, at) => {
+    const {entry, end, otid, fault, components} = message;
+    isSure &&= entry === at && fault === undefined;
+    if (!isSure || components === undefined) return message;
+    const answered = components.map((it) => answeredBy(it, message, invokes));
+    for (const [, id, operation] of components.map((it) => INVOKE.exec(it)).filter((it) => it !== null)) {
+      const key = `${end} ${id}`;
+      invokes.set(key, invokes.has(key) ? null : {otid, operation});
+    }
+    return {...message, answered};
+  });
+}
+
 // What is shown of one dialogue, and of one trace.
 
 const OCTETS_IN_ROW = 16;
 const KEPT = "\n";
-// The components of which one answers the other: an Invoke has an invoke ID and its operation, an answer the ID alone.
-const INVOKE = /^Invoke (-?\d+) (.*)$/s;
-const ANSWER = /^(?:ReturnResultLast|ReturnResultNotLast|ReturnError) (-?\d+)$/;
 
 /** Octets, 16 in a row: their place, their digits, and those that are letters. */
 function dumpOf(digits) {
@@ -953,35 +1113,11 @@ function placeOf(message) {
   return [message.line > 0 ? `line ${message.line}` : "", message.comment ?? ""].filter((it) => it !== "").join(": ");
 }
 
-/** A component of a message; an answer with its operation, where that is sure. */
-function withOperation(part, {end, dtid}, invokes) {
-  const found = invokes.get(`${otherEnd(end)} ${ANSWER.exec(part)?.[1]}`) ?? null;
-  return found !== null && found.otid === dtid ? `${part} answers ${found.operation}` : part;
-}
-
-/** Messages, of which the answers have their operations. One is sure where the other end sent but one Invoke of its ID before, from
- * the transaction ID to which the answer goes, and where no entry before it is left out or can't be read. */
-function withOperations(messages) {
-  const invokes = new Map();
-  let isSure = true;
-  return messages.map((message, at) => {
-    const {entry, end, otid, fault, components} = message;
-    isSure &&= entry === at && fault === undefined;
-    if (!isSure || components === undefined) return message;
-    const parts = components.map((it) => withOperation(it, message, invokes));
-    for (const [, id, operation] of components.map((it) => INVOKE.exec(it)).filter((it) => it !== null)) {
-      const key = `${end} ${id}`;
-      invokes.set(key, invokes.has(key) ? null : {otid, operation});
-    }
-    return {...message, components: parts};
-  });
-}
-
-/** The step of an entry. */
-function stepOf(message) {
+/** The step of an entry. `operations` has the names of those of its dialogue, by their codes. */
+function stepOf(message, operations) {
   const {entry} = message;
   const step = {number: entry, label: String(entry), entry, from: message.end ?? null, ids: idsIn(message), more: "", tags: [],
-    parts: message.components ?? [], place: placeOf(message), arrow: WHOLE, detail: () => detailOf(message)};
+    parts: partsIn(message, operations), place: placeOf(message), arrow: WHOLE, detail: () => detailOf(message)};
   if (message.mark === true) return {...step, title: "Quiet mark"};
   if (message.kind === undefined) return {...step, title: "No message", more: seen(message.fault)};
   return {...step, title: message.kind, more: portionIn(message.show)};
@@ -1002,15 +1138,15 @@ function leap(entry) {
   return make("button", {type: "button", class: "leap", "data-to": entry}, String(entry));
 }
 
-/** A line of a reason. Where it is one of what is shown, its entries are buttons. */
+/** A line of a reason. Where it is one of what is shown, its entries are buttons, with how often it names each. */
 function reasonLine(line, shows) {
   const found = shows.find((it) => it.entries.length > 0 && line.trimStart().startsWith(`${it.what}:`));
   if (found === undefined) return make("div", {class: "line"}, seen(line));
-  const entries = [...new Set(found.entries)].slice(0, 100).map(leap);
-  const others = new Set(found.entries).size - entries.length;
+  const counts = [...tally(found.entries)], first = counts.slice(0, 100), others = counts.length - first.length;
+  const entries = first.flatMap(([entry, count]) => [" ", leap(entry), often(count)]);
   const behind = others > 0 ? ` and ${counted(others, "other")}` : "";
   const margin = line.slice(0, line.search(/\S|$/));
-  return make("div", {class: "line"}, `${margin}${seen(found.what)}: `, ...entries, behind);
+  return make("div", {class: "line"}, `${margin}${seen(found.what)}:`, ...entries, behind);
 }
 
 /** The words of a reason, without the blanks that all its lines begin with. */
@@ -1020,12 +1156,18 @@ function reasonOf(text, evidence) {
   return make("div", {class: "reason"}, ...lines.map((it) => reasonLine(it.slice(margin), evidence?.shows ?? [])));
 }
 
+/** Which fault of its kind it is; null where no line of the reason tells it. */
+function tellingView(said) {
+  const telling = tellingOf(said);
+  return telling === "" ? null : make("span", {class: "telling"}, cut(seen(telling), LONG_TITLE));
+}
+
 /** What is said of an end, in one line. Of the other end `before` is the entry at fault, where it is one. */
 function summaryOf(end, said, before) {
   if (said.kind !== undefined) {
     const place = placeOfFault(said), later = before < said.entry ? " It comes later and may follow from the first." : "";
     const words = `${place === "" ? "" : `, ${place}`}, ${said.kind}. ${wordsOfKind(said.kind)}${later}`;
-    return make("p", {class: "summary"}, badge(said.verdict), ` ${end}: at entry `, leap(said.entry), words);
+    return make("p", {class: "summary"}, badge(said.verdict), ` ${end}: at entry `, leap(said.entry), words, tellingView(said));
   }
   const words = said.verdict === "pass"
     ? `sent ${counted(said.sent, "message")}, with ${counted(said.unheard, "message")} of its peer taken as unheard.`
@@ -1083,7 +1225,8 @@ function ladderOf(dialogue) {
   if (found === null) return make("p", {class: "note"}, "The messages of this dialogue can't be read: its line is cut.");
   const joins = joinsOf(dialogue), {ids} = dialogue.head;
   const heads = ENDS.map((end) => `${end} ${cut(ids[end].join(" "), LONG_NAME)}`);
-  const steps = withOperations(found.messages).map(stepOf);
+  const operations = operationsIn(found.messages, reasonsIn(dialogue.head));
+  const steps = withOperations(found.messages).map((it) => stepOf(it, operations));
   const count = dialogue.head.entries.length;
   const [left, all] = [found.leftOut, count].map((it) => it.toLocaleString("en"));
   const note = found.leftOut > 0 ? make("p", {class: "note"}, `${left} of the ${all} entries are not listed.`) : null;
@@ -1096,9 +1239,10 @@ function headingOf(trace, words, verdict) {
   return make("div", {class: "heading"}, heading, opening("The whole name", trace));
 }
 
-/** All that is shown of a dialogue: where both ends are at fault, first of the one whose entry comes first. */
+/** All that is shown of a dialogue: first of the end that is at fault, and where both are, of the one whose entry comes first. */
 function dialogueView(dialogue) {
-  const {head, blamed} = dialogue, ends = blamed.length > 1 ? blamed : ENDS.filter((end) => head[end] !== undefined);
+  const {head, blamed} = dialogue;
+  const ends = [...blamed, ...ENDS.filter((end) => head[end] !== undefined && !blamed.includes(end))];
   const made = make("article", {class: "dialogue", "aria-label": `Dialogue ${head.dialogue}`},
     headingOf(head.trace, ` dialogue ${head.dialogue} `, head.verdict), factsOf(head),
     ...ends.map((end) => summaryOf(end, head[end], head[otherEnd(end)]?.entry)),
@@ -1118,14 +1262,132 @@ function traceSums(head) {
     fact("Pass unheard or unanswered", head.unheard.toLocaleString("en")));
 }
 
-/** All that is shown of a trace. `enter` lists its dialogues. */
-function traceView({head}, count, enter) {
+/** What became of the messages of a trace that is an error by itself. */
+function unjudgedWords({dialogues, messages}) {
+  if (VERDICTS.some((it) => dialogues[it] > 0)) return "What was under way at the fault is not judged.";
+  if (messages === 0) return "";
+  return messages === 1 ? "Its message was not judged." : `None of its ${messages.toLocaleString("en")} messages was judged.`;
+}
+
+/** All that is shown of a trace. `enter` lists its dialogues, and `note` is what else is to be known. */
+function traceView(trace, count, enter, note) {
+  const {head} = trace, words = isInError(trace) ? unjudgedWords(head) : "";
+  const notes = [note, words].filter((it) => it !== "").map((it) => make("p", {class: "note"}, it));
   const hint = head.hint === undefined ? "" : `\nhint: ${head.hint}`;
   const text = head.text === undefined ? null : make("div", {class: "reason"}, seen(`${head.text}${hint}`, KEPT));
   const button = make("button", {type: "button"}, `List its dialogues that do not pass (${count.toLocaleString("en")})`);
   button.addEventListener("click", enter);
-  return make("article", {class: "trace"}, headingOf(head.trace, " ", head.verdict), text, traceSums(head),
+  return make("article", {class: "trace"}, headingOf(head.trace, " ", head.verdict), ...notes, text, traceSums(head),
     count > 0 ? button : null);
+}
+
+// The rows of the lists.
+
+// How many IDs of an end a row has.
+const SOME_IDS = 4;
+
+/** What the row of a dialogue has of an end at fault: where, and which fault of its kind it is, or else what its kind means. */
+function faultInRow(end, said, isAlone) {
+  const place = [isAlone ? "" : end, placeOfFault(said)].filter((it) => it !== "").join(" ");
+  const kind = wordsOfKind(said.kind), words = cut(seen(tellingOf(said)), LONG_TITLE) || kind;
+  return make("span", {title: words === kind ? kind : `${kind} ${words}`}, place === "" ? words : `${place}: ${words}`);
+}
+
+/** What a dialogue without an end at fault is not judged for, or not decided, in a line. */
+function undecidedInRow(head) {
+  const text = [head.text, ...ENDS.map((end) => head[end]?.text)].find((it) => it !== undefined) ?? "";
+  return make("span", {class: "lower"}, make("span", {}, cut(seen(text.trim().split("\n")[0]), LONG_TITLE)));
+}
+
+/** The row of a dialogue. */
+function dialogueRow({head, blamed}) {
+  const ids = ENDS.map((end) => `${end} ${head.ids[end].slice(0, SOME_IDS).join(" ") || "-"}`).join("  ");
+  const kinds = blamed.map((end) => make("b", {title: wordsOfKind(head[end].kind)}, `${end} ${head[end].kind}`));
+  const faults = blamed.map((end) => faultInRow(end, head[end], blamed.length === 1));
+  const number = make("span", {}, `dialogue ${head.dialogue}`);
+  return [
+    make("span", {class: "upper"}, badge(head.verdict), ...kinds, named(head.trace), number),
+    faults.length > 0 ? make("span", {class: "lower faults"}, ...faults) : undecidedInRow(head),
+    make("span", {class: "lower"}, make("code", {}, ids), head.table === undefined ? null : named(head.table)),
+  ];
+}
+
+/** How many dialogues of a trace have each verdict, and how many pass that not all was heard of, or that an end did not answer. */
+function countsIn({dialogues, unheard}) {
+  const counts = VERDICTS.filter((it) => dialogues[it] > 0).map((it) => `${dialogues[it].toLocaleString("en")} ${it}`);
+  return unheard > 0 ? [...counts, `${unheard.toLocaleString("en")} pass ${UNHEARD}`] : counts;
+}
+
+/** The row of a trace. */
+function traceRow({head}) {
+  const {trace, verdict, text} = head;
+  const counts = verdict === null ? ["not judged to its end"] : countsIn(head);
+  return [
+    make("span", {class: "upper"}, verdict === null ? null : badge(verdict), named(trace)),
+    make("span", {class: "lower"}, counts.length > 0 ? make("span", {}, counts.join(", ")) : null, text === undefined ? null : named(text)),
+  ];
+}
+
+/** The row of a dialogue, or of a trace that stands among them. */
+function rowOf(item) {
+  return isTrace(item) ? traceRow(item) : dialogueRow(item);
+}
+
+// Where a fragment of the address leads, and which fragment leads to a dialogue or a trace.
+
+/** The trace and the number that a fragment names; null for what it does not name. */
+function namesIn(fragment) {
+  const asked = new URLSearchParams(fragment.slice(1));
+  return [asked.get("trace"), asked.get("dialogue")];
+}
+
+/** The dialogue that a fragment leads to: by its number in the page, or by its trace and its number there. */
+function dialogueAt(fragment, report) {
+  if (/^#\d+$/.test(fragment)) return report.dialogues[Number(fragment.slice(1))];
+  const [trace, number] = namesIn(fragment);
+  return report.dialogues.find(({head}) => head.trace === trace && String(head.dialogue) === number);
+}
+
+/** The trace that a fragment leads to: by its number in the page, or by its name. */
+function traceAt(fragment, report) {
+  if (/^#t\d+$/.test(fragment)) return report.traces[Number(fragment.slice(2))];
+  const [trace] = namesIn(fragment);
+  return report.traces.find(({head}) => head.trace === trace);
+}
+
+/** The fragment that leads to a dialogue. */
+function fragmentOf(dialogue, report) {
+  const {trace, dialogue: number} = dialogue.head;
+  const fragment = `#${new URLSearchParams({trace, dialogue: number})}`;
+  const isLong = trace.length > LONG_TITLE;
+  return !isLong && dialogueAt(fragment, report) === dialogue ? fragment : `#${dialogue.number}`;
+}
+
+/** The fragment that leads to a trace. */
+function fragmentOfTrace(trace, report) {
+  const fragment = `#${new URLSearchParams({trace: trace.head.trace})}`;
+  const isLong = trace.head.trace.length > LONG_TITLE;
+  return !isLong && traceAt(fragment, report) === trace ? fragment : `#t${trace.number}`;
+}
+
+/** Why a trace has no dialogue of that number in the page. */
+function missingIn({head}, number, report) {
+  const name = `Dialogue ${cut(seen(number), LONG_NAME)} of this trace`;
+  if (head.verdict === null) return `${name} is not in this page, which ends before this trace does.`;
+  const count = VERDICTS.reduce((sum, it) => sum + head.dialogues[it], 0);
+  if (!/^\d+$/.test(number) || Number(number) >= count) {
+    return `${name} was not judged: ${counted(count, "dialogue")} of it ${count === 1 ? "was" : "were"}.`;
+  }
+  const shown = report.dialogues.length.toLocaleString("en");
+  const left = (report.total?.left_out ?? 0) > 0 ? `, and of the others the first ${shown} are here` : "";
+  return `${name} is not in this page: those that pass are only counted${left}.`;
+}
+
+/** What is said where a fragment names what is not in the page; nothing where it names nothing. */
+function missingAt(fragment) {
+  const [trace] = namesIn(fragment);
+  if (/^#t?\d+$/.test(fragment)) return `No ${fragment.startsWith("#t") ? "trace" : "dialogue"} of this page has the number in this link.`;
+  return trace === null ? "" : `The trace ${cut(seen(trace), LONG_NAME)} is not in this page.`;
 }
 
 // What is shown of a run (Q.774 3.2 and 3.3), one way in which the entries of a record can have come about: its rows are steps of
@@ -1152,6 +1414,7 @@ class RunRows {
   constructor({entries, of}) {
     Object.assign(this, {of, rows: [], sent: new Map(), spans: {A: [], B: []}});
     this.messages = new Map(entries.map((it) => [it.entry, it]));
+    this.operations = operationsIn(entries);
   }
 
   /** Adds a row, and returns it. */
@@ -1168,7 +1431,7 @@ class RunRows {
 
   /** Adds the row of an entry, with an arrow and words. */
   send(number, arrow, ...words) {
-    const row = this.add({...stepOf(this.messages.get(number)), arrow, tags: words.map(tag)});
+    const row = this.add({...stepOf(this.messages.get(number), this.operations), arrow, tags: words.map(tag)});
     this.sent.set(number, row);
     return row;
   }
@@ -1241,7 +1504,7 @@ class RunRows {
   /** Marks the entry where the verdict falls, by words. */
   mark(number, kind, words) {
     const row = this.sent.get(number) ?? this.say("Behind the last entry");
-    row.isMarked = true;
+    row.isMarked = kind;
     row.tags.unshift(make("strong", {class: `mark ${kind}`}, words));
   }
 
@@ -1304,31 +1567,41 @@ function runView(run) {
 
 // How many dialogues are printed at once.
 const PRINTED = 500;
-// How many IDs of an end a row has.
-const SOME_IDS = 4;
 // After how many milliseconds it is looked again whether something of the report has come.
 const PAUSE = 20;
 // After how many milliseconds a dialogue that is shown is named in the address.
 const STAY = 300;
 // What of a step can have the focus.
 const WORKED = ":is(button, .still)";
+// Where the lists stand above what is shown; frame.css has the same.
+const NARROW = "(max-width: 820px)";
 
 /** The element of that ID. */
 function byId(id) {
   return document.getElementById(id);
 }
 
-/** The table of sums. */
-function sumsView(sums) {
+/** A text, as a button where there is something to list. */
+function lister(words, title, list) {
+  if (list === null) return words;
+  const button = make("button", {type: "button", class: "lister", title, "aria-label": `${words}. ${title}`}, words);
+  button.addEventListener("click", list);
+  return button;
+}
+
+/** The table of sums. Where the lists have what is counted, a click on a count lists it, by the filter or the word that does. */
+function sumsView(sums, list) {
   const head = make("tr", {}, ...["", ...VERDICTS.map(badge), "all"].map((it) => make("th", {scope: "col"}, it)));
   const rows = ["traces", "dialogues"].map((what) => {
-    const counts = VERDICTS.map((it) => sums[what][it]);
-    const all = [...counts, counts.reduce((one, other) => one + other, 0)];
-    const cells = all.map((it) => make("td", {}, it.toLocaleString("en")));
-    return make("tr", {}, make("th", {scope: "row"}, what), ...cells);
+    const counts = VERDICTS.map((it) => sums[what][it]), all = counts.reduce((one, other) => one + other, 0);
+    const isListed = (it) => sums[what][it] > 0 && (what === "traces" || it !== "pass");
+    const cells = VERDICTS.map((it) => lister(sums[what][it].toLocaleString("en"), `Lists the ${what} whose verdict is ${it}`,
+      isListed(it) ? () => list(what, "verdict", it) : null));
+    return make("tr", {}, ...[make("th", {scope: "row"}, what)], ...[...cells, all.toLocaleString("en")].map((it) => make("td", {}, it)));
   });
-  const others = `${counted(sums.messages, "message")}; ${sums.unheard.toLocaleString("en")} pass unheard or unanswered`;
-  return [make("table", {}, head, ...rows), make("p", {class: "small"}, others)];
+  const unheard = lister(`${sums.unheard.toLocaleString("en")} pass ${UNHEARD}`, "Lists the traces that have such dialogues",
+    sums.unheard > 0 ? () => list("traces", "words", "unheard") : null);
+  return [make("table", {}, head, ...rows), make("p", {class: "small"}, `${counted(sums.messages, "message")}; `, unheard)];
 }
 
 /** What has to be known of a report that has not all. */
@@ -1353,53 +1626,6 @@ function kindsView() {
   return make("dl", {}, ...rows);
 }
 
-/** What the row of a dialogue has of an end at fault: where, and what its kind means. */
-function faultInRow(end, said, isAlone) {
-  const place = [isAlone ? "" : end, placeOfFault(said)].filter((it) => it !== "").join(" ");
-  const words = wordsOfKind(said.kind);
-  return make("span", {title: words}, place === "" ? words : `${place}: ${words}`);
-}
-
-/** The row of a dialogue. */
-function dialogueRow({head, blamed}) {
-  const ids = ENDS.map((end) => `${end} ${head.ids[end].slice(0, SOME_IDS).join(" ") || "-"}`).join("  ");
-  const kinds = blamed.map((end) => make("b", {title: wordsOfKind(head[end].kind)}, `${end} ${head[end].kind}`));
-  const faults = blamed.map((end) => faultInRow(end, head[end], blamed.length === 1));
-  const number = make("span", {}, `dialogue ${head.dialogue}`);
-  return [
-    make("span", {class: "upper"}, badge(head.verdict), ...kinds, named(head.trace), number),
-    faults.length > 0 ? make("span", {class: "lower faults"}, ...faults) : null,
-    make("span", {class: "lower"}, make("code", {}, ids), head.table === undefined ? null : named(head.table)),
-  ];
-}
-
-/** The row of a trace. */
-function traceRow({head}) {
-  const {trace, verdict, dialogues, text} = head;
-  const counts = verdict === null ? ["not judged to its end"]
-    : VERDICTS.filter((it) => dialogues[it] > 0).map((it) => `${dialogues[it].toLocaleString("en")} ${it}`);
-  return [
-    make("span", {class: "upper"}, verdict === null ? null : badge(verdict), named(trace)),
-    make("span", {class: "lower"}, make("span", {}, counts.join(", ")), text === undefined ? null : named(text)),
-  ];
-}
-
-/** What a fragment leads to: the number of a dialogue in the page, or its trace and its number there. */
-function dialogueAt(fragment, report) {
-  if (/^#\d+$/.test(fragment)) return report.dialogues[Number(fragment.slice(1))];
-  const asked = new URLSearchParams(fragment.slice(1));
-  const [trace, number] = [asked.get("trace"), asked.get("dialogue")];
-  return report.dialogues.find(({head}) => head.trace === trace && String(head.dialogue) === number);
-}
-
-/** The fragment that leads to a dialogue. */
-function fragmentOf(dialogue, report) {
-  const {trace, dialogue: number} = dialogue.head;
-  const fragment = `#${new URLSearchParams({trace, dialogue: number})}`;
-  const isLong = trace.length > LONG_TITLE;
-  return !isLong && dialogueAt(fragment, report) === dialogue ? fragment : `#${dialogue.number}`;
-}
-
 /** The page of a report. */
 class Page {
   constructor(report) {
@@ -1408,11 +1634,11 @@ class Page {
     this.shown = byId("shown");
     this.lists = {
       dialogues: new RowList(byId("dialogues"),
-        {row: dialogueRow, chosen: (it) => this.showDialogue(it), entered: () => this.enter()}),
+        {row: rowOf, chosen: (it) => this.choose(it), clicked: () => this.uncover(), entered: () => this.enter()}),
       traces: new RowList(byId("traces"),
-        {row: traceRow, chosen: (it) => this.showTrace(it), entered: (it) => this.listTrace(it)}),
+        {row: traceRow, chosen: (it) => this.choose(it), clicked: () => this.uncover(), entered: (it) => this.listTrace(it)}),
     };
-    this.listed = {dialogues: [], traces: []};
+    this.listed = {dialogues: [], inError: [], rows: [], traces: []};
     this.fragment = window.location.hash;
     byId("kinds").append(kindsView());
     this.hear();
@@ -1425,14 +1651,17 @@ class Page {
       return;
     }
     fillFilters(this.form, this.report);
-    if (this.report.isRead) byId("sums").replaceChildren(...sumsView(sumsOf(this.report)));
+    const list = (...what) => this.listBy(...what);
+    if (this.report.isRead) byId("sums").replaceChildren(...sumsView(sumsOf(this.report), list));
     byId("notes").replaceChildren(...notesOn(this.report));
+    if (!this.isUsed) this.chosen = null;
     this.refresh();
     if (this.follow(this.fragment)) this.fragment = "";
   }
 
   /** Has each control do what it is for. */
   hear() {
+    for (const name of ["click", "keydown", "input"]) document.addEventListener(name, () => (this.isUsed = true), {capture: true});
     for (const name of ["input", "change"]) this.form.addEventListener(name, () => this.ask());
     this.form.addEventListener("submit", (event) => this.submit(event));
     byId("clear").addEventListener("click", () => this.clear());
@@ -1441,6 +1670,7 @@ class Page {
     byId("tabs").addEventListener("keydown", (event) => this.turnBy(event));
     this.shown.addEventListener("click", (event) => this.leap(event.target));
     this.shown.addEventListener("keydown", (event) => this.leave(event));
+    byId("lists").addEventListener("keydown", (event) => this.leaveList(event));
     window.addEventListener("hashchange", () => this.follow(window.location.hash));
     window.addEventListener("afterprint", () => this.unprint());
   }
@@ -1468,30 +1698,54 @@ class Page {
     const now = listed(this.report, askedOf(this.form));
     this.listed = now;
     this.asked = this.formText();
-    const at = Math.max(0, now.dialogues.indexOf(this.chosen));
-    this.lists.dialogues.list(now.dialogues, Math.min(at, now.dialogues.length - 1));
+    const at = Math.max(0, now.rows.indexOf(this.chosen));
+    this.lists.dialogues.list(now.rows, Math.min(at, now.rows.length - 1));
     this.lists.traces.list(now.traces, -1);
+    this.tellCounts(now);
+    if (now.rows.length === 0) this.showNone();
+    else this.choose(now.rows[at]);
+  }
+
+  /** Says how many are listed. */
+  tellCounts(now) {
+    const inError = now.inError.length > 0 ? `, ${counted(now.inError.length, "trace")} in error` : "";
     const said = Object.keys(this.lists).map((name) => {
       const [count, all] = [now[name].length, this.report[name].length].map((it) => it.toLocaleString("en"));
-      return byId(`tab-${name}`).textContent = `${name === "traces" ? "Traces" : "Dialogues"} ${count} of ${all}`;
+      const words = name === "traces" ? `Traces ${count} of ${all}` : `Dialogues ${count} of ${all}${inError}`;
+      return byId(`tab-${name}`).textContent = words;
     });
     byId("listed").textContent = `${said.join(". ")}.`;
-    if (now.dialogues.length === 0) this.showNone();
-    else this.showDialogue(now.dialogues[at]);
   }
 
-  /** Shows a dialogue, and names it in the address once it stays: browsers let that be changed so often and no more. */
-  showDialogue(dialogue) {
-    this.chosen = dialogue;
-    this.view(dialogue, () => dialogueView(dialogue));
+  /** Lists what a filter or a word leaves, in the list of dialogues or of traces. */
+  listBy(name, filter, value) {
+    this.form.reset();
+    this.form.elements[filter].value = value;
+    this.refresh();
+    this.turnTo(name);
+    this.list().box.focus();
+  }
+
+  /** Shows a dialogue or a trace that is chosen, and names it in the address once it stays: browsers let that be changed so often and
+   * no more. */
+  choose(item) {
+    const {report} = this;
+    if (this.listed.rows.includes(item)) this.chosen = item;
+    this.view(item, () => this.viewOf(item, ""));
+    this.name(isTrace(item) ? fragmentOfTrace(item, report) : fragmentOf(item, report));
+  }
+
+  /** Has the address have a fragment, soon. */
+  name(fragment) {
     clearTimeout(this.timer);
-    this.timer = setTimeout(() => window.history.replaceState(null, "", fragmentOf(dialogue, this.report)), STAY);
+    this.timer = setTimeout(() => window.history.replaceState(null, "", fragment), STAY);
   }
 
-  /** Shows a trace. */
-  showTrace(trace) {
-    const count = this.report.dialogues.filter((it) => it.trace === trace.number).length;
-    this.view(trace, () => traceView(trace, count, () => this.listTrace(trace)));
+  /** What is shown of a dialogue or a trace; `note` is what else is to be known of a trace. */
+  viewOf(item, note) {
+    if (!isTrace(item)) return dialogueView(item);
+    const count = this.report.dialogues.filter((it) => it.trace === item.number).length;
+    return traceView(item, count, () => this.listTrace(item), note);
   }
 
   /** Shows a run, beside which nothing is listed. */
@@ -1503,11 +1757,23 @@ class Page {
     this.view(run, () => runView(run));
   }
 
-  /** Says that no dialogue is listed. */
+  /** Says that no dialogue is listed, and leads to the traces where there are such. */
   showNone() {
-    this.view(null, () => make("p", {class: "empty"}, this.report.dialogues.length > 0
-      ? "No dialogue is listed: the filters leave none."
-      : "No dialogue is listed. Those that pass are only counted."));
+    const count = this.listed.traces.length, isAsked = [...new FormData(this.form).values()].some((it) => it !== "");
+    const words = isAsked || this.report.dialogues.length > 0 ? "No dialogue is listed: the filters leave none."
+      : "No dialogue is listed. Those that pass are only counted.";
+    const which = count === 1 ? "the trace" : `the ${count.toLocaleString("en")} traces`;
+    const button = make("button", {type: "button"}, `Show ${which} that the filters leave`);
+    button.addEventListener("click", () => this.turnToTraces());
+    this.chosen = null;
+    this.view(null, () => make("p", {class: "empty"}, words, ...(isAsked && count > 0 ? [" ", button] : [])));
+  }
+
+  /** Turns to the list of traces, and shows the first. */
+  turnToTraces() {
+    this.turnTo("traces");
+    this.lists.traces.choose(0);
+    this.list().box.focus();
   }
 
   /** Shows what is made of an item, but where it is shown already. */
@@ -1520,7 +1786,17 @@ class Page {
 
   /** Goes from the list to what is shown: to the message at fault, or else to the heading. */
   enter() {
-    (this.shown.querySelector(`.step.fault ${WORKED}`) ?? this.shown.querySelector("h2")).focus();
+    (this.shown.querySelector(`.step.fault ${WORKED}`) ?? this.shown.querySelector("h2"))?.focus();
+  }
+
+  /** Where what is shown stands below the list, goes there. */
+  uncover() {
+    if (window.matchMedia(NARROW).matches) this.enter();
+  }
+
+  /** At Escape goes from the list back to the search. */
+  leaveList(event) {
+    if (event.key === "Escape") this.form.elements.words.focus();
   }
 
   /** At Escape closes the message that has the focus, or else goes back to the list. */
@@ -1582,22 +1858,52 @@ class Page {
     this.refresh();
   }
 
-  /** Goes to the dialogue that a fragment names, and returns whether there is one. */
+  /** Goes to what a fragment names, and returns whether it is there. What has no dialogue may come yet, until all is read. */
   follow(fragment) {
-    const dialogue = dialogueAt(fragment, this.report);
-    if (dialogue === undefined) return false;
-    if (!this.listed.dialogues.includes(dialogue)) this.clear();
-    this.turnTo("dialogues");
-    this.lists.dialogues.choose(this.listed.dialogues.indexOf(dialogue));
+    const dialogue = dialogueAt(fragment, this.report), trace = traceAt(fragment, this.report);
+    if (dialogue !== undefined) {
+      this.goTo("dialogues", dialogue);
+    } else if (this.report.isRead && trace !== undefined) {
+      const [, number] = namesIn(fragment);
+      this.goTo("traces", trace);
+      if (number !== null) this.tellMissing(fragment, () => this.viewOf(trace, missingIn(trace, number, this.report)));
+    } else {
+      if (this.report.isRead) this.sayMissing(fragment);
+      return false;
+    }
+    this.uncover();
     return true;
   }
 
-  /** Prints the dialogues that are listed. */
+  /** Chooses a dialogue or a trace in its list, whatever is asked for. */
+  goTo(name, item) {
+    this.isUsed = true;
+    const rows = () => (name === "traces" ? this.listed.traces : this.listed.rows);
+    if (!rows().includes(item)) this.clear();
+    this.turnTo(name);
+    this.lists[name].choose(rows().indexOf(item));
+  }
+
+  /** Says that what a fragment names is not in the page, where it names something. */
+  sayMissing(fragment) {
+    const words = missingAt(fragment);
+    if (words === "") return;
+    this.lists.dialogues.list(this.listed.rows, -1);
+    this.tellMissing(fragment, () => make("p", {class: "note"}, words));
+  }
+
+  /** Shows what is made of a fragment that names what is not in the page; the address keeps it. */
+  tellMissing(fragment, made) {
+    this.view(null, made);
+    this.name(fragment);
+  }
+
+  /** Prints the traces in error and the dialogues that are listed. */
   printListed() {
-    const {dialogues} = this.listed;
-    const note = dialogues.length > PRINTED
-      ? make("p", {class: "note"}, `The first ${PRINTED} of ${dialogues.length.toLocaleString("en")} dialogues.`) : "";
-    byId("printed").replaceChildren(note, ...dialogues.slice(0, PRINTED).map(dialogueView));
+    const {rows} = this.listed;
+    const note = rows.length > PRINTED
+      ? make("p", {class: "note"}, `The first ${PRINTED} of ${rows.length.toLocaleString("en")} that are listed.`) : "";
+    byId("printed").replaceChildren(note, ...rows.slice(0, PRINTED).map((it) => this.viewOf(it, "")));
     document.body.classList.add("prints-listed");
     window.print();
   }
@@ -1631,7 +1937,7 @@ begin();
 })();
 </script>
 <script type="application/x-ndjson" id="report">
-"#;
+"##;
 
 /// What stands behind them.
 pub const FRAME_TAIL: &str = r#"</script>
