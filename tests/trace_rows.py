@@ -842,6 +842,18 @@ ROWS = [
         [], error=(2, "no digit; column 13"),
     ),
     Row(
+        "a fault of a line: the dialogue that is over is judged, the one that is under way is not",
+        "",
+        lines(SHORT[0], WRONG_END, f"A {begin('02', INVOKE)}", "A 62"),
+        [Wanted([0, 1], "01", "", "pass", "fail 1 F5")], error=(4, "cut"),
+    ),
+    Row(
+        "a fault of a line with no dialogue over: none is judged",
+        "",
+        lines(f"A {begin('01', INVOKE)}", f"B {go_on('07', '01', result('05'))}", "B 6"),
+        [], error=(3, "odd"),
+    ),
+    Row(
         "CR LF below a comment",
         "",
         lines("# c", SHORT[0], "# frame 12", WRONG_END).replace("\n", "\r\n"),
