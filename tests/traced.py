@@ -264,6 +264,11 @@ def look_at_trace(checks, trace, dialogues, suite):
     tags = [it.tag for it in told]
     checks.same("testcases", (len(cases), tags.count("failure"), tags.count("error")), wanted)
     wrong = [it for it in dialogues if it["verdict"] != "pass"]
+    names = [f"dialogue {it['dialogue']}" for it in wrong] + ["trace"] * is_wrong + ["dialogues that pass"] * (found["pass"] > 0)
+    checks.same("names of testcases", [case.get("name") for case in cases], names)
+    thing = "dialogue" if found["pass"] == 1 else "dialogues"
+    passing = [f"{found['pass']} {thing} that pass, {trace['unheard']} unheard or unanswered"] * (found["pass"] > 0)
+    checks.same("what passes", [it.text for it in suite.findall("system-out")], passing)
     types = [it["verdict"] for it in wrong] + ["error"] * is_wrong
     checks.same("types of testcases", sorted(it.get("type") for it in told), sorted(types))
     messages = [headline(it) for it in wrong] + [trace["text"] for _ in range(is_wrong)]

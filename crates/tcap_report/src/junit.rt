@@ -2,8 +2,8 @@
 
 use crate::case::{Case, Judged};
 use crate::headline::push_headline;
-use crate::sum::Counts;
-use crate::words::{push_hint, push_ids};
+use crate::sum::{Counts, push_count};
+use crate::words::push_hint;
 use std::alloc::{AllocError, Global};
 use tcap_record::End;
 use tcap_traces::Verdict;
@@ -134,7 +134,7 @@ impl Junit {
         xml.push_str(">\n    </testcase>\n")
     }
 
-    /// A dialogue that does not pass, with what is said of it as text.
+    /// A dialogue that does not pass, with what is said of it as text. Its name has no transaction IDs, which are others each night.
     pub(crate) fn add_case(
         &mut self,
         trace: &str,
@@ -146,9 +146,6 @@ impl Junit {
         let number = case.number;
         let mut name = String::new(self.alloc);
         write!(name, "dialogue {number}")?;
-        for end in [End::A, End::B] {
-            push_ids(&mut name, case, end)?;
-        }
         let mut message = String::new(self.alloc);
         push_headline(self.alloc, &mut message, case, judged, of)?;
         self.push_case(trace, &name, judged.verdict, &message, text)
@@ -171,8 +168,13 @@ impl Junit {
         self.push_case(trace, "trace", Verdict::Error, message, &text)
     }
 
-    /// The trace ends, of which so many dialogues pass.
-    pub(crate) fn end_trace(&mut self, trace: &str, dialogues: &Counts) -> Result<(), AllocError> {
+    /// The trace ends, of which so many dialogues pass, so many of them unheard or unanswered.
+    pub(crate) fn end_trace(
+        &mut self,
+        trace: &str,
+        dialogues: &Counts,
+        unheard: u64,
+    ) -> Result<(), AllocError> {
         let pass = dialogues.pass;
         self.tally.add_passing(if pass > 0 { 1 } else { 0 });
         let xml = &mut self.suites;
@@ -185,7 +187,12 @@ impl Junit {
         if pass > 0 {
             xml.push_str("    <testcase classname=\"")?;
             push_xml(xml, trace)?;
-            writeln!(xml, "\" name=\"{pass} dialogues that pass\"/>")?;
+            xml.push_str("\" name=\"dialogues that pass\"/>\n    <system-out>")?;
+            push_count(xml, pass, "dialogue")?;
+            writeln!(
+                xml,
+                " that pass, {unheard} unheard or unanswered</system-out>"
+            )?;
         }
         xml.push_str("  </testsuite>\n")?;
         self.cases = String::new(self.alloc);

@@ -123,7 +123,7 @@ impl<W: Write, J: Lines, P> Sinks<'_, W, J, P> {
             if !told.why.is_empty() {
                 junit.add_fault(told.name, told.why, told.hint)?;
             }
-            junit.end_trace(told.name, &told.dialogues)?;
+            junit.end_trace(told.name, &told.dialogues, told.unheard)?;
         }
         Ok(())
     }
