@@ -91,7 +91,7 @@ def run(library, words):
         lines, status = test(library, *map(octets_in, words[1:3]))
         sys.stdout.buffer.write(lines)
         return status
-    end = ord(words[2][0]) if words[2:] else 0
+    end = ord(words[2][:1] or "\0") if words[2:] else 0
     said, status = judge(library, *map(octets_in, words[:2]), end)
     if status != WRONG_CALL:
         print(line_of(said, end))
