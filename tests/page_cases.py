@@ -403,4 +403,4 @@ def keys(checks, shown):
 
 
 CASES = [sums, filters, events, filters_by_keys, typed_search, a_click, ladder, reasons, both_ends, open_and_hint, list_of_faults, kinds,
-         operations, open_at_once, octets, keys]
+         open_at_once, octets, keys]
