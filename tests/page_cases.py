@@ -299,14 +299,14 @@ def both_ends(checks, shown):
 
 def open_and_hint(checks, shown):
     """What a dialogue waits for stands once, of both ends; and what a trace looks like stands behind its fault."""
-    objects = [made.open_at_end(), made.trace("open.hex", "inconc", 1, inconc=1), made.looked_like("a capture")]
-    shown.open(shown.put("open", made.page_with(objects)))
+    shown.open(shown.put("open", made.page_with([made.open_at_end(), made.trace("open.hex", "inconc", 1, inconc=1)])))
     summaries = [f"inconc {end}: the dialogue is open at the end of its trace" for end in "AB"]
     checks.same("open", shown.texts(".summary"), summaries)
     checks.same("what it waits for", (shown.texts(".reasons h3"), shown.texts(".reasons .line")),
                 (["What it waits for"], ["it waits for an answer of B to the Begin in entry 0"]))
+    shown.open(shown.put("hint", made.page_with([made.looked_like("a capture")])))
     shown.click("#tab-traces")
-    shown.click("#traces .row", 1)
+    shown.click("#traces .row", 0)
     found = shown.run("document.querySelector('#shown .reason').innerText")
     checks.same("a hint", found, "line 1: no end; column 1\nhint: this looks like a capture")
 
