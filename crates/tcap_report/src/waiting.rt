@@ -121,15 +121,17 @@ fn all_waits(alloc: Global, judged: &Judged) -> Result<Vec<Wait>, AllocError> {
         let Some((sender, message)) = sent(entry) else {
             continue;
         };
-        let (own, peers) = match sender {
-            End::A => (&mut by_a, &by_b),
-            End::B => (&mut by_b, &by_a),
+        let more = match sender {
+            End::A => waits_of(alloc, judged, End::B, number, message, &by_b)?,
+            End::B => waits_of(alloc, judged, End::A, number, message, &by_a)?,
         };
-        let more = waits_of(alloc, judged, sender.other(), number, message, peers)?;
         for wait in more.iter().rev() {
             waits.push(*wait)?;
         }
-        own.note(message)?;
+        match sender {
+            End::A => by_a.note(message)?,
+            End::B => by_b.note(message)?,
+        }
     }
     Ok(waits)
 }
