@@ -17,8 +17,6 @@ mod messages;
 #[cfg(test)]
 mod packing;
 #[cfg(test)]
-mod printed;
-#[cfg(test)]
 mod showing;
 #[cfg(test)]
 mod tools;
