@@ -33,6 +33,7 @@ mod table_text;
 mod unidirectional;
 mod wanted;
 
+pub use class::{reports, reports_neither};
 pub use end_state::EndState;
 pub use fault::EndFault;
 pub use half::{HalfName, InvocationState, Phase, Slot, Standing};
