@@ -103,7 +103,7 @@ answers e (EndMessage dtid dialogue components) abort is = cc
 answers e (Abort dtid reason) abort is = cc
 
 -- A reply that may be given is what the certificate gives.
-reply_given : (table : Table) (c : Certificate) (side : Side) (abort : Message) (number : ℕ) (r next : Replay)
+pub reply_given : (table : Table) (c : Certificate) (side : Side) (abort : Message) (number : ℕ) (r next : Replay)
     → answer_played c side abort number r ≡ Some next → reply_replayed table c side abort number r ≡ Ok next
 reply_given table c side abort number r next is = by (channel_from (other side) before.world) refl
   where

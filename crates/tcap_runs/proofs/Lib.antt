@@ -7,3 +7,4 @@ pub mod OrderLaws
 pub mod ItemLaws
 pub mod GivenGaps
 pub mod GivenLaws
+pub mod ToldLaws

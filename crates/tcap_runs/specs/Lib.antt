@@ -4,3 +4,5 @@ pub mod Gaps
 pub mod Sending
 pub mod Running
 pub mod Ordered
+pub mod Told
+pub mod Worked

@@ -10,10 +10,11 @@ use Rattle.tcap_end.specs.End.{End}
 use Rattle.tcap_check.specs.declared.certificate.Fate.{Fate}
 use Rattle.tcap_check.specs.declared.certificate.Fate.TheVariants.{Lost}
 use Rattle.tcap_record.specs.Ends.{other}
-use Rattle.tcap_model.specs.World.{OnItsWay, World, channel_from}
+use Rattle.tcap_model.specs.World.{OnItsWay, World, channel_from, end_at}
 use Rattle.tcap_model.specs.Run.{Event, Closes, Loses, Receives, after_quiet}
 use Rattle.tcap_check.specs.Replayed.{Replay, losing, or_else, stepped, with_step}
 use Rattle.tcap_runs.specs.declared.playing.Playing.{Playing}
+use Rattle.tcap_runs.specs.Steps.{events_of}
 
 -- ---- what is kept
 
@@ -22,7 +23,7 @@ world_of p = record { a = p.a; b = p.b; from_a = p.from_a; from_b = p.from_b; se
 
 -- the replay that it stands for
 abbrev pub replay_of : Playing → Replay
-replay_of p = record { events = p.steps; world = world_of p }
+replay_of p = record { events = events_of p.steps; world = world_of p }
 
 abbrev pub channel_at : Side → Playing → List OnItsWay
 channel_at side p = channel_from side (world_of p)
@@ -84,11 +85,17 @@ Hears table number [] before refusal behind = ⊥
 Hears table number (first ∷ more) before refusal behind =
     (first.number ≡ number) × TakesIn (receive table before first.message) before refusal behind
 
--- An end receives the oldest message on its way to it, which has that number; or it can't, all stays as it is, and the
--- message may be lost.
+-- The oldest message that is on its way from an end has that number, and the other end can't receive it, for that reason.
+abbrev pub IsRefused : Table → Side → ℕ → EndFault → World → Type 0
+IsRefused table side number reason w =
+    Hears table number (channel_from side w) (end_at (other side) w) (Some reason) (end_at (other side) w)
+
+-- An end receives the oldest message on its way to it, which has that number; or it can't, for that reason, all stays as it is,
+-- and the message may be lost.
 abbrev pub IsReceived : Table → Side → ℕ → Replay → Option EndFault → Replay → Type 0
 IsReceived table side number before None behind = stepped table (Receives side number) before ≡ Some behind
-IsReceived table side number before (Some reason) behind = (stepped table (Receives side number) before ≡ None)
+IsReceived table side number before (Some reason) behind = IsRefused table (other side) number reason before.world
+    × (stepped table (Receives side number) before ≡ None)
     × (stepped table (Loses (other side) number) before ≡ Some (losing (other side) (number ∷ []) before)) × (behind ≡ before)
 
 -- An end receives the message of that number, or it is lost.

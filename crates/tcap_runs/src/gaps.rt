@@ -1,9 +1,12 @@
 //! What happens in a gap between two entries: what is listed for it, and what is delivered in it.
 
-ghost use Rattle.std.specs.Prelude.{◌≡◌};
+ghost use Rattle.std.specs.Prelude.{◌≡◌, Option};
+ghost use Rattle.tcap_record.specs.declared.entry.End.{End as Side};
+ghost use Rattle.tcap_check.specs.Certificate.{Certificate};
 ghost use Rattle.tcap_runs.specs.Playing.{Takes, replay_of};
 ghost use Rattle.tcap_runs.specs.Gaps.{closing_played, closings_judged, delivery_from, delivery_played, expiries_judged, expiry_played};
 ghost use Rattle.tcap_runs.specs.Gaps.{gap_played, half_named, invocation_named, is_judged, plays, sender_of};
+ghost use Rattle.tcap_runs.specs.Told.{GoesOnTold};
 
 use crate::items::{Items, Kept};
 use crate::playing::{Playing, Stopped};
@@ -72,7 +75,8 @@ fn is_judged(judged: Option<End>, side: End) -> bool
 impl Playing<'_> {
     /// Closes the half that a closing names.
     fn close_listed(&mut self, table: &Table, x: &Closing) -> Result<(), Stopped>
-        ensures { Takes (closing_played table.now x.now (replay_of self.old)) result (replay_of self.new) }
+        ensures closed { Takes (closing_played table.now x.now (replay_of self.old)) result (replay_of self.new) }
+        ensures told { (c : Certificate) → (judged : Option Side) → GoesOnTold table.now c judged self.old result self.new }
     {
         match half_named(&self.sent, x) {
             Some(name) => self.close(table, x.side, name),
@@ -82,7 +86,8 @@ impl Playing<'_> {
 
     /// Ends the invocation that an expiry names.
     fn expire_listed(&mut self, table: &Table, x: &Expiry) -> Result<(), Stopped>
-        ensures { Takes (expiry_played table.now x.now (replay_of self.old)) result (replay_of self.new) }
+        ensures ended { Takes (expiry_played table.now x.now (replay_of self.old)) result (replay_of self.new) }
+        ensures told { (c : Certificate) → (judged : Option Side) → GoesOnTold table.now c judged self.old result self.new }
     {
         match invocation_named(&self.sent, x) {
             Some((name, id)) => self.expire(table, x.side, name, id),
@@ -100,8 +105,9 @@ impl Playing<'_> {
         number: usize,
         side: End,
     ) -> Result<(), Stopped>
-        ensures { Takes (delivery_from table.now certificate.now judged number side (replay_of self.old)) result
+        ensures delivered { Takes (delivery_from table.now certificate.now judged number side (replay_of self.old)) result
             (replay_of self.new) }
+        ensures told { GoesOnTold table.now certificate.now judged self.old result self.new }
     {
         match judged {
             None => self.deliver(table, certificate, side.other(), number),
@@ -118,8 +124,9 @@ impl Playing<'_> {
         judged: Option<End>,
         number: usize,
     ) -> Result<(), Stopped>
-        ensures { Takes (delivery_played table.now certificate.now judged number (replay_of self.old)) result
+        ensures delivered { Takes (delivery_played table.now certificate.now judged number (replay_of self.old)) result
             (replay_of self.new) }
+        ensures told { GoesOnTold table.now certificate.now judged self.old result self.new }
     {
         match sender(&self.sent, number) {
             Some(side) => self.deliver_from(table, certificate, judged, number, side),
@@ -134,8 +141,9 @@ impl Playing<'_> {
         judged: Option<End>,
         closings: &[Closing],
     ) -> Result<(), Stopped>
-        ensures { Takes (plays (closing_played table.now) (closings_judged judged closings.now) (replay_of self.old)) result
+        ensures closed { Takes (plays (closing_played table.now) (closings_judged judged closings.now) (replay_of self.old)) result
             (replay_of self.new) }
+        ensures told { (c : Certificate) → GoesOnTold table.now c judged self.old result self.new }
     {
         for x in closings {
             if is_judged(judged, x.side) {
@@ -152,8 +160,9 @@ impl Playing<'_> {
         judged: Option<End>,
         expiries: &[Expiry],
     ) -> Result<(), Stopped>
-        ensures { Takes (plays (expiry_played table.now) (expiries_judged judged expiries.now) (replay_of self.old)) result
+        ensures ended { Takes (plays (expiry_played table.now) (expiries_judged judged expiries.now) (replay_of self.old)) result
             (replay_of self.new) }
+        ensures told { (c : Certificate) → GoesOnTold table.now c judged self.old result self.new }
     {
         for x in expiries {
             if is_judged(judged, x.side) {
@@ -171,8 +180,9 @@ impl Playing<'_> {
         judged: Option<End>,
         numbers: &[u32],
     ) -> Result<(), Stopped>
-        ensures { Takes (plays (delivery_played table.now certificate.now judged) numbers.now (replay_of self.old)) result
+        ensures delivered { Takes (plays (delivery_played table.now certificate.now judged) numbers.now (replay_of self.old)) result
             (replay_of self.new) }
+        ensures told { GoesOnTold table.now certificate.now judged self.old result self.new }
     {
         for number in numbers {
             self.deliver_due(table, certificate, judged, *number as usize)?;
@@ -190,8 +200,9 @@ impl Playing<'_> {
         expiries: &[Expiry],
         due: &[u32],
     ) -> Result<(), Stopped>
-        ensures { Takes (gap_played table.now certificate.now judged closings.now expiries.now due.now (replay_of self.old))
+        ensures passed { Takes (gap_played table.now certificate.now judged closings.now expiries.now due.now (replay_of self.old))
             result (replay_of self.new) }
+        ensures told { GoesOnTold table.now certificate.now judged self.old result self.new }
     {
         self.close_all(table, judged, closings)?;
         self.expire_all(table, judged, expiries)?;

@@ -7,6 +7,7 @@ ghost use Rattle.tcap_model.specs.Entries.{item_of};
 ghost use Rattle.tcap_runs.specs.Playing.{Takes, replay_of};
 ghost use Rattle.tcap_runs.specs.Running.{asked_among, closed_before_mark, entry_played, is_asked, lost_last, mark_by, mark_played, message_by};
 ghost use Rattle.tcap_runs.specs.Running.{message_played, next_gap, sent_by, tied_to_entry, told_by};
+ghost use Rattle.tcap_runs.specs.Told.{GoesOnTold};
 
 use crate::gaps::sender;
 use crate::items::Items;
@@ -60,8 +61,9 @@ fn asked_among(
 impl<'r> Playing<'r> {
     /// The gap before the next entry.
     pub(crate) fn pass_next_gap(&mut self, guide: &Guide) -> Result<(), Stopped>
-        ensures { Takes (next_gap guide.now.table.now guide.now.certificate.now guide.now.judged (replay_of self.old)) result
+        ensures passed { Takes (next_gap guide.now.table.now guide.now.certificate.now guide.now.judged (replay_of self.old)) result
             (replay_of self.new) }
+        ensures told { GoesOnTold guide.now.table.now guide.now.certificate.now guide.now.judged self.old result self.new }
     {
         let gap = self.sent.len();
         if gap > guide.certificate.fates().len() {
@@ -102,8 +104,9 @@ impl<'r> Playing<'r> {
         message: &Lent<'r>,
         tied: &[u32],
     ) -> Result<(), Stopped>
-        ensures { Takes (sent_by guide.now.table.now guide.now.certificate.now side message.now.message.now
+        ensures sent { Takes (sent_by guide.now.table.now guide.now.certificate.now side message.now.message.now
             (cause_in message.now.message.now) tied.now (replay_of self.old)) result (replay_of self.new) }
+        ensures told { GoesOnTold guide.now.table.now guide.now.certificate.now guide.now.judged self.old result self.new }
     {
         match (message.view.cause(), tied) {
             (Some(_), [number]) => self.reply(guide.certificate, side, message, *number as usize),
@@ -120,7 +123,8 @@ impl<'r> Playing<'r> {
         message: &Lent<'r>,
         tied: &[u32],
     ) -> Result<(), Stopped>
-        ensures { Takes (told_by side message.now.message.now tied.now (replay_of self.old)) result (replay_of self.new) }
+        ensures tells { Takes (told_by side message.now.message.now tied.now (replay_of self.old)) result (replay_of self.new) }
+        ensures told { GoesOnTold guide.now.table.now guide.now.certificate.now guide.now.judged self.old result self.new }
     {
         if !tied.is_empty() {
             return Err(Stopped::NoStep);
@@ -136,8 +140,9 @@ impl<'r> Playing<'r> {
         message: &Lent<'r>,
         tied: &[u32],
     ) -> Result<(), Stopped>
-        ensures { Takes (message_by guide.now.table.now guide.now.certificate.now guide.now.judged side
+        ensures taken { Takes (message_by guide.now.table.now guide.now.certificate.now guide.now.judged side
             message.now.message.now tied.now (replay_of self.old)) result (replay_of self.new) }
+        ensures told { GoesOnTold guide.now.table.now guide.now.certificate.now guide.now.judged self.old result self.new }
     {
         match guide.judged {
             None => self.send_by(guide, side, message, tied),
@@ -151,8 +156,9 @@ impl<'r> Playing<'r> {
 
     /// The next entry is a message that an end sent.
     fn take_message(&mut self, guide: &Guide, side: End, message: &Lent<'r>) -> Result<(), Stopped>
-        ensures { Takes (message_played guide.now.table.now guide.now.certificate.now guide.now.judged side
+        ensures taken { Takes (message_played guide.now.table.now guide.now.certificate.now guide.now.judged side
             message.now.message.now (replay_of self.old)) result (replay_of self.new) }
+        ensures told { GoesOnTold guide.now.table.now guide.now.certificate.now guide.now.judged self.old result self.new }
     {
         self.pass_next_gap(guide)?;
         let tied = self.tied(guide)?;
@@ -161,7 +167,8 @@ impl<'r> Playing<'r> {
 
     /// What is lost before a quiet mark, or at the end.
     pub(crate) fn lose_last(&mut self, guide: &Guide) -> Result<(), Stopped>
-        ensures { OnOk result (replay_of self.new ≡ lost_last guide.now.certificate.now guide.now.judged (replay_of self.old)) }
+        ensures lost { OnOk result (replay_of self.new ≡ lost_last guide.now.certificate.now guide.now.judged (replay_of self.old)) }
+        ensures told { GoesOnTold guide.now.table.now guide.now.certificate.now guide.now.judged self.old result self.new }
     {
         match guide.judged {
             None => self.lose_both(guide.certificate),
@@ -171,8 +178,9 @@ impl<'r> Playing<'r> {
 
     /// The open halves of the end that is judged alone close unseen.
     fn close_before_mark(&mut self, guide: &Guide) -> Result<(), Stopped>
-        ensures { Takes (closed_before_mark guide.now.table.now guide.now.judged (replay_of self.old)) result
+        ensures closed { Takes (closed_before_mark guide.now.table.now guide.now.judged (replay_of self.old)) result
             (replay_of self.new) }
+        ensures told { GoesOnTold guide.now.table.now guide.now.certificate.now guide.now.judged self.old result self.new }
     {
         match guide.judged {
             None => Ok(()),
@@ -182,8 +190,9 @@ impl<'r> Playing<'r> {
 
     /// A quiet mark, which takes these messages, behind its gap: it takes none.
     fn take_mark_by(&mut self, guide: &Guide, tied: &[u32]) -> Result<(), Stopped>
-        ensures { Takes (mark_by guide.now.table.now guide.now.certificate.now guide.now.judged tied.now
+        ensures marked { Takes (mark_by guide.now.table.now guide.now.certificate.now guide.now.judged tied.now
             (replay_of self.old)) result (replay_of self.new) }
+        ensures told { GoesOnTold guide.now.table.now guide.now.certificate.now guide.now.judged self.old result self.new }
     {
         if !tied.is_empty() {
             return Err(Stopped::NoStep);
@@ -195,8 +204,9 @@ impl<'r> Playing<'r> {
 
     /// The next entry is a quiet mark.
     fn take_mark(&mut self, guide: &Guide) -> Result<(), Stopped>
-        ensures { Takes (mark_played guide.now.table.now guide.now.certificate.now guide.now.judged (replay_of self.old))
+        ensures marked { Takes (mark_played guide.now.table.now guide.now.certificate.now guide.now.judged (replay_of self.old))
             result (replay_of self.new) }
+        ensures told { GoesOnTold guide.now.table.now guide.now.certificate.now guide.now.judged self.old result self.new }
     {
         self.pass_next_gap(guide)?;
         let tied = self.tied(guide)?;
@@ -205,8 +215,9 @@ impl<'r> Playing<'r> {
 
     /// The next entry.
     pub(crate) fn take(&mut self, guide: &Guide, entry: &'r Entry) -> Result<(), Stopped>
-        ensures { Takes (entry_played guide.now.table.now guide.now.certificate.now guide.now.judged
+        ensures taken { Takes (entry_played guide.now.table.now guide.now.certificate.now guide.now.judged
             (item_of entry.now) (replay_of self.old)) result (replay_of self.new) }
+        ensures told { GoesOnTold guide.now.table.now guide.now.certificate.now guide.now.judged self.old result self.new }
     {
         match (entry.side, &entry.body) {
             (Some(side), Body::Good(message)) => {

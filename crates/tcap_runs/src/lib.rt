@@ -15,6 +15,7 @@ mod running;
 mod sending;
 mod step;
 mod steps;
+pub mod worked;
 
 pub use partial::{Partial, run_until};
 pub use running::{run_of, run_of_end};

@@ -1,12 +1,17 @@
 //! The steps of a run: losses, what is delivered, what happens unseen, and quiet marks (Q.774 3.2 and 3.3).
 
-ghost use Rattle.std.specs.Prelude.{◌≡◌, [], ◌∷◌, IfOk, OnOk, Some, is_ok};
+ghost use Rattle.std.specs.Prelude.{◌≡◌, true, false, [], ◌∷◌, IfOk, OnOk, Option, Some, None, is_ok};
+ghost use Rattle.tcap_record.specs.declared.entry.End.{End as Side};
 ghost use Rattle.tcap_model.specs.Run.{Closes, Expires, Receives};
 ghost use Rattle.tcap_record.specs.Ends.{other};
+ghost use Rattle.tcap_check.specs.Certificate.{Certificate};
 ghost use Rattle.tcap_check.specs.Replayed.{all_lost_from, losing, lost_from_both, lost_from_front, or_same, stepped};
 ghost use Rattle.tcap_end.specs.Hidden.{expire, open_halves};
+ghost use Rattle.tcap_end.specs.Table.{Table};
 ghost use Rattle.tcap_runs.specs.Gaps.{plays};
-ghost use Rattle.tcap_runs.specs.Playing.{Hears, IsReceived, Takes, close_played, end_moved, end_of, quiet_played, received_or_lost, replay_of};
+ghost use Rattle.tcap_runs.specs.Playing.{Hears, IsReceived, IsRefused, Takes, channel_at, close_played, end_moved, end_of, first_number};
+ghost use Rattle.tcap_runs.specs.Playing.{quiet_played, received_or_lost, replay_of, world_of};
+ghost use Rattle.tcap_runs.specs.Told.{GoesOnTold, IsToldSoFar, is_discard};
 
 use crate::channel::Channel;
 use crate::items::Kept;
@@ -41,8 +46,12 @@ fn hear(
 
 impl Playing<'_> {
     /// The oldest message on its way from an end, which is that of the number, is lost.
+    #[tactic(auto, using(crate::proofs::ToldLaws::loses_on))]
     fn lose(&mut self, side: End, number: usize) -> Result<(), Stopped>
-        ensures { OnOk result (replay_of self.new ≡ losing side (number ∷ []) (replay_of self.old)) }
+        ensures lost { OnOk result (replay_of self.new ≡ losing side (number ∷ []) (replay_of self.old)) }
+        ensures told { (table : Table) → (c : Certificate) → (judged : Option Side)
+            → first_number (channel_at side self.old) ≡ Some number → is_discard c judged side number ≡ false
+            → GoesOnTold table c judged self.old result self.new }
     {
         self.drop_first(side);
         self.steps.push(Step::Loses(side, number as u64))?;
@@ -50,8 +59,12 @@ impl Playing<'_> {
     }
 
     /// The same, since the other end can't receive it, for that reason.
+    #[tactic(auto, using(crate::proofs::ToldLaws::discards_on))]
     fn discard(&mut self, side: End, number: usize, reason: EndFault) -> Result<(), Stopped>
-        ensures { OnOk result (replay_of self.new ≡ losing side (number ∷ []) (replay_of self.old)) }
+        ensures lost { OnOk result (replay_of self.new ≡ losing side (number ∷ []) (replay_of self.old)) }
+        ensures told { (table : Table) → (c : Certificate) → (judged : Option Side)
+            → IsRefused table side number reason (world_of self.old) → is_discard c judged side number ≡ true
+            → GoesOnTold table c judged self.old result self.new }
     {
         self.drop_first(side);
         self.steps
@@ -61,7 +74,8 @@ impl Playing<'_> {
 
     /// The messages at the front of what is on its way from an end whose fate says so are lost.
     pub(crate) fn lose_front(&mut self, certificate: &Certificate, side: End) -> Result<(), Stopped>
-        ensures { OnOk result (replay_of self.new ≡ lost_from_front certificate.now side (replay_of self.old)) }
+        ensures lost { OnOk result (replay_of self.new ≡ lost_from_front certificate.now side (replay_of self.old)) }
+        ensures told { (table : Table) → (judged : Option Side) → GoesOnTold table certificate.now judged self.old result self.new }
     {
         for _ in 0..self.channel(side).len() {
             match self.first_lost(certificate, side) {
@@ -74,7 +88,8 @@ impl Playing<'_> {
 
     /// All messages that are on their way from an end are lost.
     pub(crate) fn lose_all(&mut self, side: End) -> Result<(), Stopped>
-        ensures { OnOk result (replay_of self.new ≡ all_lost_from side (replay_of self.old)) }
+        ensures lost { OnOk result (replay_of self.new ≡ all_lost_from side (replay_of self.old)) }
+        ensures told { (table : Table) → (c : Certificate) → GoesOnTold table c (Some side) self.old result self.new }
     {
         for _ in 0..self.channel(side).len() {
             match self.channel(side).first_number() {
@@ -86,8 +101,10 @@ impl Playing<'_> {
     }
 
     /// A half of an end closes unseen.
+    #[tactic(auto, using(crate::proofs::ToldLaws::moves_on))]
     pub(crate) fn close(&mut self, table: &Table, side: End, name: HalfName) -> Result<(), Stopped>
-        ensures { Takes (stepped table.now (Closes side name) (replay_of self.old)) result (replay_of self.new) }
+        ensures closed { Takes (stepped table.now (Closes side name) (replay_of self.old)) result (replay_of self.new) }
+        ensures told { (c : Certificate) → (judged : Option Side) → GoesOnTold table.now c judged self.old result self.new }
     {
         let own = copy_name(&name);
         let closed = match side {
@@ -103,7 +120,8 @@ impl Playing<'_> {
 
     /// Halves of an end close unseen, one after the other.
     fn close_each(&mut self, table: &Table, side: End, names: &[HalfName]) -> Result<(), Stopped>
-        ensures { Takes (plays (close_played table.now side) names.now (replay_of self.old)) result (replay_of self.new) }
+        ensures closed { Takes (plays (close_played table.now side) names.now (replay_of self.old)) result (replay_of self.new) }
+        ensures told { (c : Certificate) → (judged : Option Side) → GoesOnTold table.now c judged self.old result self.new }
     {
         for name in names {
             self.close(table, side, copy_name(name))?;
@@ -118,8 +136,9 @@ impl Playing<'_> {
         table: &Table,
         side: End,
     ) -> Result<(), Stopped>
-        ensures { Takes (plays (close_played table.now side) (open_halves (end_of side self.old)) (replay_of self.old))
+        ensures closed { Takes (plays (close_played table.now side) (open_halves (end_of side self.old)) (replay_of self.old))
             result (replay_of self.new) }
+        ensures told { (c : Certificate) → (judged : Option Side) → GoesOnTold table.now c judged self.old result self.new }
     {
         let names = self.end(side).open_halves(alloc)?;
         self.close_each(table, side, &names)
@@ -139,6 +158,7 @@ impl Playing<'_> {
     }
 
     /// An own invocation of an end ends unseen.
+    #[tactic(auto, using(crate::proofs::ToldLaws::moves_on))]
     pub(crate) fn expire(
         &mut self,
         table: &Table,
@@ -146,7 +166,8 @@ impl Playing<'_> {
         name: HalfName,
         id: i8,
     ) -> Result<(), Stopped>
-        ensures { Takes (stepped table.now (Expires side name id) (replay_of self.old)) result (replay_of self.new) }
+        ensures ended { Takes (stepped table.now (Expires side name id) (replay_of self.old)) result (replay_of self.new) }
+        ensures told { (c : Certificate) → (judged : Option Side) → GoesOnTold table.now c judged self.old result self.new }
     {
         if !self.expired(table, side, &name, id) {
             return Err(Stopped::NoStep);
@@ -156,6 +177,7 @@ impl Playing<'_> {
     }
 
     /// The same, where that may be.
+    #[tactic(auto, using(crate::proofs::ToldLaws::moves_on))]
     pub(crate) fn try_expire(
         &mut self,
         table: &Table,
@@ -163,8 +185,9 @@ impl Playing<'_> {
         name: &HalfName,
         id: i8,
     ) -> Result<(), Stopped>
-        ensures { OnOk result (replay_of self.new
+        ensures ended { OnOk result (replay_of self.new
             ≡ or_same (replay_of self.old) (stepped table.now (Expires side name.now id) (replay_of self.old))) }
+        ensures told { (c : Certificate) → (judged : Option Side) → GoesOnTold table.now c judged self.old result self.new }
     {
         if self.expired(table, side, name, id) {
             self.steps.push(Step::Expires(side, copy_name(name), id))?;
@@ -173,13 +196,16 @@ impl Playing<'_> {
     }
 
     /// An end receives the oldest message on its way to it, which has to be that of the number; or the reason why it can't.
+    #[tactic(auto, using(crate::proofs::ToldLaws::moves_on))]
     fn receive(
         &mut self,
         table: &Table,
         side: End,
         number: usize,
     ) -> Result<Option<EndFault>, Stopped>
-        ensures { IfOk result (λ refusal. IsReceived table.now side number (replay_of self.old) refusal (replay_of self.new)) }
+        ensures received { IfOk result (λ refusal. IsReceived table.now side number (replay_of self.old) refusal (replay_of self.new)) }
+        ensures told { (c : Certificate) → (judged : Option Side) → IsToldSoFar table.now c judged self.old
+            → IfOk result (λ refusal. IsToldSoFar table.now c judged self.new) }
     {
         let refusal = match side {
             End::A => hear(&mut self.a, table, &self.from_b, number)?,
@@ -200,8 +226,9 @@ impl Playing<'_> {
         side: End,
         number: usize,
     ) -> Result<(), Stopped>
-        ensures { Takes (stepped table.now (Receives side number)
+        ensures received { Takes (stepped table.now (Receives side number)
             (lost_from_front certificate.now (other side) (replay_of self.old))) result (replay_of self.new) }
+        ensures told { (judged : Option Side) → GoesOnTold table.now certificate.now judged self.old result self.new }
     {
         self.lose_front(certificate, side.other())?;
         match self.receive(table, side, number)? {
@@ -218,8 +245,9 @@ impl Playing<'_> {
         side: End,
         number: usize,
     ) -> Result<(), Stopped>
-        ensures { Takes (received_or_lost table.now side number
+        ensures received { Takes (received_or_lost table.now side number
             (lost_from_front certificate.now (other side) (replay_of self.old))) result (replay_of self.new) }
+        ensures told { GoesOnTold table.now certificate.now (Some side) self.old result self.new }
     {
         self.lose_front(certificate, side.other())?;
         match self.receive(table, side, number)? {
@@ -230,15 +258,19 @@ impl Playing<'_> {
 
     /// What is lost at the front of what is on its way from both ends.
     pub(crate) fn lose_both(&mut self, certificate: &Certificate) -> Result<(), Stopped>
-        ensures { OnOk result (replay_of self.new ≡ lost_from_both certificate.now (replay_of self.old)) }
+        ensures lost { OnOk result (replay_of self.new ≡ lost_from_both certificate.now (replay_of self.old)) }
+        ensures told { (table : Table) → (judged : Option Side) → GoesOnTold table certificate.now judged self.old result self.new }
     {
         self.lose_front(certificate, End::A)?;
         self.lose_front(certificate, End::B)
     }
 
     /// All is quiet: nothing is on its way, and all halves are closed.
+    #[tactic(auto, using(crate::proofs::ToldLaws::moves_on))]
     pub(crate) fn be_quiet(&mut self) -> Result<(), Stopped>
-        ensures { Takes (quiet_played (replay_of self.old)) result (replay_of self.new) }
+        ensures quiet { Takes (quiet_played (replay_of self.old)) result (replay_of self.new) }
+        ensures told { (table : Table) → (c : Certificate) → (judged : Option Side)
+            → GoesOnTold table c judged self.old result self.new }
     {
         if self.from_a.len() != 0 || self.from_b.len() != 0 {
             return Err(Stopped::NoStep);

@@ -1,9 +1,13 @@
 //! A run under way: both ends, what is on its way, what was sent, and the steps so far.
 
-ghost use Rattle.std.specs.Prelude.{◌≡◌, drop};
+ghost use Rattle.std.specs.Prelude.{◌≡◌, drop, Option};
+ghost use Rattle.tcap_record.specs.declared.entry.End.{End as Side};
+ghost use Rattle.tcap_end.specs.Table.{Table};
 ghost use Rattle.tcap_model.specs.World.{with_channel};
+ghost use Rattle.tcap_check.specs.Certificate.{Certificate};
 ghost use Rattle.tcap_check.specs.Replayed.{nothing_replayed};
 ghost use Rattle.tcap_runs.specs.Playing.{channel_at, end_of, first_lost, is_lost, replay_of, world_of};
+ghost use Rattle.tcap_runs.specs.Told.{IsToldSoFar};
 
 use crate::channel::Channel;
 use crate::items::{Items, Kept};
@@ -73,8 +77,10 @@ fn is_lost(certificate: &Certificate, number: usize) -> bool
 
 impl<'r> Playing<'r> {
     /// Nothing happened yet.
+    #[tactic(auto, unfolding(crate::specs::Told::IsToldSoFar))]
     pub(crate) fn new(alloc: Global) -> Playing<'r>
-        ensures { replay_of result ≡ nothing_replayed }
+        ensures nothing { replay_of result ≡ nothing_replayed }
+        ensures told { (table : Table) → (c : Certificate) → (judged : Option Side) → IsToldSoFar table c judged result }
     {
         Playing {
             steps: Steps::new(alloc),

@@ -11,6 +11,7 @@ ghost use Rattle.tcap_check.specs.Replayed.{fault_at, replayed};
 ghost use Rattle.tcap_runs.specs.Steps.{events_of};
 ghost use Rattle.tcap_runs.specs.Playing.{Takes, replay_of};
 ghost use Rattle.tcap_runs.specs.Running.{all_played, run_played};
+ghost use Rattle.tcap_runs.specs.Told.{AreTold, GoesOnTold};
 
 use crate::guide::Guide;
 use crate::order::{is_in_order, is_in_ranges};
@@ -26,8 +27,9 @@ use tcap_record::{End, Record};
 impl<'r> Playing<'r> {
     /// The entries of a record, the last gap, and the loss of what is still on its way.
     pub(crate) fn take_all(&mut self, guide: &Guide, record: &'r Record) -> Result<(), Stopped>
-        ensures { Takes (all_played guide.now.table.now guide.now.certificate.now guide.now.judged
+        ensures taken { Takes (all_played guide.now.table.now guide.now.certificate.now guide.now.judged
             (map item_of «record».now.entries.items) (replay_of self.old)) result (replay_of self.new) }
+        ensures told { GoesOnTold guide.now.table.now guide.now.certificate.now guide.now.judged self.old result self.new }
     {
         for entry in &record.entries {
             self.take(guide, entry)?;
@@ -38,9 +40,11 @@ impl<'r> Playing<'r> {
 }
 
 /// The steps that a guide says for a record, where each can be taken.
+#[tactic(auto, unfolding(crate::specs::Told::IsToldSoFar))]
 fn play(guide: &Guide, record: &Record) -> Result<Vec<Step>, Stopped>
-    ensures { IfOk result (λ steps. run_played guide.now.table.now guide.now.certificate.now guide.now.judged
+    ensures played { IfOk result (λ steps. run_played guide.now.table.now guide.now.certificate.now guide.now.judged
         (map item_of «record».now.entries.items) ≡ Some (events_of steps.items)) }
+    ensures told { IfOk result (λ steps. AreTold guide.now.table.now guide.now.certificate.now guide.now.judged steps.items) }
 {
     let mut playing = Playing::new(guide.alloc);
     playing.take_all(guide, record)?;
@@ -55,8 +59,9 @@ fn play_given(
     certificate: &Certificate,
     judged: Option<End>,
 ) -> Result<Vec<Step>, Stopped>
-    ensures { IfOk result (λ steps. run_played table.now certificate.now judged (map item_of «record».now.entries.items)
+    ensures played { IfOk result (λ steps. run_played table.now certificate.now judged (map item_of «record».now.entries.items)
         ≡ Some (events_of steps.items)) }
+    ensures told { IfOk result (λ steps. AreTold table.now certificate.now judged steps.items) }
 {
     let plan = Plan::new(alloc, certificate)?;
     let guide = Guide {
@@ -77,8 +82,9 @@ fn play_unchecked(
     table: &Table,
     certificate: &Certificate,
 ) -> Result<Option<Vec<Step>>, AllocError>
-    ensures { IfOk result (λ played. IfSome played (λ steps.
+    ensures given { IfOk result (λ played. IfSome played (λ steps.
         replayed table.now certificate.now «record».now.entries.items ≡ Ok (events_of steps.items))) }
+    ensures told { IfOk result (λ played. IfSome played (λ steps. AreTold table.now certificate.now None steps.items)) }
 {
     if !is_in_ranges(certificate) {
         return Ok(None);
@@ -115,8 +121,9 @@ fn play_checked(
     table: &Table,
     certificate: &Certificate,
 ) -> Result<Vec<Step>, CheckFault>
-    ensures { result ≢ Err (fault_at reasons.Memory 0)
+    ensures exact { result ≢ Err (fault_at reasons.Memory 0)
         → map_ok (λ steps. events_of steps.items) result ≡ replayed table.now certificate.now «record».now.entries.items }
+    ensures told { IfOk result (λ steps. AreTold table.now certificate.now None steps.items) }
 {
     check(alloc, record, table, certificate)?;
     match play_given(alloc, record, table, certificate, None) {
@@ -138,6 +145,7 @@ pub fn run_of(
         (events_of steps.items)) }
     ensures exact { result ≢ Err (fault_at reasons.Memory 0)
         → map_ok (λ steps. events_of steps.items) result ≡ replayed table.now certificate.now «record».now.entries.items }
+    ensures told { IfOk result (λ steps. AreTold table.now certificate.now None steps.items) }
 {
     gives_a_run();
     match play_unchecked(alloc, record, table, certificate) {
@@ -164,6 +172,7 @@ pub fn run_of_end(
         (events_of steps.items)) }
     ensures exact { result ≢ Err (fault_at reasons.Memory 0) → map_ok (λ steps. events_of steps.items) result
         ≡ replayed_for «end» table.now certificate.now «record».now.entries.items }
+    ensures told { IfOk result (λ steps. AreTold table.now certificate.now (Some «end») steps.items) }
 {
     gives_a_run_of_one_end();
     check_end(alloc, record, table, certificate, end)?;

@@ -1,14 +1,18 @@
 //! What an end, or its provider, sends (Q.774 3.2 and 3.3).
 
-ghost use Rattle.std.specs.Prelude.{◌≡◌, OnOk, Ok, filter_map};
+ghost use Rattle.std.specs.Prelude.{◌≡◌, OnOk, Ok, Option, filter_map};
 ghost use Rattle.tcap_parts.specs.Meaning.{component_of};
 ghost use Rattle.tcap_msg.specs.Parts.{components_in};
+ghost use Rattle.tcap_record.specs.declared.entry.End.{End as Side};
+ghost use Rattle.tcap_end.specs.Table.{Table};
 ghost use Rattle.tcap_record.specs.Ends.{other};
 ghost use Rattle.tcap_model.specs.Run.{joined, may_refuse};
+ghost use Rattle.tcap_check.specs.Certificate.{Certificate};
 ghost use Rattle.tcap_check.specs.Follows.{invoke_id, invoking_half};
 ghost use Rattle.tcap_check.specs.Replayed.{implied, implied_over, send_replayed};
 ghost use Rattle.tcap_runs.specs.Playing.{Takes, channel_at, end_of, replay_of, world_of};
 ghost use Rattle.tcap_runs.specs.Sending.{answer_played, implied_by, may_answer, tell_played};
+ghost use Rattle.tcap_runs.specs.Told.{GoesOnTold};
 
 use crate::channel::OnWay;
 use crate::items::Kept;
@@ -53,8 +57,9 @@ impl<'r> Playing<'r> {
         name: &HalfName,
         component: ComponentView,
     ) -> Result<(), Stopped>
-        ensures { OnOk result (replay_of self.new
+        ensures ended { OnOk result (replay_of self.new
             ≡ implied_by table.now side name.now (invoke_id (component_of component.entry)) (replay_of self.old)) }
+        ensures told { (c : Certificate) → (judged : Option Side) → GoesOnTold table.now c judged self.old result self.new }
     {
         match component {
             ComponentView::Invoke { id, .. } => self.try_expire(table, side, name, id),
@@ -70,8 +75,9 @@ impl<'r> Playing<'r> {
         name: &HalfName,
         message: &M,
     ) -> Result<(), Stopped>
-        ensures { OnOk result (replay_of self.new ≡ implied table.now side name.now
+        ensures ended { OnOk result (replay_of self.new ≡ implied table.now side name.now
             (filter_map invoke_id (components_in (M.meaning message.now))) (replay_of self.old)) }
+        ensures told { (c : Certificate) → (judged : Option Side) → GoesOnTold table.now c judged self.old result self.new }
     {
         for component in message.components() {
             self.end_invoked(table, side, name, component)?;
@@ -86,8 +92,9 @@ impl<'r> Playing<'r> {
         side: End,
         message: &M,
     ) -> Result<(), Stopped>
-        ensures { OnOk result (replay_of self.new
+        ensures ended { OnOk result (replay_of self.new
             ≡ implied_over table.now side (M.meaning message.now) (invoking_half (M.meaning message.now)) (replay_of self.old)) }
+        ensures told { (c : Certificate) → (judged : Option Side) → GoesOnTold table.now c judged self.old result self.new }
     {
         match invoking_half(message) {
             Some(name) => self.end_all_invoked(table, side, &name, message),
@@ -109,6 +116,7 @@ impl<'r> Playing<'r> {
     }
 
     /// An end sends a message.
+    #[tactic(auto, using(crate::proofs::ToldLaws::sends_on))]
     pub(crate) fn send(
         &mut self,
         alloc: Global,
@@ -116,8 +124,9 @@ impl<'r> Playing<'r> {
         side: End,
         message: &Lent<'r>,
     ) -> Result<(), Stopped>
-        ensures { OnOk result (send_replayed table.now side message.now.message.now (implied_over table.now side
+        ensures sent { OnOk result (send_replayed table.now side message.now.message.now (implied_over table.now side
             message.now.message.now (invoking_half message.now.message.now) (replay_of self.old)) ≡ Ok (replay_of self.new)) }
+        ensures told { (c : Certificate) → (judged : Option Side) → GoesOnTold table.now c judged self.old result self.new }
     {
         self.end_implied(table, side, &message.view)?;
         match side {
@@ -142,6 +151,7 @@ impl<'r> Playing<'r> {
 
     /// The provider of an end answers the oldest message on its way to it, which has that number, by an Abort; what is lost
     /// before it is lost first.
+    #[tactic(auto, using(crate::proofs::ToldLaws::replies_on))]
     pub(crate) fn reply(
         &mut self,
         certificate: &Certificate,
@@ -149,8 +159,9 @@ impl<'r> Playing<'r> {
         abort: &Lent<'r>,
         number: usize,
     ) -> Result<(), Stopped>
-        ensures { Takes (answer_played certificate.now side abort.now.message.now number (replay_of self.old)) result
+        ensures answered { Takes (answer_played certificate.now side abort.now.message.now number (replay_of self.old)) result
             (replay_of self.new) }
+        ensures told { (table : Table) → (judged : Option Side) → GoesOnTold table certificate.now judged self.old result self.new }
     {
         self.lose_front(certificate, side.other())?;
         if !self.may_answer(side, &abort.view, number) {
@@ -163,13 +174,16 @@ impl<'r> Playing<'r> {
     }
 
     /// An end of which nothing is asked tells a message.
+    #[tactic(auto, using(crate::proofs::ToldLaws::moves_on))]
     pub(crate) fn tell(
         &mut self,
         alloc: Global,
         side: End,
         message: &Lent<'r>,
     ) -> Result<(), Stopped>
-        ensures { OnOk result (replay_of self.new ≡ tell_played side message.now.message.now (replay_of self.old)) }
+        ensures tells { OnOk result (replay_of self.new ≡ tell_played side message.now.message.now (replay_of self.old)) }
+        ensures told { (table : Table) → (c : Certificate) → (judged : Option Side)
+            → GoesOnTold table c judged self.old result self.new }
     {
         self.join(side, message.message)?;
         self.steps

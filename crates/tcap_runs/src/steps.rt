@@ -11,18 +11,17 @@ pub(crate) struct Steps {
 }
 
 impl Model for Steps {
-    ghost use Rattle.std.specs.Prelude.{List, map};
-    ghost use Rattle.tcap_model.specs.Run.{Event};
-    ghost use Rattle.tcap_runs.specs.Steps.{event_of};
+    ghost use Rattle.std.specs.Prelude.{List};
+    ghost use Rattle.tcap_runs.specs.declared.step.Step.{Step};
 
-    ghost Value = { List Event };
+    ghost Value = { List Step };
 
-    ghost view = { λ s. map event_of s.list.items };
+    ghost view = { λ s. s.list.items };
 }
 
 impl Steps {
-    ghost use Rattle.std.specs.Prelude.{◌≡◌, [], ◌∷◌, ◌++◌, map, OnOk};
-    ghost use Rattle.tcap_runs.specs.Steps.{event_of};
+    ghost use Rattle.std.specs.Prelude.{◌≡◌, [], ◌∷◌, ◌++◌, OnOk};
+    ghost use Rattle.tcap_runs.specs.Steps.{event_of, events_of};
 
     /// No steps.
     pub(crate) fn new(alloc: Global) -> Steps
@@ -35,7 +34,8 @@ impl Steps {
 
     /// One step more.
     pub(crate) fn push(&mut self, step: Step) -> Result<(), AllocError>
-        ensures { OnOk result (self.new ≡ self.old ++ event_of step ∷ []) }
+        ensures steps { OnOk result (self.new ≡ self.old ++ step ∷ []) }
+        ensures events { OnOk result (events_of self.new ≡ events_of self.old ++ event_of step ∷ []) }
     {
         self.list.push(step)?;
         Ok(())
@@ -43,7 +43,7 @@ impl Steps {
 
     /// The steps, as a list.
     pub(crate) fn into_list(self) -> Vec<Step>
-        ensures { map event_of result.items ≡ self }
+        ensures { result.items ≡ self }
     {
         self.list
     }
