@@ -132,7 +132,7 @@ pub scene_to : (table : Table) (side : Side) (entries : List Entry) (number : �
 scene_to table side entries number m kind about id is =
     record { own = sent_are side entries number; peer = sent_are (other side) entries number; to = is }
 
-scene_over : (of_one : Bool) (table : Table) (side : Side) (entries : List Entry) (number : ℕ) (m : Message) (kind : Kind)
+pub scene_over : (of_one : Bool) (table : Table) (side : Side) (entries : List Entry) (number : ℕ) (m : Message) (kind : Kind)
     (id : List ℕ) → dtid_in m ≡ Some id
     → IsOver side (items_before entries number) id (scene_at of_one table side entries number m kind)
 scene_over of_one table side entries number m kind id is = record { how = rw is refl; half = rw is refl }

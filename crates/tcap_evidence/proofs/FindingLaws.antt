@@ -24,6 +24,8 @@ use Rattle.tcap_evidence.specs.declared.scene.Scene.{Scene as SceneKept}
 use Rattle.tcap_evidence.specs.declared.sent.Stretch.{Stretch}
 use Rattle.tcap_evidence.specs.declared.what.What.{What}
 use Rattle.tcap_evidence.specs.declared.what.What.TheVariants as whats
+use Rattle.tcap_evidence.specs.declared.operations.Invocation.{Invocation}
+use Rattle.tcap_evidence.specs.Operations.{invocations_at, invocations_of}
 use Rattle.tcap_evidence.specs.Evidence.{component_at, components_before, grounds_in, grounds_of, invoke_id_at, invoke_id_in, mark_scene, scene_of, shows}
 use Rattle.tcap_evidence.specs.Kept.{IsScene, scene_by}
 use Rattle.tcap_evidence.specs.Numbered.{numbered_of, sent_before}
@@ -100,6 +102,20 @@ module _ (of_one : Bool) (table : Table) (side : Side) (entries : List Entry) (r
       ap (λ x. invoke_id_in r.kind (component_at x.component (components_in m))) a
       ∙ sym (good_id_of sender m (good_item e sender m is s b))
 
+  abbrev pub good_invocations_by : Message → Subject → List Invocation
+  good_invocations_by m about =
+      invocations_of (scene_of table side entries r.entry m r.kind about) r.kind (component_at about.component (components_in m))
+
+  good_invocations_of : (sender : Side) (m : Message) → slice_get (map item_of entries) r.entry ≡ Some (Ok (Sent sender m))
+      → invocations_at of_one table side entries r ≡ good_invocations_by m (subject_of of_one table side entries r)
+  good_invocations_of sender m is = rw is (ap (good_invocations_by m) (subject_at sender m is))
+
+  pub good_invocations : (e : Entry) (sender : Side) (m : Message) (about : Subject) → about ≡ subject_of of_one table side entries r
+      → slice_get entries r.entry ≡ Some e → e.side ≡ Some sender → e.body ≡ Good m
+      → good_invocations_by m about ≡ invocations_at of_one table side entries r
+  good_invocations e sender m about a is s b =
+      ap (good_invocations_by m) a ∙ sym (good_invocations_of sender m (good_item e sender m is s b))
+
   -- of a quiet mark
   mark_item : (e : Entry) → slice_get entries r.entry ≡ Some e → e.side ≡ None → e.body ≡ Quiet
       → slice_get (map item_of entries) r.entry ≡ Some (Ok Item.Quiet)
@@ -113,20 +129,31 @@ module _ (of_one : Bool) (table : Table) (side : Side) (entries : List Entry) (r
       → None ≡ invoke_id_at of_one table side entries r
   mark_id e is s b = rw (mark_item e is s b) refl
 
-  -- of what is no item
-  bad_grounds : (reason : Reason) → slice_get (map item_of entries) r.entry ≡ Some (Err reason)
-      → [] ≡ grounds_of of_one table side entries r
-  bad_grounds reason is = rw is refl
+  pub mark_invocations : (e : Entry) → slice_get entries r.entry ≡ Some e → e.side ≡ None → e.body ≡ Quiet
+      → [] ≡ invocations_at of_one table side entries r
+  mark_invocations e is s b = rw (mark_item e is s b) refl
+
+  -- of what is no item, and where no entry is
+  abbrev pub NoneOf : Type 0
+  NoneOf = ([] ≡ grounds_of of_one table side entries r) × ([] ≡ invocations_at of_one table side entries r)
+      × (None ≡ invoke_id_at of_one table side entries r)
+
+  bad_none : (reason : Reason) → slice_get (map item_of entries) r.entry ≡ Some (Err reason) → NoneOf
+  bad_none reason is = (rw is refl, rw is refl, rw is refl)
+
+  none_at : slice_get (map item_of entries) r.entry ≡ None → NoneOf
+  none_at is = (rw is refl, rw is refl, rw is refl)
+
+  pub not_there : slice_get entries r.entry ≡ None → NoneOf
+  not_there is = none_at (rw (slice_get-map item_of entries r.entry, is) refl)
 
   pub not_good : (e : Entry) (sender : Side) → slice_get entries r.entry ≡ Some e → e.side ≡ Some sender
-      → ((m : Message) → e.body ≡ Good m → ⊥)
-      → [] ≡ grounds_of of_one table side entries r
+      → ((m : Message) → e.body ≡ Good m → ⊥) → NoneOf
   not_good e sender is s n =
       let bad = odd_message e.body sender n in
-      bad_grounds bad.0 (item_at entries r.entry e is ∙ ap (λ i. Some i) (rw s bad.1))
+      bad_none bad.0 (item_at entries r.entry e is ∙ ap (λ i. Some i) (rw s bad.1))
 
-  pub not_quiet : (e : Entry) → slice_get entries r.entry ≡ Some e → e.side ≡ None → (e.body ≡ Quiet → ⊥)
-      → [] ≡ grounds_of of_one table side entries r
+  pub not_quiet : (e : Entry) → slice_get entries r.entry ≡ Some e → e.side ≡ None → (e.body ≡ Quiet → ⊥) → NoneOf
   not_quiet e is s n =
       let bad = odd_mark e.body n in
-      bad_grounds bad.0 (item_at entries r.entry e is ∙ ap (λ i. Some i) (rw s bad.1))
+      bad_none bad.0 (item_at entries r.entry e is ∙ ap (λ i. Some i) (rw s bad.1))

@@ -1,9 +1,9 @@
 -- What is told of an entry at fault is what is listed of it; and a component at fault is one of a message over a half.
-use Rattle.std.proofs.Common.{◌≡◌, ◌≢◌, ℕ, Bool, true, false, not, ◌&&◌, ◌||◌, List, ◌∷◌, [], map, Option, Some, None, Result, Ok, refl, sym, ap, ◌∙◌}
+use Rattle.std.proofs.Common.{◌≡◌, ◌≢◌, inr, ℕ, Bool, true, false, not, ◌&&◌, List, ◌∷◌, [], map, Option, Some, None, Result, Ok, refl, sym, ap, ◌∙◌}
 use Rattle.std.specs.Prelude.{Contains, slice_get}
 use Rattle.std.proofs.lemmas.Bool.{and_parts, not-true}
 use Rattle.tcap_msg.specs.declared.message.Message.{Message}
-use Rattle.tcap_msg.specs.Parts.{cause_in, components_in, dtid_in}
+use Rattle.tcap_msg.specs.Parts.{components_in, dtid_in}
 use Rattle.tcap_record.specs.declared.entry.End.{End as Side}
 use Rattle.tcap_record.specs.declared.entry.Entry.{Entry}
 use Rattle.tcap_end.specs.Table.{Table}
@@ -13,19 +13,18 @@ use Rattle.tcap_model.specs.Entries.{item_of}
 use Rattle.tcap_refute.specs.declared.kind.Kind.{Kind}
 use Rattle.tcap_refute.specs.declared.kind.Kind.TheVariants as kinds
 use Rattle.tcap_refute.specs.declared.kind.Refutation.{Refutation}
-use Rattle.tcap_refute.specs.FirstKinds.{is_of_first_kind}
 use Rattle.tcap_faults.specs.declared.how.How.TheVariants.{Nowhere}
 use Rattle.tcap_faults.specs.declared.subject.Subject.{Subject}
-use Rattle.tcap_faults.specs.Fault.{is_fault, is_of_further_kind, is_of_half_kind, is_of_kind_to}
+use Rattle.tcap_faults.specs.Fault.{is_fault, is_of_half_kind}
 use Rattle.tcap_faults.specs.HalfKinds.{is_wrong_half}
 use Rattle.tcap_faults.specs.HalfOf.{HalfOf, half_of}
 use Rattle.tcap_faults.specs.Subject.{subject, subject_by, subject_of}
-use Rattle.tcap_faults.specs.Tangled.{goes_over_tangled}
 use Rattle.tcap_evidence.specs.declared.what.What.{What}
 use Rattle.tcap_evidence.specs.declared.what.What.TheVariants as whats
 use Rattle.tcap_evidence.specs.Evidence.{component_at, grounds_in, grounds_of, mark_scene, scene_of, shows}
 use Rattle.tcap_evidence.specs.Scene.{Scene, shown}
 use Rattle.tcap_evidence.specs.Shown.{is_of_component, items_before, scene_at}
+use Rattle.tcap_evidence.proofs.HasKindLaws.{half_so, is_of_a_half}
 use Rattle.tcap_evidence.proofs.NumberedLists.{map_is}
 
 -- ---- what is told
@@ -63,20 +62,12 @@ module _ (of_one : Bool) (table : Table) (side : Side) (entries : List Entry) (r
 -- ---- a component at fault
 
 module _ (table : Table) (side : Side) (items : List Item) (m : Message) (id : List ℕ) where
-  -- Such a kind is none of the first ones,
-  not_first : (kind : Kind) → is_of_component kind ≡ true → is_of_first_kind table side items m kind ≡ false
-  not_first kinds.InvokeIdBusy is = refl
-  not_first kinds.BadLink is = refl
-  not_first kinds.AnsweredAlready is = refl
-  not_first kinds.RejectNotAllowed is = refl
-  not_first kind is = cc
-
   first : (h : HalfOf) (more : Bool) → (not (is_wrong_half side items m h) && more) ≡ true
       → is_wrong_half side items m h ≡ false
   first h more both =
       not-true (is_wrong_half side items m h) (and_parts (not (is_wrong_half side items m h)) more both).0
 
-  -- and none that rests on a wrong half.
+  -- None of these kinds rests on a wrong half.
   speaks : (h : HalfOf) (kind : Kind) → is_of_component kind ≡ true
       → is_of_half_kind table side id items m h kind ≡ true → is_wrong_half side items m h ≡ false
   speaks h kinds.InvokeIdBusy is so = first h _ so
@@ -85,21 +76,16 @@ module _ (table : Table) (side : Side) (items : List Item) (m : Message) (id : L
   speaks h kinds.RejectNotAllowed is so = first h _ so
   speaks h kind is so = cc
 
-  goes_to : (cause : Option ℕ) (kind : Kind) → is_of_component kind ≡ true
-      → is_of_kind_to table side id items m cause kind ≡ true → is_wrong_half side items m (half_of side items id) ≡ false
-  goes_to None kind is so = speaks (half_of side items id) kind is so
-  goes_to (Some cause) kinds.InvokeIdBusy is so = cc
-  goes_to (Some cause) kinds.BadLink is so = cc
-  goes_to (Some cause) kinds.AnsweredAlready is so = cc
-  goes_to (Some cause) kinds.RejectNotAllowed is so = cc
-  goes_to (Some cause) kind is so = cc
+  of_a_half : (kind : Kind) → is_of_component kind ≡ true → is_of_a_half kind ≡ true
+  of_a_half kinds.InvokeIdBusy is = refl
+  of_a_half kinds.BadLink is = refl
+  of_a_half kinds.AnsweredAlready is = refl
+  of_a_half kinds.RejectNotAllowed is = refl
+  of_a_half kind is = cc
 
   pub has_half : (kind : Kind) → dtid_in m ≡ Some id → is_of_component kind ≡ true
       → is_fault table side items m kind ≡ true → (half_of side items id).how ≢ Nowhere
   has_half kind to is so nowhere =
-      let (untangled, either) =
-      and_parts (not (goes_over_tangled side items m))
-      (is_of_first_kind table side items m kind || is_of_further_kind table side items m (dtid_in m) kind) so in
-      let further : is_of_kind_to table side id items m (cause_in m) kind ≡ true = rw (not_first kind is, to) at either in
-      let fits : is_wrong_half side items m (half_of side items id) ≡ false = goes_to (cause_in m) kind is further in
+      let of_it = half_so table side items m id to kind (of_a_half kind is) (inr so) in
+      let fits : is_wrong_half side items m (half_of side items id) ≡ false = speaks (half_of side items id) kind is of_it in
       let bad : true ≡ false = rw nowhere at fits in cc

@@ -1,6 +1,5 @@
 -- Where a message has one of the kinds F2 to F4, or a quiet mark F15, what is listed shows that.
-use Rattle.std.proofs.Common.{◌≡◌, inl, inr, ℕ, Bool, true, false, cond, not, ◌&&◌, ◌||◌, List, [], ◌∷◌, map, Option, Some, None, is_none, refl, sym, ap, ◌∙◌}
-use Rattle.std.specs.Prelude.{Contains, filter}
+use Rattle.std.proofs.Common.{◌≡◌, inl, inr, ℕ, Bool, true, false, not, ◌&&◌, List, [], ◌∷◌, Option, Some, None, is_none, refl, ap, ◌∙◌}
 use Rattle.std.specs.List.{list_any}
 use Rattle.std.proofs.lemmas.Bool.{and_parts, not-true}
 use Rattle.tcap_msg.specs.declared.kind.Kind.TheVariants as forms
@@ -13,101 +12,23 @@ use Rattle.tcap_end.specs.End.{is_id}
 use Rattle.tcap_end.specs.Table.{Table}
 use Rattle.tcap_model.specs.World.{Item}
 use Rattle.tcap_model.specs.Since.{ended_by}
-use Rattle.tcap_refute.specs.declared.kind.Kind.{Kind}
 use Rattle.tcap_refute.specs.declared.kind.Kind.TheVariants as kinds
 use Rattle.tcap_refute.specs.Before.{asked, has_a, is_a, sent_by}
-use Rattle.tcap_refute.specs.FirstKinds.{is_of_first_kind}
-use Rattle.tcap_refute.specs.Kind.{goes_elsewhere, is_after_end, is_of_kind, is_reused, is_unasked, is_unknown_transaction}
+use Rattle.tcap_refute.specs.Kind.{goes_elsewhere, is_after_end, is_reused, is_unasked, is_unknown_transaction}
 use Rattle.tcap_faults.specs.Closed.{is_surely_open}
 use Rattle.tcap_faults.proofs.HalfLawsFinds.{any_is}
 use Rattle.tcap_refute.proofs.Members.{any_has}
 use Rattle.tcap_faults.specs.declared.subject.Subject.{Subject}
-use Rattle.tcap_faults.specs.Fault.{is_left_open, is_of_further_kind, is_of_kind_to, is_open_at_mark}
-use Rattle.tcap_faults.specs.Tangled.{goes_over_tangled}
+use Rattle.tcap_faults.specs.Fault.{is_left_open, is_open_at_mark}
 use Rattle.tcap_evidence.specs.declared.what.What.TheVariants as whats
 use Rattle.tcap_evidence.specs.Evidence.{mark_scene, scene_of}
-use Rattle.tcap_evidence.specs.Numbered.{Numbered, entries_where, sent_before}
+use Rattle.tcap_evidence.specs.Numbered.{entries_where}
 use Rattle.tcap_evidence.specs.Scene.{Scene, is_open_continue, there}
 use Rattle.tcap_evidence.specs.Shown.{HasKind, ListsNone, ListsOne, ShowsReused, ShowsUnknown, items_before}
 use Rattle.tcap_evidence.proofs.CountedLaws.{scene_to}
-use Rattle.tcap_evidence.proofs.NumberedLists.{map_is, where_has}
-use Rattle.tcap_evidence.proofs.SceneLists.{IsTo, there_are}
-use Rattle.tcap_evidence.proofs.SentBefore.{messages, sent_are}
-
--- ---- what it means to have the kind
-
--- F2 to F4
-abbrev is_early : Kind → Bool
-is_early kinds.UnknownTransaction = true
-is_early kinds.ReusedId = true
-is_early kinds.AfterEnd = true
-is_early kind = false
-
-module _ (table : Table) (side : Side) (items : List Item) (m : Message) where
-  -- None of these kinds is a further one,
-  not_to : (id : List ℕ) (cause : Option ℕ) (kind : Kind) → is_early kind ≡ true
-      → is_of_kind_to table side id items m cause kind ≡ false
-  not_to id None kinds.UnknownTransaction early = refl
-  not_to id None kinds.ReusedId early = refl
-  not_to id None kinds.AfterEnd early = refl
-  not_to id (Some cause) kinds.UnknownTransaction early = refl
-  not_to id (Some cause) kinds.ReusedId early = refl
-  not_to id (Some cause) kinds.AfterEnd early = refl
-  not_to id cause kind early = cc
-
-  not_further : (o : Option (List ℕ)) (kind : Kind) → is_early kind ≡ true
-      → is_of_further_kind table side items m o kind ≡ false
-  not_further None kinds.UnknownTransaction early = refl
-  not_further None kinds.ReusedId early = refl
-  not_further None kinds.AfterEnd early = refl
-  not_further None kind early = cc
-  not_further (Some id) kind early = not_to id (cause_in m) kind early
-
-  -- and each is asked of one end as of both.
-  asked_alike : (kind : Kind) → is_early kind ≡ true
-      → is_of_first_kind table side items m kind ≡ is_of_kind table side items m kind
-  asked_alike kinds.UnknownTransaction early = refl
-  asked_alike kinds.ReusedId early = refl
-  asked_alike kinds.AfterEnd early = refl
-  asked_alike kind early = cc
-
-  kind_so : (kind : Kind) → is_early kind ≡ true → HasKind table side items m kind
-      → is_of_kind table side items m kind ≡ true
-  kind_so kind early (inl is) = is
-  kind_so kind early (inr is) =
-      let (untangled, either) =
-      and_parts (not (goes_over_tangled side items m))
-      (is_of_first_kind table side items m kind || is_of_further_kind table side items m (dtid_in m) kind) is in
-      sym (asked_alike kind early)
-      ∙ by (is_of_first_kind table side items m kind) (rw (not_further (dtid_in m) kind early) at either)
-    where
-      by : (b : Bool) → (b || false) ≡ true → b ≡ true
-      by true so = refl
-      by false so = so
-
--- ---- what is listed
-
--- nothing, where none passes;
-none_pass : (p : Message → Bool) (sent : List Numbered) → list_any p (messages sent) ≡ false → entries_where p sent ≡ []
-none_pass p [] none = refl
-none_pass p (n ∷ sent) none = by (p n.1) none (none_pass p sent)
-  where
-    kept : List Numbered
-    kept = filter (λ (k : Numbered). p k.1) sent
-
-    by : (b : Bool) → (b || list_any p (messages sent)) ≡ false
-        → (list_any p (messages sent) ≡ false → entries_where p sent ≡ [])
-        → map (λ (k : Numbered). k.0) (cond b (n ∷ kept) kept) ≡ []
-    by true none rest = cc
-    by false none rest = rest none
-
--- something, where one passes.
-one_passes : (p : Message → Bool) (sent : List Numbered) → list_any p (messages sent) ≡ true
-    → (n : ℕ) × Contains (entries_where p sent) n
-one_passes p sent some =
-    let (m, has, passes) = any_is p (messages sent) some in
-    let ((n, other), there, same) = map_is (λ (k : Numbered). k.1) sent m has in
-    (n, where_has p sent n other there (ap p same ∙ passes))
+use Rattle.tcap_evidence.proofs.HasKindLaws.{kind_so}
+use Rattle.tcap_evidence.proofs.ListsLaws.{none_there, sent_one}
+use Rattle.tcap_evidence.proofs.SceneLists.{IsTo}
 
 -- ---- F2
 
@@ -116,7 +37,7 @@ module _ (side : Side) (items : List Item) (s : Scene) (id : List ℕ) (of : IsT
   unasked cause ms = asked side id items ≡ ms → is_unasked cause ms ≡ true → ShowsUnknown s cause
 
   no_such : (p : Message → Bool) → list_any p (asked side id items) ≡ false → entries_where p (there s) ≡ []
-  no_such p none = none_pass p (there s) (ap (list_any p) (there_are side items id s of) ∙ none)
+  no_such p none = none_there side items s id of p none
 
   nothing : (p : Message → Bool) → asked side id items ≡ [] → entries_where p (there s) ≡ []
   nothing p none = no_such p (ap (list_any p) none)
@@ -154,14 +75,6 @@ module _ (table : Table) (side : Side) (entries : List Entry) (number : ℕ) (m 
           unasked_shows side items (scene_of table side entries number m kinds.UnknownTransaction about) id
           (scene_to table side entries number m kinds.UnknownTransaction about id to) (cause_in m) (asked side id items)
           refl (rw to at is)
-
--- An end sent one that passes.
-sent_one : (side : Side) (entries : List Entry) (number : ℕ) (s : Scene) (p : Message → Bool)
-    → s.own ≡ sent_before side entries number → list_any p (sent_by side (items_before entries number)) ≡ true
-    → (n : ℕ) × Contains (entries_where p s.own) n
-sent_one side entries number s p own some =
-    one_passes p s.own
-    (ap (λ (ns : List Numbered). list_any p (messages ns)) own ∙ ap (list_any p) (sent_are side entries number) ∙ some)
 
 reused_shows_by : (table : Table) (side : Side) (entries : List Entry) (number : ℕ) (m : Message) (about : Subject)
     → is_reused side (items_before entries number) m ≡ true

@@ -42,7 +42,7 @@ module _ (s : Scene) where
   sorted_has sort sent n m has (id, c, is, among, so) =
       rw is (with_has (is_sort s.table id sort) sent n m c has among so)
 
-  itself_has : (sort : Sort) (cs : List Component) → HasSort s sort cs → Contains (with_sort_in s sort cs) s.number
+  pub itself_has : (sort : Sort) (cs : List Component) → HasSort s sort cs → Contains (with_sort_in s sort cs) s.number
   itself_has sort cs (id, c, is, among, so) =
       rw is
       (map_has (λ (c : Component). s.number) (filter (is_sort s.table id sort) cs) c

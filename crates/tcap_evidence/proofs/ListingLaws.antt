@@ -1,14 +1,14 @@
 -- Lists that are made of others, item by item.
-use Rattle.std.proofs.Common.{◌≡◌, ℕ, ◌+◌, ◌<◌, ◌≤◌, Bool, true, false, cond, List, [], ◌∷◌, ◌++◌, append_assoc, drop, filter, get_or, length, map, refl, sym, ap, ◌∙◌}
+use Rattle.std.proofs.Common.{◌≡◌, ℕ, ◌+◌, ◌<◌, ◌≤◌, Bool, true, false, cond, List, [], ◌∷◌, ◌++◌, append_assoc, drop, filter, flat_map, get_or, length, map, refl, sym, ap, ◌∙◌}
 use Rattle.std.proofs.lemmas.List.{append-nil, at_drop_all, at_drop_more}
 use Rattle.tcap_parts.specs.declared.component.Component.{Component}
 use Rattle.tcap_parts.specs.declared.component.ComponentView.{ComponentView}
 use Rattle.tcap_parts.specs.Meaning.{component_of}
 use Rattle.tcap_msg.specs.declared.message.Message.{Message}
-use Rattle.tcap_msg.specs.Parts.{components_in, dialogue_in}
+use Rattle.tcap_msg.specs.Parts.{dialogue_in}
 use Rattle.tcap_end.specs.Dialogue.{is_response}
 use Rattle.tcap_evidence.specs.declared.sent.Sent.{Sent as SentEntry}
-use Rattle.tcap_evidence.specs.Numbered.{Numbered, entries_where, entries_with, numbered_of}
+use Rattle.tcap_evidence.specs.Numbered.{Numbered, entries_where, numbered_of}
 use Rattle.tcap_evidence.specs.Scene.{since_first}
 
 -- what is made of what is left
@@ -59,24 +59,23 @@ module _ (sent : List SentEntry) (i : ℕ) where
     where_same test made passes_not so_far =
         made_same (λ xs. entries_where test (numbered_of xs)) sent i x within here made (rw passes_not refl) so_far
 
-    -- and of the components of one more;
-    pub with_more : {all : List ℕ} (test : Component → Bool) (made now : List ℕ)
-        → now ≡ made ++ map (λ c. x.number) (filter test (components_in x.message.now))
-        → made ++ entries_with test (numbered_of (drop i sent)) ≡ all
-        → now ++ entries_with test (numbered_of (drop (i + 1) sent)) ≡ all
-    with_more test made now is so_far =
-        ap (λ ys. ys ++ entries_with test (numbered_of (drop (i + 1) sent))) is
-        ∙ made_more (λ xs. entries_with test (numbered_of xs)) sent i x within here made
-        (map (λ c. x.number) (filter test (components_in x.message.now))) refl so_far
+    -- and what is made of each message, of one more;
+    pub with_more : {B : Type 0} {all : List B} (of : Numbered → List B) (made now : List B)
+        → now ≡ made ++ of (x.number, x.message.now)
+        → made ++ flat_map of (numbered_of (drop i sent)) ≡ all
+        → now ++ flat_map of (numbered_of (drop (i + 1) sent)) ≡ all
+    with_more of made now is so_far =
+        ap (λ ys. ys ++ flat_map of (numbered_of (drop (i + 1) sent))) is
+        ∙ made_more (λ xs. flat_map of (numbered_of xs)) sent i x within here made (of (x.number, x.message.now)) refl so_far
 
   -- and of all.
   pub where_all : {all : List ℕ} (test : Message → Bool) (made : List ℕ) → length sent ≤ i
       → made ++ entries_where test (numbered_of (drop i sent)) ≡ all → made ≡ all
   where_all test made past so_far = all_made (λ xs. entries_where test (numbered_of xs)) sent i made refl past so_far
 
-  pub with_all : {all : List ℕ} (test : Component → Bool) (made : List ℕ) → length sent ≤ i
-      → made ++ entries_with test (numbered_of (drop i sent)) ≡ all → made ≡ all
-  with_all test made past so_far = all_made (λ xs. entries_with test (numbered_of xs)) sent i made refl past so_far
+  pub with_all : {B : Type 0} {all : List B} (of : Numbered → List B) (made : List B) → length sent ≤ i
+      → made ++ flat_map of (numbered_of (drop i sent)) ≡ all → made ≡ all
+  with_all of made past so_far = all_made (λ xs. flat_map of (numbered_of xs)) sent i made refl past so_far
 
 -- ---- an entry, as often as one of these components passes a test
 

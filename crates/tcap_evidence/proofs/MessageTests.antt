@@ -1,5 +1,5 @@
 -- What tests of a message say of its parts.
-use Rattle.std.proofs.Common.{◌≡◌, ◌≢◌, inl, inr, ℕ, Bool, true, false, not, List, Option, Some, None, is_none, refl, sym, ap}
+use Rattle.std.proofs.Common.{◌≡◌, ◌≢◌, inl, inr, ℕ, Bool, true, false, not, List, Option, Some, None, is_none, refl, sym, ap, ◌∙◌}
 use Rattle.std.proofs.lemmas.Bool.{and_from, and_parts, eq-eqb, eqb-true, false_from_ne_true, not-true}
 use Rattle.tcap_msg.specs.declared.kind.Kind.{Kind as Form}
 use Rattle.tcap_msg.specs.declared.kind.Kind.TheVariants as forms
@@ -25,6 +25,12 @@ form_is forms.Continue forms.Continue is = refl
 form_is forms.End forms.End is = refl
 form_is forms.Abort forms.Abort is = refl
 form_is a b is = cc
+
+-- No message is a Begin and a Continue.
+pub not_both : (m : Message) → is_a forms.Begin m ≡ true → is_a forms.Continue m ≡ true → ⊥
+not_both m begins goes_on =
+    let bad : forms.Begin ≡ forms.Continue =
+    sym (form_is forms.Begin (kind_in m) begins) ∙ form_is forms.Continue (kind_in m) goes_on in cc
 
 -- The IDs are one.
 pub one_is : (a b : Option (List ℕ)) → is_that a b ≡ true → AreSame a b

@@ -49,7 +49,7 @@ module _ (side : Side) (items : List Item) (id : List ℕ) (s : Scene) (of : IsT
       ∙ ap (λ (o : Option (List ℕ)). filter (λ (m : Message). is_that o (dtid_in m) && is_none (cause_in m))
       (sent_by side items)) of.to
 
-  half_are : (o : Option (List ℕ)) → s.half ≡ o → messages (to_half s) ≡ continued_to side items id o
+  pub half_are : (o : Option (List ℕ)) → s.half ≡ o → messages (to_half s) ≡ continued_to side items id o
   half_are None is = rw is refl
   half_are (Some own) is =
       rw is (kept_are (goes_on_to own) (there s) ∙ ap (filter (goes_on_to own)) there_are)

@@ -193,13 +193,13 @@ module _ (side : Side) where
 
 -- ---- the first entries
 
-taken_at : (n : ℕ) (xs : List (Result Item Reason)) (k : ℕ) → k < n → slice_get (take n xs) k ≡ slice_get xs k
+pub taken_at : (n : ℕ) (xs : List (Result Item Reason)) (k : ℕ) → k < n → slice_get (take n xs) k ≡ slice_get xs k
 taken_at zero xs k below = absurd (omega arith)
 taken_at (suc n) [] k below = refl
 taken_at (suc n) (x ∷ xs) zero below = refl
 taken_at (suc n) (x ∷ xs) (suc k) below = taken_at n xs k (omega arith)
 
-taken_below : (n : ℕ) (xs : List (Result Item Reason)) (k : ℕ) (x : Result Item Reason)
+pub taken_below : (n : ℕ) (xs : List (Result Item Reason)) (k : ℕ) (x : Result Item Reason)
     → slice_get (take n xs) k ≡ Some x → k < n
 taken_below n xs k x is =
     let within = slice_get_within (take n xs) k x is in

@@ -1,7 +1,8 @@
 -- Texts that are appended one after the other.
-use Rattle.std.proofs.Common.{◌≡◌, ℕ, List, ◌++◌, Ok, Err, append_assoc, refl}
+use Rattle.std.proofs.Common.{◌≡◌, ℕ, ◌+◌, ◌<◌, ◌≤◌, List, ◌++◌, Ok, Err, append_assoc, drop, flat_map, get_or, length, refl, ap, ◌∙◌}
 use Rattle.std.specs.Prelude.{Result, OnOk, if◌then◌else◌}
 use Rattle.std.specs.Result.{is_ok}
+use Rattle.tcap_evidence.proofs.ListingLaws.{all_made, made_more}
 
 -- what was appended, and then something else
 pub also : (t u v a b : List ℕ) → u ≡ t ++ a → v ≡ u ++ b → v ≡ t ++ (a ++ b)
@@ -12,3 +13,17 @@ pub at_last : {T E : Type 0} (r : Result T E) (t u v a b other : List ℕ) → u
     → v ≡ (if is_ok r then (u ++ b) else other) → OnOk r (v ≡ t ++ (a ++ b))
 at_last (Ok x) t u v a b other e f = also t u v a b e f
 at_last (Err x) t u v a b other e f = tt
+
+-- ---- a line for each item
+
+module _ {A : Type 0} (line : A → List ℕ) (xs : List A) (i : ℕ) where
+  -- the line of the next one, behind those that were appended,
+  pub lines_more : {all : List ℕ} (x : A) → i < length xs → x ≡ get_or xs i x → (made now : List ℕ) → now ≡ made ++ line x
+      → made ++ flat_map line (drop i xs) ≡ all → now ++ flat_map line (drop (i + 1) xs) ≡ all
+  lines_more x within here made now is so_far =
+      ap (λ ys. ys ++ flat_map line (drop (i + 1) xs)) is
+      ∙ made_more (flat_map line) xs i x within here made (line x) refl so_far
+
+  -- and of all
+  pub lines_all : {all : List ℕ} (made : List ℕ) → length xs ≤ i → made ++ flat_map line (drop i xs) ≡ all → made ≡ all
+  lines_all made past so_far = all_made (flat_map line) xs i made refl past so_far

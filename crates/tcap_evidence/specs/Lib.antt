@@ -2,8 +2,13 @@ pub mod Numbered
 pub mod Scene
 pub mod Listing
 pub mod Evidence
+pub mod Operations
+pub mod WorkedOperations
 pub mod Kept
 pub mod Marked
 pub mod Words
+pub mod Pairing
 pub mod Unblamed
 pub mod Shown
+pub mod HalvesShown
+pub mod ComponentsShown

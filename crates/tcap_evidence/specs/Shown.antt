@@ -1,6 +1,6 @@
 -- What the lists of entries that show a fault say: how many entries they have, which ones, and what is listed where a message has
 -- a kind.
-use Rattle.std.specs.Prelude.{◌≡◌, ◌≢◌, ◌⊎◌, ◌<◌, ◌+◌, ℕ, ℤ, Bool, true, false, List, [], ◌++◌, Contains, length, map, take, slice_get, Option, Some, None, Ok}
+use Rattle.std.specs.Prelude.{◌≡◌, ◌≢◌, ◌⊎◌, ◌<◌, ◌≤◌, ◌+◌, ℕ, ℤ, Bool, true, false, List, [], ◌++◌, Contains, length, map, take, slice_get, Option, Some, None, Ok}
 use Rattle.tcap_parts.specs.declared.component.Component.{Component}
 use Rattle.tcap_msg.specs.declared.kind.Kind.TheVariants as forms
 use Rattle.tcap_msg.specs.declared.message.Message.{Message}
@@ -13,7 +13,7 @@ use Rattle.tcap_model.specs.Entries.{item_of}
 use Rattle.tcap_refute.specs.declared.kind.Kind.{Kind}
 use Rattle.tcap_refute.specs.declared.kind.Kind.TheVariants as kinds
 use Rattle.tcap_refute.specs.Before.{asked, components_of, invokes, is_a, sent_by, since_quiet}
-use Rattle.tcap_faults.specs.Told.{is_abort_with, told}
+use Rattle.tcap_faults.specs.Told.{begins_from, is_abort_with, told}
 use Rattle.tcap_faults.specs.Counts.{count, count_class, count_lasting, has_class, takes}
 use Rattle.tcap_refute.specs.Kind.{is_begin_with_request, is_of_kind}
 use Rattle.tcap_faults.specs.Closed.{is_surely_open}
@@ -27,7 +27,8 @@ use Rattle.tcap_faults.specs.Subject.{items_among, subject}
 use Rattle.tcap_faults.specs.Tallied.{is_sort}
 use Rattle.tcap_evidence.specs.declared.what.What.{What}
 use Rattle.tcap_evidence.specs.declared.what.What.TheVariants as whats
-use Rattle.tcap_evidence.specs.Evidence.{scene_of}
+use Rattle.tcap_evidence.specs.Evidence.{component_at, scene_of}
+use Rattle.tcap_evidence.specs.Pairing.{paired_before, partner_in}
 use Rattle.tcap_evidence.specs.Scene.{Scene, own_id, shown}
 use Rattle.tcap_evidence.specs.Words.{sender_of}
 
@@ -39,6 +40,11 @@ items_before entries number = since_quiet (items_among (map item_of (take number
 abbrev pub scene_at : Bool → Table → Side → List Entry → ℕ → Message → Kind → Scene
 scene_at of_one table side entries number m kind =
     scene_of table side entries number m kind (subject of_one table side (items_before entries number) m kind)
+
+-- the component which has that kind
+abbrev pub component_with : Bool → Table → Side → List Entry → ℕ → Message → Kind → Option Component
+component_with of_one table side entries number m kind =
+    component_at (subject of_one table side (items_before entries number) m kind).component (components_in m)
 
 -- ---- how many
 
@@ -87,6 +93,17 @@ pub record IsSentBefore (entries : List Entry) (number : ℕ) (sender : Side) (n
   pub is : slice_get (map item_of entries) n ≡ Some (Ok (Sent sender m))
   pub before : n < number
   pub since : (k : ℕ) → n < k → k < number → slice_get (map item_of entries) k ≢ Some (Ok Item.Quiet)
+
+-- A listed Continue of that end, no later than that entry, in which the ID stands with that one; and no Begin from it is between.
+pub record IsPaired (of : Side) (id : List ℕ) (entries : List Entry) (number : ℕ) (sender : Side) (partner : List ℕ) (n : ℕ) : Type 0 where
+  pub at : ℕ
+  pub message : Message
+  pub listed : Contains (paired_before of id entries number) at
+  pub sent : IsSentBefore entries number sender at message
+  pub stands : partner_in of id sender message ≡ Some partner
+  pub no_later : at ≤ n
+  pub none_begun : (k : ℕ) (m : Message) → at < k → k ≤ n → slice_get (map item_of entries) k ≡ Some (Ok (Sent of m))
+      → begins_from id m ≡ false
 
 -- Both IDs are there, and they are the same.
 abbrev pub AreSame : Option (List ℕ) → Option (List ℕ) → Type 0
@@ -169,6 +186,11 @@ abbrev pub HasKind : Table → Side → List Item → Message → Kind → Type 
 HasKind table side items m kind =
     (is_of_kind table side items m kind ≡ true) ⊎ (is_fault table side items m kind ≡ true)
 
+-- whether it has it, asked of one end, or of both
+abbrev pub has_kind_by : Bool → Table → Side → List Item → Message → Kind → Bool
+has_kind_by true table side items m kind = is_fault table side items m kind
+has_kind_by false table side items m kind = is_of_kind table side items m kind
+
 -- F10 to F13, the kinds of a component over a half
 abbrev pub is_of_component : Kind → Bool
 is_of_component kinds.InvokeIdBusy = true
@@ -176,6 +198,10 @@ is_of_component kinds.BadLink = true
 is_of_component kinds.AnsweredAlready = true
 is_of_component kinds.RejectNotAllowed = true
 is_of_component kind = false
+
+-- how many entries the list has
+abbrev pub many : Scene → What → ℕ
+many s what = length (shown s what)
 
 -- The list is empty; or it has an entry.
 abbrev pub ListsNone : Scene → What → Type 0

@@ -2,18 +2,23 @@
 use Rattle.std.specs.Prelude.{ℕ, List, [], ◌∷◌, ◌++◌, Option, Some, None, codes}
 use Rattle.std.specs.List.{flat_map}
 use Rattle.std.specs.Fmt.{decimal}
+use Rattle.hex.specs.Hex.{encode_lower}
 use Rattle.tcap_record.specs.declared.entry.End.{End as Side}
 use Rattle.tcap_record.specs.declared.entry.Entry.{Entry}
 use Rattle.tcap_record.specs.Ends.{letter}
 use Rattle.tcap_record.specs.Lines.{line_end}
 use Rattle.tcap_end.specs.Table.{Table}
+use Rattle.tcap_faults.specs.declared.why.Tangle.{Tangle}
+use Rattle.tcap_faults.specs.declared.why.Tangle.TheVariants.{TwoIds, BegunTwice, BothBegan, Guessed}
+use Rattle.tcap_faults.specs.declared.why.TangledId.{TangledId}
 use Rattle.tcap_faults.specs.declared.why.Unblamed.{Unblamed}
 use Rattle.tcap_faults.specs.declared.why.Unblamed.TheVariants.{UsedAgain, Tangled}
 use Rattle.tcap_faults.specs.Unblamed.{unblamed_at}
 use Rattle.tcap_evidence.specs.declared.what.What.{What}
 use Rattle.tcap_evidence.specs.declared.what.What.TheVariants as whats
 use Rattle.tcap_evidence.specs.Evidence.{grounds_at}
-use Rattle.tcap_evidence.specs.Words.{ground_line}
+use Rattle.tcap_evidence.specs.Pairing.{paired_before}
+use Rattle.tcap_evidence.specs.Words.{entries_words, ground_line}
 
 -- where the IDs of a message stood before
 abbrev pub id_uses : List What
@@ -23,9 +28,22 @@ id_uses = whats.BeginsThere ∷ whats.ContinuesThere ∷ whats.ContinuesTold ∷
 abbrev pub id_lines : Table → Side → List Entry → ℕ → List ℕ
 id_lines table side entries number = flat_map (ground_line side None) (grounds_at table side entries number id_uses)
 
-unfoldable pub tangled_words : List ℕ
-tangled_words =
-    codes "  nobody is blamed for it: its transaction IDs are tangled (one was given twice, begun twice, or guessed)\n"
+-- why an ID is tangled
+unfoldable pub tangle_words : Tangle → List ℕ
+tangle_words TwoIds = codes " is tangled (two IDs of the other end stand with it): "
+tangle_words BegunTwice = codes " is tangled (its end began it twice): "
+tangle_words BothBegan = codes " is tangled (its end began it, and went on from it to an ID that the other end began): "
+tangle_words Guessed = codes " is tangled (its end began it, and went on from it to an ID that the other end had not used): "
+
+-- that an ID is tangled, of which end, and why
+abbrev pub tangled_text : TangledId → List ℕ
+tangled_text t =
+    codes "  nobody is blamed for it: transaction ID " ++ encode_lower t.id ++ codes " of " ++ letter t.side ++ tangle_words t.why
+
+-- and the entries that show it
+abbrev pub tangled_line : List Entry → ℕ → TangledId → List ℕ
+tangled_line entries number t =
+    tangled_text t ++ entries_words (paired_before t.side t.id entries number) ++ line_end
 
 unfoldable pub spelling_words : List ℕ
 spelling_words =
@@ -39,7 +57,8 @@ again_text side again =
 -- by why that is so
 abbrev pub unblamed_words : Table → Side → List Entry → ℕ → Option Unblamed → List ℕ
 unblamed_words table side entries number (Some (UsedAgain again)) = again_text side again
-unblamed_words table side entries number (Some Tangled) = tangled_words ++ id_lines table side entries number
+unblamed_words table side entries number (Some (Tangled t)) =
+    tangled_line entries number t ++ id_lines table side entries number
 unblamed_words table side entries number None = spelling_words
 
 abbrev pub unblamed_text : Table → Side → List Entry → ℕ → List ℕ

@@ -12,8 +12,8 @@ use Rattle.tcap_record.specs.declared.entry.Body.{Body}
 use Rattle.tcap_record.specs.declared.entry.Body.TheVariants.{Good, Bad, Quiet}
 use Rattle.tcap_record.specs.declared.entry.Entry.{Entry}
 use Rattle.tcap_record.specs.Ends.{letter, other}
-use Rattle.tcap_record.specs.Lines.{component_line, head_text, line_end}
-use Rattle.tcap_end.specs.Table.{Table}
+use Rattle.tcap_record.specs.Lines.{code_text, component_line, head_text, line_end}
+use Rattle.tcap_end.specs.Table.{Table, class_of}
 use Rattle.tcap_refute.specs.declared.kind.Kind.{Kind}
 use Rattle.tcap_refute.specs.declared.kind.Kind.TheVariants as kinds
 use Rattle.tcap_refute.specs.declared.kind.Refutation.{Refutation}
@@ -25,10 +25,12 @@ use Rattle.tcap_faults.specs.declared.sort.Class.TheVariants.{Any, One, Two, Thr
 use Rattle.tcap_faults.specs.declared.sort.Sort.{Sort}
 use Rattle.tcap_faults.specs.declared.sort.Sort.TheVariants as sorts
 use Rattle.tcap_faults.specs.declared.subject.Subject.{Subject}
+use Rattle.tcap_evidence.specs.declared.operations.Invocation.{Invocation}
 use Rattle.tcap_evidence.specs.declared.what.What.{What}
 use Rattle.tcap_evidence.specs.declared.what.What.TheVariants as whats
 use Rattle.tcap_faults.specs.Subject.{subject_of}
 use Rattle.tcap_evidence.specs.Evidence.{component_at, grounds_of, invoke_id_at}
+use Rattle.tcap_evidence.specs.Operations.{invocations_at}
 
 -- ---- what a kind says
 
@@ -230,6 +232,31 @@ abbrev pub ground_line : Side → Option ℤ → What × List ℕ → List ℕ
 ground_line side id g = cond (is_empty g.1 && not (is_told_empty g.0)) []
     (codes "  " ++ what_words side id g.0 ++ codes ": " ++ entries_words g.1 ++ line_end)
 
+-- ---- invocations
+
+abbrev pub class_text : Option ℕ → List ℕ
+class_text None = codes ", which the table lacks"
+class_text (Some class) = codes ", of class " ++ decimal class
+
+abbrev pub link_text : Option ℤ → List ℕ
+link_text None = []
+link_text (Some id) = codes ", linked to " ++ signed_decimal id
+
+-- an invocation of that ID: its entry, its operation and its class, and the ID that it is linked to
+abbrev pub invocation_line : Table → ℤ → Invocation → List ℕ
+invocation_line table id i =
+    codes "  invocation " ++ signed_decimal id ++ codes " in entry " ++ decimal i.entry ++ codes " is of " ++ code_text i.code
+    ++ class_text (class_of table i.code) ++ link_text i.linked ++ line_end
+
+-- those that are not named
+abbrev pub more_invocations : ℕ → List ℕ
+more_invocations n = cond (nat_lt most n) (codes " " ++ more_words n ++ codes " invocations of it\n") []
+
+abbrev pub invocation_lines : Table → Option ℤ → List Invocation → List ℕ
+invocation_lines table None invocations = []
+invocation_lines table (Some id) invocations =
+    flat_map (invocation_line table id) (take most invocations) ++ more_invocations (length invocations)
+
 -- ---- what else may be so
 
 unfoldable pub doubt_words : Kind → List ℕ
@@ -270,8 +297,8 @@ abbrev pub bad_text : Side → Refutation → List ℕ
 bad_text side r = entry_line side r None ++ doubt_words r.kind
 
 -- of an entry
-abbrev pub evidence_text : Table → Side → Option Entry → Refutation → Subject → Option ℤ → List (What × List ℕ) → List ℕ
-evidence_text table side entry r about id grounds = by entry
+abbrev pub fault_text : Table → Side → Option Entry → Refutation → Subject → Option ℤ → List (What × List ℕ) → List ℕ
+fault_text table side entry r about id grounds = by entry
   where
     by_body : Option Side → Body → List ℕ
     by_body (Some sender) (Good m) = message_text table side r m about id grounds
@@ -282,8 +309,14 @@ evidence_text table side entry r about id grounds = by entry
     by None = bad_text side r
     by (Some e) = by_body e.side e.body
 
+-- the same, and the invocations whose operations and links it rests on
+abbrev pub evidence_text : Table → Side → Option Entry → Refutation → Subject → Option ℤ → List (What × List ℕ) → List Invocation → List ℕ
+evidence_text table side entry r about id grounds invocations =
+    fault_text table side entry r about id grounds ++ invocation_lines table id invocations
+
 -- of the entry of a record that is named for an end; it is given whether its kind was asked of one end
 abbrev pub told_text : Bool → Table → Side → List Entry → Refutation → List ℕ
 told_text of_one table side entries r =
     evidence_text table side (slice_get entries r.entry) r (subject_of of_one table side entries r)
     (invoke_id_at of_one table side entries r) (grounds_of of_one table side entries r)
+    (invocations_at of_one table side entries r)

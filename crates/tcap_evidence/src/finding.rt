@@ -13,9 +13,11 @@ ghost use Rattle.tcap_evidence.specs.Evidence.{component_at, components_before, 
 ghost use Rattle.tcap_evidence.specs.Kept.{IsScene};
 ghost use Rattle.tcap_evidence.specs.Marked.{is_of_mark};
 ghost use Rattle.tcap_evidence.specs.Numbered.{numbered_of, sent_before};
+ghost use Rattle.tcap_evidence.specs.Operations.{invocations_at, invocations_of};
 ghost use Rattle.tcap_evidence.specs.Scene.{Scene as Known};
 
 use crate::mark::open_continues;
+use crate::operations::Invocation;
 use crate::scene::Scene;
 use crate::sent::{Stretch, stretch_before};
 use crate::shows::shows_of;
@@ -46,6 +48,8 @@ pub struct Evidence {
     pub id: Option<i8>,
     /// What shows it.
     pub grounds: Vec<Ground>,
+    /// The Invokes of that ID whose operations and links it rests on.
+    pub invocations: Vec<Invocation>,
 }
 
 /// The entry of that number.
@@ -154,13 +158,25 @@ fn of_message(
         → IfOk result (λ e. map (λ g. (g.what, g.entries.items)) e.grounds.items
         ≡ grounds_in (scene_of table.now side entries at.entry message.now at.kind about)
         (shows (dtid_in message.now) about.how (component_at about.component (components_in message.now)) at.kind)) }
+    ensures invocations { (side : Side) (entries : List AnEntry)
+        → numbered_of stretch.entry.own.items ≡ sent_before side entries at.entry
+        → numbered_of stretch.entry.peer.items ≡ sent_before (other side) entries at.entry
+        → IfOk result (λ e. e.invocations.items
+        ≡ invocations_of (scene_of table.now side entries at.entry message.now at.kind about) at.kind
+        (component_at about.component (components_in message.now))) }
 {
     let component = component_at(message, about.component);
     let id = invoke_id_of(at.kind, component);
     let whats = shows_of(message, about.how, component, at.kind);
     let scene = scene_for(alloc, stretch, table, message, at, &about)?;
     let grounds = grounds_in(alloc, &scene, whats)?;
-    Ok(Evidence { about, id, grounds })
+    let invocations = scene.invocations(alloc, at.kind, component)?;
+    Ok(Evidence {
+        about,
+        id,
+        grounds,
+        invocations,
+    })
 }
 
 /// Of the message of that entry each of these, with the entries that show it, whatever its fault is about; of another entry nothing.
@@ -214,6 +230,7 @@ fn of_mark(
         → numbered_of stretch.now.peer.items ≡ sent_before (other side) entries number
         → IfOk result (λ e. map (λ g. (g.what, g.entries.items)) e.grounds.items
         ≡ grounds_in (mark_scene table.now side entries number) (whats.Open ∷ [])) }
+    ensures invocations { IfOk result (λ e. e.invocations.items ≡ []) }
 {
     let mut grounds = Vec::new(alloc);
     grounds.push(Ground {
@@ -224,12 +241,13 @@ fn of_mark(
         about,
         id: None,
         grounds,
+        invocations: Vec::new(alloc),
     })
 }
 
 /// What shows the kind of an entry of a record that is named for an end, as `refute` or `blame` name it: the component at fault, and
-/// for each thing that the kind compares the entries that show it, since the last quiet mark. It is given whether the kind was
-/// asked of one end alone, as `blame` does. Octets that are no message show it themselves. `Memory` where memory ran out. The record
+/// for each thing that the kind compares the entries that show it, since the last quiet mark; and the Invokes whose operations and
+/// links it compares. It is given whether the kind was asked of one end alone, as `blame` does. Octets that are no message show it themselves. `Memory` where memory ran out. The record
 /// is gone over once more, and a few times what each end sent.
 pub fn find_evidence(
     alloc: Global,
@@ -243,6 +261,8 @@ pub fn find_evidence(
         ≡ grounds_of of_one table.now end «record».now.entries.items at) }
     ensures about { IfOk result (λ e. e.about ≡ subject_of of_one table.now end «record».now.entries.items at) }
     ensures id { IfOk result (λ e. e.id ≡ invoke_id_at of_one table.now end «record».now.entries.items at) }
+    ensures invocations { IfOk result (λ e. e.invocations.items
+        ≡ invocations_at of_one table.now end «record».now.entries.items at) }
 {
     let about = subject_of(alloc, record, table, end, at, of_one)?;
     let stretch = stretch_before(alloc, record, end, at.entry)?;
@@ -263,10 +283,12 @@ fn none_of(alloc: Global, about: Subject) -> Evidence
     ensures about { result.about ≡ about }
     ensures id { result.id ≡ None }
     ensures grounds { result.grounds.items ≡ [] }
+    ensures invocations { result.invocations.items ≡ [] }
 {
     Evidence {
         about,
         id: None,
         grounds: Vec::new(alloc),
+        invocations: Vec::new(alloc),
     }
 }

@@ -19,11 +19,15 @@ ghost use Rattle.tcap_faults.specs.declared.subject.Subject.{Subject};
 ghost use Rattle.tcap_faults.specs.Fault.{is_fault, is_open_at_mark};
 ghost use Rattle.tcap_faults.specs.HalfOf.{half_of};
 ghost use Rattle.tcap_faults.specs.Tallied.{is_sort};
+ghost use Rattle.tcap_faults.specs.Told.{begins_from};
 ghost use Rattle.tcap_evidence.specs.declared.what.What.{What};
 ghost use Rattle.tcap_evidence.specs.declared.what.What.TheVariants as whats;
+ghost use Rattle.tcap_evidence.specs.ComponentsShown.{ShowsAnswered, ShowsBadLink, ShowsBusy, ShowsRejected, ShowsUnasked, ShowsWrongOperation};
 ghost use Rattle.tcap_evidence.specs.Evidence.{grounds_of, mark_scene, scene_of};
+ghost use Rattle.tcap_evidence.specs.HalvesShown.{ShowsMisplaced, ShowsWrongDialogue, ShowsWrongHalf, ShowsWrongReply};
+ghost use Rattle.tcap_evidence.specs.Pairing.{paired_before, partner_in};
 ghost use Rattle.tcap_evidence.specs.Scene.{shown};
-ghost use Rattle.tcap_evidence.specs.Shown.{AreAllThere, AreCounted, HasKind, IsShown, ListsOne, ShowsReused, ShowsUnknown, SortsAre, is_of_component, is_heard_or_invoked, items_before, scene_at};
+ghost use Rattle.tcap_evidence.specs.Shown.{AreAllThere, AreCounted, HasKind, IsPaired, IsSentBefore, IsShown, ListsOne, ShowsReused, ShowsUnknown, SortsAre, component_with, has_kind_by, is_of_component, is_heard_or_invoked, items_before, scene_at};
 
 /// The entries that are given as grounds are those which `shown` lists: of a message, with the half and the component that have the
 /// kind; of a quiet mark, with what was sent before it.
@@ -86,8 +90,8 @@ pub fn entries_are_listed()
         → Contains (shown (mark_scene table side entries number) what) n }
 {}
 
-/// Where a message has one of the kinds F2 to F4, or a quiet mark F15, the lists show that: of F2 they are empty, of the others there
-/// is an entry.
+/// Where a message has one of the kinds F2 to F4, F7 and F14, or a quiet mark F15, the lists show that: of F2 they are empty, of F3, F4
+/// and F15 there is an entry, of F7 and F14 they are what the dialogue portion, or the cause of the Abort, can't be with.
 pub fn kinds_show()
     ensures unknown { (table : Table) (side : Side) (entries : List Entry) (number : ℕ) (m : Message) (about : Subject)
         → HasKind table side (items_before entries number) m kinds.UnknownTransaction
@@ -98,7 +102,65 @@ pub fn kinds_show()
     ensures ended { (table : Table) (side : Side) (entries : List Entry) (number : ℕ) (m : Message) (about : Subject)
         → HasKind table side (items_before entries number) m kinds.AfterEnd
         → ListsOne (scene_of table side entries number m kinds.AfterEnd about) whats.Ended }
+    ensures misplaced { (table : Table) (side : Side) (entries : List Entry) (number : ℕ) (m : Message) (about : Subject)
+        → HasKind table side (items_before entries number) m kinds.MisplacedDialogue
+        → ShowsMisplaced (scene_of table side entries number m kinds.MisplacedDialogue about) m }
+    ensures wrong_reply { (table : Table) (side : Side) (entries : List Entry) (number : ℕ) (m : Message) (about : Subject)
+        → HasKind table side (items_before entries number) m kinds.WrongReply
+        → ShowsWrongReply (scene_of table side entries number m kinds.WrongReply about) (cause_in m) }
     ensures left_open { (table : Table) (side : Side) (entries : List Entry) (number : ℕ)
         → is_open_at_mark table side (items_before entries number) ≡ true
         → ListsOne (mark_scene table side entries number) whats.Open }
+{}
+
+/// Of a transaction ID of an end, and the other end's with which it stands, each Begin from it is listed; and for each Continue in which
+/// it stands with an ID, from it or to it, one that the same end sent, no later and with no Begin from it between, in which it stands
+/// with that. So where an ID is tangled the entries that are listed show it.
+pub fn pairs_are_listed()
+    ensures begins { (of : Side) (id : List ℕ) (entries : List Entry) (number n : ℕ) (m : Message)
+        → IsSentBefore entries number of n m → begins_from id m ≡ true → Contains (paired_before of id entries number) n }
+    ensures continues { (of sender : Side) (id partner : List ℕ) (entries : List Entry) (number n : ℕ) (m : Message)
+        → IsSentBefore entries number sender n m → partner_in of id sender m ≡ Some partner
+        → IsPaired of id entries number sender partner n }
+{}
+
+/// Where a message has F8 or F9, the lists show that, by how the half began over which it would go.
+pub fn halves_show()
+    ensures wrong_half { (of_one : Bool) (table : Table) (side : Side) (entries : List Entry) (number : ℕ) (m : Message)
+        → HasKind table side (items_before entries number) m kinds.WrongHalf
+        → ShowsWrongHalf (scene_at of_one table side entries number m kinds.WrongHalf)
+        (scene_at of_one table side entries number m kinds.WrongHalf).how }
+    ensures wrong_dialogue { (of_one : Bool) (table : Table) (side : Side) (entries : List Entry) (number : ℕ) (m : Message)
+        → HasKind table side (items_before entries number) m kinds.WrongDialogue
+        → ShowsWrongDialogue (scene_at of_one table side entries number m kinds.WrongDialogue)
+        (scene_at of_one table side entries number m kinds.WrongDialogue).how m }
+{}
+
+/// Where a message has one of the kinds of a component, F5, F6 or F10 to F13, there is the component that has it, and the lists show
+/// that, as many as they have: of F5 none, of F6 none that allows it, of the others more or less than the kind allows.
+pub fn components_show()
+    ensures answers_nothing { (of_one : Bool) (table : Table) (side : Side) (entries : List Entry) (number : ℕ) (m : Message)
+        → has_kind_by of_one table side (items_before entries number) m kinds.AnswersNothing ≡ true
+        → ShowsUnasked (scene_at of_one table side entries number m kinds.AnswersNothing)
+        (component_with of_one table side entries number m kinds.AnswersNothing) }
+    ensures wrong_operation { (of_one : Bool) (table : Table) (side : Side) (entries : List Entry) (number : ℕ) (m : Message)
+        → HasKind table side (items_before entries number) m kinds.WrongOperation
+        → ShowsWrongOperation (scene_at of_one table side entries number m kinds.WrongOperation)
+        (component_with of_one table side entries number m kinds.WrongOperation) }
+    ensures busy { (of_one : Bool) (table : Table) (side : Side) (entries : List Entry) (number : ℕ) (m : Message)
+        → HasKind table side (items_before entries number) m kinds.InvokeIdBusy
+        → ShowsBusy (scene_at of_one table side entries number m kinds.InvokeIdBusy) (dtid_in m)
+        (component_with of_one table side entries number m kinds.InvokeIdBusy) }
+    ensures bad_link { (of_one : Bool) (table : Table) (side : Side) (entries : List Entry) (number : ℕ) (m : Message)
+        → HasKind table side (items_before entries number) m kinds.BadLink
+        → ShowsBadLink (scene_at of_one table side entries number m kinds.BadLink) (dtid_in m)
+        (component_with of_one table side entries number m kinds.BadLink) }
+    ensures answered { (of_one : Bool) (table : Table) (side : Side) (entries : List Entry) (number : ℕ) (m : Message)
+        → HasKind table side (items_before entries number) m kinds.AnsweredAlready
+        → ShowsAnswered (scene_at of_one table side entries number m kinds.AnsweredAlready)
+        (component_with of_one table side entries number m kinds.AnsweredAlready) }
+    ensures rejected { (of_one : Bool) (table : Table) (side : Side) (entries : List Entry) (number : ℕ) (m : Message)
+        → HasKind table side (items_before entries number) m kinds.RejectNotAllowed
+        → ShowsRejected (scene_at of_one table side entries number m kinds.RejectNotAllowed)
+        (component_with of_one table side entries number m kinds.RejectNotAllowed) }
 {}

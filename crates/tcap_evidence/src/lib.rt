@@ -6,6 +6,9 @@ mod finding;
 pub mod laws;
 mod listing;
 mod mark;
+mod operation_lines;
+mod operations;
+mod pairing;
 mod scene;
 mod sent;
 mod shows;
@@ -15,6 +18,7 @@ mod what;
 mod words;
 
 pub use finding::{Evidence, Ground, find_evidence};
-pub use telling::{push_evidence, push_what, push_why};
+pub use operations::Invocation;
+pub use telling::{push_evidence, push_fault, push_what, push_why};
 pub use unblamed::push_unblamed;
 pub use what::What;

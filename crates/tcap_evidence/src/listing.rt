@@ -55,7 +55,7 @@ pub(crate) enum Test<'a> {
 }
 
 /// Whether that ID is there, and is the other.
-fn is_that(id: Option<&TransactionId>, other: Option<TransactionIdView>) -> bool
+pub(crate) fn is_that(id: Option<&TransactionId>, other: Option<TransactionIdView>) -> bool
     ensures { result ≡ is_that (option_map (λ t. t.now) id.entry) (id_of other.entry) }
 {
     match (id, other) {

@@ -9,6 +9,7 @@ ghost use Rattle.tcap_model.specs.World.{Item};
 ghost use Rattle.tcap_evidence.specs.Kept.{IsScene, scene_by};
 ghost use Rattle.tcap_evidence.specs.Marked.{is_of_mark};
 ghost use Rattle.tcap_evidence.specs.Numbered.{numbered_of};
+ghost use Rattle.tcap_evidence.specs.Operations.{invocations_in, invocations_of};
 ghost use Rattle.tcap_evidence.specs.Scene.{Scene as Known, heard_by, invoked_by, own_begin, own_id, shown, to_half, told_there, with_sort, with_sort_in};
 ghost use Rattle.tcap_faults.specs.declared.how.How.TheVariants as hows;
 ghost use Rattle.tcap_evidence.specs.declared.what.What.TheVariants as whats;
@@ -17,6 +18,7 @@ use crate::listing::{
     Test, entries_where, entries_with, first_where, push_sorted, push_where, sent_where,
     since_response,
 };
+use crate::operations::{Invocation, invocations_in, is_answer, rejects_answer};
 use crate::sent::{Sent, Stretch};
 use crate::what::What;
 use std::alloc::{AllocError, Global};
@@ -24,6 +26,7 @@ use tcap_end::Table;
 use tcap_faults::{How, Sort, Subject};
 use tcap_msg::{Message, MessageParts, TransactionId, TransactionIdView};
 use tcap_parts::ComponentView;
+use tcap_refute::Kind;
 
 /// What is known of a message at fault.
 #[derive(Debug, Drop)]
@@ -269,6 +272,40 @@ impl<'a> Scene<'a> {
             What::Whole(sort) => self.told_with(alloc, &self.all, sort),
             What::Invoked(sort) => self.with_sort(alloc, &self.invoked(alloc)?, sort),
             What::Open => Ok(Vec::new(alloc)),
+        }
+    }
+
+    /// The Invokes of the invoke ID in these messages.
+    fn invocations_in(&self, alloc: Global, sent: &[Sent]) -> Result<Vec<Invocation>, AllocError>
+        ensures { (s : Known) → IsScene s self.now
+            → IfOk result (λ v. v.items ≡ invocations_in s.id (numbered_of sent.now)) }
+    {
+        match self.id {
+            Some(id) => invocations_in(alloc, sent, id),
+            None => Ok(Vec::new(alloc)),
+        }
+    }
+
+    /// Those that a kind of the message compares by their operations or their links, by the component at fault.
+    pub(crate) fn invocations(
+        &self,
+        alloc: Global,
+        kind: Kind,
+        component: Option<ComponentView>,
+    ) -> Result<Vec<Invocation>, AllocError>
+        ensures { (s : Known) → IsScene s self.now → IfOk result (λ v. v.items
+            ≡ invocations_of s kind (option_map component_of component.entry)) }
+    {
+        match kind {
+            Kind::WrongOperation if is_answer(component) => self.invocations_in(alloc, &self.there),
+            Kind::InvokeIdBusy => self.invocations_in(alloc, &self.invoked(alloc)?),
+            Kind::RejectNotAllowed if rejects_answer(component) => {
+                self.invocations_in(alloc, &self.invoked(alloc)?)
+            }
+            Kind::BadLink | Kind::AnsweredAlready | Kind::RejectNotAllowed => {
+                self.invocations_in(alloc, &self.heard(alloc)?)
+            }
+            _ => Ok(Vec::new(alloc)),
         }
     }
 }

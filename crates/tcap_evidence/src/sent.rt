@@ -25,7 +25,7 @@ pub(crate) struct Stretch<'a> {
 }
 
 /// Whether it is that end.
-fn is_side(end: End, side: End) -> bool
+pub(crate) fn is_side(end: End, side: End) -> bool
     ensures { result ≡ is_side end side }
 {
     end == side

@@ -7,9 +7,10 @@ ghost use Rattle.tcap_parts.specs.Meaning.{component_of};
 ghost use Rattle.tcap_msg.specs.Parts.{dtid_in};
 ghost use Rattle.tcap_record.specs.Ends.{letter};
 ghost use Rattle.tcap_record.specs.Lines.{head_text, line_end};
-ghost use Rattle.tcap_evidence.specs.Words.{component_shown, component_words, doubt_lines, entries_words, entry_line, evidence_text, ground_line, half_line, how_words, id_words, lacks, mark_line, message_text, more_words, number_behind, own_words, sorted, sorted_in, told_text, what_words};
+ghost use Rattle.tcap_evidence.specs.Words.{component_shown, component_words, doubt_lines, entries_words, entry_line, evidence_text, fault_text, ground_line, half_line, how_words, id_words, lacks, mark_line, message_text, more_words, number_behind, own_words, sorted, sorted_in, told_text, what_words};
 
 use crate::finding::{Evidence, Ground, component_at, entry_at, find_evidence};
+use crate::operation_lines::push_invocations;
 use crate::what::What;
 use crate::words::{
     class_of_sort, class_words, doubt_words, how_words, is_of_half, is_told_empty, kind_words,
@@ -24,7 +25,7 @@ use tcap_record::{Body, End, Entry, Record, push_component, push_head, push_hex}
 use tcap_refute::{Kind, Refutation};
 
 /// How many entries are named at most.
-const MOST: usize = 8;
+pub(crate) const MOST: usize = 8;
 
 /// Appends the number of a component, where there is one.
 fn push_number(text: &mut String, component: Option<u64>) -> Result<(), AllocError>
@@ -180,7 +181,7 @@ fn push_numbers(text: &mut String, numbers: &[u64]) -> Result<(), AllocError>
 }
 
 /// Appends how many entries there are that are not named.
-fn push_more(text: &mut String, count: usize) -> Result<(), AllocError>
+pub(crate) fn push_more(text: &mut String, count: usize) -> Result<(), AllocError>
     ensures { OnOk result (string_bytes text.new ≡ string_bytes text.old ++ more_words count) }
 {
     if count <= MOST {
@@ -191,7 +192,7 @@ fn push_more(text: &mut String, count: usize) -> Result<(), AllocError>
 }
 
 /// Appends entries: the first eight, and how many more there are.
-fn push_entries(text: &mut String, entries: &[u64]) -> Result<(), AllocError>
+pub(crate) fn push_entries(text: &mut String, entries: &[u64]) -> Result<(), AllocError>
     ensures { OnOk result (string_bytes text.new ≡ string_bytes text.old ++ entries_words entries.now) }
 {
     match entries {
@@ -302,9 +303,9 @@ fn push_of_message(
 }
 
 /// Appends in words what the fault of an end rests on, as `find_evidence` gives it of that record, that table, that end and that
-/// refutation: lines, each with two blanks before it, that name the entries which show it. `AllocError` where memory ran out: a part
-/// of the lines may have been appended.
-pub fn push_evidence(
+/// refutation, but for the invocations: lines, each with two blanks before it, that name the entries which show it. `AllocError` where
+/// memory ran out: a part of the lines may have been appended.
+pub fn push_fault(
     text: &mut String,
     record: &Record,
     table: &Table,
@@ -313,7 +314,7 @@ pub fn push_evidence(
     found: &Evidence,
 ) -> Result<(), AllocError>
     ensures { OnOk result (string_bytes text.new ≡ string_bytes text.old
-        ++ evidence_text table.now end (slice_get «record».now.entries.items at.entry) at found.now.about found.now.id
+        ++ fault_text table.now end (slice_get «record».now.entries.items at.entry) at found.now.about found.now.id
         (map (λ g. (g.what, g.entries.items)) found.now.grounds.items)) }
 {
     match entry_at(record, at.entry) {
@@ -340,6 +341,24 @@ pub fn push_evidence(
             text.push_str(doubt_words(at.kind))
         }
     }
+}
+
+/// Appends the same, and behind it a line for each invocation whose operation and link the fault rests on: the first eight, and how many
+/// more there are. `AllocError` where memory ran out: a part of the lines may have been appended.
+pub fn push_evidence(
+    text: &mut String,
+    record: &Record,
+    table: &Table,
+    end: End,
+    at: Refutation,
+    found: &Evidence,
+) -> Result<(), AllocError>
+    ensures { OnOk result (string_bytes text.new ≡ string_bytes text.old
+        ++ evidence_text table.now end (slice_get «record».now.entries.items at.entry) at found.now.about found.now.id
+        (map (λ g. (g.what, g.entries.items)) found.now.grounds.items) found.now.invocations.items) }
+{
+    push_fault(text, record, table, end, at, found)?;
+    push_invocations(text, table, found.id, &found.invocations)
 }
 
 /// Appends in words what the fault of an end rests on: the entry of a record that is named for it, as `refute` or `blame` name it, and

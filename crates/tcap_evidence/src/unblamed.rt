@@ -3,16 +3,17 @@
 ghost use Rattle.std.specs.Prelude.{◌≡◌, ◌++◌, Some, OnOk};
 ghost use Rattle.std.specs.String.{string_bytes};
 ghost use Rattle.tcap_faults.specs.declared.why.Unblamed.TheVariants.{Tangled};
-ghost use Rattle.tcap_evidence.specs.Unblamed.{again_text, id_lines, spelling_words, tangled_words, unblamed_text, unblamed_words};
+ghost use Rattle.tcap_evidence.specs.Unblamed.{again_text, id_lines, spelling_words, tangle_words, tangled_line, tangled_text, unblamed_text, unblamed_words};
 
 use crate::finding::grounds_for;
-use crate::telling::push_grounds;
+use crate::pairing::paired_before;
+use crate::telling::{push_entries, push_grounds};
 use crate::what::What;
 use crate::words::letter;
 use std::alloc::{AllocError, Global};
 use tcap_end::Table;
-use tcap_faults::{Unblamed, unblamed};
-use tcap_record::{End, Record};
+use tcap_faults::{Tangle, TangledId, Unblamed, unblamed};
+use tcap_record::{End, Record, push_hex};
 
 /// Where the IDs of a message stood before.
 const ID_USES: [What; 4] = [
@@ -38,12 +39,19 @@ fn push_id_uses(
     push_grounds(text, end, None, &grounds)
 }
 
-/// That IDs are tangled.
-#[tactic(auto, unfolding(crate::specs::Unblamed::tangled_words))]
-fn tangled_words() -> &'static str
-    ensures { result.now ≡ tangled_words }
+/// Why an ID is tangled.
+#[tactic(auto, unfolding(crate::specs::Unblamed::tangle_words))]
+fn tangle_words(why: Tangle) -> &'static str
+    ensures { result.now ≡ tangle_words why }
 {
-    "  nobody is blamed for it: its transaction IDs are tangled (one was given twice, begun twice, or guessed)\n"
+    match why {
+        Tangle::TwoIds => " is tangled (two IDs of the other end stand with it): ",
+        Tangle::BegunTwice => " is tangled (its end began it twice): ",
+        Tangle::BothBegan =>
+            " is tangled (its end began it, and went on from it to an ID that the other end began): ",
+        Tangle::Guessed =>
+            " is tangled (its end began it, and went on from it to an ID that the other end had not used): ",
+    }
 }
 
 /// That it may be read otherwise.
@@ -65,7 +73,18 @@ fn push_again(text: &mut String, end: End, again: u64) -> Result<(), AllocError>
     text.push_str("\n")
 }
 
-/// Appends that IDs are tangled, and where they stood before.
+/// Appends that an ID is tangled, of which end, and why.
+fn push_tangled_id(text: &mut String, tangled: &TangledId) -> Result<(), AllocError>
+    ensures { OnOk result (string_bytes text.new ≡ string_bytes text.old ++ tangled_text tangled.now) }
+{
+    text.push_str("  nobody is blamed for it: transaction ID ")?;
+    push_hex(text, tangled.id.octets())?;
+    text.push_str(" of ")?;
+    text.push_str(letter(tangled.side))?;
+    text.push_str(tangle_words(tangled.why))
+}
+
+/// Appends that an ID is tangled, the entries that show it, and where the IDs of the message stood before.
 fn push_tangled(
     alloc: Global,
     text: &mut String,
@@ -73,17 +92,21 @@ fn push_tangled(
     table: &Table,
     end: End,
     number: u64,
+    tangled: &TangledId,
 ) -> Result<(), AllocError>
     ensures { OnOk result (string_bytes text.new ≡ string_bytes text.old
-        ++ unblamed_words table.now end «record».now.entries.items number (Some Tangled)) }
+        ++ unblamed_words table.now end «record».now.entries.items number (Some (Tangled tangled.now))) }
 {
-    text.push_str(tangled_words())?;
+    push_tangled_id(text, tangled)?;
+    let entries = paired_before(alloc, record, tangled.side, &tangled.id, number)?;
+    push_entries(text, &entries)?;
+    text.push_str("\n")?;
     push_id_uses(alloc, text, record, table, end, number)
 }
 
 /// Appends why nobody is blamed for the entry of that number, which is refuted, and of that end: it used an own ID again, or its
-/// message goes over tangled IDs, with the entries in which these stood before; or it is a Reject of what a stack may read otherwise.
-/// `AllocError` where memory ran out: a part of the lines may have been appended.
+/// message goes over tangled IDs, the first of which is named, with the entries that show it; or it is a Reject of what a stack may
+/// read otherwise. `AllocError` where memory ran out: a part of the lines may have been appended.
 pub fn push_unblamed(
     alloc: Global,
     text: &mut String,
@@ -97,7 +120,9 @@ pub fn push_unblamed(
 {
     match unblamed(alloc, record, table, end, number) {
         Ok(Some(Unblamed::UsedAgain(again))) => push_again(text, end, again),
-        Ok(Some(Unblamed::Tangled)) => push_tangled(alloc, text, record, table, end, number),
+        Ok(Some(Unblamed::Tangled(tangled))) => {
+            push_tangled(alloc, text, record, table, end, number, &tangled)
+        }
         Ok(None) => text.push_str(spelling_words()),
         Err(_) => Err(AllocError),
     }

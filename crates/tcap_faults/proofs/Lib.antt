@@ -40,6 +40,7 @@ pub mod TwoTests
 pub mod SameLaws
 pub mod SideLaws
 pub mod JoinLaws
+pub mod FirstTangled
 pub mod HalfFacts
 pub mod OwnHalfLaws
 pub mod HalfKindsLaws

@@ -1,7 +1,7 @@
 -- Tangled transaction IDs: one transaction that was given two IDs, two transactions that were given one, an ID that was begun
 -- twice, or one whose peer guesses the other. Q.774 3.3 looks at no originating ID of a Continue to an active transaction, and says nothing of a peer that
 -- does any of this. So what an end does over such IDs is no fault, whatever this profile chooses.
-use Rattle.std.specs.Prelude.{ℕ, Bool, false, List, [], ◌∷◌, ◌++◌, filter, filter_map, flat_map, Option, Some, None, ◌&&◌, ◌||◌, not, nat_le, cond}
+use Rattle.std.specs.Prelude.{◌≡◌, ◌⊎◌, ℕ, Bool, false, List, [], ◌∷◌, ◌++◌, Contains, filter, filter_map, flat_map, Option, Some, None, ◌&&◌, ◌||◌, not, nat_le, cond}
 use Rattle.std.specs.List.{list_any}
 use Rattle.std.specs.Str.{bytes_eq}
 use Rattle.tcap_msg.specs.declared.kind.Kind.TheVariants as forms
@@ -12,6 +12,10 @@ use Rattle.tcap_record.specs.declared.entry.End.{End as Side}
 use Rattle.tcap_record.specs.Ends.{other}
 use Rattle.tcap_model.specs.World.{Item, Sent, is_side}
 use Rattle.tcap_refute.specs.Before.{asked, has_a, is_a, sent_by}
+use Rattle.tcap_refute.specs.Kind.{or_else}
+use Rattle.tcap_faults.specs.declared.why.Tangle.{Tangle}
+use Rattle.tcap_faults.specs.declared.why.Tangle.TheVariants.{TwoIds, BegunTwice, BothBegan, Guessed}
+use Rattle.tcap_faults.specs.declared.why.TangledId.{TangledId}
 use Rattle.tcap_faults.specs.Counts.{count}
 use Rattle.tcap_faults.specs.Told.{began, goes_on_from, goes_on_to, has_used, one_passes}
 
@@ -96,3 +100,49 @@ goes_over_tangled side items m = by (dtid_in m)
     by : Option (List ℕ) → Bool
     by None = false
     by (Some id) = are_tangled side items (own_of_continue m) id
+
+-- ---- which of them is tangled, and why
+
+-- why an own ID is
+abbrev pub tangle_of_own : Side → List Item → List ℕ → Option Tangle
+tangle_of_own side items own = cond (is_own_tangled side items own) (Some TwoIds) None
+
+-- why an ID of the peer is: the first of the four reasons that holds
+abbrev pub tangle_of_peer : Side → List Item → List ℕ → Option Tangle
+tangle_of_peer side items id =
+    cond (two_differ (owns_of side items id)) (Some TwoIds)
+    (cond (nat_le 2 (count (is_a forms.Begin) (asked side id items))) (Some BegunTwice)
+    (cond (has_a forms.Begin (asked side id items) && list_any (goes_to_begun side items) (asked side id items)) (Some BothBegan)
+    (cond (one_passes (guesses side id) [] items) (Some Guessed) None)))
+
+-- an ID of that end, where it is tangled
+abbrev pub tangled_for : Side → List ℕ → Option Tangle → Option TangledId
+tangled_for of id None = None
+tangled_for of id (Some why) = Some (record { side = of; id = id; why = why })
+
+-- the first of these IDs of that end that is
+abbrev pub first_tangled : Side → (List ℕ → Option Tangle) → List (List ℕ) → Option TangledId
+first_tangled of why [] = None
+first_tangled of why (id ∷ more) = or_else (tangled_for of id (why id)) (first_tangled of why more)
+
+-- the first tangled ID: that of the peer; else the first own one near it; else the first of the peer behind those
+abbrev pub tangled_id : Side → List Item → List (List ℕ) → List ℕ → Option TangledId
+tangled_id side items own id =
+    or_else (tangled_for (other side) id (tangle_of_peer side items id))
+    (or_else (first_tangled side (tangle_of_own side items) (near side items own id))
+    (first_tangled (other side) (tangle_of_peer side items) (flat_map (peers_of side items) (near side items own id))))
+
+-- the first that a message goes over
+abbrev pub tangled_in : Side → List Item → Message → Option TangledId
+tangled_in side items m = by (dtid_in m)
+  where
+    by : Option (List ℕ) → Option TangledId
+    by None = None
+    by (Some id) = tangled_id side items (own_of_continue m) id
+
+-- It is an ID that such a message goes over, and is tangled for that reason: an own one near its destination ID, or that or one of the
+-- peer behind them.
+abbrev pub IsOver : Side → List Item → List (List ℕ) → List ℕ → TangledId → Type 0
+IsOver side items own id t =
+    ((t.side ≡ side) × Contains (near side items own id) t.id × (tangle_of_own side items t.id ≡ Some t.why))
+    ⊎ ((t.side ≡ other side) × Contains (far side items own id) t.id × (tangle_of_peer side items t.id ≡ Some t.why))

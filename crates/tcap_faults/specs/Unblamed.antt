@@ -1,6 +1,6 @@
 -- Why nothing is blamed on an end at an entry: it used an own ID again, so that it can't be told which transaction is meant; or its
--- message goes over tangled IDs.
-use Rattle.std.specs.Prelude.{ℕ, ◌+◌, Bool, true, false, List, [], ◌∷◌, ◌++◌, map, slice_get, take, Option, Some, None, Result, Ok, Err, cond}
+-- message goes over tangled IDs, of which the first is named.
+use Rattle.std.specs.Prelude.{ℕ, ◌+◌, List, [], ◌∷◌, ◌++◌, map, slice_get, take, Option, Some, None, Result, Ok, Err, cond}
 use Rattle.tcap_record.specs.declared.entry.End.{End as Side}
 use Rattle.tcap_record.specs.declared.entry.Entry.{Entry}
 use Rattle.tcap_end.specs.Table.{Table}
@@ -9,10 +9,11 @@ use Rattle.tcap_model.specs.World.{Item, Sent}
 use Rattle.tcap_model.specs.Entries.{item_of}
 use Rattle.tcap_refute.specs.Before.{since_quiet}
 use Rattle.tcap_refute.specs.Kind.{or_else}
+use Rattle.tcap_faults.specs.declared.why.TangledId.{TangledId}
 use Rattle.tcap_faults.specs.declared.why.Unblamed.{Unblamed}
 use Rattle.tcap_faults.specs.declared.why.Unblamed.TheVariants.{UsedAgain, Tangled}
 use Rattle.tcap_faults.specs.Subject.{items_among}
-use Rattle.tcap_faults.specs.Tangled.{goes_over_tangled}
+use Rattle.tcap_faults.specs.Tangled.{tangled_in}
 use Rattle.tcap_faults.specs.UsedAgain.{is_used_again}
 
 -- The number of the first of these entries in which the end used an own ID again, since the last quiet mark; these items since then,
@@ -29,20 +30,19 @@ again_behind table side number (Ok (Sent sender m) ∷ more) seen first =
 abbrev pub used_again_at : Table → Side → List Entry → ℕ → Option ℕ
 used_again_at table side entries number = again_behind table side 0 (map item_of (take (number + 1) entries)) [] None
 
--- whether the message of that entry goes over tangled IDs of its end
-abbrev pub is_tangled_at : Side → List Entry → ℕ → Bool
-is_tangled_at side entries number = by (slice_get (map item_of entries) number)
+-- the first tangled ID that the message of that entry goes over, as it is for an end
+abbrev pub tangled_at : Side → List Entry → ℕ → Option TangledId
+tangled_at side entries number = by (slice_get (map item_of entries) number)
   where
-    by : Option (Result Item Reason) → Bool
-    by (Some (Ok (Sent sender m))) =
-        goes_over_tangled side (since_quiet (items_among (map item_of (take number entries)))) m
-    by entry = false
+    by : Option (Result Item Reason) → Option TangledId
+    by (Some (Ok (Sent sender m))) = tangled_in side (since_quiet (items_among (map item_of (take number entries)))) m
+    by entry = None
 
-abbrev pub unblamed_by : Option ℕ → Bool → Option Unblamed
+abbrev pub unblamed_by : Option ℕ → Option TangledId → Option Unblamed
 unblamed_by (Some again) tangled = Some (UsedAgain again)
-unblamed_by None true = Some Tangled
-unblamed_by None false = None
+unblamed_by None (Some t) = Some (Tangled t)
+unblamed_by None None = None
 
 abbrev pub unblamed_at : Table → Side → List Entry → ℕ → Option Unblamed
 unblamed_at table side entries number =
-    unblamed_by (used_again_at table side entries number) (is_tangled_at side entries number)
+    unblamed_by (used_again_at table side entries number) (tangled_at side entries number)

@@ -1,8 +1,9 @@
 //! What it says of all runs that an entry is blamed on an end. Each function says by its contract alone what holds of every run in
 //! which that end keeps the rules of this profile, whatever its peer does.
 
-ghost use Rattle.std.specs.Prelude.{◌≡◌, ℕ, List, ◌∷◌, ◌++◌, true, Some};
+ghost use Rattle.std.specs.Prelude.{◌≡◌, ℕ, List, ◌∷◌, ◌++◌, true, Some, is_some};
 ghost use Rattle.tcap_msg.specs.declared.message.Message.{Message};
+ghost use Rattle.tcap_msg.specs.Parts.{dtid_in};
 ghost use Rattle.tcap_record.specs.declared.entry.End.{End as Side};
 ghost use Rattle.tcap_record.specs.declared.entry.Entry.{Entry};
 ghost use Rattle.tcap_record.specs.Framed.{Framed};
@@ -14,6 +15,8 @@ ghost use Rattle.tcap_refute.specs.declared.kind.Refutation.{Refutation};
 ghost use Rattle.tcap_refute.specs.Before.{since_quiet};
 ghost use Rattle.tcap_faults.specs.AtFault.{HasNoMessage, IsAtFaultOf, IsBadEntryOf};
 ghost use Rattle.tcap_faults.specs.Fault.{blamed, is_fault, is_open_at_mark};
+ghost use Rattle.tcap_faults.specs.Tangled.{IsOver, goes_over_tangled, own_of_continue, tangled_in};
+ghost use Rattle.tcap_faults.specs.declared.why.TangledId.{TangledId};
 
 /// A message that has a kind, behind what was sent before it, is sent in no run in which its end keeps the rules, whatever
 /// the other end sends, and whatever follows.
@@ -45,4 +48,14 @@ pub fn bad_entry_spells_nothing()
     ensures { (side : Side) (entries : List Entry) (octets rest : List ℕ) (number : ℕ)
         → Framed entries octets rest → (bad : IsBadEntryOf side entries number)
         → HasNoMessage side bad.entry.place octets }
+{}
+
+/// Of a message there is a first tangled ID, as `unblamed` names it, exactly where the message goes over tangled IDs; and it is one
+/// that the message goes over, and tangled for the reason that is named.
+pub fn tangled_is_named()
+    ensures named { (side : Side) (items : List Item) (m : Message)
+        → is_some (tangled_in side items m) ≡ goes_over_tangled side items m }
+    ensures over { (side : Side) (items : List Item) (m : Message) (t : TangledId)
+        → tangled_in side items m ≡ Some t
+        → (id : List ℕ) × (dtid_in m ≡ Some id) × IsOver side items (own_of_continue m) id t }
 {}

@@ -46,4 +46,4 @@ pub use how::How;
 pub use sort::{Class, Sort};
 pub use subject::{Subject, subject_of};
 pub use unblaming::unblamed;
-pub use why::Unblamed;
+pub use why::{Tangle, TangledId, Unblamed};

@@ -14,13 +14,15 @@ ghost use Rattle.tcap_faults.specs.Counts.{is_nothing};
 ghost use Rattle.tcap_faults.specs.Told.{began, has_used, told};
 ghost use Rattle.tcap_faults.specs.Ids.{AreAmong, IsOneOf};
 ghost use Rattle.tcap_faults.specs.Kept.{IsSide, dtids_of, otids_of, sent_from, sent_to};
-ghost use Rattle.tcap_faults.specs.Tangled.{are_tangled, goes_over_tangled, goes_to_begun, is_own_tangled, is_peer_tangled, own_of_continue, owns_of, peers_of, two_differ};
+ghost use Rattle.tcap_faults.specs.Tangled.{are_tangled, first_tangled, goes_over_tangled, goes_to_begun, is_own_tangled, is_peer_tangled, owns_of, peers_of, tangle_of_own, tangle_of_peer, tangled_for, tangled_id, tangled_in, two_differ};
 ghost use Rattle.tcap_faults.specs.UsedAgain.{may_be_over, uses_again};
 
 use crate::facts::SideFacts;
 use crate::ids::Ids;
+use crate::why::{Tangle, TangledId};
 use tcap_end::Table;
 use tcap_msg::{Kind as Form, MessageParts, TransactionId};
+use tcap_record::End;
 
 /// An end and its peer, as they are kept.
 #[derive(Clone, Copy, Debug)]
@@ -217,6 +219,124 @@ impl<'a> Ends<'a> {
         match message.otid() {
             Some(otid) => self.are_tangled(&id, Some(&otid.to_transaction_id())),
             None => self.are_tangled(&id, None),
+        }
+    }
+
+    // ---- which ID is tangled
+
+    /// Why an ID of the peer is tangled.
+    fn tangle_of_peer(self, id: &TransactionId) -> Option<Tangle>
+        ensures { (table : Table) (side : Side) (items : List Item) → IsSide table side items self.entry.own.now
+            → IsSide table (other side) items self.entry.peer.now → result ≡ tangle_of_peer side items id.now }
+    {
+        if self.owns_differ(id) {
+            Some(Tangle::TwoIds)
+        } else if self.peer.began_twice(id) {
+            Some(Tangle::BegunTwice)
+        } else if self.is_of_both(id) {
+            Some(Tangle::BothBegan)
+        } else if self.peer.guessed.contains(id) {
+            Some(Tangle::Guessed)
+        } else {
+            None
+        }
+    }
+
+    /// An ID of the peer, where it is tangled.
+    fn tangled_peer(self, peer: End, id: &TransactionId) -> Option<TangledId>
+        ensures { (table : Table) (side : Side) (items : List Item) → IsSide table side items self.entry.own.now
+            → IsSide table (other side) items self.entry.peer.now
+            → result ≡ tangled_for peer id.now (tangle_of_peer side items id.now) }
+    {
+        match self.tangle_of_peer(id) {
+            Some(why) => Some(TangledId {
+                side: peer,
+                id: id.view().to_transaction_id(),
+                why,
+            }),
+            None => None,
+        }
+    }
+
+    /// An own ID, where it is tangled.
+    fn tangled_own(self, end: End, own: &TransactionId) -> Option<TangledId>
+        ensures { (table : Table) (side : Side) (items : List Item) → IsSide table side items self.entry.own.now
+            → IsSide table (other side) items self.entry.peer.now
+            → result ≡ tangled_for end own.now (tangle_of_own side items own.now) }
+    {
+        if !self.is_own_tangled(own) {
+            return None;
+        }
+        Some(TangledId {
+            side: end,
+            why: Tangle::TwoIds,
+            id: own.view().to_transaction_id(),
+        })
+    }
+
+    /// An own ID that is joined with one of the peer, which is not tangled, where it is.
+    fn tangled_near(self, end: End, id: &TransactionId) -> Option<TangledId>
+        ensures { (table : Table) (side : Side) (items : List Item) → IsSide table side items self.entry.own.now
+            → IsSide table (other side) items self.entry.peer.now → two_differ (owns_of side items id.now) ≡ false
+            → result ≡ first_tangled end (tangle_of_own side items) (owns_of side items id.now) }
+    {
+        match self.joined_own(id) {
+            Some(joined) => self.tangled_own(end, &joined),
+            None => None,
+        }
+    }
+
+    /// An ID of the peer that is joined with an own one, which is not tangled, where it is.
+    fn tangled_behind(self, peer: End, own: &TransactionId) -> Option<TangledId>
+        ensures { (table : Table) (side : Side) (items : List Item) → IsSide table side items self.entry.own.now
+            → IsSide table (other side) items self.entry.peer.now → two_differ (peers_of side items own.now) ≡ false
+            → result ≡ first_tangled peer (tangle_of_peer side items) (peers_of side items own.now) }
+    {
+        match self.joined_peer(own) {
+            Some(joined) => self.tangled_peer(peer, &joined),
+            None => None,
+        }
+    }
+
+    /// The first tangled ID: that of the peer, one near it, or one behind them; an own ID more may be near.
+    fn tangled_id(
+        self,
+        end: End,
+        id: &TransactionId,
+        own: Option<&TransactionId>,
+    ) -> Option<TangledId>
+        ensures { (table : Table) (items : List Item) → IsSide table end items self.entry.own.now
+            → IsSide table (other end) items self.entry.peer.now
+            → result ≡ tangled_id end items (option_to_list (option_copied own.entry)) id.now }
+    {
+        if let Some(tangled) = self.tangled_peer(end.other(), id) {
+            return Some(tangled);
+        }
+        if let Some(tangled) = self.tangled_near(end, id) {
+            return Some(tangled);
+        }
+        let Some(own) = own else {
+            return None;
+        };
+        if let Some(tangled) = self.tangled_own(end, own) {
+            return Some(tangled);
+        }
+        self.tangled_behind(end.other(), own)
+    }
+
+    /// The first tangled ID that a message goes over.
+    pub(crate) fn tangled_in<M: MessageParts>(self, end: End, message: &M) -> Option<TangledId>
+        ensures { (table : Table) (items : List Item) → IsSide table end items self.entry.own.now
+            → IsSide table (other end) items self.entry.peer.now
+            → result ≡ tangled_in end items (M.meaning message.now) }
+    {
+        let Some(dtid) = message.dtid() else {
+            return None;
+        };
+        let id = dtid.to_transaction_id();
+        match message.otid() {
+            Some(otid) => self.tangled_id(end, &id, Some(&otid.to_transaction_id())),
+            None => self.tangled_id(end, &id, None),
         }
     }
 

@@ -5,11 +5,11 @@ ghost use Rattle.tcap_record.specs.declared.entry.Entry.{Entry};
 ghost use Rattle.tcap_end.specs.Table.{Table};
 ghost use Rattle.tcap_faults.specs.Replay.{items_up_to};
 ghost use Rattle.tcap_faults.specs.Searching.{IsKept};
-ghost use Rattle.tcap_faults.specs.Unblamed.{is_tangled_at, unblamed_at, unblamed_by};
+ghost use Rattle.tcap_faults.specs.Unblamed.{tangled_at, unblamed_at, unblamed_by};
 
 use crate::facts::Facts;
 use crate::replay::{Replay, entry_at};
-use crate::why::Unblamed;
+use crate::why::{TangledId, Unblamed};
 use std::alloc::Global;
 use tcap_end::Table;
 use tcap_msg::MessageParts;
@@ -17,34 +17,37 @@ use tcap_record::{Body, End, Entry, Record};
 use tcap_refute::SearchFault;
 
 impl Facts {
-    /// Whether the message of an entry behind what is kept goes over tangled IDs.
-    fn is_tangled(&self, end: End, entry: &Entry) -> bool
+    /// The first tangled ID that the message of an entry behind what is kept goes over.
+    fn tangled_at(&self, end: End, entry: &Entry) -> Option<TangledId>
         ensures { (table : Table) (entries : List Entry) (number : ℕ) → IsKept table (items_up_to entries number) self.now
-            → slice_get entries number ≡ Some entry.now → result ≡ is_tangled_at end entries number }
+            → slice_get entries number ≡ Some entry.now → result ≡ tangled_at end entries number }
     {
         match (entry.side, &entry.body) {
-            (Some(_), Body::Good(message)) => self.ends(end).goes_over_tangled(&message.view()),
-            _ => false,
+            (Some(_), Body::Good(message)) => self.ends(end).tangled_in(end, &message.view()),
+            _ => None,
         }
     }
 }
 
-/// That, by the entry in which an own ID was used again, if there is one, and whether IDs are tangled.
-fn unblamed_by(again: Option<u64>, tangled: bool) -> Option<Unblamed>
+/// That, by the entry in which an own ID was used again, if there is one, and the first tangled ID.
+fn unblamed_by(again: Option<u64>, tangled: Option<TangledId>) -> Option<Unblamed>
     ensures { result ≡ unblamed_by again tangled }
 {
     match again {
         Some(number) => Some(Unblamed::UsedAgain(number)),
-        None if tangled => Some(Unblamed::Tangled),
-        None => None,
+        None => match tangled {
+            Some(tangled) => Some(Unblamed::Tangled(tangled)),
+            None => None,
+        },
     }
 }
 
 /// Why nothing is blamed on an end at an entry of a record, which is given by its number, counted from 0 (Q.774 3.3). `UsedAgain`, with
 /// the number of the first entry, up to and with that one, in which the end used an own ID again, since the last quiet mark; else
-/// `Tangled`, where the message of that entry, whoever sent it, goes over tangled IDs of the end; else `None`. Where the record has no
-/// such entry, all its entries are looked at for IDs that are used again. The entries are noted once more, so it costs what the search
-/// up to that entry did. `Memory` where memory ran out.
+/// `Tangled`, where the message of that entry, whoever sent it, goes over tangled IDs of the end, with the first of them: its
+/// destination ID; else an own ID that is joined with it, or its originating ID; else an ID that is joined with one of these. Else
+/// `None`. Where the record has no such entry, all its entries are looked at for IDs that are used again. The entries are noted once
+/// more, so it costs what the search up to that entry did. `Memory` where memory ran out.
 pub fn unblamed(
     alloc: Global,
     record: &Record,
@@ -56,9 +59,9 @@ pub fn unblamed(
 {
     let mut replay = Replay::before(alloc, record, table, end, number)?;
     let Some(entry) = entry_at(record, number) else {
-        return Ok(unblamed_by(replay.again, false));
+        return Ok(unblamed_by(replay.again, None));
     };
-    let tangled = replay.kept.is_tangled(end, entry);
+    let tangled = replay.kept.tangled_at(end, entry);
     replay.take(alloc, table, end, number, entry)?;
     Ok(unblamed_by(replay.again, tangled))
 }

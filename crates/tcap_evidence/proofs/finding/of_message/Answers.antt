@@ -2,6 +2,7 @@
 use Rattle.std.proofs.Common.{ap, ◌∙◌}
 use Rattle.tcap_msg.specs.Parts.{components_in, dtid_in}
 use Rattle.tcap_evidence.specs.Evidence.{component_at, grounds_in, scene_of, shows}
+use Rattle.tcap_evidence.specs.Operations.{invocations_of}
 use Rattle.tcap_evidence.proofs.AskedLaws.{never_open}
 use Rattle.tcap_evidence.proofs.finding.of_message.Goals as goal
 
@@ -15,3 +16,10 @@ returns-clause-grounds c = λ side entries own peer.
     c.in_ok-grounds.ensures known (c.in_ok-scene.ensures side entries own peer)
     (rw are (never_open (dtid_in m) about.how (component_at about.component (components_in m)) kind))
     ∙ ap (grounds_in known) are
+
+pub returns-clause-invocations : goal.returns-clause-invocations
+returns-clause-invocations c = λ side entries own peer.
+    let kind = c.args.at.kind in
+    let known = scene_of c.args.table.now side entries c.args.at.entry c.args.message.now kind c.args.about in
+    c.in_ok-invocations.ensures known (c.in_ok-scene.ensures side entries own peer)
+    ∙ ap (invocations_of known kind) c.component_at-component.ensures

@@ -1,5 +1,13 @@
 use Rattle.tcap_evidence.proofs.KindShows.{ended_shows, open_shows, reused_shows, unknown_shows}
+use Rattle.tcap_evidence.proofs.ReplyShows.{misplaced_shows, reply_shows}
 use Rattle.tcap_evidence.proofs.laws.kinds_show.Goals as goal
 
 pub returns : goal.returns
-returns c = record { unknown = unknown_shows; reused = reused_shows; ended = ended_shows; left_open = open_shows }
+returns c = record {
+  unknown = unknown_shows;
+  reused = reused_shows;
+  ended = ended_shows;
+  misplaced = misplaced_shows;
+  wrong_reply = reply_shows;
+  left_open = open_shows;
+}

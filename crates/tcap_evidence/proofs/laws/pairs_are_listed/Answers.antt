@@ -1,0 +1,8 @@
+use Rattle.tcap_evidence.proofs.PairedLaws.{begin_is_listed, is_paired}
+use Rattle.tcap_evidence.proofs.laws.pairs_are_listed.Goals as goal
+
+pub returns : goal.returns
+returns c = record {
+  begins = begin_is_listed;
+  continues = λ of sender id partner entries number n m. is_paired of id entries number sender n m partner;
+}

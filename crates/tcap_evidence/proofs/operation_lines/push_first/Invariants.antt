@@ -1,0 +1,10 @@
+-- With the lines of those that are left they are all.
+use Rattle.std.proofs.Common.{◌≡◌, ◌++◌, drop, flat_map}
+use Rattle.std.specs.String.{string_bytes}
+use Rattle.tcap_evidence.specs.Words.{invocation_line}
+use Rattle.tcap_evidence.proofs.operation_lines.push_first.Given as goal
+
+abbrev pub invariant-loop-invocation : goal.invariant-loop-invocation
+invariant-loop-invocation l =
+    string_bytes l.text ++ flat_map (invocation_line l.table l.id) (drop l.invocation-index l.invocations)
+    ≡ string_bytes l.fn.text ++ flat_map (invocation_line l.table l.id) l.invocations

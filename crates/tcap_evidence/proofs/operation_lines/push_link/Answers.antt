@@ -1,0 +1,17 @@
+-- One text behind the other.
+use Rattle.std.proofs.Common.{◌++◌, ap, ◌∙◌, to_z-of_z}
+use Rattle.std.proofs.lemmas.Result.{on_ok_weaker}
+use Rattle.std.specs.Fmt.{signed_decimal}
+use Rattle.std.specs.Prelude.{codes}
+use Rattle.std.specs.String.{string_bytes}
+use Rattle.tcap_evidence.proofs.TextLaws.{also}
+use Rattle.tcap_evidence.proofs.operation_lines.push_link.Goals as goal
+
+pub returns : goal.returns
+returns c =
+    let t = string_bytes c.args.text.now in
+    let t1 = string_bytes c.push_str.new.self in
+    on_ok_weaker c.write.result
+    (λ e. also t t1 (string_bytes c.write.new.self) (codes ", linked to ") (signed_decimal c.args.id) c.in_ok-push_str.ensures.bytes
+    (e ∙ ap (λ x. t1 ++ signed_decimal x) (to_z-of_z c.ranges.id)))
+    c.write.ensures.bytes

@@ -1,0 +1,10 @@
+-- With those of the messages that are left they are all.
+use Rattle.std.proofs.Common.{◌≡◌, ◌++◌, Some, drop}
+use Rattle.tcap_evidence.specs.Numbered.{numbered_of}
+use Rattle.tcap_evidence.specs.Operations.{invocations_in}
+use Rattle.tcap_evidence.proofs.operations.invocations_in.Given as goal
+
+abbrev pub invariant-loop-one : goal.invariant-loop-one
+invariant-loop-one l =
+    l.invocations.items ++ invocations_in (Some l.id) (numbered_of (drop l.one-index l.sent))
+    ≡ invocations_in (Some l.id) (numbered_of l.sent)

@@ -1,0 +1,11 @@
+-- With those of the components that are left they are all.
+use Rattle.std.proofs.Common.{◌≡◌, ◌++◌, flat_map}
+use Rattle.tcap_parts.specs.Meaning.{components_left}
+use Rattle.tcap_msg.specs.Parts.{components_in}
+use Rattle.tcap_evidence.specs.Operations.{invocation_in}
+use Rattle.tcap_evidence.proofs.operations.push_invokes.Given as goal
+
+abbrev pub invariant-loop-component : goal.invariant-loop-component
+invariant-loop-component l =
+    l.invocations.items ++ flat_map (invocation_in l.id l.one.number) (components_left l.component-iterator)
+    ≡ l.fn.invocations.items ++ flat_map (invocation_in l.id l.one.number) (components_in l.one.message.now)

@@ -1,0 +1,121 @@
+//! The lines of the invocations whose operations and links a fault rests on.
+
+ghost use Rattle.std.specs.Prelude.{◌≡◌, ◌++◌, OnOk, Some};
+ghost use Rattle.std.specs.List.{flat_map};
+ghost use Rattle.std.specs.String.{string_bytes};
+ghost use Rattle.tcap_record.specs.Lines.{code_text};
+ghost use Rattle.tcap_evidence.specs.Words.{class_text, invocation_line, invocation_lines, link_text, more_invocations};
+
+use crate::operations::Invocation;
+use crate::telling::{MOST, push_more};
+use std::alloc::AllocError;
+use tcap_end::Table;
+use tcap_parts::Code;
+use tcap_record::push_hex;
+
+/// Appends an operation code, a global one behind `g:`.
+fn push_code(text: &mut String, code: &Code) -> Result<(), AllocError>
+    ensures { OnOk result (string_bytes text.new ≡ string_bytes text.old ++ code_text code.now) }
+{
+    match code {
+        Code::Local(number) => write!(text, "{number}"),
+        Code::Global(id) => {
+            text.push_str("g:")?;
+            push_hex(text, id.octets())
+        }
+    }
+}
+
+/// Appends the class of an operation.
+fn push_class(text: &mut String, class: Option<u8>) -> Result<(), AllocError>
+    ensures { OnOk result (string_bytes text.new ≡ string_bytes text.old ++ class_text class) }
+{
+    match class {
+        Some(class) => write!(text, ", of class {class}"),
+        None => text.push_str(", which the table lacks"),
+    }
+}
+
+/// Appends the invoke ID that an invocation is linked to.
+fn push_link(text: &mut String, id: i8) -> Result<(), AllocError>
+    ensures { OnOk result (string_bytes text.new ≡ string_bytes text.old ++ link_text (Some id)) }
+{
+    text.push_str(", linked to ")?;
+    write!(text, "{id}")
+}
+
+/// The same, where it is linked.
+fn push_linked(text: &mut String, linked: Option<i8>) -> Result<(), AllocError>
+    ensures { OnOk result (string_bytes text.new ≡ string_bytes text.old ++ link_text linked) }
+{
+    match linked {
+        Some(id) => push_link(text, id),
+        None => Ok(()),
+    }
+}
+
+/// Appends an invocation of that ID.
+fn push_invocation(
+    text: &mut String,
+    table: &Table,
+    id: i8,
+    invocation: &Invocation,
+) -> Result<(), AllocError>
+    ensures { OnOk result (string_bytes text.new ≡ string_bytes text.old
+        ++ invocation_line table.now id invocation.now) }
+{
+    let number = invocation.entry;
+    write!(text, "  invocation {id}")?;
+    write!(text, " in entry {number}")?;
+    text.push_str(" is of ")?;
+    push_code(text, &invocation.code)?;
+    push_class(text, table.class_of(invocation.code.view()))?;
+    push_linked(text, invocation.linked)?;
+    text.push_str("\n")
+}
+
+/// Appends how many invocations there are that are not named.
+fn push_more_of_it(text: &mut String, count: usize) -> Result<(), AllocError>
+    ensures { OnOk result (string_bytes text.new ≡ string_bytes text.old ++ more_invocations count) }
+{
+    if count <= MOST {
+        return Ok(());
+    }
+    text.push_str(" ")?;
+    push_more(text, count)?;
+    text.push_str(" invocations of it\n")
+}
+
+/// Appends the first of these invocations of that ID.
+fn push_first(
+    text: &mut String,
+    table: &Table,
+    id: i8,
+    invocations: &[Invocation],
+) -> Result<(), AllocError>
+    ensures { OnOk result (string_bytes text.new ≡ string_bytes text.old
+        ++ flat_map (invocation_line table.now id) invocations.now) }
+{
+    for invocation in invocations {
+        push_invocation(text, table, id, invocation)?;
+    }
+    Ok(())
+}
+
+/// Appends invocations of the invoke ID that is asked about: the first eight, and how many more there are.
+pub(crate) fn push_invocations(
+    text: &mut String,
+    table: &Table,
+    id: Option<i8>,
+    invocations: &[Invocation],
+) -> Result<(), AllocError>
+    ensures { OnOk result (string_bytes text.new ≡ string_bytes text.old
+        ++ invocation_lines table.now id invocations.now) }
+{
+    let Some(id) = id else {
+        return Ok(());
+    };
+    let count = invocations.len();
+    push_first(text, table, id, &invocations[..count.min(MOST)])?;
+    push_more_of_it(text, count)
+}
