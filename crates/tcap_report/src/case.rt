@@ -1,6 +1,8 @@
 //! A dialogue that is judged.
 
-ghost use Rattle.std.specs.Prelude.{◌≤◌, IfOk, length};
+ghost use Rattle.std.specs.Prelude.{◌≡◌, ◌≤◌, IfOk, OnOk, length, option_map};
+ghost use Rattle.tcap_traces.specs.declared.said.Circumstances.{Circumstances as Known};
+ghost use Rattle.tcap_report.specs.Dialogue.{ends_by, verdict_by};
 
 use crate::fault::Stop;
 use crate::words::context_in;
@@ -325,13 +327,45 @@ fn record_of(alloc: Global, octets: &[u8]) -> Result<Record, AllocError>
     Ok(Record { entries })
 }
 
+/// What is said of both ends, by the table, where there is one. The entries stay as they are.
+fn ends_of(
+    alloc: Global,
+    read: &mut Record,
+    table: Option<&NamedTable>,
+    circumstances: Circumstances,
+) -> Result<Option<Ends>, AllocError>
+    requires few { length read.old.entries.items ≤ 100000 }
+    ensures said { IfOk result (λ ends. ends
+        ≡ ends_by (option_map (λ table. table.now.table) table.entry) circumstances read.old.entries.items) }
+    ensures stays { OnOk result (read.new.entries.items ≡ read.old.entries.items) }
+{
+    match table {
+        Some(table) => Ok(Some(judge_dialogue(alloc, read, table.table(), circumstances)?)),
+        None => Ok(None),
+    }
+}
+
+/// The verdict by that.
+fn verdict_of(ends: Option<Ends>, of: Option<End>) -> Verdict
+    ensures { result ≡ verdict_by of ends }
+{
+    match ends {
+        Some(ends) => ends.verdict(of),
+        None => Verdict::Error,
+    }
+}
+
 /// Judges a dialogue.
 pub(crate) fn judge<'a>(
     alloc: Global,
     case: &Case,
     book: &'a Book,
     rules: Rules,
-) -> Result<Judged<'a>, Stop> {
+) -> Result<Judged<'a>, Stop>
+    ensures said { IfOk result (λ judged. (c : Known) × judged.ends
+        ≡ ends_by (option_map (λ table. table.now.table) judged.table) c judged.record.entries.items) }
+    ensures verdict { IfOk result (λ judged. judged.verdict ≡ verdict_by rules.of judged.ends) }
+{
     let octets = case.octets(alloc)?;
     let mut record = record_of(alloc, &octets)?;
     let chosen = choose(alloc, book, &record)?;
@@ -344,19 +378,12 @@ pub(crate) fn judge<'a>(
         cut: case.is_cut(),
         open: rules.complete && case.is_open(),
     };
-    let ends = match chosen.table {
-        Some(table) => Some(judge_dialogue(alloc, &mut record, table.table(), circumstances)?),
-        None => None,
-    };
-    let verdict = match ends {
-        Some(ends) => ends.verdict(rules.of),
-        None => Verdict::Error,
-    };
+    let ends = ends_of(alloc, &mut record, chosen.table, circumstances)?;
     Ok(Judged {
         record,
         context: chosen.context,
         table: chosen.table,
         ends,
-        verdict,
+        verdict: verdict_of(ends, rules.of),
     })
 }

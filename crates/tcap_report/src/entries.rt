@@ -1,5 +1,9 @@
 //! The entries of a trace: lines of hexadecimal digits, or a record, told apart by the first octets.
 
+ghost use Rattle.std.specs.Prelude.{◌≡◌, [], None, IfOk, OnOk};
+ghost use Rattle.tcap_report.specs.declared.entries.Form.TheVariants as forms;
+ghost use Rattle.tcap_report.specs.Untold.{HasNothing};
+
 use crate::fault::{FormFault, Halt};
 use std::alloc::{AllocError, Global};
 use std::mem;
@@ -53,7 +57,9 @@ const UNDER_WAY: &[u8] = b"dialogues may have been under way";
 const FIRST: usize = 64;
 
 /// The form of a trace that begins so, where it can be told.
-fn form_of(first: &[u8], ended: bool) -> Form {
+fn form_of(first: &[u8], ended: bool) -> Form
+    ensures { first.now ≡ [] → result ≡ forms.Unknown }
+{
     match first {
         [b'#' | b'\n' | b'\r', ..] => Form::Lines,
         // No message's tag is the code of a digit.
@@ -123,7 +129,9 @@ fn fault_of(alloc: Global, number: u64, line: &[u8]) -> Result<Halt, AllocError>
 
 impl Entries {
     /// A trace of which nothing was read.
-    pub(crate) fn new(alloc: Global) -> Entries {
+    pub(crate) fn new(alloc: Global) -> Entries
+        ensures { HasNothing result }
+    {
         Entries {
             alloc,
             form: Form::Unknown,
@@ -138,7 +146,9 @@ impl Entries {
     }
 
     /// Octets come, or none where the trace is at its end.
-    pub(crate) fn feed(&mut self, octets: &[u8]) -> Result<(), AllocError> {
+    pub(crate) fn feed(&mut self, octets: &[u8]) -> Result<(), AllocError>
+        ensures { HasNothing self.old → octets.now ≡ [] → OnOk result (HasNothing self.new) }
+    {
         let from = self.from.min(self.held.len());
         self.held.copy_within(from.., 0);
         self.held.truncate(self.held.len() - from);
@@ -170,7 +180,9 @@ impl Entries {
     }
 
     /// The next piece, as far as it is held.
-    pub(crate) fn next(&mut self) -> Result<Option<Piece>, Halt> {
+    pub(crate) fn next(&mut self) -> Result<Option<Piece>, Halt>
+        ensures { HasNothing self.old → IfOk result (λ piece. piece ≡ None) × HasNothing self.new }
+    {
         match self.form {
             Form::Unknown => Ok(None),
             Form::Lines => self.next_line(),

@@ -1,5 +1,9 @@
 //! Why the reading of a trace stops.
 
+ghost use Rattle.std.specs.Prelude.{◌≡◌};
+ghost use Rattle.tcap_report.specs.declared.fault.Halt.TheVariants as halts;
+ghost use Rattle.tcap_report.specs.declared.fault.Stop.TheVariants as stops;
+
 use std::alloc::AllocError;
 
 /// Why a run stops.
@@ -36,13 +40,17 @@ pub(crate) enum Halt {
 }
 
 impl From<AllocError> for Halt {
-    fn from(_error: AllocError) -> Halt {
+    fn from(_error: AllocError) -> Halt
+        ensures { result ≡ halts.Stop stops.Memory }
+    {
         Halt::Stop(Stop::Memory)
     }
 }
 
 impl From<Stop> for Halt {
-    fn from(stop: Stop) -> Halt {
+    fn from(stop: Stop) -> Halt
+        ensures { result ≡ halts.Stop stop }
+    {
         Halt::Stop(stop)
     }
 }

@@ -42,7 +42,7 @@ fn evidence_of(
     }
 }
 
-/// Adds the first entries that show each thing.
+/// Adds the first entries that show each thing, and those of the first invocations whose operations it rests on.
 fn add_shown(named: &mut BTreeSet<u64>, evidence: &Option<Evidence>) -> Result<(), AllocError> {
     let Some(evidence) = evidence else {
         return Ok(());
@@ -51,6 +51,9 @@ fn add_shown(named: &mut BTreeSet<u64>, evidence: &Option<Evidence>) -> Result<(
         for number in ground.entries.iter().take(MOST) {
             named.insert(*number)?;
         }
+    }
+    for invocation in evidence.invocations.iter().take(MOST) {
+        named.insert(invocation.entry)?;
     }
     Ok(())
 }

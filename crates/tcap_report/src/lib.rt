@@ -2,6 +2,7 @@
 #![tactic(auto)]
 
 mod case;
+mod ending;
 mod entries;
 mod fault;
 mod fields;
@@ -21,6 +22,7 @@ mod telling;
 mod tests;
 mod text;
 mod trace;
+mod unheard;
 mod waiting;
 mod which;
 mod words;

@@ -4,7 +4,7 @@ use crate::case::{Case, Judged};
 use crate::no_message::push_why;
 use crate::which::push_which;
 use std::alloc::{AllocError, Global};
-use tcap_evidence::{find_evidence, push_evidence};
+use tcap_evidence::{find_evidence, push_fault};
 use tcap_record::End;
 use tcap_refute::{Kind, Refutation};
 
@@ -42,12 +42,12 @@ pub(crate) fn push_reason(
         return Err(AllocError);
     };
     let mut lines = String::new(alloc);
-    push_evidence(&mut lines, &judged.record, table.table(), end, at, &found)?;
+    push_fault(&mut lines, &judged.record, table.table(), end, at, &found)?;
     if at.kind == Kind::BadMessage {
         return push_of_octets(alloc, text, case, at, &lines);
     }
     text.push_str(&lines)?;
-    push_which(text, judged, table, end, at, &found)
+    push_which(text, judged, table, at, &found)
 }
 
 /// Appends what the fault is in one sentence: what stands in the first line of what the blame rests on, behind the entry.

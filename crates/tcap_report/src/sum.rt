@@ -1,5 +1,8 @@
 //! Counts of verdicts.
 
+ghost use Rattle.std.specs.Prelude.{◌≡◌};
+ghost use Rattle.tcap_report.specs.Counts.{all_of, no_counts, no_sum, with_all, with_one, worst_of};
+
 use std::alloc::AllocError;
 use tcap_traces::Verdict;
 
@@ -37,7 +40,9 @@ pub(crate) struct Counts {
 
 impl Counts {
     /// None.
-    pub(crate) fn new() -> Counts {
+    pub(crate) fn new() -> Counts
+        ensures { result ≡ no_counts }
+    {
         Counts {
             pass: 0,
             inconc: 0,
@@ -48,19 +53,22 @@ impl Counts {
     }
 
     /// One more.
-    pub(crate) fn add(&mut self, verdict: Verdict) {
-        let count = match verdict {
-            Verdict::Pass => &mut self.pass,
-            Verdict::Inconclusive => &mut self.inconc,
-            Verdict::Fail => &mut self.fail,
-            Verdict::Error => &mut self.error,
-        };
-        *count = count.saturating_add(1);
+    pub(crate) fn add(&mut self, verdict: Verdict)
+        ensures { self.new ≡ with_one verdict self.old }
+    {
         self.worst = self.worst.worse(verdict);
+        match verdict {
+            Verdict::Pass => self.pass = self.pass.saturating_add(1),
+            Verdict::Inconclusive => self.inconc = self.inconc.saturating_add(1),
+            Verdict::Fail => self.fail = self.fail.saturating_add(1),
+            Verdict::Error => self.error = self.error.saturating_add(1),
+        }
     }
 
     /// Those of others more.
-    pub(crate) fn add_all(&mut self, others: Counts) {
+    pub(crate) fn add_all(&mut self, others: Counts)
+        ensures { self.new ≡ with_all others self.old }
+    {
         self.pass = self.pass.saturating_add(others.pass);
         self.inconc = self.inconc.saturating_add(others.inconc);
         self.fail = self.fail.saturating_add(others.fail);
@@ -69,7 +77,9 @@ impl Counts {
     }
 
     /// How many there are.
-    pub(crate) fn all(&self) -> u64 {
+    pub(crate) fn all(&self) -> u64
+        ensures { result ≡ all_of self.now }
+    {
         let judged = self
             .pass
             .saturating_add(self.inconc)
@@ -102,7 +112,9 @@ pub struct Sum {
 
 impl Sum {
     /// Of none.
-    pub fn new() -> Sum {
+    pub fn new() -> Sum
+        ensures { result ≡ no_sum }
+    {
         Sum {
             traces: Counts::new(),
             dialogues: Counts::new(),
@@ -112,7 +124,9 @@ impl Sum {
     }
 
     /// The worst verdict.
-    pub fn worst(&self) -> Verdict {
+    pub fn worst(&self) -> Verdict
+        ensures { result ≡ worst_of self.now }
+    {
         self.traces.worst
     }
 

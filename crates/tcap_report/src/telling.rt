@@ -1,5 +1,7 @@
 //! Where it is said what is said of traces and of their dialogues.
 
+ghost use Rattle.std.specs.Prelude.{◌≡◌};
+
 use crate::case::{Case, Judged};
 use crate::fault::{FormFault, Stop};
 use crate::junit::Junit;
@@ -71,7 +73,9 @@ impl<W: Write, J: Lines, P> Sinks<'_, W, J, P> {
         case: &Case,
         judged: &Judged,
         of: Option<End>,
-    ) -> Result<(), Stop> {
+    ) -> Result<(), Stop>
+        ensures { self.new.sum ≡ self.old.sum }
+    {
         let passes = judged.verdict == Verdict::Pass;
         let shown = match &mut self.page {
             Some(page) if !passes => page.takes_dialogue(),
@@ -94,7 +98,9 @@ impl<W: Write, J: Lines, P> Sinks<'_, W, J, P> {
     }
 
     /// Writes the line of an object to the lines of JSON, and to the page where it is shown there.
-    fn tell_object(&mut self, line: &str, shown: bool) -> Result<(), Stop> {
+    fn tell_object(&mut self, line: &str, shown: bool) -> Result<(), Stop>
+        ensures { self.new.sum ≡ self.old.sum }
+    {
         if let Some(writer) = &mut self.json {
             write_text(*writer, line)?;
         }
@@ -105,7 +111,9 @@ impl<W: Write, J: Lines, P> Sinks<'_, W, J, P> {
     }
 
     /// Writes the lines of JSON that are kept back.
-    pub(crate) fn flush(&mut self) -> Result<(), Stop> {
+    pub(crate) fn flush(&mut self) -> Result<(), Stop>
+        ensures { self.new.sum ≡ self.old.sum }
+    {
         match &mut self.json {
             Some(lines) => lines.flush().map_err(|_| Stop::Write),
             None => Ok(()),
@@ -113,7 +121,9 @@ impl<W: Write, J: Lines, P> Sinks<'_, W, J, P> {
     }
 
     /// Says what is said of a trace, as JSON and as JUnit XML.
-    pub(crate) fn tell_trace(&mut self, alloc: Global, told: Told) -> Result<(), Stop> {
+    pub(crate) fn tell_trace(&mut self, alloc: Global, told: Told) -> Result<(), Stop>
+        ensures { self.new.sum ≡ self.old.sum }
+    {
         if self.json.is_some() || self.page.is_some() {
             let mut line = String::new(alloc);
             json::push_trace(&mut line, told)?;

@@ -1,20 +1,31 @@
 //! A trace, judged dialogue by dialogue as it is read.
 
-use crate::case::{Behind, Case, Held, Judged, Rules, heading_of, judge, sent_by};
+ghost use Rattle.std.specs.Prelude.{◌≡◌, [], ◌∷◌, List, Some, cond, filter, is_some, IfOk, OnOk};
+ghost use Rattle.tcap_dialogues.specs.Course.{Heading, courses_so_far};
+ghost use Rattle.tcap_dialogues.specs.Gathered.{AreGathered};
+ghost use Rattle.tcap_dialogues.specs.Held.{IsCut};
+ghost use Rattle.tcap_dialogues.specs.declared.reuse.Reuse.{Reuse as Reusing};
+ghost use Rattle.tcap_traces.specs.declared.verdict.Verdict.TheVariants as verdicts;
+ghost use Rattle.tcap_report.specs.declared.trace.Asked.{Asked as AskedOf};
+ghost use Rattle.tcap_report.specs.Counts.{HasJudged, more, no_counts, with_one, with_read, with_verdict};
+ghost use Rattle.tcap_report.specs.Judged.{IsJudged};
+ghost use Rattle.tcap_report.specs.Progress.{IsBetween, IsStopped, IsWithin, Judges, Reads, UnlessStopped};
+ghost use Rattle.tcap_report.specs.Untold.{HasNothing};
+
+use crate::case::{Behind, Case, Held, Judged, Rules, heading_of, judge};
 use crate::entries::{Entries, Piece};
 use crate::fault::{FormFault, Halt, Stop};
-use crate::order::is_asked;
-use crate::sum::{Counts, Sum, push_counts};
-use crate::telling::{Lines, Sinks, Told, write_text};
-use crate::words::push_hint;
+use crate::sum::{Counts, Sum};
+use crate::telling::{Lines, Sinks};
+use crate::unheard::is_unheard;
 use std::alloc::{AllocError, Global};
 use std::collections::BTreeMap;
 use std::mem;
 use tcap_ber::{Failed, Read, Write};
 use tcap_books::Book;
-use tcap_dialogues::{Cut, Gathered, Reuse};
+use tcap_dialogues::{Cut, Gathered, HeadingView, Reuse};
 use tcap_record::{End, PIECE_LEN};
-use tcap_traces::{Said, Verdict, trace_verdict};
+use tcap_traces::Verdict;
 
 /// What is asked of a trace.
 #[derive(Clone, Copy, Debug)]
@@ -41,9 +52,9 @@ pub trait Watch {
 
 /// A trace as it is read.
 #[derive(Drop)]
-struct Trace<'a> {
-    alloc: Global,
-    asked: Asked<'a>,
+pub(crate) struct Trace<'a> {
+    pub(crate) alloc: Global,
+    pub(crate) asked: Asked<'a>,
     cut: Cut,
     // The entries of the stretch that are not judged, by their numbers in it.
     held: BTreeMap<u64, Held>,
@@ -55,34 +66,19 @@ struct Trace<'a> {
     under_way: Option<u64>,
     // How many dialogues stand before the stretch.
     dialogues_before: u64,
-    messages: u64,
+    pub(crate) messages: u64,
     // Those of which a kind can be read.
-    readable: u64,
-    dialogues: Counts,
-    unheard: u64,
-}
-
-/// Whether an end did not hear all that its peer sent, or sent nothing.
-fn is_silent(judged: &Judged, end: End, said: Said) -> bool {
-    match said {
-        Said::Pass(0) => sent_by(&judged.record, end) == 0,
-        Said::Pass(_) => true,
-        _ => false,
-    }
-}
-
-/// Whether one that is asked did, or did so.
-fn is_unheard(judged: &Judged, of: Option<End>) -> bool {
-    match judged.ends {
-        Some(ends) => [End::A, End::B].iter().any(|end| is_asked(of, *end)
-            && is_silent(judged, *end, ends.of(*end))),
-        None => false,
-    }
+    pub(crate) readable: u64,
+    pub(crate) dialogues: Counts,
+    pub(crate) unheard: u64,
 }
 
 impl<'a> Trace<'a> {
     /// Of which nothing was read.
-    fn new(alloc: Global, asked: Asked<'a>) -> Trace<'a> {
+    fn new(alloc: Global, asked: Asked<'a>) -> Trace<'a>
+        ensures between { IsBetween asked.entry result }
+        ensures nothing { (result.readable ≡ 0) × (result.messages ≡ 0) × (result.unheard ≡ 0) × (result.dialogues ≡ no_counts) }
+    {
         Trace {
             alloc,
             asked,
@@ -107,14 +103,13 @@ impl<'a> Trace<'a> {
         line: u64,
         comment: Vec<u8>,
         sinks: &mut Sinks<W, J, P>,
-    ) -> Result<(), Stop> {
+    ) -> Result<(), Stop>
+        ensures within { (asked : AskedOf) → IsWithin asked self.old → OnOk result (IsWithin asked self.new) }
+        ensures same_sum { sinks.new.sum ≡ sinks.old.sum }
+    {
         let mut done = Vec::new(self.alloc);
         let heading = heading_of(&octets);
-        if heading.kind.is_some() {
-            self.readable = self.readable.saturating_add(1);
-        } else if self.unread.is_none() {
-            self.unread = Some(self.count);
-        }
+        self.note(heading);
         self.cut.take(heading, &mut done)?;
         if self
             .held
@@ -131,11 +126,38 @@ impl<'a> Trace<'a> {
             return Err(Stop::Memory);
         }
         self.count = self.count.saturating_add(1);
+        self.judge_all(done, Behind::More, sinks)
+    }
+
+    /// Counts an entry, of which that is read.
+    fn note(&mut self, heading: HeadingView)
+        ensures messages { self.new.messages ≡ more self.old.messages 1 }
+        ensures readable { self.new.readable ≡ cond (is_some heading.entry.kind) (more self.old.readable 1) self.old.readable }
+        ensures rest { self.new ≡ record self.old {
+          messages = self.new.messages;
+          readable = self.new.readable;
+          unread = self.new.unread;
+        } }
+    {
         self.messages = self.messages.saturating_add(1);
-        for gathered in done {
-            self.judge(gathered, Behind::More, sinks)?;
+        if heading.kind.is_some() {
+            self.readable = self.readable.saturating_add(1);
+        } else if self.unread.is_none() {
+            self.unread = Some(self.count);
         }
-        Ok(())
+    }
+
+    /// The live dialogues of the stretch, which is over.
+    fn finished(&mut self) -> Result<Vec<Gathered>, AllocError>
+        ensures live { (reuse : Reusing) (headings : List Heading) → IsCut reuse headings self.old.cut
+            → IfOk result (λ given. AreGathered (courses_so_far reuse headings).live given.items) }
+        ensures cut { IsCut self.old.asked.reuse [] self.new.cut }
+        ensures rest { self.new ≡ record self.old { cut = self.new.cut } }
+    {
+        let mut given = Vec::new(self.alloc);
+        let cut = mem::replace(&mut self.cut, Cut::new(self.alloc, self.asked.reuse));
+        cut.finish(&mut given)?;
+        Ok(given)
     }
 
     /// The stretch ends: by a quiet mark, or with the trace.
@@ -143,14 +165,13 @@ impl<'a> Trace<'a> {
         &mut self,
         behind: Behind,
         sinks: &mut Sinks<W, J, P>,
-    ) -> Result<(), Stop> {
-        let mut done = Vec::new(self.alloc);
-        let cut = mem::replace(&mut self.cut, Cut::new(self.alloc, self.asked.reuse));
-        cut.finish(&mut done)?;
-        for gathered in done {
-            self.judge(gathered, behind, sinks)?;
-            sinks.watch.look(&self.so_far(sinks.sum));
-        }
+    ) -> Result<(), Stop>
+        ensures between { (asked : AskedOf) → IsWithin asked self.old → OnOk result (IsBetween asked self.new) }
+        ensures readable { OnOk result (self.new.readable ≡ self.old.readable) }
+        ensures same_sum { sinks.new.sum ≡ sinks.old.sum }
+    {
+        let given = self.finished()?;
+        self.judge_all(given, behind, sinks)?;
         self.before = self.before.saturating_add(self.count).saturating_add(1);
         self.count = 0;
         self.unread = None;
@@ -163,20 +184,35 @@ impl<'a> Trace<'a> {
     fn judge_over<W: Write, J: Lines, P: Watch>(
         &mut self,
         sinks: &mut Sinks<W, J, P>,
-    ) -> Result<(), Stop> {
-        let mut done = Vec::new(self.alloc);
-        let cut = mem::replace(&mut self.cut, Cut::new(self.alloc, self.asked.reuse));
-        cut.finish(&mut done)?;
-        for gathered in done {
-            if gathered.over.is_some() {
-                self.judge(gathered, Behind::More, sinks)?;
-            }
+    ) -> Result<(), Stop>
+        ensures stopped { (asked : AskedOf) → IsWithin asked self.old → OnOk result (IsStopped asked self.new) }
+        ensures same_sum { sinks.new.sum ≡ sinks.old.sum }
+    {
+        let given = over_of(self.finished()?);
+        self.judge_all(given, Behind::More, sinks)
+    }
+
+    /// Judges these dialogues, one after the other.
+    fn judge_all<W: Write, J: Lines, P: Watch>(
+        &mut self,
+        given: Vec<Gathered>,
+        behind: Behind,
+        sinks: &mut Sinks<W, J, P>,
+    ) -> Result<(), Stop>
+        ensures judges { OnOk result (Judges given.items self.old self.new) }
+        ensures same_sum { sinks.new.sum ≡ sinks.old.sum }
+    {
+        for gathered in given {
+            self.judge(gathered, behind, sinks)?;
+            sinks.watch.look(&self.so_far(sinks.sum));
         }
         Ok(())
     }
 
     /// The entries of a dialogue, which are held no longer.
-    fn taken(&mut self, gathered: &Gathered) -> Result<Vec<Held>, AllocError> {
+    fn taken(&mut self, gathered: &Gathered) -> Result<Vec<Held>, AllocError>
+        ensures { self.new ≡ record self.old { held = self.new.held } }
+    {
         let mut entries = Vec::new(self.alloc);
         for number in &gathered.numbers {
             if let Some(held) = self.held.remove(number) {
@@ -192,7 +228,10 @@ impl<'a> Trace<'a> {
         gathered: Gathered,
         behind: Behind,
         sinks: &mut Sinks<W, J, P>,
-    ) -> Result<(), Stop> {
+    ) -> Result<(), Stop>
+        ensures judges { OnOk result (Judges (gathered ∷ []) self.old self.new) }
+        ensures same_sum { sinks.new.sum ≡ sinks.old.sum }
+    {
         let entries = self.taken(&gathered)?;
         let number = self.dialogues.all();
         let earlier = match gathered.earlier {
@@ -215,11 +254,19 @@ impl<'a> Trace<'a> {
             complete: self.asked.complete,
         };
         let judged = judge(self.alloc, &case, self.asked.book, rules)?;
+        self.count(&case, &judged);
+        sinks.tell_case(self.alloc, self.asked.name, &case, &judged, self.asked.of)?;
+        Ok(())
+    }
+
+    /// Counts the verdict on a dialogue.
+    fn count(&mut self, case: &Case, judged: &Judged)
+        ensures { self.new ≡ record self.old { dialogues = with_one judged.now.verdict self.old.dialogues; unheard = self.new.unheard } }
+    {
         self.dialogues.add(judged.verdict);
-        if judged.verdict == Verdict::Pass && case.has_ids() && is_unheard(&judged, self.asked.of) {
+        if judged.verdict == Verdict::Pass && case.has_ids() && is_unheard(judged, self.asked.of) {
             self.unheard = self.unheard.saturating_add(1);
         }
-        sinks.tell_case(self.alloc, self.asked.name, &case, &judged, self.asked.of)
     }
 
     /// Reads the pieces that are held.
@@ -227,23 +274,42 @@ impl<'a> Trace<'a> {
         &mut self,
         entries: &mut Entries,
         sinks: &mut Sinks<W, J, P>,
-    ) -> Result<(), Halt> {
+    ) -> Result<(), Halt>
+        ensures within { (asked : AskedOf) → IsWithin asked self.old → UnlessStopped result (IsWithin asked self.new) }
+        ensures nothing { HasNothing entries.old → HasNothing entries.new × (self.new.readable ≡ self.old.readable) }
+        ensures same_sum { sinks.new.sum ≡ sinks.old.sum }
+    {
         for _ in 0..u64::MAX {
             match entries.next()? {
-                Some(Piece::Entry(octets, line, comment)) => self.enter(
-                    octets, line, comment, sinks,
-                )?,
-                Some(Piece::UnderWay) => {
-                    self.under_way = Some(self.under_way.unwrap_or(self.count));
-                }
-                Some(Piece::Mark(line)) => {
-                    let number = self.before.saturating_add(self.count);
-                    self.end_stretch(Behind::Mark { line, number }, sinks)?;
-                }
+                Some(piece) => if let Err(stop) = self.take_piece(piece, sinks) {
+                    return Err(Halt::Stop(stop));
+                },
                 None => return Ok(()),
             }
         }
         Ok(())
+    }
+
+    /// Takes a piece.
+    fn take_piece<W: Write, J: Lines, P: Watch>(
+        &mut self,
+        piece: Piece,
+        sinks: &mut Sinks<W, J, P>,
+    ) -> Result<(), Stop>
+        ensures within { (asked : AskedOf) → IsWithin asked self.old → OnOk result (IsWithin asked self.new) }
+        ensures same_sum { sinks.new.sum ≡ sinks.old.sum }
+    {
+        match piece {
+            Piece::Entry(octets, line, comment) => self.enter(octets, line, comment, sinks),
+            Piece::UnderWay => {
+                self.under_way = Some(self.under_way.unwrap_or(self.count));
+                Ok(())
+            }
+            Piece::Mark(line) => {
+                let number = self.before.saturating_add(self.count);
+                self.end_stretch(Behind::Mark { line, number }, sinks)
+            }
+        }
     }
 
     /// Reads all.
@@ -252,7 +318,12 @@ impl<'a> Trace<'a> {
         reader: &mut R,
         entries: &mut Entries,
         sinks: &mut Sinks<W, J, P>,
-    ) -> Result<(), Halt> {
+    ) -> Result<(), Halt>
+        ensures reads { (asked : AskedOf) → IsWithin asked self.old → Reads asked result self.new }
+        ensures nothing { R.untold reader.old ≡ Some [] → HasNothing entries.old
+            → OnOk result (self.new.readable ≡ self.old.readable) }
+        ensures same_sum { sinks.new.sum ≡ sinks.old.sum }
+    {
         let mut piece = [0; PIECE_LEN];
         for _ in 0..u64::MAX {
             let told = match reader.read(&mut piece) {
@@ -267,17 +338,10 @@ impl<'a> Trace<'a> {
                 break;
             }
         }
-        self.end_stretch(Behind::End, sinks)?;
-        Ok(())
-    }
-
-    /// The sum of the traces before and of this one, as far as it was read.
-    fn so_far(&self, before: &Sum) -> Sum {
-        let mut sum = *before;
-        sum.dialogues.add_all(self.dialogues);
-        sum.messages = sum.messages.saturating_add(self.messages);
-        sum.unheard = sum.unheard.saturating_add(self.unheard);
-        sum
+        match self.end_stretch(Behind::End, sinks) {
+            Ok(()) => Ok(()),
+            Err(stop) => Err(Halt::Stop(stop)),
+        }
     }
 
     /// The fault that it can't be read.
@@ -286,85 +350,15 @@ impl<'a> Trace<'a> {
         text.push_str("it can't be read")?;
         Ok(Halt::Form(FormFault { line: None, text }))
     }
-
-    /// Says what is said of the trace.
-    fn end<W: Write, J: Lines, P: Watch>(
-        &self,
-        fault: Option<FormFault>,
-        hint: Option<&str>,
-        sinks: &mut Sinks<W, J, P>,
-    ) -> Result<Verdict, Stop> {
-        let verdict = trace_verdict(fault.is_some(), self.readable, self.dialogues.worst);
-        let mut why = String::new(self.alloc);
-        push_fault(&mut why, &fault, self.readable)?;
-        let mut line = String::new(self.alloc);
-        self.push_line(&mut line, verdict, &why)?;
-        push_hint(&mut line, hint)?;
-        write_text(sinks.text, &line)?;
-        let told = Told {
-            name: self.asked.name,
-            verdict,
-            messages: self.messages,
-            dialogues: self.dialogues,
-            unheard: self.unheard,
-            why: &why,
-            line: line_in(&fault),
-            hint,
-        };
-        sinks.tell_trace(self.alloc, told)?;
-        sinks.flush()?;
-        *sinks.sum = self.so_far(sinks.sum);
-        sinks.sum.traces.add(verdict);
-        Ok(verdict)
-    }
-
-    /// Appends the line of the trace.
-    fn push_line(&self, text: &mut String, verdict: Verdict, why: &str) -> Result<(), AllocError> {
-        text.push_str(self.asked.name)?;
-        text.push_str(": ")?;
-        text.push_str(verdict.word())?;
-        if !why.is_empty() {
-            text.push_str(": ")?;
-            text.push_str(why)?;
-        }
-        text.push_str("; ")?;
-        push_counts(text, self.messages, &self.dialogues, self.unheard)
-    }
 }
 
-/// The line with the fault, where one has it.
-fn line_in(fault: &Option<FormFault>) -> Option<u64> {
-    match fault {
-        Some(fault) => fault.line,
-        None => None,
-    }
-}
-
-/// Appends what is wrong with a trace, where something is.
-fn push_fault(
-    text: &mut String,
-    fault: &Option<FormFault>,
-    messages: u64,
-) -> Result<(), AllocError> {
-    match fault {
-        Some(
-            FormFault {
-                line: Some(line),
-                text: what,
-            },
-        ) => {
-            write!(text, "line {line}: ")?;
-            text.push_str(what)
-        }
-        Some(
-            FormFault {
-                line: None,
-                text: what,
-            },
-        ) => text.push_str(what),
-        None if messages == 0 => text.push_str("there is no message in it"),
-        None => Ok(()),
-    }
+/// Those that are over.
+fn over_of(given: Vec<Gathered>) -> Vec<Gathered>
+    ensures { result.items ≡ filter (λ g. is_some g.over) given.items }
+{
+    let mut over = given;
+    over.retain(|gathered| gathered.over.is_some());
+    over
 }
 
 /// Judges each dialogue of the trace that `reader` tells, says of each one that does not pass why, and answers the verdict on the
@@ -374,7 +368,13 @@ pub fn run_trace<R: Read, W: Write, J: Lines, P: Watch>(
     reader: &mut R,
     asked: Asked,
     sinks: &mut Sinks<W, J, P>,
-) -> Result<Verdict, Stop> {
+) -> Result<Verdict, Stop>
+    ensures judged { IfOk result (λ verdict.
+        IsJudged asked.entry.of asked.entry.reuse verdict sinks.old.sum.now sinks.new.sum.now) }
+    ensures counted { IfOk result (λ verdict. HasJudged (verdict ∷ []) sinks.old.sum.now sinks.new.sum.now) }
+    ensures nothing { R.untold reader.old ≡ Some [] → IfOk result (λ verdict. verdict ≡ verdicts.Error) }
+    ensures same_sum { sinks.new.sum.ghost_name ≡ sinks.old.sum.ghost_name }
+{
     let mut trace = Trace::new(alloc, asked);
     let mut entries = Entries::new(alloc);
     match trace.read_all(reader, &mut entries, sinks) {
@@ -393,7 +393,12 @@ pub fn tell_unread<W: Write, J: Lines, P: Watch>(
     asked: Asked,
     why: &str,
     sinks: &mut Sinks<W, J, P>,
-) -> Result<Verdict, Stop> {
+) -> Result<Verdict, Stop>
+    ensures error { IfOk result (λ verdict. verdict ≡ verdicts.Error) }
+    ensures counted { IfOk result (λ verdict. HasJudged (verdict ∷ []) sinks.old.sum.now sinks.new.sum.now) }
+    ensures sum { OnOk result (sinks.new.sum.now ≡ with_verdict verdicts.Error (with_read no_counts 0 0 sinks.old.sum.now)) }
+    ensures same_sum { sinks.new.sum.ghost_name ≡ sinks.old.sum.ghost_name }
+{
     let mut text = String::new(alloc);
     text.push_str(why)?;
     Trace::new(alloc, asked).end(Some(FormFault { line: None, text }), None, sinks)

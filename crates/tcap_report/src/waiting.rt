@@ -3,6 +3,7 @@
 use crate::case::Judged;
 use crate::words::letter;
 use std::alloc::{AllocError, Global};
+use tcap_end::reports;
 use tcap_msg::{Kind as Form, Message, MessageParts};
 use tcap_parts::ComponentView;
 use tcap_record::{Body, End, Entry};
@@ -71,13 +72,13 @@ impl Answers {
     }
 }
 
-/// The invocation of class 1 that a component is, by its ID.
+/// The invocation that a component is, by its ID, of a class that reports both success and failure (1), so that an answer comes.
 fn asking(judged: &Judged, component: ComponentView) -> Option<i8> {
     let ComponentView::Invoke { id, code, .. } = component else {
         return None;
     };
     match judged.table?.table().class_of(code) {
-        Some(1) => Some(id),
+        Some(class) if reports(true, class) && reports(false, class) => Some(id),
         _ => None,
     }
 }

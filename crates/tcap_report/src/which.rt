@@ -1,21 +1,22 @@
-//! Which fault of its kind it is: what an answer answers, and what it names (F6); what is wrong with a dialogue portion (F9).
+//! Which fault of its kind it is: what an answer answers, and what it names (F6); which invocations an Invoke, an answer or a Reject is
+//! compared with (F10 to F13); what is wrong with a dialogue portion (F9).
 
 use crate::case::Judged;
 use std::alloc::AllocError;
 use tcap_books::NamedTable;
-use tcap_evidence::Evidence;
-use tcap_msg::{Kind as Form, Message, MessageParts, TransactionIdView};
+use tcap_end::reports;
+use tcap_evidence::{Evidence, Invocation};
+use tcap_msg::{Kind as Form, Message, MessageParts};
 use tcap_parts::{CodeView, ComponentView, DialogueView};
-use tcap_record::{Body, End, Entry, Record, push_hex};
+use tcap_record::{Body, Entry, Record, push_hex};
 use tcap_refute::{Kind, Refutation};
 
 /// So many invocations of an ID are named.
 const MOST: usize = 8;
 
-/// An answer to invocations of an ID.
+/// An answer.
 #[derive(Clone, Copy, Debug)]
 struct Answer<'a> {
-    id: i8,
     /// Whether it is a Return Result; else it is a Return Error.
     is_result: bool,
     /// The operation that a Return Result names.
@@ -25,16 +26,14 @@ struct Answer<'a> {
 /// The answer that a component is, where it is one.
 fn answer_in(component: ComponentView) -> Option<Answer> {
     match component {
-        ComponentView::ReturnResult { id, body, .. } => Some(Answer {
-            id,
+        ComponentView::ReturnResult { body, .. } => Some(Answer {
             is_result: true,
             named: match body {
                 Some(body) => Some(body.code),
                 None => None,
             },
         }),
-        ComponentView::ReturnError { id, .. } => Some(Answer {
-            id,
+        ComponentView::ReturnError { .. } => Some(Answer {
             is_result: false,
             named: None,
         }),
@@ -44,10 +43,10 @@ fn answer_in(component: ComponentView) -> Option<Answer> {
 
 /// What an answer is that operations of a class do not allow; nothing where they allow it (Q.771 3.1.2).
 fn not_allowed(class: u8, is_result: bool) -> &'static str {
-    match (is_result, class) {
-        (true, 1 | 3) | (false, 1 | 2) => "",
-        (true, _) => ", which allows no Return Result",
-        (false, _) => ", which allows no Return Error",
+    match (reports(is_result, class), is_result) {
+        (true, _) => "",
+        (false, true) => ", which allows no Return Result",
+        (false, false) => ", which allows no Return Error",
     }
 }
 
@@ -63,88 +62,71 @@ fn push_operation(text: &mut String, table: &NamedTable, code: CodeView) -> Resu
     }
 }
 
-/// Appends an invocation in that entry, of the ID of an answer.
+/// Appends an invocation of that ID: its entry, its operation, by its name too where the table has one, and its class.
 fn push_invocation(
     text: &mut String,
     table: &NamedTable,
-    number: usize,
-    answer: Answer,
-    code: CodeView,
+    id: i8,
+    invocation: &Invocation,
+    class: Option<u8>,
 ) -> Result<(), AllocError> {
-    let id = answer.id;
+    let number = invocation.entry;
     write!(text, "  invocation {id} in entry {number} is of ")?;
-    push_operation(text, table, code)?;
-    match table.table().class_of(code) {
-        Some(class) => {
-            write!(text, ", of class {class}")?;
-            text.push_str(not_allowed(class, answer.is_result))?;
-        }
-        None => text.push_str(", which the table lacks")?,
+    push_operation(text, table, invocation.code.view())?;
+    match class {
+        Some(class) => write!(text, ", of class {class}"),
+        None => text.push_str(", which the table lacks"),
     }
-    text.push_str("\n")
 }
 
-/// Appends the invocations of the ID of an answer that the message of an entry has, while those so far are few, and answers how many
-/// there are then.
+/// Appends what an answer is that the operation of an invocation does not allow, where one of its ID is at fault; else what the
+/// invocation is linked to.
+fn push_behind(
+    text: &mut String,
+    invocation: &Invocation,
+    class: Option<u8>,
+    answer: Option<Answer>,
+) -> Result<(), AllocError> {
+    match (answer, class, invocation.linked) {
+        (Some(answer), Some(class), _) => text.push_str(not_allowed(class, answer.is_result)),
+        (None, _, Some(linked)) => write!(text, ", linked to {linked}"),
+        _ => Ok(()),
+    }
+}
+
+/// Appends the invocations whose operations and links a fault rests on, the first ones, and how many more there are; of F6, by the answer
+/// at fault.
 fn push_invocations(
     text: &mut String,
     table: &NamedTable,
-    number: usize,
-    message: &Message,
-    answer: Answer,
-    so_far: usize,
-) -> Result<usize, AllocError> {
-    let mut count = so_far;
-    for component in message.components() {
-        let ComponentView::Invoke { id, code, .. } = component else {
-            continue;
-        };
-        if id != answer.id {
-            continue;
-        }
-        if count < MOST {
-            push_invocation(text, table, number, answer, code)?;
-        }
-        count = count.saturating_add(1);
-    }
-    Ok(count)
-}
-
-/// The message of an entry, where that end sent it from that ID.
-fn sent_from<'a>(entry: &'a Entry, end: End, id: TransactionIdView) -> Option<&'a Message> {
-    let (Some(sender), Body::Good(message)) = (entry.side, &entry.body) else {
-        return None;
-    };
-    match message.otid() {
-        Some(from) if sender == end && from.octets == id.octets => Some(message),
-        _ => None,
-    }
-}
-
-/// Appends what the peer of that end invoked of the ID of an answer, in what it sent from there before that entry; and what the answer
-/// names. No quiet mark stands before an entry of a dialogue.
-fn push_answered(
-    text: &mut String,
-    table: &NamedTable,
-    record: &Record,
-    end: End,
-    at: Refutation,
-    there: TransactionIdView,
-    answer: Answer,
+    found: &Evidence,
+    answer: Option<Answer>,
 ) -> Result<(), AllocError> {
-    let mut count = 0;
-    for (number, entry) in record.entries.iter().enumerate() {
-        if number as u64 >= at.entry {
-            break;
-        }
-        if let Some(message) = sent_from(entry, end.other(), there) {
-            count = push_invocations(text, table, number, message, answer, count)?;
-        }
+    let Some(id) = found.id else {
+        return Ok(());
+    };
+    for invocation in found.invocations.iter().take(MOST) {
+        let class = table.table().class_of(invocation.code.view());
+        push_invocation(text, table, id, invocation, class)?;
+        push_behind(text, invocation, class, answer)?;
+        text.push_str("\n")?;
     }
+    let count = found.invocations.len();
     if count > MOST {
         let more = count - MOST;
         writeln!(text, "  and {more} more invocations of it")?;
     }
+    Ok(())
+}
+
+/// F6: appends what an answer answers, and what it names.
+fn push_answered(
+    text: &mut String,
+    table: &NamedTable,
+    found: &Evidence,
+    answer: Answer,
+) -> Result<(), AllocError> {
+    push_invocations(text, table, found, Some(answer))?;
     if let Some(code) = answer.named {
         text.push_str("  the result names ")?;
         push_operation(text, table, code)?;
@@ -174,21 +156,18 @@ fn push_of_unidirectional(
 fn push_operations(
     text: &mut String,
     table: &NamedTable,
-    record: &Record,
-    end: End,
-    at: Refutation,
     message: &Message,
     component: ComponentView,
+    found: &Evidence,
 ) -> Result<(), AllocError> {
-    match (message.kind(), component, message.dtid()) {
-        (Form::Unidirectional, ComponentView::Invoke { code, .. }, _) => {
+    match (message.kind(), component) {
+        (Form::Unidirectional, ComponentView::Invoke { code, .. }) => {
             push_of_unidirectional(text, table, code)
         }
-        (_, _, Some(there)) => match answer_in(component) {
-            Some(answer) => push_answered(text, table, record, end, at, there, answer),
+        _ => match answer_in(component) {
+            Some(answer) => push_answered(text, table, found, answer),
             None => Ok(()),
         },
-        _ => Ok(()),
     }
 }
 
@@ -231,19 +210,17 @@ pub(crate) fn push_which(
     text: &mut String,
     judged: &Judged,
     table: &NamedTable,
-    end: End,
     at: Refutation,
     found: &Evidence,
 ) -> Result<(), AllocError> {
-    let record = &judged.record;
-    let Some(message) = message_at(record, at.entry) else {
+    let Some(message) = message_at(&judged.record, at.entry) else {
         return Ok(());
     };
     match (at.kind, component_at(message, found.about.component)) {
-        (Kind::WrongOperation, Some(component)) => push_operations(
-            text, table, record, end, at, message, component,
-        ),
+        (Kind::WrongOperation, Some(component)) => {
+            push_operations(text, table, message, component, found)
+        }
         (Kind::WrongDialogue, _) => text.push_str(dialogue_words(message)),
-        _ => Ok(()),
+        _ => push_invocations(text, table, found, None),
     }
 }

@@ -1,5 +1,11 @@
 //! The word `test`: each dialogue of traces is judged.
 
+ghost use Rattle.std.specs.Prelude.{◌≡◌, [], ◌∷◌, List, IfOk, OnErr, OnOk, length};
+ghost use Rattle.tcap_traces.specs.declared.verdict.Verdict.{Verdict as Judgement};
+ghost use Rattle.tcap_traces.specs.declared.verdict.Verdict.TheVariants as verdicts;
+ghost use Rattle.tcap_traces.specs.Verdict.{status_of};
+ghost use Rattle.tcap_report.specs.Counts.{HasJudged, worst_of};
+
 use crate::opening::{is_folder, tell_codes, tell_text};
 use crate::outputs::{INPUT, Outputs, stand_ins};
 use crate::writing::{Output, Sink, tell_unprinted};
@@ -109,7 +115,9 @@ fn test_path<W: Write, J: Lines, P: Watch>(
     path: &str,
     asked: Asked,
     sinks: &mut Sinks<W, J, P>,
-) -> Result<Verdict, Stop> {
+) -> Result<Verdict, Stop>
+    ensures { IfOk result (λ verdict. HasJudged (verdict ∷ []) sinks.old.sum.now sinks.new.sum.now) }
+{
     let alloc = rt.alloc();
     if path == "-" {
         if is_folder(rt, INPUT) {
@@ -130,13 +138,17 @@ fn test_path<W: Write, J: Lines, P: Watch>(
     }
 }
 
-/// Judges all traces, and says the sum.
+/// Judges all traces, and says the sum, in which a verdict on each is counted. Answers the worst.
 fn test_all<W: Write, J: Lines, P: Watch>(
     rt: &HostRuntime,
     test: &Test,
     book: &Book,
     sinks: &mut Sinks<W, J, P>,
-) -> Result<Verdict, Stop> {
+) -> Result<Verdict, Stop>
+    ensures each { OnOk result ((verdicts : List Judgement) × (length verdicts ≡ length test.now.traces.items)
+        × HasJudged verdicts sinks.old.sum.now sinks.new.sum.now) }
+    ensures worst { IfOk result (λ verdict. verdict ≡ worst_of sinks.new.sum.now) }
+{
     for path in &test.traces {
         let asked = Asked {
             name: *path,
@@ -174,7 +186,9 @@ fn test_over<W: Write, P: Watch>(
     test: &Test,
     book: &Book,
     sinks: &mut Sinks<W, Output, P>,
-) -> Result<Verdict, Stop> {
+) -> Result<Verdict, Stop>
+    ensures worst { IfOk result (λ verdict. verdict ≡ worst_of sinks.new.sum.now) }
+{
     let verdict = test_all(rt, test, book, sinks)?;
     if let Some(page) = &mut sinks.page {
         page.end(rt.alloc(), sinks.sum)?;
@@ -269,7 +283,15 @@ pub(crate) fn test(rt: &HostRuntime, test: &Test) -> u8 {
         return WRONG_WORDS;
     }
     let _held = stand_ins(rt);
-    match written(rt, test) {
+    status(rt, written(rt, test))
+}
+
+/// The exit status of a run: that of the worst verdict, or of an error where the run stopped.
+fn status(rt: &HostRuntime, ended: Result<Verdict, Stop>) -> u8
+    ensures worst { IfOk ended (λ verdict. result ≡ status_of verdict) }
+    ensures stopped { OnErr ended (result ≡ status_of verdicts.Error) }
+{
+    match ended {
         Ok(verdict) => verdict.status(),
         Err(Stop::Memory) => {
             let _ = eprintln!(rt; "error: out of memory");

@@ -1,0 +1,2 @@
+pub mod CountsLaws
+pub mod TraceLaws

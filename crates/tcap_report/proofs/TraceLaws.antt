@@ -1,0 +1,275 @@
+-- What is kept of a trace, through each of its steps.
+use Rattle.std.proofs.Common.{arith, ◌≡◌, ℕ, ◌+◌, ◌-◌, ◌^◌, ◌≤◌, min, cond, Bool, true, false, List, [], ◌∷◌, ◌++◌, length, map, refl, sym, ap, subst, ◌∙◌}
+use Rattle.std.specs.Prelude.{Option, None, Some, Result, Ok, Err, IfOk, count_by, filter, is_some}
+use Rattle.std.specs.Io.KnownBytes.{Consumes}
+use Rattle.std.proofs.lemmas.List.{length_push, map-append}
+use Rattle.std.proofs.lemmas.List.Sums.{sum_by_push}
+use Rattle.tcap_traces.specs.declared.judging.Ends.{Ends}
+use Rattle.tcap_traces.specs.declared.verdict.Verdict.{Verdict}
+use Rattle.tcap_traces.specs.Verdict.{trace_verdict}
+use Rattle.tcap_dialogues.specs.Course.{Heading, courses_of, courses_so_far, is_free}
+use Rattle.tcap_dialogues.specs.Gathered.{AreGathered}
+use Rattle.tcap_dialogues.specs.Held.{IsCut}
+use Rattle.tcap_dialogues.specs.declared.gathered.Gathered.{Gathered}
+use Rattle.tcap_dialogues.proofs.CutLists.{none_in}
+use Rattle.tcap_dialogues.proofs.WholeLaws.{all_gathered, next_gathered}
+use Rattle.tcap_report.specs.declared.fault.Halt.{Halt}
+use Rattle.tcap_report.specs.declared.fault.Halt.TheVariants as halts
+use Rattle.tcap_report.specs.declared.sum.Sum.{Sum}
+use Rattle.tcap_report.specs.declared.trace.Asked.{Asked}
+use Rattle.tcap_report.specs.declared.trace.Trace.{Trace}
+use Rattle.tcap_report.specs.Counts.{more, with_each, with_one, with_read, with_verdict}
+use Rattle.tcap_report.specs.Dialogue.{Dialogue, ends_by, verdict_by, verdict_on}
+use Rattle.tcap_report.specs.Stretch.{Stretch, counts_in, messages_in, readable_in, those_judged}
+use Rattle.tcap_report.specs.Judged.{IsJudged}
+use Rattle.tcap_report.proofs.CountsLaws.{each_append}
+use Rattle.tcap_report.specs.Progress.{HasRead, IsBetween, IsStopped, IsWithin, Judges, Reads, UnlessStopped}
+
+-- ---- counts
+
+none_more : (n : ℕ) → n ≤ 2 ^ 64 - 1 → n ≡ more n 0
+none_more n fits = omega (arith, fits)
+
+one_more : (a n : ℕ) → more (more a n) 1 ≡ more a (n + 1)
+one_more a n = omega arith
+
+messages_fit : (ss : List Stretch) → messages_in ss ≤ 2 ^ 64 - 1
+messages_fit [] = omega arith
+messages_fit (s ∷ ss) = omega arith
+
+readable_fit : (ss : List Stretch) → readable_in ss ≤ 2 ^ 64 - 1
+readable_fit [] = omega arith
+readable_fit (s ∷ ss) = omega arith
+
+readable_push : (a : ℕ) (hs : List Heading) (h : Heading)
+    → cond (is_some h.kind) (more (more a (count_by (λ x. is_some x.kind) hs)) 1) (more a (count_by (λ x. is_some x.kind) hs))
+    ≡ more a (count_by (λ x. is_some x.kind) (hs ++ h ∷ []))
+readable_push a hs h =
+    by (is_some h.kind) (count_by (λ x. is_some x.kind) hs)
+    ∙ ap (more a) (sym (sum_by_push (λ (x : Heading). cond (is_some x.kind) 1 0) hs h))
+  where
+    by : (b : Bool) (n : ℕ) → cond b (more (more a n) 1) (more a n) ≡ more a (n + cond b 1 0)
+    by true n = one_more a n
+    by false n = omega arith
+
+-- ---- dialogues that are judged
+
+pub more_judged : (xs ys : List Gathered) (a b c : Trace) → Judges xs a b → Judges ys b c → Judges (xs ++ ys) a c
+more_judged xs ys a b c one two =
+    let verdicts = verdict_on a.asked.of in
+    record {
+      judged = one.judged ++ two.judged;
+      those = map-append (λ d. d.gathered) one.judged two.judged
+          ∙ ap (λ l. l ++ map (λ d. d.gathered) two.judged) one.those ∙ ap (λ l. xs ++ l) two.those;
+      counts = two.counts ∙ ap (λ k. with_each (map (verdict_on k.of) two.judged) b.dialogues) one.asked
+          ∙ ap (with_each (map verdicts two.judged)) one.counts
+          ∙ sym (each_append (map verdicts one.judged) (map verdicts two.judged) a.dialogues)
+          ∙ ap (λ vs. with_each vs a.dialogues) (sym (map-append verdicts one.judged two.judged));
+      asked = two.asked ∙ one.asked;
+      cut = two.cut ∙ one.cut;
+      messages = two.messages ∙ one.messages;
+      readable = two.readable ∙ one.readable;
+    }
+
+-- One is: its entries were held, and its verdict is counted.
+pub one_judged : (d : Dialogue) (ends : Option Ends) (verdict : Verdict) (old one new : Trace) → one ≡ record old { held = one.held }
+    → verdict ≡ verdict_by one.asked.of ends → ends ≡ ends_by d.table d.circumstances d.entries
+    → new ≡ record one { dialogues = with_one verdict one.dialogues; unheard = new.unheard } → Judges (d.gathered ∷ []) old new
+one_judged d ends verdict old one new taken is said counted = record {
+  judged = d ∷ [];
+  those = refl;
+  counts = ap (λ t. t.dialogues) counted ∙ ap (λ t. with_one verdict t.dialogues) taken
+      ∙ ap (λ v. with_one v old.dialogues)
+      (is ∙ ap (λ t. verdict_by t.asked.of ends) taken ∙ ap (verdict_by old.asked.of) said);
+  asked = ap (λ t. t.asked) counted ∙ ap (λ t. t.asked) taken;
+  cut = ap (λ t. t.cut) counted ∙ ap (λ t. t.cut) taken;
+  messages = ap (λ t. t.messages) counted ∙ ap (λ t. t.messages) taken;
+  readable = ap (λ t. t.readable) counted ∙ ap (λ t. t.readable) taken;
+}
+
+nothing_gathered : AreGathered [] []
+nothing_gathered = record {
+  each = λ d has. absurd (none_in d has);
+  all = λ g has. absurd (none_in g has);
+  apart = λ i j n g h at also has hers. cc;
+}
+
+-- Of a reader that has nothing to tell nothing is told.
+pub nothing_told : (old new : Option (List ℕ)) (told : List ℕ) → old ≡ Some [] → Consumes old new told → (told ≡ []) × (new ≡ Some [])
+nothing_told old new told nothing consumes = by new told (subst (λ known. Consumes known new told) nothing consumes)
+  where
+    by : (left : Option (List ℕ)) (xs : List ℕ) → Consumes (Some []) left xs → (xs ≡ []) × (left ≡ Some [])
+    by None xs is = absurd is
+    by (Some ys) [] is = (refl, ap Some (sym is))
+    by (Some ys) (x ∷ xs) is = cc
+
+pub both_ok : {T E : Type 0} (r : Result T E) (P Q R : T → Type 0) → ((x : T) → P x → Q x → R x) → IfOk r P → IfOk r Q → IfOk r R
+both_ok (Ok x) P Q R joins p q = joins x p q
+both_ok (Err e) P Q R joins p q = p
+
+pub unless_stopped : {P : Type 0} (result : Result (Unit {0}) Halt) → P → UnlessStopped result P
+unless_stopped (Ok u) p = p
+unless_stopped (Err (halts.Form fault)) p = p
+unless_stopped (Err (halts.Stop stop)) p = tt
+
+pub reads_fault : (asked : Asked) (halt : Halt) (t : Trace) → IsWithin asked t → Reads asked (Err halt) t
+reads_fault asked (halts.Form fault) t within = within
+reads_fault asked (halts.Stop stop) t within = tt
+
+-- ---- steps of a trace
+
+module _ (asked : Asked) where
+  -- What is judged more is counted, and is of the stretch.
+  counts_more : (old one new : Trace) (s : Stretch) (before : List Stretch) (given : List Gathered) → HasRead asked (s ∷ before) old
+      → one.asked ≡ old.asked → one.dialogues ≡ old.dialogues → (j : Judges given one new)
+      → new.dialogues ≡ with_each (map (verdict_on asked.of) (s.judged ++ j.judged)) (counts_in asked.of before)
+  counts_more old one new s before given has asks dialogues j =
+      let verdicts = verdict_on asked.of in
+      j.counts ∙ ap (λ k. with_each (map (verdict_on k.of) j.judged) one.dialogues) (asks ∙ has.asks)
+      ∙ ap (with_each (map verdicts j.judged)) (dialogues ∙ has.counts)
+      ∙ sym (each_append (map verdicts s.judged) (map verdicts j.judged) (counts_in asked.of before))
+      ∙ ap (λ vs. with_each vs (counts_in asked.of before)) (sym (map-append verdicts s.judged j.judged))
+
+  those_more : (s : Stretch) (given : List Gathered) (one new : Trace) (j : Judges given one new)
+      → map (λ d. d.gathered) (s.judged ++ j.judged) ≡ those_judged s ++ given
+  those_more s given one new j =
+      map-append (λ d. d.gathered) s.judged j.judged ∙ ap (λ l. those_judged s ++ l) j.those
+
+  -- The first entry of a stretch may come.
+  pub begins : (t : Trace) → IsBetween asked t → IsWithin asked t
+  begins t b = record {
+    stretch = record { headings = []; judged = [] };
+    before = b.stretches;
+    whole = b.whole;
+    done = nothing_gathered;
+    has = record {
+      asks = b.has.asks;
+      counts = b.has.counts;
+      messages = b.has.messages ∙ none_more (messages_in b.stretches) (messages_fit b.stretches);
+      readable = b.has.readable ∙ none_more (readable_in b.stretches) (readable_fit b.stretches);
+    };
+    cut = b.cut;
+  }
+
+  -- A line says that dialogues may have been under way.
+  pub under_way_noted : (t : Trace) (number : Option ℕ) → IsWithin asked t → IsWithin asked (record t { under_way = number })
+  under_way_noted t number w = record {
+    stretch = w.stretch;
+    before = w.before;
+    whole = w.whole;
+    done = w.done;
+    has = record { asks = w.has.asks; counts = w.has.counts; messages = w.has.messages; readable = w.has.readable };
+    cut = w.cut;
+  }
+
+  -- An entry comes, and the dialogues are judged whose IDs are free then.
+  pub comes : (old one new : Trace) (h : Heading) (given : List Gathered) (w : IsWithin asked old) → one.asked ≡ old.asked
+      → one.dialogues ≡ old.dialogues → one.messages ≡ more old.messages 1
+      → one.readable ≡ cond (is_some h.kind) (more old.readable 1) old.readable
+      → IsCut asked.reuse (w.stretch.headings ++ h ∷ []) one.cut
+      → AreGathered (filter (is_free asked.reuse (length w.stretch.headings) (courses_so_far asked.reuse w.stretch.headings).live h) (courses_so_far asked.reuse w.stretch.headings).live) given
+      → Judges given one new → IsWithin asked new
+  comes old one new h given w asks dialogues messages readable cut gives j =
+      let hs = w.stretch.headings in record {
+        stretch = record { headings = hs ++ h ∷ []; judged = w.stretch.judged ++ j.judged };
+        before = w.before;
+        whole = w.whole;
+        done = subst (AreGathered (courses_so_far asked.reuse (hs ++ h ∷ [])).done) (sym (those_more w.stretch given one new j))
+            (next_gathered asked.reuse hs (those_judged w.stretch) given w.done h gives);
+        has = record {
+          asks = j.asked ∙ asks ∙ w.has.asks;
+          counts = counts_more old one new w.stretch w.before given w.has asks dialogues j;
+          messages = j.messages ∙ messages ∙ ap (λ n. more n 1) w.has.messages ∙ one_more (messages_in w.before) (length hs)
+              ∙ ap (more (messages_in w.before)) (sym (length_push hs h));
+          readable = j.readable ∙ readable ∙ ap (λ n. cond (is_some h.kind) (more n 1) n) w.has.readable
+              ∙ readable_push (readable_in w.before) hs h;
+        };
+        cut = subst (IsCut asked.reuse (hs ++ h ∷ [])) (sym j.cut) cut;
+      }
+
+  -- A stretch ends: all its dialogues that are live are judged.
+  pub ends : (old one new : Trace) (given : List Gathered) (w : IsWithin asked old) → one ≡ record old { cut = one.cut }
+      → IsCut old.asked.reuse [] one.cut → AreGathered (courses_so_far asked.reuse w.stretch.headings).live given
+      → Judges given one new → IsBetween asked new
+  ends old one new given w rest cut live j =
+      let hs = w.stretch.headings in record {
+        stretches = record { headings = hs; judged = w.stretch.judged ++ j.judged } ∷ w.before;
+        whole = (
+          subst (AreGathered (courses_of asked.reuse hs)) (sym (those_more w.stretch given one new j))
+              (all_gathered asked.reuse hs (those_judged w.stretch) given w.done live),
+          w.whole,
+        );
+        has = record {
+          asks = j.asked ∙ ap (λ t. t.asked) rest ∙ w.has.asks;
+          counts = counts_more old one new w.stretch w.before given w.has (ap (λ t. t.asked) rest) (ap (λ t. t.dialogues) rest) j;
+          messages = j.messages ∙ ap (λ t. t.messages) rest ∙ w.has.messages;
+          readable = j.readable ∙ ap (λ t. t.readable) rest ∙ w.has.readable;
+        };
+        cut = subst (IsCut asked.reuse []) (sym j.cut) (subst (λ k. IsCut k.reuse [] one.cut) w.has.asks cut);
+      }
+
+  -- It breaks off: those are judged that are over.
+  pub stops : (old one new : Trace) (live : List Gathered) (w : IsWithin asked old) → one ≡ record old { cut = one.cut }
+      → AreGathered (courses_so_far asked.reuse w.stretch.headings).live live
+      → Judges (filter (λ g. is_some g.over) live) one new → IsStopped asked new
+  stops old one new live w rest are j = record {
+    stretch = record { headings = w.stretch.headings; judged = w.stretch.judged ++ j.judged };
+    before = w.before;
+    whole = w.whole;
+    broken = record {
+      done = those_judged w.stretch;
+      live = live;
+      done_are = w.done;
+      live_are = are;
+      judged = those_more w.stretch (filter (λ g. is_some g.over) live) one new j;
+    };
+    has = record {
+      asks = j.asked ∙ ap (λ t. t.asked) rest ∙ w.has.asks;
+      counts = counts_more old one new w.stretch w.before (filter (λ g. is_some g.over) live) w.has
+          (ap (λ t. t.asked) rest) (ap (λ t. t.dialogues) rest) j;
+      messages = j.messages ∙ ap (λ t. t.messages) rest ∙ w.has.messages;
+      readable = j.readable ∙ ap (λ t. t.readable) rest ∙ w.has.readable;
+    };
+  }
+
+  -- ---- what is said of it
+
+  verdict_is : (stretches : List Stretch) (t : Trace) (is_faulty : Bool) (verdict : Verdict) → HasRead asked stretches t
+      → verdict ≡ trace_verdict is_faulty t.readable t.dialogues.worst
+      → verdict ≡ trace_verdict is_faulty (readable_in stretches) (counts_in asked.of stretches).worst
+  verdict_is stretches t is_faulty verdict has is =
+      is ∙ ap (λ n. trace_verdict is_faulty n t.dialogues.worst) has.readable
+      ∙ ap (λ c. trace_verdict is_faulty (readable_in stretches) c.worst) has.counts
+
+  sum_is : (stretches : List Stretch) (t : Trace) (verdict : Verdict) (old new : Sum) → HasRead asked stretches t
+      → new ≡ with_verdict verdict (with_read t.dialogues t.messages t.unheard old)
+      → new ≡ with_verdict verdict (with_read (counts_in asked.of stretches) (messages_in stretches) t.unheard old)
+  sum_is stretches t verdict old new has sum =
+      sum ∙ ap (λ c. with_verdict verdict (with_read c t.messages t.unheard old)) has.counts
+      ∙ ap (λ n. with_verdict verdict (with_read (counts_in asked.of stretches) n t.unheard old)) has.messages
+
+  pub whole_is_judged : (t : Trace) (verdict : Verdict) (old new : Sum) → IsBetween asked t
+      → verdict ≡ trace_verdict false t.readable t.dialogues.worst
+      → new ≡ with_verdict verdict (with_read t.dialogues t.messages t.unheard old)
+      → IsJudged asked.of asked.reuse verdict old new
+  whole_is_judged t verdict old new b is sum = record {
+    stretches = b.stretches;
+    unheard = t.unheard;
+    is_faulty = false;
+    judged = b.whole;
+    is = verdict_is b.stretches t false verdict b.has is;
+    sum = sum_is b.stretches t verdict old new b.has sum;
+  }
+
+  pub broken_is_judged : (t : Trace) (verdict : Verdict) (old new : Sum) → IsStopped asked t
+      → verdict ≡ trace_verdict true t.readable t.dialogues.worst
+      → new ≡ with_verdict verdict (with_read t.dialogues t.messages t.unheard old)
+      → IsJudged asked.of asked.reuse verdict old new
+  broken_is_judged t verdict old new s is sum = record {
+    stretches = s.stretch ∷ s.before;
+    unheard = t.unheard;
+    is_faulty = true;
+    judged = (s.broken, s.whole);
+    is = verdict_is (s.stretch ∷ s.before) t true verdict s.has is;
+    sum = sum_is (s.stretch ∷ s.before) t verdict old new s.has sum;
+  }

@@ -1,0 +1,14 @@
+-- the trace is within a stretch, and the sum as it was; of a reader that tells nothing no entry is read
+use Rattle.std.proofs.Common.{◌≡◌, [], Some}
+use Rattle.tcap_report.specs.declared.trace.Asked.{Asked}
+use Rattle.tcap_report.specs.Progress.{IsWithin}
+use Rattle.tcap_report.specs.Untold.{HasNothing}
+use Rattle.tcap_report.proofs.trace.Trace.read_all.Given as goal
+
+abbrev pub invariant-loop : goal.invariant-loop
+invariant-loop g l = record {
+  within : (asked : Asked) → IsWithin asked l.fn.self → IsWithin asked l.self;
+  nothing : g.R.Read.untold l.fn.reader ≡ Some [] → HasNothing l.fn.entries
+      → (g.R.Read.untold l.reader ≡ Some []) × HasNothing l.entries × (l.self.readable ≡ l.fn.self.readable);
+  same_sum : l.sinks.sum ≡ l.fn.sinks.sum;
+}

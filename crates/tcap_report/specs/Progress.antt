@@ -1,0 +1,65 @@
+-- What is kept of a trace as it is read.
+use Rattle.std.specs.Prelude.{◌≡◌, List, [], ◌∷◌, Result, Ok, Err, map}
+use Rattle.tcap_dialogues.specs.Course.{courses_so_far}
+use Rattle.tcap_dialogues.specs.Gathered.{AreGathered}
+use Rattle.tcap_dialogues.specs.Held.{IsCut}
+use Rattle.tcap_dialogues.specs.declared.gathered.Gathered.{Gathered}
+use Rattle.tcap_report.specs.declared.fault.Halt.{Halt}
+use Rattle.tcap_report.specs.declared.fault.Halt.TheVariants as halts
+use Rattle.tcap_report.specs.declared.trace.Asked.{Asked}
+use Rattle.tcap_report.specs.declared.trace.Trace.{Trace}
+use Rattle.tcap_report.specs.Counts.{with_each}
+use Rattle.tcap_report.specs.Dialogue.{Dialogue, verdict_on}
+use Rattle.tcap_report.specs.Stretch.{AreWhole, IsBrokenOff, Stretch, counts_in, messages_in, readable_in, those_judged}
+
+-- What was asked, and what is counted of these stretches, the last one first.
+pub record HasRead (asked : Asked) (stretches : List Stretch) (trace : Trace) : Type 0 where
+  pub asks : trace.asked ≡ asked
+  pub counts : trace.dialogues ≡ counts_in asked.of stretches
+  pub messages : trace.messages ≡ messages_in stretches
+  pub readable : trace.readable ≡ readable_in stretches
+
+-- All stretches so far are whole, and the next one has no entry yet.
+pub record IsBetween (asked : Asked) (trace : Trace) : Type 0 where
+  pub stretches : List Stretch
+  pub whole : AreWhole asked.reuse stretches
+  pub has : HasRead asked stretches trace
+  pub cut : IsCut asked.reuse [] trace.cut
+
+-- One is under way: of its dialogues those whose IDs are free are judged.
+pub record IsWithin (asked : Asked) (trace : Trace) : Type 0 where
+  pub stretch : Stretch
+  pub before : List Stretch
+  pub whole : AreWhole asked.reuse before
+  pub done : AreGathered (courses_so_far asked.reuse stretch.headings).done (those_judged stretch)
+  pub has : HasRead asked (stretch ∷ before) trace
+  pub cut : IsCut asked.reuse stretch.headings trace.cut
+
+-- The last one is broken off.
+pub record IsStopped (asked : Asked) (trace : Trace) : Type 0 where
+  pub stretch : Stretch
+  pub before : List Stretch
+  pub whole : AreWhole asked.reuse before
+  pub broken : IsBrokenOff asked.reuse stretch
+  pub has : HasRead asked (stretch ∷ before) trace
+
+-- The dialogues of which these were gathered are judged, one after the other, and counted. Nothing else changes that is counted.
+pub record Judges (given : List Gathered) (old new : Trace) : Type 0 where
+  pub judged : List Dialogue
+  pub those : map (λ d. d.gathered) judged ≡ given
+  pub counts : new.dialogues ≡ with_each (map (verdict_on old.asked.of) judged) old.dialogues
+  pub asked : new.asked ≡ old.asked
+  pub cut : new.cut ≡ old.cut
+  pub messages : new.messages ≡ old.messages
+  pub readable : new.readable ≡ old.readable
+
+-- that holds, unless the run stops
+abbrev pub UnlessStopped : Result (Unit {0}) Halt → Type 0 → Type 0
+UnlessStopped (Err (halts.Stop stop)) P = Unit {0}
+UnlessStopped result P = P
+
+-- All stretches were read; or the form of the trace has a fault in one; or the run stops.
+abbrev pub Reads : Asked → Result (Unit {0}) Halt → Trace → Type 0
+Reads asked (Ok _) trace = IsBetween asked trace
+Reads asked (Err (halts.Form fault)) trace = IsWithin asked trace
+Reads asked (Err (halts.Stop stop)) trace = Unit {0}

@@ -1,0 +1,112 @@
+//! What is said of a trace that was read.
+
+ghost use Rattle.std.specs.Prelude.{◌≡◌, is_some, IfOk};
+ghost use Rattle.tcap_traces.specs.Verdict.{trace_verdict};
+ghost use Rattle.tcap_report.specs.Counts.{with_read, with_verdict};
+
+use crate::fault::{FormFault, Stop};
+use crate::sum::{Sum, push_counts};
+use crate::telling::{Lines, Sinks, Told, write_text};
+use crate::trace::{Trace, Watch};
+use crate::words::push_hint;
+use std::alloc::AllocError;
+use tcap_ber::Write;
+use tcap_traces::{Verdict, trace_verdict};
+
+/// The line with the fault, where one has it.
+fn line_in(fault: &Option<FormFault>) -> Option<u64> {
+    match fault {
+        Some(fault) => fault.line,
+        None => None,
+    }
+}
+
+/// Appends what is wrong with a trace, where something is.
+fn push_fault(
+    text: &mut String,
+    fault: &Option<FormFault>,
+    messages: u64,
+) -> Result<(), AllocError> {
+    match fault {
+        Some(
+            FormFault {
+                line: Some(line),
+                text: what,
+            },
+        ) => {
+            write!(text, "line {line}: ")?;
+            text.push_str(what)
+        }
+        Some(
+            FormFault {
+                line: None,
+                text: what,
+            },
+        ) => text.push_str(what),
+        None if messages == 0 => text.push_str("there is no message in it"),
+        None => Ok(()),
+    }
+}
+
+impl Trace<'_> {
+    /// The sum of the traces before and of this one, as far as it was read.
+    pub(crate) fn so_far(&self, before: &Sum) -> Sum
+        ensures { result ≡ with_read self.now.dialogues self.now.messages self.now.unheard before.now }
+    {
+        let mut sum = *before;
+        sum.dialogues.add_all(self.dialogues);
+        sum.messages = sum.messages.saturating_add(self.messages);
+        sum.unheard = sum.unheard.saturating_add(self.unheard);
+        sum
+    }
+
+    /// Says what is said of the trace.
+    pub(crate) fn end<W: Write, J: Lines, P: Watch>(
+        &self,
+        fault: Option<FormFault>,
+        hint: Option<&str>,
+        sinks: &mut Sinks<W, J, P>,
+    ) -> Result<Verdict, Stop>
+        ensures is { IfOk result (λ verdict.
+            verdict ≡ trace_verdict (is_some fault) self.now.readable self.now.dialogues.worst) }
+        ensures sum { IfOk result (λ verdict. sinks.new.sum.now
+            ≡ with_verdict verdict (with_read self.now.dialogues self.now.messages self.now.unheard sinks.old.sum.now)) }
+        ensures same_sum { sinks.new.sum.ghost_name ≡ sinks.old.sum.ghost_name }
+    {
+        let verdict = trace_verdict(fault.is_some(), self.readable, self.dialogues.worst);
+        let mut why = String::new(self.alloc);
+        push_fault(&mut why, &fault, self.readable)?;
+        let mut line = String::new(self.alloc);
+        self.push_line(&mut line, verdict, &why)?;
+        push_hint(&mut line, hint)?;
+        write_text(sinks.text, &line)?;
+        let told = Told {
+            name: self.asked.name,
+            verdict,
+            messages: self.messages,
+            dialogues: self.dialogues,
+            unheard: self.unheard,
+            why: &why,
+            line: line_in(&fault),
+            hint,
+        };
+        sinks.tell_trace(self.alloc, told)?;
+        sinks.flush()?;
+        *sinks.sum = self.so_far(sinks.sum);
+        sinks.sum.traces.add(verdict);
+        Ok(verdict)
+    }
+
+    /// Appends the line of the trace.
+    fn push_line(&self, text: &mut String, verdict: Verdict, why: &str) -> Result<(), AllocError> {
+        text.push_str(self.asked.name)?;
+        text.push_str(": ")?;
+        text.push_str(verdict.word())?;
+        if !why.is_empty() {
+            text.push_str(": ")?;
+            text.push_str(why)?;
+        }
+        text.push_str("; ")?;
+        push_counts(text, self.messages, &self.dialogues, self.unheard)
+    }
+}

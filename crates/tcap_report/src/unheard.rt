@@ -1,0 +1,24 @@
+//! Dialogues that pass unheard or unanswered.
+
+use crate::case::{Judged, sent_by};
+use crate::order::is_asked;
+use tcap_record::End;
+use tcap_traces::Said;
+
+/// Whether an end did not hear all that its peer sent, or sent nothing.
+fn is_silent(judged: &Judged, end: End, said: Said) -> bool {
+    match said {
+        Said::Pass(0) => sent_by(&judged.record, end) == 0,
+        Said::Pass(_) => true,
+        _ => false,
+    }
+}
+
+/// Whether one that is asked did, or did so.
+pub(crate) fn is_unheard(judged: &Judged, of: Option<End>) -> bool {
+    match judged.ends {
+        Some(ends) => [End::A, End::B].iter().any(|end| is_asked(of, *end)
+            && is_silent(judged, *end, ends.of(*end))),
+        None => false,
+    }
+}
