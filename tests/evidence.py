@@ -8,7 +8,7 @@ Where components are counted, an entry is named as often as it has such a compon
 from dataclasses import dataclass
 
 from before import NO_HALF, Before, Half, is_end, is_request
-from kinds import Sending, component_at_fault, faults_in
+from kinds import Sending, component_at_fault
 from shown import (
     ANSWERS,
     BEGIN,
@@ -280,17 +280,44 @@ GROUNDS = {
 ALONE = {"F3": lambda s: [s.used()], "F10": lambda s: [s.ahead("Invokes")]}
 
 
+# ---- invocations whose operations and links a kind compares
+
+
+def compared(s, kind):
+    """The messages in which they stand: of F6, of an answer, those from the destination ID; of F10, and of a Reject of an
+    answer, those with own invocations; of F11, F12 and other Rejects those that the half heard."""
+    if kind == "F6":
+        return s.sending.there if s.component.kind in ANSWERS else []
+    if kind == "F10" or (kind == "F13" and s.component.of in (OF_RESULT, OF_ERROR)):
+        return s.half.invoked
+    return s.half.heard if kind in ("F11", "F12", "F13") else []
+
+
+def invocation_line(s, number, c):
+    of_class, linked = s.table.class_of(c.operation), "" if c.linked is None else f", linked to {c.linked}"
+    classed = ", which the table lacks" if of_class is None else f", of class {of_class}"
+    return f"invocation {s.id} in entry {number} is of {c.operation}{classed}{linked}"
+
+
+def invocation_lines(s, kind):
+    """Of more than eight the first eight, and how many more."""
+    found = [(m.number, c) for m in compared(s, kind) for c in m.components if c.kind == INVOKE and c.id == s.id]
+    more = [f"and {len(found) - MOST} more invocations of it"] if len(found) > MOST else []
+    return [invocation_line(s, number, c) for number, c in found[:MOST]] + more
+
+
 # ---- what is known of an entry at fault
 
 
 @dataclass(frozen=True)
 class Evidence:
-    """What the fault of an entry rests on: the component at fault, the half over which its message would go, and what
-    shows it."""
+    """What the fault of an entry rests on: the component at fault, the half over which its message would go, what shows it,
+    and the lines of the invocations whose operations and links are compared."""
 
     component: int = None
     half: Half = NO_HALF
     grounds: tuple = ()
+    invocations: tuple = ()
 
 
 def open_continues(before):
@@ -315,7 +342,8 @@ def evidence(entries, table, end, number, kind, of_both=False):
     sending = Sending(before, entry)
     at = component_at_fault(sending, kind, of_both)
     shows = (GROUNDS if entry.dtid is not None else ALONE).get(kind, lambda s: [])
-    return Evidence(at, sending.half, tuple(shows(Scene(sending, at, kind))))
+    s = Scene(sending, at, kind)
+    return Evidence(at, sending.half, tuple(shows(s)), tuple(invocation_lines(s, kind)))
 
 
 # ---- lines
@@ -350,37 +378,4 @@ def lines(entries, table, end, number, kind, of_both=False):
     if entry.kind == NO_MESSAGE:
         return [first, *ELSE[kind]]
     above = [first, *message_lines(entry, found.component), *half_lines(entry, kind, found.half)]
-    return [*above, *shown, *else_lines(table, entry, kind, found.component)]
-
-
-# ---- why nobody is blamed
-
-
-def used_again(entries, table, end, number):
-    """The first entry since the last quiet mark, up to that one, in which the end used an own ID again whose
-    transaction may have been over; None where none did."""
-    for entry in [*since_mark(entries, number), entries[number]]:
-        if entry.end == end and Before(table, end, since_mark(entries, entry.number)).uses_again(entry):
-            return entry.number
-    return None
-
-
-def unblamed_lines(entries, table, number):
-    """Why nobody is blamed for an entry that is refuted."""
-    entry = entries[number]
-    before, again = Before(table, entry.end, since_mark(entries, number)), used_again(entries, table, entry.end, number)
-    why = "nobody is blamed for it: "
-    if again is not None:
-        return [f"{why}{entry.end} used an own ID again in entry {again}, so that its transactions can't be told apart"]
-    if before.is_over_tangled(entry):
-        s = Scene(Sending(before, entry), None, None)
-        stood = [line for ground in (s.begins(), s.continues(), s.gone_on(), s.used()) for line in ground.lines()]
-        return [f"{why}its transaction IDs are tangled (one was given twice, begun twice, or guessed)", *stood]
-    return [f"{why}what it rejects may be mistyped or badly structured as this end reads it"]
-
-
-def refuted_lines(entries, table, number, kind):
-    """The lines behind REFUTED of both ends."""
-    told = lines(entries, table, entries[number].end, number, kind, of_both=True)
-    is_blamed = any(found and found[0] <= number for found in faults_in(table, entries).values())
-    return told + ([] if is_blamed else unblamed_lines(entries, table, number))
+    return [*above, *shown, *else_lines(table, entry, kind, found.component), *found.invocations]

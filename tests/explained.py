@@ -269,6 +269,7 @@ BLAMED B 1 F11
       Invoke id=5 linked=1 op=48
   the transaction of B: began by the peer's Begin
   A: Invokes of 1 in this transaction: entry 0
+  invocation 1 in entry 0 is of 45, of class 1
 LAWFUL A 2 unheard 0
 """,
     ),
@@ -440,6 +441,7 @@ REFUTED 1 F6
       ReturnError id=1 error=1
   A: Invokes of 1 from its destination ID: entry 0
   A: Invokes of 1 of class 3 from its destination ID: entry 0
+  invocation 1 in entry 0 is of 47, of class 3
 BLAMED B 1 F6
 LAWFUL A 2 unheard 0
 """,
@@ -521,6 +523,7 @@ BLAMED B 1 F13
       Reject id=1 invoke=0
   the transaction of B: began by the peer's Begin
   A: Invokes of 1 in this transaction: entry 0
+  invocation 1 in entry 0 is of 45, of class 1
 LAWFUL A 2 unheard 0
 """,
     ),

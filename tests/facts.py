@@ -1,8 +1,8 @@
 """Runs the built program's word `explain` over records in which an entry is at fault, and looks at the lines behind
 REFUTED and BLAMED, which say what the fault rests on. Those of facts.json are written out, to be read beside what
 `show` prints: of each kind one at least, and each form of words. Those of the records of faults.json, each as it is,
-behind a mark, and twice, and of random records are those that tests/evidence.py has, of both ends and of each end
-alone."""
+behind a mark, and twice, and of random records are those that tests/evidence.py and tests/unblamed.py have, of both ends and of each
+end alone."""
 
 import json
 import os
@@ -18,12 +18,15 @@ import fuzz
 import judged
 import random_dialogues
 import runs
+import unblamed
 from shown import Table, entries_in, printed
 from tested import PROGRAM
 
 FACTS = "tests/facts.json"
-# How many random records, and the seed.
-RANDOM, SEED = 400, "facts"
+# How many random records, how many over IDs that may be tangled, and the seed.
+RANDOM, TANGLED, SEED = 400, 300, "facts"
+# A uses 01 again, so that it is blamed for nothing behind that.
+AGAIN = "A 6203480101 B 6403490101 B 6203480107 B 6203480108 A 6506480101490107"
 
 
 class Rows:
@@ -89,7 +92,7 @@ def wanted(entries, table, lines, end):
     for line in lines:
         verdict, *_, entry, kind = line.split()
         if verdict == "REFUTED" and end is None:
-            found[line] = evidence.refuted_lines(entries, table, int(entry), kind)
+            found[line] = unblamed.refuted_lines(entries, table, int(entry), kind)
         elif f"REFUTED {entry} {kind}" in lines and end is None:
             # What was said above is not said again.
             found[line] = []
@@ -99,7 +102,7 @@ def wanted(entries, table, lines, end):
 
 
 def compared(rows, files, name, record, table, read):
-    """The lines of a record are those of tests/evidence.py; `read` is the table as that has it."""
+    """The lines of a record are those of tests/evidence.py and tests/unblamed.py; `read` is the table as that has it."""
     files.fill(record, table)
     entries = entries_in(record)
     found = told(files.explained())
@@ -135,6 +138,27 @@ def of_random(rows, files):
         compared(rows, files, f"{record.hex()}, {table}", record, table, Table(printed("table", table)))
 
 
+def any_message(rng):
+    """A Begin or a Continue over a few IDs, of which A gives two or three to one of B; some Continues of B answer what was never sent."""
+    end, a = rng.choice("AAB"), rng.choice(["01", "02", "03", "04", "05"])
+    b = "08" if a in ("03", "05") else "07"
+    own, other = (a, b) if end == "A" else (b, a)
+    if rng.random() < 0.15:
+        return f"{end} 62034801{own}"
+    answers = end == "B" and rng.random() < 0.4
+    return f"{end} 65{'0D' if answers else '06'}4801{own}4901{other}" + "6C05A203020101" * answers
+
+
+def of_tangled(rows, files):
+    """Records in which IDs are tangled, by an end that is blamed for nothing."""
+    table = judged.TABLE.encode()
+    read = Table(printed("table", table))
+    for number in range(TANGLED):
+        rng = random.Random(f"{SEED}/tangled/{number}")
+        record = judged.octets_of(" ".join([AGAIN, *(any_message(rng) for _ in range(rng.randrange(3, 9)))]))
+        compared(rows, files, f"{record.hex()}, tangled", record, table, read)
+
+
 def main():
     rows = Rows()
     with tempfile.TemporaryDirectory() as folder:
@@ -142,6 +166,7 @@ def main():
         written_out(rows, files)
         of_known(rows, files)
         of_random(rows, files)
+        of_tangled(rows, files)
     print(f"{rows.passed} passed, {rows.failed} failed")
     return int(rows.failed != 0)
 

@@ -97,7 +97,7 @@ def is_sound(page):
 
 def has_edits():
     """Whether docs/PROOFS.md has the edits of each crate."""
-    rows = re.findall(r"^\| `(tcap_\w+)` \| (.*) \| (\d+) \|$", text_of("docs/PROOFS.md"), re.MULTILINE)
+    rows = re.findall(r"^\| `(tcap\w+)` \| (.*) \| (\d+) \|$", text_of("docs/PROOFS.md"), re.MULTILINE)
     said = {name: (sorted(re.findall(r"`(\w+)`", tried)), int(count)) for name, tried, count in rows}
     lines = [line.split(":") for line in text_of("tools/gate_edits.txt").splitlines() if not line.startswith("#")]
     gate = {name: sorted(edits.split()) for name, edits in lines}

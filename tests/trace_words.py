@@ -1,6 +1,6 @@
 """Cases for tests/traces.py of the words in which `test` says what an end is blamed for, worked out by hand from docs/TRACES.md and
-docs/FORMAT.md: why octets are no message (F1), which operation is meant (F6), what is wrong with a dialogue portion (F9), which of
-two ends comes first, and the message of a testcase of JUnit's XML."""
+docs/FORMAT.md: why octets are no message (F1), which operation is meant (F6), which invocations are compared (F11 to F13), what is
+wrong with a dialogue portion (F9), which of two ends comes first, and the message of a testcase of JUnit's XML."""
 
 import re
 import xml.etree.ElementTree
@@ -8,7 +8,7 @@ from dataclasses import dataclass
 
 import trace_rows
 from traced import Checks, Report, agree, look_at_messages, put, run
-from trace_rows import BACK, INVOKE, RESULT, SHORT, accepted, begin, dialogue, element, end, error, go_on, invoke, lines, request, uni
+from trace_rows import BACK, INVOKE, RESULT, SHORT, accepted, begin, dialogue, element, end, error, go_on, invoke, lines, reject, request, uni
 
 LONG_NAME = "x" * 10_000
 NAMED = (
@@ -25,6 +25,8 @@ MISSING = "  an AARE is missing: this is the first answer to a Begin with an AAR
 TOO_MANY = "  the AARE is one too many: only the first answer to a Begin may have one, and a Continue before it was that"
 NO_REQUEST = "  the ABRT is one too many: the Begin of the transaction has no AARQ"
 LACKS = "inconclusive: the table lacks the operation"
+BAD_LINK = "it is linked to an invocation that its end did not receive, has answered, or may not link it to"
+AGAIN = "it answers an invocation that was answered already"
 
 ASKS, ACCEPTS = request("2A0304"), accepted("2A0304")
 # An AARE that refuses, by the user; and an ABRT of the user (Q.773 4.2.3).
@@ -33,6 +35,8 @@ REFUSES = dialogue(
 )
 ABORTS = dialogue(element("64", "800100"))
 GLOBAL = element("A1", "020101", element("06", "2A03"))
+# A Reject of the Invoke 2: a link is unexpected, since the operation that is linked to lists none.
+UNLINKED = reject("02", "06")
 
 
 def names(id, *code):
@@ -217,6 +221,29 @@ ONE = [
         "B F6",
         NOT_ALLOWED,
     ),
+    # ---- F11 to F13
+    one(
+        "an Invoke linked to an operation that lists none",
+        [f"A {begin('01', INVOKE)}", f"B {go_on('07', '01', invoke('05', '30', '01'))}"],
+        ["  invocation 1 in entry 0 is of ask 45, of class 1"],
+        "B F11",
+        BAD_LINK,
+    ),
+    one(
+        "two answers to one invocation, and not to that of another ID",
+        [f"A {begin('01', INVOKE, invoke('02', '2E'))}", f"B {end('01', RESULT, RESULT)}"],
+        ["  invocation 1 in entry 0 is of ask 45, of class 1"],
+        "B F12",
+        AGAIN,
+    ),
+    one(
+        "a Reject of a link that the table allows",
+        [f"A {begin('01', invoke('01', '32'))}", f"B {go_on('07', '01', invoke('02', '30', '01'))}", f"A {go_on('01', '07', UNLINKED)}"],
+        ["  invocation 2 in entry 1 is of leaf 48, of class 4, linked to 1"],
+        "A F13",
+        "it rejects with a problem that nothing received has",
+        table='{"tables":[{"operations":[{"class":1,"code":50,"linked":[48]},{"class":4,"code":48,"name":"leaf"}]}]}',
+    ),
     # ---- F9
     one(
         "no AARE in a Continue",
@@ -290,9 +317,9 @@ ONE = [
     one(
         "answered twice",
         [f"A {begin('01', INVOKE)}", f"B {end('01', RESULT, RESULT)}"],
-        [],
+        ["  invocation 1 in entry 0 is of ask 45, of class 1"],
         "B F12",
-        "it answers an invocation that was answered already",
+        AGAIN,
     ),
     one(
         "one end alone is asked: what comes later is not said to",
@@ -340,7 +367,7 @@ SAID = [
     Said(
         "what comes first is inconclusive: the testcase fails by the other",
         [f"A {begin('01', INVOKE, invoke('02', '63'))}", f"B {end('01', RESULT, RESULT)}"],
-        {"B": []},
+        {"B": ["  invocation 1 in entry 0 is of ask 45, of class 1"]},
         [
             "  A: inconc at entry 0 of the dialogue, line 1, F6",
             "  B: fail at entry 1 of the dialogue, line 2, F12; it comes later, and may follow from that of A",

@@ -9,7 +9,7 @@ ghost use Rattle.tcap_refute.specs.Noting.{IsInvoked};
 
 use crate::codes::Codes;
 use std::alloc::{AllocError, Global};
-use tcap_end::Table;
+use tcap_end::{Table, reports};
 use tcap_parts::{CodeView, ComponentView};
 
 /// What an end sent of an invoke ID.
@@ -34,10 +34,8 @@ fn class_reports(class: Option<u8>, is_result: bool) -> bool
     ensures { result ≡ of_class (reports is_result) class }
 {
     match class {
-        Some(1) => true,
-        Some(2) => !is_result,
-        Some(3) => is_result,
-        _ => false,
+        Some(class) => reports(is_result, class),
+        None => false,
     }
 }
 

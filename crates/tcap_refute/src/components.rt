@@ -11,7 +11,7 @@ ghost use Rattle.tcap_refute.specs.Asking.{answer_test, answers_none, component_
 use crate::by_id::ById;
 use crate::from_id::FromId;
 use crate::kind::Kind;
-use tcap_end::Table;
+use tcap_end::{Table, reports_neither};
 use tcap_msg::{Kind as Form, MessageParts};
 use tcap_parts::{CodeView, ComponentView, ProblemView, ResultBodyView};
 
@@ -36,7 +36,10 @@ pub(crate) enum Test {
 fn is_of_class_4(table: &Table, code: CodeView) -> bool
     ensures { result ≡ of_class reports_neither (class_of table.now (code_of code.entry)) }
 {
-    table.class_of(code) == Some(4)
+    match table.class_of(code) {
+        Some(class) => reports_neither(class),
+        None => false,
+    }
 }
 
 /// What is kept of an invoke ID.

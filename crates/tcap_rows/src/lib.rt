@@ -17,6 +17,8 @@ mod messages;
 #[cfg(test)]
 mod packing;
 #[cfg(test)]
+mod printed;
+#[cfg(test)]
 mod showing;
 #[cfg(test)]
 mod tools;

@@ -9,6 +9,7 @@ use Rattle.tcap_end.specs.Table.{Table}
 use Rattle.tcap_check.specs.Certificate.{Certificate}
 use Rattle.tcap_runs.specs.declared.step.Step.{Step}
 use Rattle.tcap_runs.specs.Steps.{events_of}
+use Rattle.tcap_runs.specs.Told.{AreTold}
 use Rattle.tcap_judge.specs.declared.outcome.Outcome.{Outcome}
 use Rattle.tcap_judge.specs.declared.outcome.Outcome.TheVariants.{Lawful, LawfulFor, NotShown, Refuted, Undecided, Faulty}
 use Rattle.tcap_judge.specs.declared.status.Status.{Status}
@@ -21,10 +22,11 @@ use Rattle.tcap_verdict.specs.Faults.{IsFaultBehind}
 use Rattle.tcap_verdict.specs.Refuted.{both_text, refuted_lines}
 use Rattle.tcap_verdict.specs.StepLines.{run_lines}
 
--- The certificate gives a run for these entries, of both ends or of the one that is judged, and these are its lines.
+-- The certificate gives a run for these entries, of both ends or of the one that is judged, and these are the lines of its steps, as
+-- they are told.
 abbrev pub AreLines : Option Side → Table → Certificate → List Entry → List ℕ → Type 0
 AreLines judged table c entries lines = (steps : List Step) × (replayed_by judged table c entries ≡ Ok (events_of steps))
-    × (lines ≡ run_lines judged steps)
+    × AreTold table c judged steps × (lines ≡ run_lines judged steps)
 
 -- Where both ends are judged, what is said of each of them stands last.
 abbrev pub EndsWithEnds : Option Side → Table → List Entry → List ℕ → Type 0

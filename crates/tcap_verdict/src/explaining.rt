@@ -12,6 +12,7 @@ ghost use Rattle.tcap_judge.specs.Checked.{out_of_memory, replay_says};
 ghost use Rattle.tcap_judge.specs.Judged.{IsShown, lawful_by, replayed_by};
 ghost use Rattle.tcap_judge.specs.Verdict.{named_by, proposed_by, verdict_of};
 ghost use Rattle.tcap_runs.specs.Steps.{events_of};
+ghost use Rattle.tcap_runs.specs.Told.{AreTold};
 ghost use Rattle.tcap_verdict.specs.Faults.{IsFaultBehind};
 ghost use Rattle.tcap_verdict.specs.StepLines.{run_lines};
 ghost use Rattle.tcap_verdict.specs.Refuted.{refuted_lines};
@@ -96,6 +97,7 @@ fn steps_of(
         ≡ replayed_by judged table.now certificate.now read.now.entries.items }
     ensures lawful { IfOk result (λ steps. IsShown judged table.now read.now.entries.items
         (lawful_by judged (length read.now.entries.items) (events_of steps.items))) }
+    ensures told { IfOk result (λ steps. AreTold table.now certificate.now judged steps.items) }
 {
     match judged {
         None => run_of(alloc, read, table, certificate),
